@@ -1,0 +1,4 @@
+pub mod Bits
+pub mod Width
+pub mod Address
+pub mod Order

@@ -1,0 +1,8 @@
+//! The model of addresses: what an address, a prefix and their order are, over lists of bits.
+//!
+//! The definitions stand in `specs/`; the functions here are the family and the laws.
+#![tactic(auto)]
+
+mod family;
+
+pub use family::Family;

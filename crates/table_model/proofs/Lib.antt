@@ -1,0 +1,4 @@
+pub mod Cut
+pub mod Probe
+pub mod Sums
+pub mod Moves
