@@ -1,0 +1,17 @@
+//! The model of reading: MRT input as functions on lists of octets, by cases in the order of the fields.
+//!
+//! The definitions stand in `specs/`. The function here is a law: it does nothing, and its clauses hold for all values.
+#![tactic(auto)]
+
+ghost use Rattle.reading_model.specs.Pieces.{StartsSo, FeedsOn, TakesOn, StaysTooLong, StaysBroken, EndsCut, EndsSo};
+
+/// An input may come in pieces: what was taken of it and what is left determine what it is, however it was cut.
+pub fn in_pieces()
+    ensures starts { StartsSo }
+    ensures feeds { FeedsOn }
+    ensures takes { TakesOn }
+    ensures too_long { StaysTooLong }
+    ensures broken { StaysBroken }
+    ensures ends_cut { EndsCut }
+    ensures ends { EndsSo }
+{}
