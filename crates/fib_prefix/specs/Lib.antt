@@ -1,0 +1,4 @@
+pub mod Seen
+pub mod Text
+pub mod Hops
+pub mod Order

@@ -1,0 +1,20 @@
+//! Addresses, prefixes, their text, and the numbers of next hops.
+//!
+//! An address is the number of its bits, a prefix that of its first bits filled with zeros; contracts see both as lists
+//! of bits, the most significant first (`address_model`). Shifts and masks stay in this crate.
+#![tactic(auto)]
+
+mod addr;
+mod entry;
+mod hops;
+mod laws;
+mod prefix;
+mod text;
+
+pub use addr::Addr;
+pub use address_model::Family;
+pub use entry::{Entry, Hop};
+pub use hops::{HopError, HopTable, MOST_HOPS};
+pub use laws::{order_law, text_law};
+pub use prefix::Prefix;
+pub use text::{MOST_TEXT, read_addr, write_addr, write_prefix};
