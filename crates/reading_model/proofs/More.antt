@@ -5,8 +5,8 @@ use Rattle.std.proofs.lemmas.Bool.{ltb-false, le-ltb}
 use Rattle.std.proofs.lemmas.List.{take-append-le, drop-append-le, length-append, length-drop, append-nil}
 use Rattle.address_model.specs.Bits.{number}
 use Rattle.octet_fields.specs.Field.{◌>>=◌, refuse, octets_at, number_at, steps, until_end}
-use Rattle.reading_model.specs.Record.{Record, most_length, at_record, record_at, next_record, cut}
-use Rattle.reading_model.specs.Pieces.{StartsSo, FeedsOn, TakesOn, StaysTooLong, StaysBroken, EndsCut, EndsSo}
+use Rattle.reading_model.specs.Record.{Record, Fault, most_length, at_record, record_at, next_record, cut}
+use Rattle.reading_model.specs.Pieces.{StartsSo, FeedsOn, TakesOn, StaysTooLong, StaysBroken, EndsCut, EndsSo, KeepsFront}
 
 pub bind_ok : {A B F : Type 0} (r : Result A F) (f : A → Result B F) (y : B) → (r >>= f) ≡ Ok y → (x : A) × (r ≡ Ok x) × (f x ≡ Ok y)
 bind_ok (Ok x) f y e = (x, refl, e)
@@ -180,6 +180,28 @@ ends_cut fed left taken rule t some e =
 pub ends_so : EndsSo
 unfolding steps
 ends_so fed taken t = ap cut (sym (append-nil fed)) ∙ t.whatever []
+
+abbrev kept : List Record → Result (List Record) Fault
+kept xs = Ok xs
+
+kept_is : (xs ys : List Record) → kept xs ≡ Ok ys → ys ≡ xs
+kept_is xs ys e = cc
+
+-- the records so far are the first of all
+steps_front : (n : ℕ) (taken all : List Record) (octets : List ℕ) → steps next_record n taken octets ≡ Ok all → (others : List Record) × (all ≡ taken ++ others)
+unfolding steps next_record
+steps_front n taken all [] e = ([], kept_is taken all e ∙ sym (append-nil taken))
+steps_front zero taken all (o ∷ os) e = ([], kept_is taken all e ∙ sym (append-nil taken))
+steps_front (suc n) taken all (o ∷ os) e =
+    let a = bind_ok (at_record (length taken) (record_at (o ∷ os)) >>= λ x. Ok (taken ++ x.0 ∷ [], x.1)) (λ x. steps next_record n x.0 x.1) all e in
+    let b = bind_ok (at_record (length taken) (record_at (o ∷ os))) (λ x. Ok (taken ++ x.0 ∷ [], x.1)) a.0 a.1 in
+    let r = b.0.0 in
+    let same : a.0.0 ≡ taken ++ r ∷ [] = ap (λ (x : List Record × List ℕ). x.0) (sym (ok_is _ (taken ++ r ∷ [], b.0.1) a.0 refl b.2)) in
+    let rest = steps_front n a.0.0 all a.0.1 a.2 in
+    (r ∷ rest.0, rest.1 ∙ (ap (λ xs. xs ++ rest.0) same ∙ append_assoc taken (r ∷ []) rest.0))
+
+pub keeps_front : KeepsFront
+keeps_front fed left taken all t e = steps_front (length (left ++ [])) taken all (left ++ []) (sym (t.whatever []) ∙ (ap cut (append-nil fed) ∙ e))
 
 -- ---- a fault of the header stays
 

@@ -38,3 +38,7 @@ EndsCut = (fed left : List ℕ) (taken : List Record) (rule : ℕ) → Takes fed
 -- at the end nothing may be left
 abbrev pub EndsSo : Type 0
 EndsSo = (fed : List ℕ) (taken : List Record) → Takes fed taken [] → cut fed ≡ Ok taken
+
+-- the records taken are the first of the input's
+abbrev pub KeepsFront : Type 0
+KeepsFront = (fed left : List ℕ) (taken all : List Record) → Takes fed taken left → cut fed ≡ Ok all → (others : List Record) × (all ≡ taken ++ others)

@@ -3,7 +3,7 @@
 //! The definitions stand in `specs/`. The function here is a law: it does nothing, and its clauses hold for all values.
 #![tactic(auto)]
 
-ghost use Rattle.reading_model.specs.Pieces.{StartsSo, FeedsOn, TakesOn, StaysTooLong, StaysBroken, EndsCut, EndsSo};
+ghost use Rattle.reading_model.specs.Pieces.{StartsSo, FeedsOn, TakesOn, StaysTooLong, StaysBroken, EndsCut, EndsSo, KeepsFront};
 
 /// An input may come in pieces: what was taken of it and what is left determine what it is, however it was cut.
 pub fn in_pieces()
@@ -14,4 +14,5 @@ pub fn in_pieces()
     ensures broken { StaysBroken }
     ensures ends_cut { EndsCut }
     ensures ends { EndsSo }
+    ensures front { KeepsFront }
 {}

@@ -2,3 +2,4 @@ pub mod Cut
 pub mod Probe
 pub mod Sums
 pub mod Moves
+pub mod Lookups

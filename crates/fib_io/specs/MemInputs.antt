@@ -1,0 +1,7 @@
+-- An input in memory.
+use Rattle.fib_io.specs.declared.memory_inputs.MemInputs.{MemInputs}
+use Rattle.fib_io.specs.declared.plan.Plan.{Plan}
+
+-- which reads are to fail
+abbrev pub read_plan : MemInputs → Plan
+read_plan inputs = inputs.plan

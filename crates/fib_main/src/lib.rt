@@ -1,0 +1,8 @@
+//! The top call.
+#![tactic(auto)]
+
+mod asks;
+mod dump;
+mod form;
+mod plain;
+mod table;

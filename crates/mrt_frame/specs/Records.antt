@@ -1,0 +1,21 @@
+-- Records, refusals and answers of the code, without where they lie in memory.
+use Rattle.std.specs.Prelude.{ℕ, ◌+◌, List, take, drop, Result, Ok, Err}
+use Rattle.reading_model.specs.Record.{Record, Fault}
+use Rattle.mrt_frame.specs.declared.Framed.{Framed}
+use Rattle.mrt_frame.specs.declared.Header.{Header}
+use Rattle.mrt_frame.specs.declared.Malformed.{Malformed}
+
+abbrev pub record_of : Framed → Record
+record_of framed = record { kind = framed.kind; subtype = framed.sub; body = framed.body.now }
+
+abbrev pub fault_of : Malformed → Fault
+fault_of malformed = record { number = malformed.number; rule = malformed.rule }
+
+-- an answer, its value seen by view
+abbrev pub answer_of : {A B : Type 0} → (A → B) → Result A Malformed → Result B Fault
+answer_of view (Ok x) = Ok (view x)
+answer_of view (Err malformed) = Err (fault_of malformed)
+
+-- the record behind this header, and what follows it
+abbrev pub record_behind : List ℕ → Header → Record × List ℕ
+record_behind octets header = (record { kind = header.kind; subtype = header.sub; body = take header.length (drop 12 octets) }, drop (12 + header.length) octets)
