@@ -5,3 +5,7 @@ pub mod Maps
 pub mod Probing
 pub mod Tabling
 pub mod Routing
+pub mod Fronts
+pub mod Reporting
+pub mod Completing
+pub mod Running

@@ -3,3 +3,9 @@ pub mod Asks
 pub mod Form
 pub mod Dump
 pub mod Seen
+pub mod Stops
+pub mod Words
+pub mod Due
+pub mod Ends
+pub mod Reads
+pub mod Runs

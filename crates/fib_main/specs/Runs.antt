@@ -1,0 +1,26 @@
+-- What holds of what a run prints.
+use Rattle.std.specs.Prelude.{◌≡◌, Some, Result, Ok, Err, map, ℕ}
+use Rattle.std.specs.List.{AllByRecursion}
+use Rattle.address_model.specs.Address.{Address}
+use Rattle.table_model.specs.Entries.{match_in, AlikeInBoth}
+use Rattle.table_model.specs.Changes.{sum_of}
+use Rattle.fib_report.specs.Seen.{Told}
+use Rattle.fib_main.specs.Stops.{Stop}
+use Rattle.fib_main.specs.Due.{Printed}
+
+-- where something is due, this holds of what is told
+abbrev pub IfDue : Result Printed Stop → (Told → Type 0) → Type 0
+IfDue (Ok p) P = P p.told
+IfDue (Err stop) P = Unit {0}
+
+-- the sum of the changes, begun at the empty table, is the table
+abbrev pub SumsUp : Told → Type 0
+SumsUp told = sum_of (map (λ c. c.1) told.changes) ≡ Some told.table
+
+-- the table sends every address where the routes send it
+abbrev pub Forwards : Told → Type 0
+Forwards told = AlikeInBoth told.table told.routes
+
+-- each answer is the longest match among the routes
+abbrev pub Answers : Told → Type 0
+Answers told = AllByRecursion (λ (a : Address × ℕ). a.1 ≡ match_in told.routes a.0) told.answers

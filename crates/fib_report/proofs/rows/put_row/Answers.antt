@@ -1,0 +1,9 @@
+use Rattle.std.proofs.Common.{ℕ, List, Bor, map}
+use Rattle.std.proofs.lemmas.List.{length-map}
+use Rattle.fib_report.proofs.Joined.{OnOk-row}
+use Rattle.fib_report.proofs.rows.put_row.Goals as goal
+
+pub returns : goal.returns
+returns g c =
+    let w = c.write_fields.ensures in let fields : List (List ℕ) = map (λ (f : Bor (List ℕ)). f.now) c.args.fields.now in
+    OnOk-row _ _ _ fields c.write_fields.result c.map_err.result c.requires.at (simp length-map c.requires.fields) c.map_err.ensures.variant w.bytes w.ended w.clean w.setup

@@ -1,0 +1,18 @@
+//! The report of a run as rows of text.
+//!
+//! A run is four lists: routes, changes with their events' numbers, answers to look-ups, and a table. Each item is a row,
+//! its fields joined by commas and ended by a line feed; the format is our own, and stands in `rows`. Contracts see the run
+//! as the model's lists, and its text as a definition over these.
+//!
+//! Rows are written by csv's writer, without quotes, since no field holds a comma, a quote or a line end. Writing is linear
+//! in the rows; a field is a slice of a buffer on the stack, and only the text takes memory.
+#![tactic(auto)]
+
+mod fields;
+mod rows;
+mod run;
+#[cfg(test)]
+mod tests;
+
+pub use rows::write_run;
+pub use run::{Change, Run};

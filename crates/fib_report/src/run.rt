@@ -1,0 +1,30 @@
+//! What a run tells.
+//!
+//! Plain lists, in the order in which they are to be written. Hops stand as their numbers in a `HopTable`, which the report
+//! is given beside the run. `specs/Seen.antt` says what contracts see of it.
+
+use fib_prefix::{Addr, Entry, Hop, Prefix};
+
+/// A change to a table.
+#[derive(Clone, Copy, Debug, PartialEq, Eq)]
+pub enum Change {
+    /// An entry at a prefix that the table has none at.
+    Add(Prefix, Hop),
+    /// Another hop for the entry at the prefix.
+    Replace(Prefix, Hop),
+    /// The entry at the prefix goes.
+    Remove(Prefix),
+}
+
+/// A run: what it began with, what changed at which event, what it answered, and what it ended with.
+#[derive(Debug, Drop)]
+pub struct Run {
+    /// The routes.
+    pub routes: Vec<Entry>,
+    /// The changes to the table, each with its event's number.
+    pub changes: Vec<(u64, Change)>,
+    /// The addresses asked for, each with its hop's number, `Hop::NONE` where no hop was found.
+    pub answers: Vec<(Addr, Hop)>,
+    /// The table at the end.
+    pub table: Vec<Entry>,
+}
