@@ -68,6 +68,16 @@ const READ_FAULT: Expected<'static> = Expected {
     err: b"fib: read fault\n",
 };
 
+/// Words that are no command.
+const NO_COMMANDS: [&[&str]; 6] = [
+    &[],
+    &["fib", "run"],
+    &["fib", "run", "dump", "--direct", "19"],
+    &["fib", "make", "0", "--seed", "1"],
+    &["fib", "run", "-dump", "--ask", "asks"],
+    &["fib", "run", "dump", "--ask", "asks", "more"],
+];
+
 /// The words, in memory.
 fn words_of(alloc: Global, texts: &[&str]) -> Result<Vec<String>, Fail> {
     let mut words = Vec::new(alloc);
@@ -133,15 +143,7 @@ fn rows_of_routes(rt: HostRuntime) -> Result<(), Fail> {
 
 #[test]
 fn words_that_are_no_command(rt: HostRuntime) -> Result<(), Fail> {
-    let cases: [&[&str]; 6] = [
-        &[],
-        &["fib", "run"],
-        &["fib", "run", "dump", "--direct", "19"],
-        &["fib", "make", "0", "--seed", "1"],
-        &["fib", "run", "-dump", "--ask", "asks"],
-        &["fib", "run", "dump", "--ask", "asks", "more"],
-    ];
-    for words in cases {
+    for words in NO_COMMANDS {
         // Nothing is read: the first read would fail.
         let given = Given {
             words,
