@@ -7,20 +7,26 @@ use std::process::Abort;
 use std::test::Fail;
 
 /// A peer table with the peer 192.0.2.1 of AS 64500.
-const PEERS: &[u8] = b"\x00\x00\x00\x00\x00\x0d\x00\x01\x00\x00\x00\x15\x00\x00\x00\x00\x00\x00\x00\x01\x02\xc0\x00\x02\x01\xc0\x00\x02\x01\x00\x00\xfb\xf4";
+const PEERS: &[u8] =
+    b"\x00\x00\x00\x00\x00\x0d\x00\x01\x00\x00\x00\x15\x00\x00\x00\x00\x00\x00\x00\x01\x02\xc0\x00\x02\x01\xc0\x00\x02\x01\x00\x00\xfb\xf4";
 
 /// 10.0.0.0/8 by 192.0.2.1.
-const TEN: &[u8] = b"\x00\x00\x00\x00\x00\x0d\x00\x02\x00\x00\x00\x24\x00\x00\x00\x00\x08\x0a\x00\x01\x00\x00\x00\x00\x00\x00\x00\x14\x40\x01\x01\x00\x40\x02\x06\x02\x01\x00\x00\xfb\xf4\x40\x03\x04\xc0\x00\x02\x01";
+const TEN: &[u8] =
+    b"\x00\x00\x00\x00\x00\x0d\x00\x02\x00\x00\x00\x24\x00\x00\x00\x00\x08\x0a\x00\x01\x00\x00\x00\x00\x00\x00\x00\x14\x40\x01\x01\x00\x40\x02\x06\x02\x01\x00\x00\xfb\xf4\x40\x03\x04\xc0\x00\x02\x01";
 
 /// 10.1.0.0/16 by 192.0.2.2.
-const TEN_ONE: &[u8] = b"\x00\x00\x00\x00\x00\x0d\x00\x02\x00\x00\x00\x25\x00\x00\x00\x00\x10\x0a\x01\x00\x01\x00\x00\x00\x00\x00\x00\x00\x14\x40\x01\x01\x00\x40\x02\x06\x02\x01\x00\x00\xfb\xf4\x40\x03\x04\xc0\x00\x02\x02";
+const TEN_ONE: &[u8] =
+    b"\x00\x00\x00\x00\x00\x0d\x00\x02\x00\x00\x00\x25\x00\x00\x00\x00\x10\x0a\x01\x00\x01\x00\x00\x00\x00\x00\x00\x00\x14\x40\x01\x01\x00\x40\x02\x06\x02\x01\x00\x00\xfb\xf4\x40\x03\x04\xc0\x00\x02\x02";
 
 /// 2001:db8::/32, which isn't in the form that is built.
-const SIX: &[u8] = b"\x00\x00\x00\x00\x00\x0d\x00\x04\x00\x00\x00\x30\x00\x00\x00\x00\x20\x20\x01\x0d\xb8\x00\x01\x00\x00\x00\x00\x00\x00\x00\x1d\x40\x02\x06\x02\x01\x00\x00\xfb\xf4\x80\x0e\x11\x10\x20\x01\x0d\xb8\x00\x00\x00\x00\x00\x00\x00\x00\x00\x00\x00\x01";
+const SIX: &[u8] =
+    b"\x00\x00\x00\x00\x00\x0d\x00\x04\x00\x00\x00\x30\x00\x00\x00\x00\x20\x20\x01\x0d\xb8\x00\x01\x00\x00\x00\x00\x00\x00\x00\x1d\x40\x02\x06\x02\x01\x00\x00\xfb\xf4\x80\x0e\x11\x10\x20\x01\x0d\xb8\x00\x00\x00\x00\x00\x00\x00\x00\x00\x00\x00\x01";
 
-const ROWS_OF_TEN: &[u8] = b"route,10.0.0.0/8,192.0.2.1\nchange,0,+,10.0.0.0/8,192.0.2.1\nanswer,10.1.2.3,192.0.2.1\nanswer,11.0.0.1,none\ntable,10.0.0.0/8,192.0.2.1\n";
+const ROWS_OF_TEN: &[u8] =
+    b"route,10.0.0.0/8,192.0.2.1\nchange,0,+,10.0.0.0/8,192.0.2.1\nanswer,10.1.2.3,192.0.2.1\nanswer,11.0.0.1,none\ntable,10.0.0.0/8,192.0.2.1\n";
 
-const ROWS_OF_BOTH: &[u8] = b"route,10.0.0.0/8,192.0.2.1\nroute,10.1.0.0/16,192.0.2.2\nchange,0,+,10.0.0.0/8,192.0.2.1\nchange,0,+,10.1.0.0/16,192.0.2.2\nanswer,10.1.2.3,192.0.2.2\nanswer,10.2.0.1,192.0.2.1\ntable,10.0.0.0/8,192.0.2.1\ntable,10.1.0.0/16,192.0.2.2\n";
+const ROWS_OF_BOTH: &[u8] =
+    b"route,10.0.0.0/8,192.0.2.1\nroute,10.1.0.0/16,192.0.2.2\nchange,0,+,10.0.0.0/8,192.0.2.1\nchange,0,+,10.1.0.0/16,192.0.2.2\nanswer,10.1.2.3,192.0.2.2\nanswer,10.2.0.1,192.0.2.1\ntable,10.0.0.0/8,192.0.2.1\ntable,10.1.0.0/16,192.0.2.2\n";
 
 /// What a run is given. Reads and writes are counted from 1, and 0 fails none.
 #[derive(Clone, Copy)]
@@ -138,7 +144,12 @@ fn rows_of_routes(rt: HostRuntime) -> Result<(), Fail> {
         asks: b"10.1.2.3\r\n\n10.2.0.1",
         ..FIRST
     };
-    check(&rt, "nested prefixes, out of order", &nested, &done(ROWS_OF_BOTH))
+    check(
+        &rt,
+        "nested prefixes, out of order",
+        &nested,
+        &done(ROWS_OF_BOTH),
+    )
 }
 
 #[test]
@@ -185,8 +196,18 @@ fn faults(rt: HostRuntime) -> Result<(), Fail> {
 #[test]
 fn inputs_that_are_not_built(rt: HostRuntime) -> Result<(), Fail> {
     let cases: [(Which, &[&[u8]], &[u8], &[u8]); 4] = [
-        (Which::Dump, &[PEERS, SIX], b"10.1.2.3\n", b"fib: not built dump\n"),
-        (Which::Dump, &[PEERS, TEN, TEN], b"10.1.2.3\n", b"fib: not built dump\n"),
+        (
+            Which::Dump,
+            &[PEERS, SIX],
+            b"10.1.2.3\n",
+            b"fib: not built dump\n",
+        ),
+        (
+            Which::Dump,
+            &[PEERS, TEN, TEN],
+            b"10.1.2.3\n",
+            b"fib: not built dump\n",
+        ),
         (Which::Dump, &[TEN], b"10.1.2.3\n", b"fib: not built dump\n"),
         // The dump isn't held, and isn't read.
         (Which::Asks, &[], b"::1\n", b"fib: not built asks\n"),
