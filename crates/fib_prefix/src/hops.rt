@@ -3,7 +3,7 @@
 //! Hops are numbered 1, 2, .. in the order in which they are first brought, and keep their number for good. They are kept
 //! in a hash set in that order: a hop's number is its place there from 1. Asking and numbering cost one look-up.
 
-ghost use Rattle.std.specs.Prelude.{◌≡◌, ◌+◌, ◌<◌, ◌≤◌, [], List, length, map, option_map, Some, None, IsOk, IsSome, IfOk, OnOk, OnErr, IsErrOf};
+ghost use Rattle.std.specs.Prelude.{◌≡◌, ◌↔◌, ◌+◌, ◌<◌, ◌≤◌, [], List, length, map, option_map, Some, None, IsOk, IsSome, IfOk, OnOk, OnErr, IsErrOf};
 ghost use Rattle.address_model.specs.Address.{Address};
 ghost use Rattle.fib_prefix.specs.Hops.{number_of, hop_at, with_hop};
 ghost use Rattle.fib_prefix.specs.Seen.{addr_as};
@@ -77,7 +77,7 @@ impl HopTable {
         ensures hops { OnOk result (self.new ≡ with_hop self.old (addr_as addr.now)) }
         ensures few { OnOk result (length self.new ≤ 65534) }
         ensures known { IsSome (number_of self.old (addr_as addr.now)) → IsOk result }
-        ensures full { IsErrOf result HopError.HopsFull → (length self.old ≡ 65534) × (number_of self.old (addr_as addr.now) ≡ None) }
+        ensures full { IsErrOf result HopError.HopsFull ↔ (length self.old ≡ 65534) × (number_of self.old (addr_as addr.now) ≡ None) }
         ensures err { OnErr result (self.new ≡ self.old) }
     {
         if let Some(hop) = self.find(addr) {

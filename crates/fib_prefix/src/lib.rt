@@ -18,3 +18,6 @@ pub use hops::{HopError, HopTable, MOST_HOPS};
 pub use laws::{order_law, text_law};
 pub use prefix::Prefix;
 pub use text::{MOST_TEXT, read_addr, write_addr, write_prefix};
+
+#[cfg(test)]
+mod tests;
