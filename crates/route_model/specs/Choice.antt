@@ -1,0 +1,94 @@
+-- The candidates of all peers, and the one that is chosen for each prefix.
+use Rattle.std.specs.Prelude.{ℕ, List, [], ◌∷◌, ◌++◌, Bool, not, ◌&&◌, ◌||◌, ◌==◌, nat_lt, map, filter, fold, Option, Some, None, if◌then◌else◌}
+use Rattle.std.specs.List.{list_any}
+use Rattle.std.specs.Map.{lookup, remove_entry}
+use Rattle.std.specs.BTreeMap.{insert_entry}
+use Rattle.std.specs.Ordering.{ordering_then, is_lt}
+use Rattle.std.specs.declared.cmp.Ordering.{Ordering}
+use Rattle.address_model.specs.Address.{Address, Prefix, same_prefix}
+use Rattle.address_model.specs.Order.{prefix_cmp}
+use Rattle.route_model.specs.Events.{Peer, same_peer, peer_cmp, Event, Announce, Withdraw, Down, Elem, Put, Cut}
+
+-- where a candidate stands: its prefix and its peer
+pub record Place : Type 0 where
+  pub prefix : Prefix
+  pub peer : Peer
+
+abbrev pub same_place : Place → Place → Bool
+same_place p q = same_prefix p.prefix q.prefix && same_peer p.peer q.peer
+
+-- by prefix, then by peer
+abbrev pub place_cmp : Place → Place → Ordering
+place_cmp p q = ordering_then (prefix_cmp p.prefix q.prefix) (peer_cmp p.peer q.peer)
+
+-- what a peer offers for a prefix: the length of its path and its next hop
+pub record Offer : Type 0 where
+  pub path : ℕ
+  pub hop : Address
+
+-- the candidates: at each place, in the order of places, what is offered there
+abbrev pub Candidates : Type 0
+Candidates = List (Place × Offer)
+
+-- A Put is the candidate of its prefix and peer from now on; after a Cut there is none.
+abbrev pub after_elem : Candidates → Elem → Candidates
+after_elem held (Put peer prefix path hop) = insert_entry place_cmp held (record { prefix = prefix; peer = peer }) (record { path = path; hop = hop })
+after_elem held (Cut peer prefix) = remove_entry (same_place (record { prefix = prefix; peer = peer })) held
+
+-- the candidates after elementary events
+abbrev pub after_elems : Candidates → List Elem → Candidates
+after_elems held elems = fold after_elem held elems
+
+-- ---- events as elementary events
+
+abbrev pub cut_of : Peer → Place × Offer → Elem
+cut_of peer c = Cut peer c.0.prefix
+
+-- An Announce is one Put, a Withdraw one Cut, and a Down one Cut for each prefix of which the peer has a candidate, in the order of prefixes.
+abbrev pub elems_of : Candidates → Event → List Elem
+elems_of held (Announce peer prefix path hop) = Put peer prefix path hop ∷ []
+elems_of held (Withdraw peer prefix) = Cut peer prefix ∷ []
+elems_of held (Down peer) = map (cut_of peer) (filter (λ c. same_peer peer c.0.peer) held)
+
+-- the elementary events of events, each after those before it
+unfoldable pub elems_after : Candidates → List Event → List Elem
+elems_after held [] = []
+elems_after held (event ∷ events) = elems_of held event ++ elems_after (after_elems held (elems_of held event)) events
+
+-- ---- choice
+
+-- whether the first of two candidates is better: a shorter path, or a lesser peer where the paths are equally long
+abbrev pub beats : Place × Offer → Place × Offer → Bool
+beats c d = nat_lt c.1.path d.1.path || (c.1.path == d.1.path && is_lt (peer_cmp c.0.peer d.0.peer))
+
+-- whether no candidate of its prefix beats it
+abbrev pub is_chosen : Candidates → Place × Offer → Bool
+is_chosen held c = not (list_any (λ d. same_prefix d.0.prefix c.0.prefix && beats d c) held)
+
+-- the chosen candidates, one for each prefix that has any, in the order of prefixes
+abbrev pub chosen_in : Candidates → Candidates
+chosen_in held = filter (is_chosen held) held
+
+-- the routes: each prefix that has a candidate, with the next hop of its chosen one
+abbrev pub routes_of : Candidates → List (Prefix × Address)
+routes_of held = map (λ c. (c.0.prefix, c.1.hop)) (chosen_in held)
+
+-- the next hop that is chosen for a prefix, if it has a candidate
+abbrev pub chosen_for : Candidates → Prefix → Option Address
+chosen_for held p = lookup (same_prefix p) (routes_of held)
+
+-- ---- the candidates, told by what was last said
+
+-- whether the elementary event is about this place
+abbrev pub is_about : Place → Elem → Bool
+is_about at (Put peer prefix path hop) = same_place at (record { prefix = prefix; peer = peer })
+is_about at (Cut peer prefix) = same_place at (record { prefix = prefix; peer = peer })
+
+-- what it offers there
+abbrev pub offered : Elem → Option Offer
+offered (Put peer prefix path hop) = Some (record { path = path; hop = hop })
+offered (Cut peer prefix) = None
+
+-- what the last of the elementary events about a place offers
+abbrev pub last_offer : Place → List Elem → Option Offer
+last_offer at elems = fold (λ offer elem. if is_about at elem then offered elem else offer) None elems
