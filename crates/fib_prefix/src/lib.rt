@@ -6,6 +6,7 @@
 
 mod addr;
 mod entry;
+mod event;
 mod hops;
 mod laws;
 mod prefix;
@@ -14,6 +15,7 @@ mod text;
 pub use addr::Addr;
 pub use address_model::Family;
 pub use entry::{Entry, Hop};
+pub use event::{Elem, Event, Peer};
 pub use hops::{HopError, HopTable, MOST_HOPS};
 pub use laws::{order_law, text_law};
 pub use prefix::Prefix;
