@@ -1,2 +1,9 @@
 pub mod Record
 pub mod Pieces
+pub mod Wire
+pub mod Path
+pub mod Attribute
+pub mod Rib
+pub mod Update
+pub mod Input
+pub mod Reading

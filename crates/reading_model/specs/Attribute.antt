@@ -1,0 +1,172 @@
+-- Attribute lists (RFC 4271, 4.3 and 5; RFC 4760, 3 and 4; RFC 6396, 4.3.4).
+use Rattle.std.specs.Prelude.{ℕ, zero, suc, List, [], ◌∷◌, length, take, Option, Some, None, unwrap_or, Result, Ok, Err, Bool, true, false, not, bit_and, ◌==◌, ◌||◌, ◌&&◌, if◌then◌else◌}
+use Rattle.address_model.specs.declared.family.Family.{Family}
+use Rattle.address_model.specs.declared.family.Family.TheVariants.{V4, V6}
+use Rattle.address_model.specs.Address.{Address, same_family}
+use Rattle.address_model.specs.Bits.{octet_bits}
+use Rattle.octet_fields.specs.Field.{◌>>=◌, refuse, octet_at, octets_at, number_at, until_end}
+use Rattle.reading_model.specs.declared.place.Place.{Place}
+use Rattle.reading_model.specs.declared.place.Place.TheVariants.{Rib, Update}
+use Rattle.reading_model.specs.Wire.{family_at, prefixes}
+use Rattle.reading_model.specs.Path.{as_size, path_of}
+
+-- what MP_REACH_NLRI gives: a next hop for the prefixes in these octets
+pub record Reached : Type 0 where
+  pub family : Family
+  pub hop : Address
+  pub nlri : List ℕ
+
+-- what MP_UNREACH_NLRI gives: the prefixes in these octets are withdrawn
+pub record Unreached : Type 0 where
+  pub family : Family
+  pub nlri : List ℕ
+
+-- what stood in an attribute list so far
+pub record Found : Type 0 where
+  pub path : Option ℕ
+  pub hop : Option Address
+  pub has_reach : Bool
+  pub reach : Option Reached
+  pub has_unreach : Bool
+  pub unreach : Option Unreached
+
+abbrev pub nothing : Found
+nothing = record { path = None; hop = None; has_reach = false; reach = None; has_unreach = false; unreach = None }
+
+-- ---- next hops
+
+-- 4 octets are an IPv4 address; of 16 or 32 the first 16 are an IPv6 address (RFC 2545, 3)
+abbrev pub hop_of : List ℕ → Address
+hop_of octets = if length octets == 4 then record { family = V4; bits = octet_bits octets } else record { family = V6; bits = octet_bits (take 16 octets) }
+
+abbrev pub is_hop_length : Family → ℕ → Bool
+is_hop_length V4 n = n == 4 || n == 16 || n == 32
+is_hop_length V6 n = n == 16 || n == 32
+
+-- Length of Next Hop, Next Hop (RFC 4760, 3)
+unfoldable pub next_hop_at : Family → List ℕ → Result (Address × List ℕ) ℕ
+next_hop_at family octets = do
+  len ← octet_at 10 octets
+  known ← refuse 10 (not (is_hop_length family len.0))
+  hop ← octets_at 10 len.0 len.1
+  Ok (hop_of hop.0, hop.1)
+
+-- ---- MP_REACH_NLRI of a RIB entry (RFC 6396, 4.3.4): AFI and SAFI stand before the next hop where its first octet is 0
+
+abbrev pub is_of : Family → Option Family → Bool
+is_of family None = false
+is_of family (Some other) = same_family family other
+
+unfoldable pub full_hop : Family → List ℕ → Result (Address × List ℕ) ℕ
+full_hop family value = do
+  other ← family_at value
+  known ← refuse 10 (not (is_of family other.0))
+  next_hop_at family other.1
+
+unfoldable pub rib_hop : Family → List ℕ → Result (Address × List ℕ) ℕ
+rib_hop family [] = Err 10
+rib_hop family (zero ∷ rest) = full_hop family (0 ∷ rest)
+rib_hop family (suc n ∷ rest) = next_hop_at family (suc n ∷ rest)
+
+-- what can't be read is passed over, as if there were no next hop
+abbrev pub reach_of_rib : Family → Result (Address × List ℕ) ℕ → Option Reached
+reach_of_rib family (Err rule) = None
+reach_of_rib family (Ok hop) = Some (record { family = family; hop = hop.0; nlri = [] })
+
+-- ---- the MP attributes of an UPDATE
+
+-- MP_REACH_NLRI (RFC 4760, 3): next hop, Reserved, NLRI to the end; another family is passed over
+unfoldable pub reach_in : Option Family → List ℕ → Result (Option Reached) ℕ
+reach_in None octets = Ok None
+reach_in (Some family) octets = do
+  hop ← next_hop_at family octets
+  reserved ← octet_at 10 hop.1
+  nlri ← prefixes 10 family reserved.1
+  Ok (Some (record { family = family; hop = hop.0; nlri = reserved.1 }))
+
+-- MP_UNREACH_NLRI (RFC 4760, 4): withdrawn routes to the end; another family is passed over
+unfoldable pub unreach_in : Option Family → List ℕ → Result (Option Unreached) ℕ
+unreach_in None octets = Ok None
+unreach_in (Some family) octets = do
+  nlri ← prefixes 10 family octets
+  Ok (Some (record { family = family; nlri = octets }))
+
+-- ---- the values, each as it changes what stood before it
+
+-- the AS numbers of a RIB entry have four octets
+abbrev pub is_wide : Place → Bool
+is_wide (Rib family) = true
+is_wide (Update wide) = wide
+
+-- of repeated attributes the first counts, and the others are unread
+abbrev pub keep_first : {A : Type 0} → Option A → Result A ℕ → Result (Option A) ℕ
+keep_first (Some x) read = Ok (Some x)
+keep_first None read = read >>= λ x. Ok (Some x)
+
+unfoldable pub with_path : Place → Found → List ℕ → Result Found ℕ
+with_path place found value = do
+  path ← keep_first found.path (path_of (as_size (is_wide place)) value)
+  Ok (record found { path = path })
+
+-- exactly four octets
+abbrev pub ipv4_in : List ℕ → Result Address ℕ
+ipv4_in value = if length value == 4 then Ok (record { family = V4; bits = octet_bits value }) else Err 10
+
+unfoldable pub with_hop : Found → List ℕ → Result Found ℕ
+with_hop found value = do
+  hop ← keep_first found.hop (ipv4_in value)
+  Ok (record found { hop = hop })
+
+unfoldable pub with_reach : Place → Found → List ℕ → Result Found ℕ
+with_reach (Rib family) found value = Ok (record found { has_reach = true; reach = reach_of_rib family (rib_hop family value) })
+with_reach (Update wide) found value = do
+  family ← family_at value
+  reach ← reach_in family.0 family.1
+  Ok (record found { has_reach = true; reach = reach })
+
+-- a RIB entry's list doesn't use it
+unfoldable pub with_unreach : Place → Found → List ℕ → Result Found ℕ
+with_unreach (Rib family) found value = Ok found
+with_unreach (Update wide) found value = do
+  family ← family_at value
+  unreach ← unreach_in family.0 family.1
+  Ok (record found { has_unreach = true; unreach = unreach })
+
+-- AS_PATH (2), NEXT_HOP (3), MP_REACH_NLRI (14), MP_UNREACH_NLRI (15); all others are passed over unread
+unfoldable pub with_value : Place → Found → ℕ → List ℕ → Result Found ℕ
+with_value place found kind value =
+    if kind == 2 then with_path place found value else (
+    if kind == 3 then with_hop found value else (
+    if kind == 14 then with_reach place found value else (
+    if kind == 15 then with_unreach place found value else Ok found)))
+
+-- ---- the list
+
+-- a second MP_REACH_NLRI, or a second MP_UNREACH_NLRI where the list uses it
+abbrev pub is_second : Found → ℕ → Bool
+is_second found kind = (found.has_reach && kind == 14) || (found.has_unreach && kind == 15)
+
+-- An attribute (RFC 4271, 4.3): flags, type, rule 11, a length of two octets where flag 16 is set and else of one, the value.
+unfoldable pub attribute_at : Place → Found → List ℕ → Result (Found × List ℕ) ℕ
+attribute_at place found octets = do
+  flags ← octet_at 9 octets
+  kind ← octet_at 9 flags.1
+  first ← refuse 11 (is_second found kind.0)
+  len ← number_at 9 (if bit_and flags.0 16 == 0 then 1 else 2) kind.1
+  value ← octets_at 9 len.0 len.1
+  next ← with_value place found kind.0 value.0
+  Ok (next, value.1)
+
+-- what a list as a whole gives; without AS_PATH the length is 0
+pub record Listed : Type 0 where
+  pub path : ℕ
+  pub hop : Option Address
+  pub reach : Option Reached
+  pub unreach : Option Unreached
+
+abbrev pub listed : Found → Listed
+listed found = record { path = unwrap_or found.path 0; hop = found.hop; reach = found.reach; unreach = found.unreach }
+
+-- attributes to the end
+unfoldable pub attributes : Place → List ℕ → Result Listed ℕ
+attributes place octets = until_end (attribute_at place) nothing octets >>= λ found. Ok (listed found)

@@ -1,0 +1,15 @@
+//! Where an attribute list stands.
+
+use address_model::Family;
+
+/// Where an attribute list stands, which decides how some of its attributes are read.
+#[derive(Clone, Copy, Debug, PartialEq, Eq)]
+pub enum Place {
+    /// In an entry of a RIB record of this family.
+    Rib(Family),
+    /// In an UPDATE.
+    Update {
+        /// Whether AS numbers have four octets, or else two.
+        wide: bool,
+    },
+}
