@@ -1,0 +1,77 @@
+-- The command line, as clap's definition of it.
+use Rattle.std.specs.Prelude.{◌≡◌, ℕ, codes, Option, Some, None, Result, Ok, Err, Bool, true, false, List, [], ◌∷◌, option_map, if◌then◌else◌}
+use Rattle.std.specs.Option.{option_and_then}
+use Rattle.std.specs.Str.{bytes_eq}
+use Rattle.clap.specs.declared.builder.Command.{Command}
+use Rattle.clap.specs.declared.builder.Command.TheViews.{out-Command}
+use Rattle.clap.specs.Words.{App, Row, Rule, Text, app_of, fault_of, first_of, new_app, new_rule, subcommand_of, with_rule, with_subcommand}
+use Rattle.fib_words.specs.declared.RunWords.{RunWords}
+use Rattle.fib_words.specs.declared.WordsError.{WordsError}
+use Rattle.fib_words.specs.declared.WordsError.TheVariants.{Usage, NoMemory}
+
+-- a word that has to be there
+abbrev pub word_rule : List ℕ → Rule
+word_rule id = record (new_rule id) { required = true }
+
+-- an option with a value
+abbrev pub option_rule : List ℕ → Rule
+option_rule id = record (new_rule id) { long = Some id }
+
+-- `run DUMP [--updates F] [--ask F]`
+abbrev pub run_app : App
+run_app = with_rule (with_rule (with_rule (new_app (codes "run")) (word_rule (codes "dump"))) (option_rule (codes "updates"))) (option_rule (codes "ask"))
+
+-- a command has to be there
+abbrev pub with_commands : App → App
+with_commands app = record { top = record app.top { subcommand_required = true }; subs = app.subs }
+
+-- `fib COMMAND`
+abbrev pub fib_app : App
+fib_app = with_subcommand (with_commands (new_app (codes "fib"))) run_app.top
+
+-- ---- what the words name
+
+-- the inputs of a run
+pub record Named : Type 0 where
+  pub dump : Text
+  pub updates : Option Text
+  pub asks : Option Text
+
+abbrev pub is_empty : {A : Type 0} → List A → Bool
+is_empty [] = true
+is_empty (x ∷ xs) = false
+
+-- whether clap's definition takes the words
+abbrev pub takes : List Text → Bool
+takes words = is_empty (fault_of fib_app words)
+
+abbrev pub named_in : List Row → Option Named
+named_in rows = option_map (λ dump. record { dump = dump; updates = first_of (codes "updates") rows; asks = first_of (codes "ask") rows }) (first_of (codes "dump") rows)
+
+abbrev pub run_in : Text × List Row → Option Named
+run_in entered = if bytes_eq entered.0 (codes "run") then named_in entered.1 else None
+
+-- the run that the words ask for, where the definition takes them
+unfoldable pub command_of : List Text → Option Named
+command_of words = if takes words then option_and_then run_in (subcommand_of fib_app words) else None
+
+-- ---- what a clause sees
+
+-- the names, without where they lie in memory
+abbrev pub named_as : RunWords → Named
+named_as run = record { dump = run.dump.now; updates = option_map (λ name. name.now) run.updates; asks = option_map (λ name. name.now) run.asks }
+
+-- what a reading of words returned is what the words ask for, unless memory ran out
+abbrev pub IsCommand : Result RunWords WordsError → Option Named → Type 0
+IsCommand (Ok run) asked = asked ≡ Some (named_as run)
+IsCommand (Err Usage) asked = asked ≡ None
+IsCommand (Err NoMemory) asked = Unit {0}
+
+-- no argument of the command is for its subcommands too
+abbrev pub IsLocal : Command → Type 0
+IsLocal c = (out-Command c).has_globals ≡ false
+
+-- the command is this one
+pub record HasApp (c : Command) (app : App) : Type 0 where
+  pub same : app_of c ≡ app
+  pub local : IsLocal c

@@ -1,0 +1,136 @@
+//! The words of the command line.
+//!
+//! The command line is defined by clap's builder, and clap takes exactly the words that its definition takes; all others are
+//! Usage, `help`, `--help` and `--version` among them. Names borrow from the words.
+#![tactic(auto)]
+
+ghost use Rattle.std.specs.Prelude.{◌≡◌, ◌≢◌, IfOk, map, option_map};
+ghost use Rattle.std.specs.String.{string_bytes};
+ghost use Rattle.clap.specs.Words.{app_of, found_of, rows_of, with_rule};
+ghost use Rattle.clap.specs.Values.{kind_of};
+ghost use Rattle.fib_words.specs.Commands.{command_of, fib_app, HasApp, IsCommand, IsLocal, named_as, named_in, option_rule, run_app, word_rule};
+ghost use Rattle.fib_words.specs.declared.WordsError.TheVariants.{NoMemory};
+
+use clap::error::ErrorKind;
+use clap::{Arg, ArgMatches, Command, Error};
+use std::alloc::{AllocError, Global};
+
+/// The inputs of a run, as the words name them.
+#[derive(Clone, Copy, Debug)]
+pub struct RunWords<'a> {
+    /// The dump.
+    pub dump: &'a str,
+    /// The updates, if there are any.
+    pub updates: Option<&'a str>,
+    /// The addresses that are asked for, if any are.
+    pub asks: Option<&'a str>,
+}
+
+/// Why the words gave no command.
+#[derive(Clone, Copy, Debug, PartialEq, Eq, thiserror::Error)]
+pub enum WordsError {
+    /// They aren't a command.
+    #[error("the words aren't a command")]
+    Usage,
+    /// Memory ran out.
+    #[error("no memory")]
+    NoMemory,
+}
+
+impl From<AllocError> for WordsError {
+    ghost from_gives = { λ _ e. e ≡ NoMemory };
+
+    fn from(_e: AllocError) -> WordsError {
+        WordsError::NoMemory
+    }
+}
+
+/// The command with one more option.
+fn with_option<'a>(
+    alloc: Global,
+    command: Command<'a>,
+    name: &'a str,
+) -> Result<Command<'a>, AllocError>
+    requires { IsLocal command }
+    ensures { IfOk result (λ c. HasApp c (with_rule (app_of command.entry) (option_rule name.entry.now))) }
+{
+    let option = Arg::new(alloc, name).long(name);
+    command.arg(option)
+}
+
+/// The command with one more word that has to be there.
+fn with_word<'a>(
+    alloc: Global,
+    command: Command<'a>,
+    name: &'a str,
+) -> Result<Command<'a>, AllocError>
+    requires { IsLocal command }
+    ensures { IfOk result (λ c. HasApp c (with_rule (app_of command.entry) (word_rule name.entry.now))) }
+{
+    let word = Arg::new(alloc, name).required(true);
+    command.arg(word)
+}
+
+/// `run DUMP [--updates F] [--ask F]`.
+fn run_command<'a>(alloc: Global) -> Result<Command<'a>, AllocError>
+    ensures { IfOk result (λ c. HasApp c run_app) }
+{
+    let command = with_word(alloc, Command::new(alloc, "run"), "dump")?;
+    let command = with_option(alloc, command, "updates")?;
+    with_option(alloc, command, "ask")
+}
+
+/// `fib COMMAND`.
+fn fib_command<'a>(alloc: Global) -> Result<Command<'a>, AllocError>
+    ensures { IfOk result (λ c. HasApp c fib_app) }
+{
+    let run = run_command(alloc)?;
+    Command::new(alloc, "fib")
+        .subcommand_required(true)
+        .subcommand(run)
+}
+
+/// The names in the matches of `run`.
+fn named<'a>(matches: &ArgMatches<'a>) -> Option<RunWords<'a>>
+    ensures { option_map named_as result ≡ named_in (rows_of (found_of matches.now)) }
+{
+    let dump = matches.get_str("dump")?;
+    Some(RunWords {
+        dump,
+        updates: matches.get_str("updates"),
+        asks: matches.get_str("ask"),
+    })
+}
+
+/// Why clap refused the words.
+fn why(error: &Error) -> WordsError
+    ensures { result ≡ WordsError.Usage → kind_of error.now ≢ ErrorKind.OutOfMemory }
+{
+    match error.kind() {
+        ErrorKind::OutOfMemory => WordsError::NoMemory,
+        _ => WordsError::Usage,
+    }
+}
+
+/// Reads the words of the command line, the program's name first.
+///
+/// `Usage` exactly where clap's definition of the command line doesn't take them.
+pub fn read_words<'a>(alloc: Global, words: &'a [String]) -> Result<RunWords<'a>, WordsError>
+    ensures { IsCommand result (command_of (map string_bytes words.now)) }
+{
+    let command: Command<'a> = fib_command(alloc)?;
+    let matches = match command.try_get_matches_from(words) {
+        Ok(matches) => matches,
+        Err(error) => return Err(why(&error)),
+    };
+    let Some(run) = matches.subcommand_matches("run") else {
+        return Err(WordsError::Usage);
+    };
+    match named(run) {
+        Some(names) => Ok(names),
+        None => Err(WordsError::Usage),
+    }
+}
+
+#[cfg(test)]
+mod tests;

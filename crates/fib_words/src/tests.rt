@@ -1,0 +1,69 @@
+//! Words and what they ask for.
+
+use super::*;
+use std::test::Fail;
+
+/// The words, and the names of the dump, the updates and the asks that they ask for, if they are a command.
+type Case<'a> = (
+    &'a [&'a str],
+    Option<(&'a str, Option<&'a str>, Option<&'a str>)>,
+);
+
+const CASES: [Case<'static>; 20] = [
+    (&["fib", "run", "D"], Some(("D", None, None))),
+    (
+        &["fib", "run", "D", "--ask", "A"],
+        Some(("D", None, Some("A"))),
+    ),
+    (
+        &["fib", "run", "D", "--ask=A"],
+        Some(("D", None, Some("A"))),
+    ),
+    (
+        &["fib", "run", "--ask", "A", "D"],
+        Some(("D", None, Some("A"))),
+    ),
+    (
+        &["any", "run", "D", "--updates", "U"],
+        Some(("D", Some("U"), None)),
+    ),
+    (
+        &["fib", "run", "--ask", "A", "--updates", "U", "D"],
+        Some(("D", Some("U"), Some("A"))),
+    ),
+    (&["fib", "run", "--", "-D"], Some(("-D", None, None))),
+    (&["fib", "run", "-"], Some(("-", None, None))),
+    (&["fib", "run", "help"], Some(("help", None, None))),
+    (&[], None),
+    (&["fib"], None),
+    (&["fib", "run"], None),
+    (&["fib", "run", "-D"], None),
+    (&["fib", "run", "D", "E"], None),
+    (&["fib", "run", "D", "--ask"], None),
+    (&["fib", "run", "D", "--ask", "A", "--ask", "A"], None),
+    (&["fib", "run", "D", "--direct", "19"], None),
+    (&["fib", "make", "0", "--seed", "1"], None),
+    (&["fib", "run", "--help"], None),
+    (&["fib", "help"], None),
+];
+
+/// The words, in memory.
+fn words_of(alloc: Global, texts: &[&str]) -> Result<Vec<String>, Fail> {
+    let mut words = Vec::new(alloc);
+    for text in texts {
+        words.push(String::from_str(alloc, text)?)?;
+    }
+    Ok(words)
+}
+
+#[test]
+fn takes_what_the_definition_takes(rt: HostRuntime) -> Result<(), Fail> {
+    let alloc = rt.alloc();
+    for (texts, expected) in CASES {
+        let words = words_of(alloc, texts)?;
+        let read = read_words(alloc, &words);
+        let names = read.map(|run| (run.dump, run.updates, run.asks));
+        assert_eq!(rt; names, expected.ok_or(WordsError::Usage));
+    }
+    Ok(())
+}
