@@ -70,25 +70,6 @@ fn writes_addresses_and_prefixes(rt: HostRuntime) {
 }
 
 #[test]
-fn contains_its_region_alone(rt: HostRuntime) {
-    let net = Prefix::new(&Addr::v4(0xc000_0201), 24);
-    for (bits, is_inside) in [
-        (0xc000_01ff, false),
-        (0xc000_0200, true),
-        (0xc000_02ff, true),
-        (0xc000_0300, false),
-    ] {
-        assert_eq!(rt; net.contains(&Addr::v4(bits)), is_inside, "{bits}");
-    }
-    let zero = Addr {
-        family: Family::V6,
-        bits: 0,
-    };
-    assert!(rt; Prefix::new(&zero, 0).contains(&zero));
-    assert!(rt; !Prefix::new(&Addr::v4(0), 0).contains(&zero));
-}
-
-#[test]
 fn numbers_hops_up_to_the_last(rt: HostRuntime) -> Result<(), Fail> {
     let mut hops = HopTable::new(rt.alloc());
     for (bits, number) in [(9, 1), (7, 2), (9, 1), (8, 3), (7, 2)] {

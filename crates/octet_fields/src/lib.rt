@@ -50,6 +50,3 @@ pub fn u32_at<E: Drop>(fault: E, bytes: &[u8]) -> Result<(u32, &[u8]), E>
     let (front, rest) = octets(fault, 4, bytes)?;
     Ok((BigEndian::read_u32(front), rest))
 }
-
-#[cfg(test)]
-mod tests;
