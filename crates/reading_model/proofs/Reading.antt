@@ -2,14 +2,14 @@
 use Rattle.std.proofs.Common.{◌≡◌, ℕ, ◌<◌, List, [], ◌++◌, length, Option, Result, Ok, Err, refl, sym, ap, ◌∙◌, append_assoc, append-nil, length-append, arith}
 use Rattle.route_model.specs.Events.{Peer, Event}
 use Rattle.octet_fields.specs.Field.{◌>>=◌, steps, until_end}
-use Rattle.reading_model.specs.Record.{Record, record_at, at_record}
-use Rattle.reading_model.specs.Input.{Progress, record_in, counted, read_record, input}
+use Rattle.reading_model.specs.Record.{Record, record_at}
+use Rattle.reading_model.specs.Input.{Progress, or_stop, record_in, counted, read_record, input}
 use Rattle.reading_model.specs.Reading.{ReadingStarts, ReadingFeeds, ReadingTakes, ReadingBreaks, ReadingTooLong, ReadingStays, ReadingEndsCut, ReadingEnds}
 use Rattle.reading_model.proofs.More.{Shortens, bind_ok, record_more, record_over, until_end_next, until_end_fault}
 
-numbered_ok : {A : Type 0} (n : ℕ) (r : Result A ℕ) (x : A) → at_record n r ≡ Ok x → r ≡ Ok x
-numbered_ok n (Ok y) x e = let same : y ≡ x = cc in ap (λ (z : _). Ok z) same
-numbered_ok n (Err f) x e = absurd cc
+went_on : {A : Type 0} (read : Progress) (r : Result A ℕ) (x : A) → or_stop read r ≡ Ok x → r ≡ Ok x
+went_on read (Ok y) x e = let same : y ≡ x = cc in ap (λ (z : _). Ok z) same
+went_on read (Err f) x e = absurd cc
 
 same_value : {A F : Type 0} (r : Result A F) (x y : A) → r ≡ Ok x → r ≡ Ok y → x ≡ y
 same_value r x y e h = let both : r ≡ Ok x = e in cc
@@ -18,11 +18,11 @@ takes : (read : Progress) (octets after : List ℕ) (r : Record) (told : Option 
 unfolding read_record
 takes read octets after r told e h = rw (e, h) refl
 
-breaks : (read : Progress) (octets after : List ℕ) (r : Record) (rule : ℕ) → record_at octets ≡ Ok (r, after) → record_in read.peers r ≡ Err rule → read_record read octets ≡ Err (record { number = read.records; rule = rule })
+breaks : (read : Progress) (octets after : List ℕ) (r : Record) (rule : ℕ) → record_at octets ≡ Ok (r, after) → record_in read.peers r ≡ Err rule → read_record read octets ≡ Err (record { read = read; rule = rule })
 unfolding read_record
 breaks read octets after r rule e h = rw (e, h) refl
 
-no_record : (read : Progress) (octets : List ℕ) (rule : ℕ) → record_at octets ≡ Err rule → read_record read octets ≡ Err (record { number = read.records; rule = rule })
+no_record : (read : Progress) (octets : List ℕ) (rule : ℕ) → record_at octets ≡ Err rule → read_record read octets ≡ Err (record { read = read; rule = rule })
 unfolding read_record
 no_record read octets rule e = rw e refl
 
@@ -30,7 +30,7 @@ shortens : Shortens read_record
 unfolding read_record
 shortens = record {
   by = λ read next octets after e.
-      let a = numbered_ok read.records (record_at octets >>= λ r. record_in read.peers r.0 >>= λ told. Ok (counted read told, r.1)) (next, after) e in
+      let a = went_on read (record_at octets >>= λ r. record_in read.peers r.0 >>= λ told. Ok (counted read told, r.1)) (next, after) e in
       let b = bind_ok (record_at octets) (λ r. record_in read.peers r.0 >>= λ told. Ok (counted read told, r.1)) (next, after) a in
       let c = bind_ok (record_in read.peers b.0.0) (λ told. Ok (counted read told, b.0.1)) (next, after) b.2 in
       let same = same_value _ (counted read c.0, b.0.1) (next, after) refl c.2 in
@@ -59,22 +59,22 @@ pub reading_breaks : ReadingBreaks
 reading_breaks fed left after read r rule t e h = record {
   whatever = λ more.
       let long = record_more left more r after e in
-      t.whatever more ∙ until_end_fault read_record read (left ++ more) (record { number = read.records; rule = rule }) (some_left left more r after e) (breaks read (left ++ more) (after ++ more) r rule long.0 h);
+      t.whatever more ∙ until_end_fault read_record read (left ++ more) (record { read = read; rule = rule }) (some_left left more r after e) (breaks read (left ++ more) (after ++ more) r rule long.0 h);
 }
 
 pub reading_too_long : ReadingTooLong
 reading_too_long fed left read t over = record {
   whatever = λ more.
       let long = record_over left more over in
-      t.whatever more ∙ until_end_fault read_record read (left ++ more) (record { number = read.records; rule = 3 }) (omega (arith, long.1, length-append left more)) (no_record read (left ++ more) 3 long.0);
+      t.whatever more ∙ until_end_fault read_record read (left ++ more) (record { read = read; rule = 3 }) (omega (arith, long.1, length-append left more)) (no_record read (left ++ more) 3 long.0);
 }
 
 pub reading_stays : ReadingStays
-reading_stays fed piece fault b = record { whatever = λ more. ap input (append_assoc fed piece more) ∙ b.whatever (piece ++ more) }
+reading_stays fed piece stopped b = record { whatever = λ more. ap input (append_assoc fed piece more) ∙ b.whatever (piece ++ more) }
 
 pub reading_ends_cut : ReadingEndsCut
 reading_ends_cut fed left read rule t some e =
-    ap input (sym (append-nil fed)) ∙ (t.whatever [] ∙ (ap (until_end read_record read) (append-nil left) ∙ until_end_fault read_record read left (record { number = read.records; rule = rule }) some (no_record read left rule e)))
+    ap input (sym (append-nil fed)) ∙ (t.whatever [] ∙ (ap (until_end read_record read) (append-nil left) ∙ until_end_fault read_record read left (record { read = read; rule = rule }) some (no_record read left rule e)))
 
 pub reading_ends : ReadingEnds
 unfolding steps

@@ -4,7 +4,7 @@ use Rattle.address_model.specs.declared.family.Family.{Family}
 use Rattle.address_model.specs.declared.family.Family.TheVariants.{V4, V6}
 use Rattle.route_model.specs.Events.{Peer, Event}
 use Rattle.octet_fields.specs.Field.{◌>>=◌, until_end}
-use Rattle.reading_model.specs.Record.{Record, Fault, record_at, at_record}
+use Rattle.reading_model.specs.Record.{Record, Fault, record_at}
 use Rattle.reading_model.specs.Rib.{peer_table, rib}
 use Rattle.reading_model.specs.Update.{bgp4mp}
 
@@ -43,10 +43,23 @@ abbrev pub counted : Progress → Option (List Peer) × Option (List Event) → 
 counted p (peers, Some events) = record { peers = peers; events = p.events ++ events; records = p.records + 1; skipped = p.skipped }
 counted p (peers, None) = record { peers = peers; events = p.events; records = p.records + 1; skipped = p.skipped + 1 }
 
--- one record more
-unfoldable pub read_record : Progress → List ℕ → Result (Progress × List ℕ) Fault
-read_record p octets = at_record p.records (record_at octets >>= λ r. record_in p.peers r.0 >>= λ told. Ok (counted p told, r.1))
+-- where reading stops: behind these records, since the next one breaks a rule
+pub record Stopped : Type 0 where
+  pub read : Progress
+  pub rule : ℕ
 
--- What a whole input says; or the first record that breaks a rule, and the rule of its first field that does.
-unfoldable pub input : List ℕ → Result Progress Fault
+-- the number of the record that breaks it, and the rule
+abbrev pub fault_of : Stopped → Fault
+fault_of stopped = record { number = stopped.read.records; rule = stopped.rule }
+
+abbrev pub or_stop : {A : Type 0} → Progress → Result A ℕ → Result A Stopped
+or_stop read (Ok x) = Ok x
+or_stop read (Err rule) = Err (record { read = read; rule = rule })
+
+-- one record more
+unfoldable pub read_record : Progress → List ℕ → Result (Progress × List ℕ) Stopped
+read_record read octets = or_stop read (record_at octets >>= λ r. record_in read.peers r.0 >>= λ told. Ok (counted read told, r.1))
+
+-- What a whole input says; or what the records before the first that breaks a rule say, and the rule of its first field that does.
+unfoldable pub input : List ℕ → Result Progress Stopped
 input octets = until_end read_record start octets

@@ -2,16 +2,16 @@
 use Rattle.std.specs.Prelude.{◌≡◌, ℕ, ◌<◌, List, [], ◌++◌, length, Option, Ok, Err}
 use Rattle.route_model.specs.Events.{Peer, Event}
 use Rattle.octet_fields.specs.Field.{until_end}
-use Rattle.reading_model.specs.Record.{Record, Fault, record_at}
-use Rattle.reading_model.specs.Input.{Progress, start, record_in, counted, read_record, input}
+use Rattle.reading_model.specs.Record.{Record, record_at}
+use Rattle.reading_model.specs.Input.{Progress, Stopped, start, record_in, counted, read_record, input}
 
 -- Of the octets fed this much was read, and the octets left follow, whatever comes after.
 pub record Reads (fed : List ℕ) (read : Progress) (left : List ℕ) : Type 0 where
   pub whatever : (more : List ℕ) → input (fed ++ more) ≡ until_end read_record read (left ++ more)
 
--- The octets fed break this rule, whatever comes after.
-pub record ReadsNo (fed : List ℕ) (fault : Fault) : Type 0 where
-  pub whatever : (more : List ℕ) → input (fed ++ more) ≡ Err fault
+-- Of the octets fed this much was read, and the next record breaks a rule, whatever comes after.
+pub record ReadsNo (fed : List ℕ) (stopped : Stopped) : Type 0 where
+  pub whatever : (more : List ℕ) → input (fed ++ more) ≡ Err stopped
 
 -- nothing was fed
 abbrev pub ReadingStarts : Type 0
@@ -27,19 +27,19 @@ ReadingTakes = (fed left after : List ℕ) (read : Progress) (r : Record) (told 
 
 -- a whole record breaks a rule
 abbrev pub ReadingBreaks : Type 0
-ReadingBreaks = (fed left after : List ℕ) (read : Progress) (r : Record) (rule : ℕ) → Reads fed read left → record_at left ≡ Ok (r, after) → record_in read.peers r ≡ Err rule → ReadsNo fed (record { number = read.records; rule = rule })
+ReadingBreaks = (fed left after : List ℕ) (read : Progress) (r : Record) (rule : ℕ) → Reads fed read left → record_at left ≡ Ok (r, after) → record_in read.peers r ≡ Err rule → ReadsNo fed (record { read = read; rule = rule })
 
 -- a Length over the limit stays refused
 abbrev pub ReadingTooLong : Type 0
-ReadingTooLong = (fed left : List ℕ) (read : Progress) → Reads fed read left → record_at left ≡ Err 3 → ReadsNo fed (record { number = read.records; rule = 3 })
+ReadingTooLong = (fed left : List ℕ) (read : Progress) → Reads fed read left → record_at left ≡ Err 3 → ReadsNo fed (record { read = read; rule = 3 })
 
 -- what is refused stays so where more is fed
 abbrev pub ReadingStays : Type 0
-ReadingStays = (fed piece : List ℕ) (fault : Fault) → ReadsNo fed fault → ReadsNo (fed ++ piece) fault
+ReadingStays = (fed piece : List ℕ) (stopped : Stopped) → ReadsNo fed stopped → ReadsNo (fed ++ piece) stopped
 
 -- what is left at the end is a header or a body that is cut
 abbrev pub ReadingEndsCut : Type 0
-ReadingEndsCut = (fed left : List ℕ) (read : Progress) (rule : ℕ) → Reads fed read left → 0 < length left → record_at left ≡ Err rule → input fed ≡ Err (record { number = read.records; rule = rule })
+ReadingEndsCut = (fed left : List ℕ) (read : Progress) (rule : ℕ) → Reads fed read left → 0 < length left → record_at left ≡ Err rule → input fed ≡ Err (record { read = read; rule = rule })
 
 -- at the end nothing may be left
 abbrev pub ReadingEnds : Type 0

@@ -5,8 +5,12 @@
 
 mod place;
 
+ghost use Rattle.std.specs.Prelude.{◌≡◌, ℕ, List, Ok, Err};
+ghost use Rattle.std.specs.List.{AllByRecursion};
+ghost use Rattle.route_model.specs.Events.{IsEvent};
+ghost use Rattle.reading_model.specs.Input.{Progress, Stopped, input};
 ghost use Rattle.reading_model.specs.Pieces.{StartsSo, FeedsOn, TakesOn, StaysTooLong, StaysBroken, EndsCut, EndsSo, KeepsFront};
-ghost use Rattle.reading_model.specs.Reading.{ReadingStarts, ReadingFeeds, ReadingTakes, ReadingBreaks, ReadingTooLong, ReadingStays, ReadingEndsCut, ReadingEnds};
+ghost use Rattle.reading_model.specs.Reading.{Reads, ReadingStarts, ReadingFeeds, ReadingTakes, ReadingBreaks, ReadingTooLong, ReadingStays, ReadingEndsCut, ReadingEnds};
 
 pub use place::Place;
 
@@ -32,4 +36,11 @@ pub fn reading_in_pieces()
     ensures stays { ReadingStays }
     ensures ends_cut { ReadingEndsCut }
     ensures ends { ReadingEnds }
+{}
+
+/// What is read are events of peers, prefixes and next hops that there are, also where reading stops or goes on.
+pub fn events_law()
+    ensures read { (octets : List ℕ) (read : Progress) → input octets ≡ Ok read → AllByRecursion IsEvent read.events }
+    ensures stopped { (octets : List ℕ) (stopped : Stopped) → input octets ≡ Err stopped → AllByRecursion IsEvent stopped.read.events }
+    ensures so_far { (fed left : List ℕ) (read : Progress) → Reads fed read left → AllByRecursion IsEvent read.events }
 {}

@@ -1,18 +1,23 @@
 -- The candidates of all peers, and the one that is chosen for each prefix.
-use Rattle.std.specs.Prelude.{ℕ, List, [], ◌∷◌, ◌++◌, Bool, not, ◌&&◌, ◌||◌, ◌==◌, nat_lt, map, filter, fold, Option, Some, None, if◌then◌else◌}
-use Rattle.std.specs.List.{list_any}
-use Rattle.std.specs.Map.{lookup, remove_entry}
+use Rattle.std.specs.Prelude.{◌≡◌, ℕ, List, [], ◌∷◌, ◌++◌, Bool, not, ◌&&◌, map, filter, fold, Option, Some, None, if◌then◌else◌}
+use Rattle.std.specs.List.{list_any, AllByRecursion}
+use Rattle.std.specs.List.Sorted.{IsStrictlySortedBy}
+use Rattle.std.specs.Map.{lookup, keys_of, remove_entry}
 use Rattle.std.specs.BTreeMap.{insert_entry}
-use Rattle.std.specs.Ordering.{ordering_then, is_lt}
+use Rattle.std.specs.Ordering.{nat_cmp, ordering_then, is_lt}
 use Rattle.std.specs.declared.cmp.Ordering.{Ordering}
-use Rattle.address_model.specs.Address.{Address, Prefix, same_prefix}
+use Rattle.address_model.specs.Address.{Address, Prefix, IsPrefix, same_prefix}
 use Rattle.address_model.specs.Order.{prefix_cmp}
-use Rattle.route_model.specs.Events.{Peer, same_peer, peer_cmp, Event, Announce, Withdraw, Down, Elem, Put, Cut}
+use Rattle.route_model.specs.Events.{Peer, IsPeer, same_peer, peer_cmp, Event, Announce, Withdraw, Down, Elem, Put, Cut}
 
 -- where a candidate stands: its prefix and its peer
 pub record Place : Type 0 where
   pub prefix : Prefix
   pub peer : Peer
+
+-- a place that there is: its prefix is one, and its peer has an address
+abbrev pub IsPlace : Place → Type 0
+IsPlace p = IsPrefix p.prefix × IsPeer p.peer
 
 abbrev pub same_place : Place → Place → Bool
 same_place p q = same_prefix p.prefix q.prefix && same_peer p.peer q.peer
@@ -29,6 +34,14 @@ pub record Offer : Type 0 where
 -- the candidates: at each place, in the order of places, what is offered there
 abbrev pub Candidates : Type 0
 Candidates = List (Place × Offer)
+
+-- what candidates always are: at places that there are, in strict order of places
+abbrev pub AreCandidates : Candidates → Type 0
+AreCandidates held = AllByRecursion IsPlace (keys_of held) × IsStrictlySortedBy place_cmp (keys_of held)
+
+-- the candidate is held
+abbrev pub IsHeld : Candidates → Place × Offer → Type 0
+IsHeld held c = lookup (same_place c.0) held ≡ Some c.1
 
 -- A Put is the candidate of its prefix and peer from now on; after a Cut there is none.
 abbrev pub after_elem : Candidates → Elem → Candidates
@@ -57,9 +70,13 @@ elems_after held (event ∷ events) = elems_of held event ++ elems_after (after_
 
 -- ---- choice
 
+-- by the length of the path, then by the peer
+abbrev pub choice_cmp : Place × Offer → Place × Offer → Ordering
+choice_cmp c d = ordering_then (nat_cmp c.1.path d.1.path) (peer_cmp c.0.peer d.0.peer)
+
 -- whether the first of two candidates is better: a shorter path, or a lesser peer where the paths are equally long
 abbrev pub beats : Place × Offer → Place × Offer → Bool
-beats c d = nat_lt c.1.path d.1.path || (c.1.path == d.1.path && is_lt (peer_cmp c.0.peer d.0.peer))
+beats c d = is_lt (choice_cmp c d)
 
 -- whether no candidate of its prefix beats it
 abbrev pub is_chosen : Candidates → Place × Offer → Bool
@@ -68,6 +85,10 @@ is_chosen held c = not (list_any (λ d. same_prefix d.0.prefix c.0.prefix && bea
 -- the chosen candidates, one for each prefix that has any, in the order of prefixes
 abbrev pub chosen_in : Candidates → Candidates
 chosen_in held = filter (is_chosen held) held
+
+-- the candidate is chosen
+abbrev pub IsChosen : Candidates → Place × Offer → Type 0
+IsChosen held c = IsHeld (chosen_in held) c
 
 -- the routes: each prefix that has a candidate, with the next hop of its chosen one
 abbrev pub routes_of : Candidates → List (Prefix × Address)
@@ -78,6 +99,11 @@ abbrev pub chosen_for : Candidates → Prefix → Option Address
 chosen_for held p = lookup (same_prefix p) (routes_of held)
 
 -- ---- the candidates, told by what was last said
+
+-- the elementary event is about a place that there is
+abbrev pub IsElem : Elem → Type 0
+IsElem (Put peer prefix path hop) = IsPlace (record { prefix = prefix; peer = peer })
+IsElem (Cut peer prefix) = IsPlace (record { prefix = prefix; peer = peer })
 
 -- whether the elementary event is about this place
 abbrev pub is_about : Place → Elem → Bool

@@ -1,8 +1,8 @@
 -- What a feed of routes says, event by event.
-use Rattle.std.specs.Prelude.{ℕ, List, ◌&&◌, ◌==◌, Bool}
+use Rattle.std.specs.Prelude.{ℕ, ◌&&◌, ◌==◌, Bool}
 use Rattle.std.specs.Ordering.{nat_cmp, ordering_then}
 use Rattle.std.specs.declared.cmp.Ordering.{Ordering}
-use Rattle.address_model.specs.Address.{Address, Prefix, same_address}
+use Rattle.address_model.specs.Address.{Address, Prefix, IsAddress, IsPrefix, same_address}
 use Rattle.address_model.specs.Bits.{value_of}
 use Rattle.address_model.specs.Order.{family_cmp}
 
@@ -10,6 +10,9 @@ use Rattle.address_model.specs.Order.{family_cmp}
 pub record Peer : Type 0 where
   pub addr : Address
   pub asn : ℕ
+
+abbrev pub IsPeer : Peer → Type 0
+IsPeer q = IsAddress q.addr
 
 abbrev pub same_peer : Peer → Peer → Bool
 same_peer q r = same_address q.addr r.addr && q.asn == r.asn
@@ -24,7 +27,18 @@ pub data Event : Type 0 where
   Withdraw : Peer → Prefix → Event
   Down : Peer → Event
 
+-- the event is of a peer, a prefix and a next hop that there are
+abbrev pub IsEvent : Event → Type 0
+IsEvent (Announce peer prefix path hop) = IsPeer peer × IsPrefix prefix × IsAddress hop
+IsEvent (Withdraw peer prefix) = IsPeer peer × IsPrefix prefix
+IsEvent (Down peer) = IsPeer peer
+
 -- what is said of one prefix and one peer
 pub data Elem : Type 0 where
   Put : Peer → Prefix → ℕ → Address → Elem
   Cut : Peer → Prefix → Elem
+
+-- the prefix that an elementary event is about
+abbrev pub prefix_of : Elem → Prefix
+prefix_of (Put peer prefix path hop) = prefix
+prefix_of (Cut peer prefix) = prefix

@@ -101,3 +101,12 @@ none_above (e ∷ L) = (tt, none_above L)
 -- the sum of additions in order is the table that they add
 pub sum_of-additions : (L : Entries) → IsStrictlySortedBy prefix_cmp (keys_of L) → sum_of (additions L) ≡ Some L
 sum_of-additions L s = added L [] s (none_above L)
+
+placed : (L T : Entries) → IsStrictlySortedBy prefix_cmp (keys_of L) → AreAbove L T → fold with_entry T L ≡ T ++ L
+unfolding IsStrictlySortedBy
+placed [] T s a = sym (append-nil T)
+placed (e ∷ L) T s a = ap (λ t. fold with_entry t L) (at_the_end e.0 e.1 T a.0) ∙ (placed L (T ++ (e ∷ [])) s.1 (above_more L T e a.1 s.0) ∙ append_assoc T (e ∷ []) L)
+
+-- entries in order, put in order, are these entries
+pub in_order_again : (L : Entries) → IsStrictlySortedBy prefix_cmp (keys_of L) → in_order L ≡ L
+in_order_again L s = placed L [] s (none_above L)

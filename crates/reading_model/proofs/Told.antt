@@ -1,0 +1,451 @@
+-- What is read is of peers, prefixes and next hops that there are.
+use Rattle.std.proofs.Common.{◌≡◌, ℕ, zero, suc, ◌*◌, ◌≤◌, Bool, true, false, List, [], ◌∷◌, ◌++◌, length, take, drop, Option, Some, None, Result, Ok, Err, refl, sym, ap, subst, ◌∙◌, arith, append_assoc, append-nil, length-append}
+use Rattle.std.specs.Prelude.{nat_lt, slice_get, not, ◌==◌, if◌then◌else◌, IfOk, IfSome, MatchResult}
+use Rattle.std.specs.List.{AllByRecursion}
+use Rattle.std.proofs.lemmas.Bool.{ltb-false, eqb-true}
+use Rattle.std.proofs.lemmas.List.{length-take-le}
+use Rattle.address_model.specs.declared.family.Family.{Family}
+use Rattle.address_model.specs.declared.family.Family.TheVariants.{V4, V6}
+use Rattle.address_model.specs.Address.{Address, Prefix, IsAddress, IsPrefix}
+use Rattle.address_model.specs.Bits.{bits_of, octet_bits}
+use Rattle.address_model.specs.Width.{width}
+use Rattle.address_model.proofs.BitLaws.{length-bits_of}
+use Rattle.route_model.specs.Events.{Peer, IsPeer, Event, Down, IsEvent}
+use Rattle.route_model.proofs.Elems.{all_more}
+use Rattle.octet_fields.specs.Field.{◌>>=◌, refuse, octet_at, octets_at, number_at, all_read, one_more, times, steps, until_end}
+use Rattle.reading_model.specs.declared.place.Place.{Place}
+use Rattle.reading_model.specs.declared.place.Place.TheVariants.{Rib, Update}
+use Rattle.reading_model.specs.Wire.{octets_for, address_at, prefix_at, prefixes, family_of, family_at}
+use Rattle.reading_model.specs.Attribute.{Reached, Unreached, Found, nothing, hop_of, is_hop_length, next_hop_at, is_of, full_hop, rib_hop, reach_of_rib, reach_in, unreach_in, keep_first, with_path, ipv4_in, with_hop, with_reach, with_unreach, with_value, is_second, attribute_at, Listed, attributes}
+use Rattle.reading_model.specs.Rib.{peer_at, peer_table, entry_hop, event_of, indexed, entry_at, rib}
+use Rattle.reading_model.specs.Update.{withdrawn, routes, unreach_events, reach_events, update, message, is_lost, state_change, is_change, is_wide_sub, session, bgp4mp}
+use Rattle.reading_model.specs.Record.{Record, record_at}
+use Rattle.reading_model.specs.Input.{Progress, Stopped, start, rib_behind, is_dump, is_session, record_in, counted, or_stop, read_record, input}
+use Rattle.reading_model.specs.Reading.{Reads}
+
+-- ---- what a reader's value meets
+
+then_any : {A B F : Type 0} (r : Result A F) (f : A → Result B F) (Q : B → Type 0) → ((x : A) → IfOk (f x) Q) → IfOk (r >>= f) Q
+then_any (Ok x) f Q h = h x
+then_any (Err e) f Q h = tt
+
+then_meets : {A B F : Type 0} (r : Result A F) (f : A → Result B F) (P : A → Type 0) (Q : B → Type 0) → IfOk r P → ((x : A) → P x → IfOk (f x) Q) → IfOk (r >>= f) Q
+then_meets (Ok x) f P Q p h = h x p
+then_meets (Err e) f P Q p h = tt
+
+refuse_meets : {F : Type 0} (fault : F) (b : Bool) → IfOk (refuse fault b) (λ x. b ≡ false)
+refuse_meets fault true = tt
+refuse_meets fault false = refl
+
+octets_meet : {F : Type 0} (fault : F) (n : ℕ) (octets : List ℕ) → IfOk (octets_at fault n octets) (λ x. length x.0 ≡ n)
+octets_meet {F = F} fault n octets = by_test (nat_lt (length octets) n) refl
+  where
+    by_test : (b : Bool) → nat_lt (length octets) n ≡ b → IfOk {T = List ℕ × List ℕ} {E = F} (if b then Err fault else Ok (take n octets, drop n octets)) (λ x. length x.0 ≡ n)
+    by_test true t = tt
+    by_test false t = length-take-le n octets (ltb-false (length octets) n t)
+
+all_read_meets : {A F : Type 0} (fault : F) (P : A → Type 0) (x : A × List ℕ) → P x.0 → IfOk (all_read fault x) P
+all_read_meets {F = F} fault P x p = by_test (length x.1 == 0)
+  where
+    by_test : (b : Bool) → IfOk {E = F} (if b then Ok x.0 else Err fault) P
+    by_test true = p
+    by_test false = tt
+
+all_front : {X : Type 0} (P : X → Type 0) (xs ys : List X) → AllByRecursion P (xs ++ ys) → AllByRecursion P xs
+all_front P [] ys a = tt
+all_front P (x ∷ xs) ys a = (a.0, all_front P xs ys a.1)
+
+one_more_meets : {A F : Type 0} (item : List ℕ → Result (A × List ℕ) F) (P : A → Type 0) → ((octets : List ℕ) → IfOk (item octets) (λ x. P x.0)) → (front : List A) (octets : List ℕ) → AllByRecursion P front → IfOk (one_more item front octets) (λ x. AllByRecursion P x.0)
+one_more_meets item P h front octets a = then_meets (item octets) _ (λ x. P x.0) _ (h octets) (λ x p. all_more P front (x.0 ∷ []) a (p, tt))
+
+-- what a step keeps, steps keep
+steps_meet : {S F : Type 0} (step : S → List ℕ → Result (S × List ℕ) F) (P : S → Type 0) (Q : F → Type 0) → ((s : S) (octets : List ℕ) → P s → MatchResult (step s octets) (λ x. P x.0) Q) → (n : ℕ) (s : S) (octets : List ℕ) → P s → MatchResult (steps step n s octets) P Q
+unfolding steps
+steps_meet step P Q h n s [] p = p
+steps_meet step P Q h zero s (b ∷ octets) p = p
+steps_meet {S = S} {F = F} step P Q h (suc n) s (b ∷ octets) p = by_step (step s (b ∷ octets)) (h s (b ∷ octets) p) (steps_meet step P Q h n)
+  where
+    by_step : (r : Result (S × List ℕ) F) → MatchResult r (λ x. P x.0) Q → ((s : S) (octets : List ℕ) → P s → MatchResult (steps step n s octets) P Q) → MatchResult (r >>= λ x. steps step n x.0 x.1) P Q
+    by_step (Ok x) p ih = ih x.0 x.1 p
+    by_step (Err e) q ih = q
+
+until_end_meets : {S F : Type 0} (step : S → List ℕ → Result (S × List ℕ) F) (P : S → Type 0) → ((s : S) (octets : List ℕ) → P s → IfOk (step s octets) (λ x. P x.0)) → (s : S) (octets : List ℕ) → P s → IfOk (until_end step s octets) P
+until_end_meets step P h s octets p = steps_meet step P _ h (length octets) s octets p
+
+times_meet : {S F : Type 0} (step : S → List ℕ → Result (S × List ℕ) F) (P : S → Type 0) → ((s : S) (octets : List ℕ) → P s → IfOk (step s octets) (λ x. P x.0)) → (n : ℕ) (s : S) (octets : List ℕ) → P s → IfOk (times step n s octets) (λ x. P x.0)
+unfolding times
+times_meet step P h zero s octets p = p
+times_meet step P h (suc n) s octets p = then_meets (step s octets) (λ x. times step n x.0 x.1) (λ x. P x.0) _ (h s octets p) (λ x q. times_meet step P h n x.0 x.1 q)
+
+-- ---- addresses and prefixes
+
+length-octet_bits : (octets : List ℕ) → length (octet_bits octets) ≡ 8 * length octets
+unfolding octet_bits
+length-octet_bits [] = refl
+length-octet_bits (b ∷ octets) = omega (arith, length-append (bits_of 8 b) (octet_bits octets), length-bits_of 8 b, length-octet_bits octets)
+
+whole : (family : Family) → 8 * octets_for (width family) ≡ width family
+whole V4 = refl
+whole V6 = refl
+
+address_meets : (cut : ℕ) (family : Family) (octets : List ℕ) → IfOk (address_at cut family octets) (λ x. IsAddress x.0)
+unfolding address_at
+address_meets cut family octets =
+    then_meets (octets_at cut (octets_for (width family)) octets) _ (λ x. length x.0 ≡ octets_for (width family)) _ (octets_meet cut (octets_for (width family)) octets)
+    (λ front e. length-octet_bits front.0 ∙ (ap (λ n. 8 * n) e ∙ whole family))
+
+length-take-at_most : {X : Type 0} (n : ℕ) (xs : List X) → length (take n xs) ≤ n
+length-take-at_most zero xs = omega arith
+length-take-at_most (suc n) [] = omega arith
+length-take-at_most (suc n) (x ∷ xs) = omega (arith, length-take-at_most n xs)
+
+prefix_meets : (cut : ℕ) (family : Family) (octets : List ℕ) → IfOk (prefix_at cut family octets) (λ x. IsPrefix x.0)
+unfolding prefix_at
+prefix_meets cut family octets =
+    then_any (octet_at cut octets) _ _ (λ len.
+    then_meets (refuse 6 (nat_lt (width family) len.0)) _ (λ x. nat_lt (width family) len.0 ≡ false) _ (refuse_meets 6 (nat_lt (width family) len.0)) (λ short e.
+    then_any (octets_at cut (octets_for len.0) len.1) _ _ (λ front.
+    let le : len.0 ≤ width family = ltb-false (width family) len.0 e in
+    omega (arith, le, length-take-at_most len.0 (octet_bits front.0)))))
+
+prefixes_meet : (cut : ℕ) (family : Family) (octets : List ℕ) → IfOk (prefixes cut family octets) (AllByRecursion IsPrefix)
+unfolding prefixes
+prefixes_meet cut family octets =
+    until_end_meets (one_more (prefix_at cut family)) (AllByRecursion IsPrefix) (one_more_meets (prefix_at cut family) IsPrefix (prefix_meets cut family)) [] octets tt
+
+-- ---- attributes
+
+-- a length of 16 or 32, where it isn't 4
+long_v4 : (n : ℕ) → is_hop_length V4 n ≡ true → (n == 4) ≡ false → 16 ≤ n
+long_v4 n h e = grind arith
+
+long_v6 : (n : ℕ) → is_hop_length V6 n ≡ true → 16 ≤ n
+long_v6 n h = grind arith
+
+long_hop : (family : Family) (n : ℕ) → is_hop_length family n ≡ true → (n == 4) ≡ false → 16 ≤ n
+long_hop V4 n h e = long_v4 n h e
+long_hop V6 n h e = long_v6 n h
+
+hop_meets : (family : Family) (octets : List ℕ) → is_hop_length family (length octets) ≡ true → IsAddress (hop_of octets)
+hop_meets family octets h = by_test (length octets == 4) refl
+  where
+    by_test : (b : Bool) → (length octets == 4) ≡ b → IsAddress (if b then record { family = V4; bits = octet_bits octets } else record { family = V6; bits = octet_bits (take 16 octets) })
+    by_test true e = let four : length octets ≡ 4 = eqb-true (length octets) 4 e in omega (arith, four, length-octet_bits octets)
+    by_test false e = omega (arith, length-octet_bits (take 16 octets), length-take-le 16 octets (long_hop family (length octets) h e))
+
+unrefused : (b : Bool) → not b ≡ false → b ≡ true
+unrefused true e = refl
+unrefused false e = absurd cc
+
+next_hop_meets : (family : Family) (octets : List ℕ) → IfOk (next_hop_at family octets) (λ x. IsAddress x.0)
+unfolding next_hop_at
+next_hop_meets family octets =
+    then_any (octet_at 10 octets) _ _ (λ len.
+    then_meets (refuse 10 (not (is_hop_length family len.0))) _ (λ x. not (is_hop_length family len.0) ≡ false) _ (refuse_meets 10 (not (is_hop_length family len.0))) (λ known e.
+    then_meets (octets_at 10 len.0 len.1) _ (λ x. length x.0 ≡ len.0) _ (octets_meet 10 len.0 len.1) (λ hop l.
+    hop_meets family hop.0 (ap (is_hop_length family) l ∙ unrefused (is_hop_length family len.0) e))))
+
+full_hop_meets : (family : Family) (value : List ℕ) → IfOk (full_hop family value) (λ x. IsAddress x.0)
+unfolding full_hop
+full_hop_meets family value = then_any (family_at value) _ _ (λ other. then_any (refuse {F = ℕ} 10 (not (is_of family other.0))) _ _ (λ known. next_hop_meets family other.1))
+
+rib_hop_meets : (family : Family) (value : List ℕ) → IfOk (rib_hop family value) (λ x. IsAddress x.0)
+unfolding rib_hop
+rib_hop_meets family [] = tt
+rib_hop_meets family (zero ∷ rest) = full_hop_meets family (0 ∷ rest)
+rib_hop_meets family (suc n ∷ rest) = next_hop_meets family (suc n ∷ rest)
+
+abbrev IsReached : Reached → Type 0
+IsReached reach = IsAddress reach.hop
+
+reach_of_rib_meets : (family : Family) (hop : Result (Address × List ℕ) ℕ) → IfOk hop (λ x. IsAddress x.0) → IfSome (reach_of_rib family hop) IsReached
+reach_of_rib_meets family (Ok hop) h = h
+reach_of_rib_meets family (Err rule) h = tt
+
+reach_in_meets : (family : Option Family) (octets : List ℕ) → IfOk (reach_in family octets) (λ x. IfSome x IsReached)
+unfolding reach_in
+reach_in_meets None octets = tt
+reach_in_meets (Some family) octets =
+    then_meets (next_hop_at family octets) _ (λ x. IsAddress x.0) _ (next_hop_meets family octets) (λ hop h.
+    then_any (octet_at 10 hop.1) _ _ (λ reserved.
+    then_any (prefixes 10 family reserved.1) _ _ (λ nlri. h)))
+
+-- what stood in a list so far has next hops that are addresses
+abbrev IsFound : Found → Type 0
+IsFound found = IfSome found.hop IsAddress × IfSome found.reach IsReached
+
+keep_first_meets : {A : Type 0} (P : A → Type 0) (old : Option A) (read : Result A ℕ) → IfSome old P → IfOk read P → IfOk (keep_first old read) (λ x. IfSome x P)
+keep_first_meets P (Some x) read p r = p
+keep_first_meets P None read p r = then_meets read _ P _ r (λ x q. q)
+
+ipv4_meets : (value : List ℕ) → IfOk (ipv4_in value) IsAddress
+ipv4_meets value = by_test (length value == 4) refl
+  where
+    by_test : (b : Bool) → (length value == 4) ≡ b → IfOk {E = ℕ} (if b then Ok (record { family = V4; bits = octet_bits value }) else Err 10) IsAddress
+    by_test true e = let four : length value ≡ 4 = eqb-true (length value) 4 e in omega (arith, four, length-octet_bits value)
+    by_test false e = tt
+
+with_path_meets : (place : Place) (found : Found) (value : List ℕ) → IsFound found → IfOk (with_path place found value) IsFound
+unfolding with_path
+with_path_meets place found value h = then_any (keep_first found.path _) _ _ (λ path. h)
+
+with_hop_meets : (found : Found) (value : List ℕ) → IsFound found → IfOk (with_hop found value) IsFound
+unfolding with_hop
+with_hop_meets found value h = then_meets (keep_first found.hop (ipv4_in value)) _ (λ x. IfSome x IsAddress) _ (keep_first_meets IsAddress found.hop (ipv4_in value) h.0 (ipv4_meets value)) (λ hop p. (p, h.1))
+
+with_reach_meets : (place : Place) (found : Found) (value : List ℕ) → IsFound found → IfOk (with_reach place found value) IsFound
+unfolding with_reach
+with_reach_meets (Rib family) found value h = (h.0, reach_of_rib_meets family (rib_hop family value) (rib_hop_meets family value))
+with_reach_meets (Update wide) found value h =
+    then_any (family_at value) _ _ (λ family.
+    then_meets (reach_in family.0 family.1) _ (λ x. IfSome x IsReached) _ (reach_in_meets family.0 family.1) (λ reach p. (h.0, p)))
+
+with_unreach_meets : (place : Place) (found : Found) (value : List ℕ) → IsFound found → IfOk (with_unreach place found value) IsFound
+unfolding with_unreach
+with_unreach_meets (Rib family) found value h = h
+with_unreach_meets (Update wide) found value h = then_any (family_at value) _ _ (λ family. then_any (unreach_in family.0 family.1) _ _ (λ unreach. h))
+
+either : {A F : Type 0} (b : Bool) (r s : Result A F) (P : A → Type 0) → IfOk r P → IfOk s P → IfOk (if b then r else s) P
+either true r s P p q = p
+either false r s P p q = q
+
+with_value_meets : (place : Place) (found : Found) (kind : ℕ) (value : List ℕ) → IsFound found → IfOk (with_value place found kind value) IsFound
+unfolding with_value
+with_value_meets place found kind value h =
+    either (kind == 2) _ _ _ (with_path_meets place found value h)
+    (either (kind == 3) _ _ _ (with_hop_meets found value h)
+    (either (kind == 14) _ _ _ (with_reach_meets place found value h)
+    (either (kind == 15) _ _ _ (with_unreach_meets place found value h) h)))
+
+attribute_meets : (place : Place) (found : Found) (octets : List ℕ) → IsFound found → IfOk (attribute_at place found octets) (λ x. IsFound x.0)
+unfolding attribute_at
+attribute_meets place found octets h =
+    then_any (octet_at 9 octets) _ _ (λ flags.
+    then_any (octet_at 9 flags.1) _ _ (λ kind.
+    then_any (refuse {F = ℕ} 11 (is_second found kind.0)) _ _ (λ first.
+    then_any (number_at 9 _ kind.1) _ _ (λ len.
+    then_any (octets_at 9 len.0 len.1) _ _ (λ value.
+    then_meets (with_value place found kind.0 value.0) _ IsFound _ (with_value_meets place found kind.0 value.0 h) (λ next p. p))))))
+
+abbrev IsListed : Listed → Type 0
+IsListed list = IfSome list.hop IsAddress × IfSome list.reach IsReached
+
+attributes_meet : (place : Place) (octets : List ℕ) → IfOk (attributes place octets) IsListed
+unfolding attributes
+attributes_meet place octets = then_meets (until_end (attribute_at place) nothing octets) _ IsFound _ (until_end_meets (attribute_at place) IsFound (attribute_meets place) nothing octets (tt, tt)) (λ found p. p)
+
+-- ---- RIB records
+
+peer_meets : (octets : List ℕ) → IfOk (peer_at octets) (λ x. IsPeer x.0)
+unfolding peer_at
+peer_meets octets =
+    then_any (octet_at 4 octets) _ _ (λ kind.
+    then_any (octets_at 4 4 kind.1) _ _ (λ id.
+    then_meets (address_at 4 _ id.1) _ (λ x. IsAddress x.0) _ (address_meets 4 _ id.1) (λ addr p.
+    then_any (number_at 4 _ addr.1) _ _ (λ asn. p))))
+
+peer_table_meets : (body : List ℕ) → IfOk (peer_table body) (AllByRecursion IsPeer)
+unfolding peer_table
+peer_table_meets body =
+    then_any (octets_at 4 4 body) _ _ (λ id.
+    then_any (number_at 4 2 id.1) _ _ (λ len.
+    then_any (octets_at 4 len.0 len.1) _ _ (λ name.
+    then_any (number_at 4 2 name.1) _ _ (λ count.
+    then_meets (times (one_more peer_at) count.0 [] count.1) _ (λ x. AllByRecursion IsPeer x.0) _ (times_meet (one_more peer_at) (AllByRecursion IsPeer) (one_more_meets peer_at IsPeer peer_meets) count.0 [] count.1 tt) (λ peers p.
+    all_read_meets 4 (AllByRecursion IsPeer) peers p)))))
+
+indexed_meets : (peers : List Peer) (i : ℕ) → AllByRecursion IsPeer peers → IfOk (indexed (slice_get peers i)) IsPeer
+indexed_meets [] i a = tt
+indexed_meets (peer ∷ peers) zero a = a.0
+indexed_meets (peer ∷ peers) (suc i) a = indexed_meets peers i a.1
+
+entry_hop_meets : (family : Family) (list : Listed) → IsListed list → IfSome (entry_hop family list) IsAddress
+entry_hop_meets family list h = by_family family list.hop list.reach h.0 h.1
+  where
+    by_family : (family : Family) (hop : Option Address) (reach : Option Reached) → IfSome hop IsAddress → IfSome reach IsReached → IfSome (entry_hop family (record { path = list.path; hop = hop; reach = reach; unreach = list.unreach })) IsAddress
+    by_family V4 (Some hop) reach p q = p
+    by_family V4 None (Some reach) p q = q
+    by_family V4 None None p q = tt
+    by_family V6 hop (Some reach) p q = q
+    by_family V6 (Some hop) None p q = p
+    by_family V6 None None p q = tt
+
+event_meets : (peer : Peer) (path : ℕ) (hop : Option Address) (prefix : Prefix) → IsPeer peer → IfSome hop IsAddress → IsPrefix prefix → IsEvent (event_of peer path hop prefix)
+event_meets peer path (Some hop) prefix p h x = (p, x, h)
+event_meets peer path None prefix p h x = (p, x)
+
+entry_meets : (peers : List Peer) (family : Family) (prefix : Prefix) (octets : List ℕ) → AllByRecursion IsPeer peers → IsPrefix prefix → IfOk (entry_at peers family prefix octets) (λ x. IsEvent x.0)
+unfolding entry_at
+entry_meets peers family prefix octets a x =
+    then_any (number_at 8 2 octets) _ _ (λ index.
+    then_meets (indexed (slice_get peers index.0)) _ IsPeer _ (indexed_meets peers index.0 a) (λ peer p.
+    then_any (octets_at 8 4 index.1) _ _ (λ time.
+    then_any (number_at 8 2 time.1) _ _ (λ len.
+    then_any (octets_at 8 len.0 len.1) _ _ (λ area.
+    then_meets (attributes (Rib family) area.0) _ IsListed _ (attributes_meet (Rib family) area.0) (λ list h.
+    event_meets peer list.path (entry_hop family list) prefix p (entry_hop_meets family list h) x))))))
+
+rib_meets : (peers : List Peer) (family : Family) (body : List ℕ) → AllByRecursion IsPeer peers → IfOk (rib peers family body) (AllByRecursion IsEvent)
+unfolding rib
+rib_meets peers family body a =
+    then_any (octets_at 8 4 body) _ _ (λ sequence.
+    then_meets (prefix_at 8 family sequence.1) _ (λ x. IsPrefix x.0) _ (prefix_meets 8 family sequence.1) (λ prefix x.
+    then_any (number_at 8 2 prefix.1) _ _ (λ count.
+    then_meets (times (one_more (entry_at peers family prefix.0)) count.0 [] count.1) _ (λ y. AllByRecursion IsEvent y.0) _
+    (times_meet (one_more (entry_at peers family prefix.0)) (AllByRecursion IsEvent) (one_more_meets (entry_at peers family prefix.0) IsEvent (λ octets. entry_meets peers family prefix.0 octets a x)) count.0 [] count.1 tt) (λ events e.
+    all_read_meets 8 (AllByRecursion IsEvent) events e))))
+
+-- ---- UPDATE
+
+withdrawn_meet : (peer : Peer) (gone : List Prefix) → IsPeer peer → AllByRecursion IsPrefix gone → AllByRecursion IsEvent (withdrawn peer gone)
+withdrawn_meet peer [] p a = tt
+withdrawn_meet peer (x ∷ gone) p a = ((p, a.0), withdrawn_meet peer gone p a.1)
+
+routes_meet : (peer : Peer) (path : ℕ) (hop : Option Address) (nlri : List Prefix) → IsPeer peer → IfSome hop IsAddress → AllByRecursion IsPrefix nlri → AllByRecursion IsEvent (routes peer path hop nlri)
+routes_meet peer path hop [] p h a = tt
+routes_meet peer path hop (x ∷ nlri) p h a = (event_meets peer path hop x p h a.0, routes_meet peer path hop nlri p h a.1)
+
+unreach_meets : (peer : Peer) (unreach : Option Unreached) → IsPeer peer → IfOk (unreach_events peer unreach) (AllByRecursion IsEvent)
+unreach_meets peer None p = tt
+unreach_meets peer (Some unreach) p = then_meets (prefixes 10 unreach.family unreach.nlri) _ (AllByRecursion IsPrefix) _ (prefixes_meet 10 unreach.family unreach.nlri) (λ gone a. withdrawn_meet peer gone p a)
+
+reach_meets : (peer : Peer) (path : ℕ) (reach : Option Reached) → IsPeer peer → IfSome reach IsReached → IfOk (reach_events peer path reach) (AllByRecursion IsEvent)
+reach_meets peer path None p h = tt
+reach_meets peer path (Some reach) p h = then_meets (prefixes 10 reach.family reach.nlri) _ (AllByRecursion IsPrefix) _ (prefixes_meet 10 reach.family reach.nlri) (λ nlri a. routes_meet peer path (Some reach.hop) nlri p h a)
+
+update_meets : (wide : Bool) (peer : Peer) (octets : List ℕ) → IsPeer peer → IfOk (update wide peer octets) (AllByRecursion IsEvent)
+unfolding update
+update_meets wide peer octets p =
+    then_any (number_at 14 2 octets) _ _ (λ gone_len.
+    then_any (octets_at 14 gone_len.0 gone_len.1) _ _ (λ gone_area.
+    then_meets (prefixes 14 V4 gone_area.0) _ (AllByRecursion IsPrefix) _ (prefixes_meet 14 V4 gone_area.0) (λ gone g.
+    then_any (number_at 14 2 gone_area.1) _ _ (λ list_len.
+    then_any (octets_at 14 list_len.0 list_len.1) _ _ (λ area.
+    then_meets (attributes (Update wide) area.0) _ IsListed _ (attributes_meet (Update wide) area.0) (λ list h.
+    then_meets (prefixes 14 V4 area.1) _ (AllByRecursion IsPrefix) _ (prefixes_meet 14 V4 area.1) (λ nlri n.
+    then_meets (unreach_events peer list.unreach) _ (AllByRecursion IsEvent) _ (unreach_meets peer list.unreach p) (λ unreached u.
+    then_meets (reach_events peer list.path list.reach) _ (AllByRecursion IsEvent) _ (reach_meets peer list.path list.reach p h.1) (λ reached r.
+    let own : AllByRecursion IsEvent (routes peer list.path list.hop nlri) = routes_meet peer list.path list.hop nlri p h.0 n in
+    let gone_events = all_more IsEvent (withdrawn peer gone) unreached (withdrawn_meet peer gone p g) u in
+    all_more IsEvent (withdrawn peer gone ++ unreached ++ routes peer list.path list.hop nlri) reached (all_more IsEvent (withdrawn peer gone ++ unreached) (routes peer list.path list.hop nlri) gone_events own) r)))))))))
+
+message_meets : (wide : Bool) (peer : Peer) (octets : List ℕ) → IsPeer peer → IfOk (message wide peer octets) (AllByRecursion IsEvent)
+unfolding message
+message_meets wide peer octets p =
+    then_any (refuse {F = ℕ} 13 (nat_lt (length octets) 19)) _ _ (λ long.
+    then_any (octets_at 13 16 octets) _ _ (λ marker.
+    then_any (number_at 13 2 marker.1) _ _ (λ len.
+    then_any (refuse {F = ℕ} 13 (not (len.0 == length octets))) _ _ (λ all.
+    then_any (octet_at 13 len.1) _ _ (λ kind.
+    either (kind.0 == 2) _ _ _ (update_meets wide peer kind.1 p) tt)))))
+
+-- ---- state changes and sessions
+
+lost_meets : (peer : Peer) (b : Bool) → IsPeer peer → AllByRecursion IsEvent (if b then Down peer ∷ [] else [])
+lost_meets peer true p = (p, tt)
+lost_meets peer false p = tt
+
+state_change_meets : (peer : Peer) (octets : List ℕ) → IsPeer peer → IfOk (state_change peer octets) (AllByRecursion IsEvent)
+unfolding state_change
+state_change_meets peer octets p =
+    then_any (number_at 12 2 octets) _ _ (λ old.
+    then_any (number_at 12 2 old.1) _ _ (λ new.
+    all_read_meets 12 (AllByRecursion IsEvent) ((if is_lost old.0 new.0 then Down peer ∷ [] else []), new.1) (lost_meets peer (is_lost old.0 new.0) p)))
+
+session_meets : (sub asn : ℕ) (family : Option Family) (octets : List ℕ) → IfOk (session sub asn family octets) (λ x. IfSome x (AllByRecursion IsEvent))
+unfolding session
+session_meets sub asn None octets = tt
+session_meets sub asn (Some family) octets =
+    then_meets (address_at 12 family octets) _ (λ x. IsAddress x.0) _ (address_meets 12 family octets) (λ addr p.
+    then_any (address_at 12 family addr.1) _ _ (λ local.
+    then_meets (if is_change sub then state_change (record { addr = addr.0; asn = asn }) local.1 else message (is_wide_sub sub) (record { addr = addr.0; asn = asn }) local.1) _ (AllByRecursion IsEvent) _
+    (either (is_change sub) _ _ _ (state_change_meets (record { addr = addr.0; asn = asn }) local.1 p) (message_meets (is_wide_sub sub) (record { addr = addr.0; asn = asn }) local.1 p)) (λ events e. e)))
+
+bgp4mp_meets : (sub : ℕ) (micro : Bool) (body : List ℕ) → IfOk (bgp4mp sub micro body) (λ x. IfSome x (AllByRecursion IsEvent))
+unfolding bgp4mp
+bgp4mp_meets sub micro body =
+    then_any (octets_at 12 _ body) _ _ (λ time.
+    then_any (number_at 12 _ time.1) _ _ (λ asn.
+    then_any (octets_at 12 _ asn.1) _ _ (λ local.
+    then_any (octets_at 12 2 local.1) _ _ (λ interface.
+    then_any (number_at 12 2 interface.1) _ _ (λ afi.
+    session_meets sub asn.0 (family_of afi.0) afi.1)))))
+
+-- ---- the input
+
+abbrev ArePeers : Option (List Peer) → Type 0
+ArePeers peers = IfSome peers (AllByRecursion IsPeer)
+
+abbrev IsTold : Option (List Peer) × Option (List Event) → Type 0
+IsTold told = ArePeers told.0 × IfSome told.1 (AllByRecursion IsEvent)
+
+rib_behind_meets : (peers : Option (List Peer)) (family : Family) (body : List ℕ) → ArePeers peers → IfOk (rib_behind peers family body) (AllByRecursion IsEvent)
+rib_behind_meets (Some peers) family body a = rib_meets peers family body a
+rib_behind_meets None family body a = tt
+
+record_meets : (peers : Option (List Peer)) (r : Record) → ArePeers peers → IfOk (record_in peers r) IsTold
+unfolding record_in
+record_meets peers r a =
+    either (is_dump 1 r) _ _ _ (then_meets (peer_table r.body) _ (AllByRecursion IsPeer) _ (peer_table_meets r.body) (λ table p. (p, tt)))
+    (either (is_dump 2 r) _ _ _ (then_meets (rib_behind peers V4 r.body) _ (AllByRecursion IsEvent) _ (rib_behind_meets peers V4 r.body a) (λ events e. (a, e)))
+    (either (is_dump 4 r) _ _ _ (then_meets (rib_behind peers V6 r.body) _ (AllByRecursion IsEvent) _ (rib_behind_meets peers V6 r.body a) (λ events e. (a, e)))
+    (either (is_session r) _ _ _ (then_meets (bgp4mp r.subtype (r.kind == 17) r.body) _ (λ x. IfSome x (AllByRecursion IsEvent)) _ (bgp4mp_meets r.subtype (r.kind == 17) r.body) (λ events e. (a, e))) (a, tt))))
+
+abbrev IsProgress : Progress → Type 0
+IsProgress read = ArePeers read.peers × AllByRecursion IsEvent read.events
+
+counted_meets : (read : Progress) (told : Option (List Peer) × Option (List Event)) → IsProgress read → IsTold told → IsProgress (counted read told)
+counted_meets read (peers, Some events) h t = (t.0, all_more IsEvent read.events events h.1 t.1)
+counted_meets read (peers, None) h t = (t.0, h.1)
+
+stop_meets : {A : Type 0} (P : A → Type 0) (Q : Progress → Type 0) (read : Progress) (r : Result A ℕ) → Q read → IfOk r P → MatchResult (or_stop read r) P (λ s. Q s.read)
+stop_meets P Q read (Ok x) q p = p
+stop_meets P Q read (Err rule) q p = q
+
+one_record_meets : (read : Progress) (octets : List ℕ) → IsProgress read → MatchResult (read_record read octets) (λ x. IsProgress x.0) (λ s. IsProgress s.read)
+unfolding read_record
+one_record_meets read octets h =
+    stop_meets (λ x. IsProgress x.0) IsProgress read _ h
+    (then_any (record_at octets) _ _ (λ r. then_meets (record_in read.peers r.0) _ IsTold _ (record_meets read.peers r.0 h.0) (λ told t. counted_meets read told h t)))
+
+input_meets : (octets : List ℕ) → MatchResult (input octets) IsProgress (λ s. IsProgress s.read)
+unfolding input
+input_meets octets = steps_meet read_record IsProgress (λ s. IsProgress s.read) one_record_meets (length octets) start octets (tt, tt)
+
+pub read_events : (octets : List ℕ) (read : Progress) → input octets ≡ Ok read → AllByRecursion IsEvent read.events
+read_events octets read e =
+    let P : Result Progress Stopped → Type 0 = λ r. MatchResult r IsProgress (λ s. IsProgress s.read) in
+    let h : IsProgress read = subst P e (input_meets octets) in h.1
+
+pub stopped_events : (octets : List ℕ) (stopped : Stopped) → input octets ≡ Err stopped → AllByRecursion IsEvent stopped.read.events
+stopped_events octets stopped e =
+    let P : Result Progress Stopped → Type 0 = λ r. MatchResult r IsProgress (λ s. IsProgress s.read) in
+    let h : IsProgress stopped.read = subst P e (input_meets octets) in h.1
+
+-- ---- the events so far stand in front of all others
+
+abbrev Follows : List Event → Progress → Type 0
+Follows front read = (others : List Event) × (read.events ≡ front ++ others)
+
+counted_follows : (front : List Event) (read : Progress) (told : Option (List Peer) × Option (List Event)) → Follows front read → Follows front (counted read told)
+counted_follows front read (peers, Some events) f = (f.0 ++ events, ap (λ es. es ++ events) f.1 ∙ append_assoc front f.0 events)
+counted_follows front read (peers, None) f = f
+
+record_follows : (front : List Event) (read : Progress) (octets : List ℕ) → Follows front read → MatchResult (read_record read octets) (λ x. Follows front x.0) (λ s. Follows front s.read)
+unfolding read_record
+record_follows front read octets f =
+    stop_meets (λ x. Follows front x.0) (Follows front) read _ f
+    (then_any (record_at octets) _ _ (λ r. then_any (record_in read.peers r.0) _ _ (λ told. counted_follows front read told f)))
+
+pub events_so_far : (fed left : List ℕ) (read : Progress) → Reads fed read left → AllByRecursion IsEvent read.events
+events_so_far fed left read t = by_end (input (fed ++ [])) (input_meets (fed ++ [])) (subst P (sym (t.whatever [])) follows)
+  where
+    P : Result Progress Stopped → Type 0
+    P r = MatchResult r (Follows read.events) (λ s. Follows read.events s.read)
+
+    follows : P (until_end read_record read (left ++ []))
+    follows = steps_meet read_record (Follows read.events) (λ s. Follows read.events s.read) (record_follows read.events) (length (left ++ [])) read (left ++ []) ([], sym (append-nil read.events))
+
+    by_end : (r : Result Progress Stopped) → MatchResult r IsProgress (λ s. IsProgress s.read) → P r → AllByRecursion IsEvent read.events
+    by_end (Ok all) h f = all_front IsEvent read.events f.0 (subst (AllByRecursion IsEvent) f.1 h.1)
+    by_end (Err stopped) h f = all_front IsEvent read.events f.0 (subst (AllByRecursion IsEvent) f.1 h.1)

@@ -1,0 +1,6 @@
+pub mod Keyed
+pub mod Places
+pub mod Choices
+pub mod Said
+pub mod Elsewhere
+pub mod Elems
