@@ -1,7 +1,7 @@
 -- Hops in a set, and as the list that contracts see.
 use Rattle.std.proofs.Common.{◌≡◌, ℕ, zero, suc, ◌+◌, ◌^◌, ◌<◌, ◌≤◌, List, [], ◌∷◌, ◌++◌, Bool, true, false, cond, not, Some, None, length, nat_eq, refl, sym, ap, ◌∙◌, arith, map}
 use Rattle.std.specs.Prelude.{◌&&◌, ◌||◌, nat_lt, option_map, position, slice_get, ◌-◌}
-use Rattle.std.proofs.Common.{inl, inr, zero-add, add-zero, append-nil, length-append}
+use Rattle.std.proofs.Common.{inl, inr, zero-add, length-append}
 use Rattle.std.proofs.lemmas.List.{map_push}
 use Rattle.std.proofs.lemmas.Option.{slice_get-map}
 use Rattle.std.specs.List.{list_any, position_or_len}
@@ -13,7 +13,10 @@ use Rattle.address_model.specs.declared.family.Family.{Family}
 use Rattle.address_model.specs.declared.family.Family.TheVariants.{V4, V6}
 use Rattle.address_model.specs.contracts.family.Family.{the_type}
 use Rattle.address_model.proofs.Same.{same_address_itself}
+use Rattle.std.proofs.Common.{Result, Ok, Err}
+use Rattle.std.specs.Prelude.{IfOk}
 use Rattle.fib_prefix.specs.declared.addr.Addr.{Addr}
+use Rattle.fib_prefix.specs.declared.entry.Hop.{Hop}
 use Rattle.fib_prefix.specs.Seen.{addr_as}
 use Rattle.fib_prefix.specs.Hops.{number_of, hop_at, with_hop}
 use Rattle.fib_prefix.proofs.Parts.{same_bits-nat_eq}
@@ -57,7 +60,7 @@ same_lt m n = elim (cases_lt m n) [
   | inr h ↦ le-ltb m n h ∙ sym (le-ltb (1 + m) (suc n) (omega arith))
 ]
 
-any_before : {X : Type 0} (p : X → Bool) (xs : List X) → list_any p xs ≡ nat_lt (position_or_len p xs) (length xs)
+pub any_before : {X : Type 0} (p : X → Bool) (xs : List X) → list_any p xs ≡ nat_lt (position_or_len p xs) (length xs)
 any_before p [] = sym (le-ltb 0 0 (omega arith))
 any_before p (x ∷ xs) = by_test (p x) (any_before p xs)
   where
@@ -91,7 +94,7 @@ inserted_as a keys after e = ap (map addr_as) e ∙ (by_test (list_any (same_cod
     by_test true = refl
     by_test false = map_push addr_as keys a
 
-none_passes : {X : Type 0} (p : X → Bool) (xs more : List X) → list_any p xs ≡ false → position_or_len p (xs ++ more) ≡ length xs + position_or_len p more
+pub none_passes : {X : Type 0} (p : X → Bool) (xs more : List X) → list_any p xs ≡ false → position_or_len p (xs ++ more) ≡ length xs + position_or_len p more
 none_passes p [] more e = sym (zero-add (position_or_len p more))
 none_passes p (x ∷ xs) more e = by_test (p x) e (λ f. none_passes p xs more f)
   where
@@ -107,14 +110,19 @@ place_after hops a e =
     cond-true _ _ _ here ∙ ap Some place
 
 -- a new hop has the next number
-pub added_number : (a : Addr) (keys after : List Addr) (place : ℕ) → after ≡ cond (list_any (same_code a) keys) keys (keys ++ a ∷ []) → place ≡ position_or_len (same_code a) keys → None ≡ number_of (map addr_as keys) (addr_as a)
-    → number_of (map addr_as after) (addr_as a) ≡ Some (place + 1)
-added_number a keys after place e p none =
-    let hops = map addr_as keys in
-    let new : list_any (same_address (addr_as a)) hops ≡ false = new_is_not hops (addr_as a) none in
-    let last : place ≡ length hops = p ∙ (place_same a keys ∙ (ap (position_or_len (same_address (addr_as a))) (sym (append-nil hops)) ∙ (none_passes (same_address (addr_as a)) hops [] new ∙ add-zero (length hops)))) in
-    ap (λ xs. number_of xs (addr_as a)) (inserted_as a keys after e ∙ cond-false _ _ _ new)
-    ∙ (ap (option_map (λ i. i + 1)) (place_after hops (addr_as a) new) ∙ ap (λ n. Some (n + 1)) (sym last))
+pub new_number : (hops : List Address) (a : Address) → None ≡ number_of hops a → number_of (with_hop hops a) a ≡ Some (length hops + 1)
+new_number hops a none =
+    let new : list_any (same_address a) hops ≡ false = new_is_not hops a none in
+    ap (λ xs. number_of xs a) (cond-false _ _ _ new) ∙ ap (option_map (λ i. i + 1)) (place_after hops a new)
+
+pub new_number_told : {E : Type 0} (hops : List Address) (a : Address) (r : Result Hop E) → None ≡ number_of hops a → IfOk r (λ hop. hop.0 ≡ length hops + 1) → IfOk r (λ hop. number_of (with_hop hops a) a ≡ Some hop.0)
+new_number_told hops a (Ok hop) none h = new_number hops a none ∙ ap Some (sym h)
+new_number_told hops a (Err e) none h = h
+
+pub added_number : (a : Addr) (keys after : List Addr) (hops : List Address) (n : ℕ) → after ≡ cond (list_any (same_code a) keys) keys (keys ++ a ∷ []) → map addr_as keys ≡ hops → n ≡ length hops + 1 → None ≡ number_of hops (addr_as a)
+    → number_of (map addr_as after) (addr_as a) ≡ Some n
+added_number a keys after hops n e v same none =
+    ap (λ xs. number_of xs (addr_as a)) (inserted_as a keys after e ∙ ap (λ xs. with_hop xs (addr_as a)) v) ∙ (new_number hops (addr_as a) none ∙ ap Some (sym same))
 
 -- the hop at a place
 pub hop_placed : (keys : List Addr) (hops : List Address) (n place : ℕ) → 1 ≤ n → place ≡ n - 1 → map addr_as keys ≡ hops → option_map addr_as (slice_get keys place) ≡ hop_at hops n

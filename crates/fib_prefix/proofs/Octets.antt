@@ -11,10 +11,10 @@ use Rattle.address_model.specs.Address.{Address}
 use Rattle.address_model.specs.declared.family.Family.{Family}
 use Rattle.address_model.specs.declared.family.Family.TheVariants.{V4}
 use Rattle.address_model.proofs.BitLaws.{length-bits_of, value-bits_of, bits_split, bits_take, bits_of-number}
-use Rattle.fib_prefix.specs.Text.{octet_of, bits_text, address_in}
-use Rattle.fib_prefix.proofs.Texts.{address_in-dotted, address_read, IsDottedText}
+use Rattle.fib_prefix.specs.Text.{octet_of, bits_text, ipv4_in}
+use Rattle.fib_prefix.proofs.Texts.{ipv4_in-dotted, address_read, IsDottedText}
 
-drop_bits : (j k n : ℕ) → drop j (bits_of (j + k) n) ≡ bits_of k n
+pub drop_bits : (j k n : ℕ) → drop j (bits_of (j + k) n) ≡ bits_of k n
 drop_bits j k n =
     let e : length (bits_of j (n / 2 ^ k)) + 0 ≡ j = omega (arith, length-bits_of j (n / 2 ^ k)) in
     ap (λ i. drop i (bits_of (j + k) n)) (sym e) ∙ (ap (drop (length (bits_of j (n / 2 ^ k)) + 0)) (bits_split j k n) ∙ drop-append-add (bits_of j (n / 2 ^ k)) (bits_of k n) 0)
@@ -46,11 +46,11 @@ of_four : (a b c d : ℕ) → from_be_bytes w32 (a ∷ b ∷ c ∷ d ∷ []) ≡
 unfolding number
 of_four a b c d = omega arith
 
-pub dotted_read : (text octets : List ℕ) (n : ℕ) → IsDotted text octets → n ≡ from_be_bytes w32 octets → Some (record { family = V4; bits = bits_of 32 n }) ≡ address_in text
+pub dotted_read : (text octets : List ℕ) (n : ℕ) → IsDotted text octets → n ≡ from_be_bytes w32 octets → Some (record { family = V4; bits = bits_of 32 n }) ≡ ipv4_in text
 dotted_read text octets n t e =
     let same : n ≡ number (t.a ∷ t.b ∷ t.c ∷ t.d ∷ []) = e ∙ (ap (from_be_bytes w32) t.value ∙ of_four t.a t.b t.c t.d) in
     let bits : bits_of 32 n ≡ octet_bits (t.a ∷ t.b ∷ t.c ∷ t.d ∷ []) = ap (bits_of 32) same ∙ bits_of-number (t.a ∷ t.b ∷ t.c ∷ t.d ∷ []) fits in
-    ap (λ x. let a : Address = record { family = V4; bits = x } in Some a) bits ∙ sym (ap address_in t.spelled ∙ address_in-dotted t.a t.b t.c t.d t.fit.0 t.fit.1 t.fit.2 t.fit.3)
+    ap (λ x. let a : Address = record { family = V4; bits = x } in Some a) bits ∙ sym (ap ipv4_in t.spelled ∙ ipv4_in-dotted t.a t.b t.c t.d t.fit.0 t.fit.1 t.fit.2 t.fit.3)
   where
     fits : (i : ℕ) → get_or (t.a ∷ t.b ∷ t.c ∷ t.d ∷ []) i 0 < 256
     fits zero = t.fit.0
@@ -59,10 +59,10 @@ dotted_read text octets n t e =
     fits (suc (suc (suc zero))) = t.fit.3
     fits (suc (suc (suc (suc i)))) = omega arith
 
-pub not_dotted : (text : List ℕ) → ((a : Ipv4Addr) → IsIpv4Text text a → ⊥) → None ≡ address_in text
-not_dotted text no_address = by_read (address_in text) refl
+pub not_dotted : (text : List ℕ) → ((a : Ipv4Addr) → IsIpv4Text text a → ⊥) → None ≡ ipv4_in text
+not_dotted text no_address = by_read (ipv4_in text) refl
   where
-    by_read : (o : Option Address) → address_in text ≡ o → None ≡ o
+    by_read : (o : Option Address) → ipv4_in text ≡ o → None ≡ o
     by_read None e = refl
     by_read (Some x) e =
         let r : IsDottedText text x = address_read text x e in

@@ -16,7 +16,7 @@ use Rattle.fib_prefix.proofs.Parts.{bits_filled, length_prefix}
 filled_is : (p : Prefix) → filled (prefix_as p) ≡ p.bits
 filled_is p = ap value_of (sym (bits_filled (width p.family) p.len p.bits p.fits p.cleared)) ∙ (value-bits_of (width p.family) p.bits ∙ mod-eq_of_lt p.below)
 
-family_is : (f g : Family) → (family_ord.ghosts).cmp f g ≡ family_cmp f g
+pub family_is : (f g : Family) → (family_ord.ghosts).cmp f g ≡ family_cmp f g
 family_is V4 V4 = refl
 family_is V4 V6 = refl
 family_is V6 V4 = refl

@@ -1,6 +1,6 @@
 -- What is written is read, and what is read was written so.
 use Rattle.std.proofs.Common.{◌≡◌, ℕ, ◌+◌, ◌<◌, List, [], ◌∷◌, ◌++◌, Bool, true, false, cond, Option, Some, None, length, take, drop, codes, decimal, refl, sym, ap, ◌∙◌, arith, append_assoc, mod-eq_of_lt, subst}
-use Rattle.std.specs.Prelude.{◌==◌, ◌&&◌, nat_lt, bytes_eq, option_map, if◌then◌else◌}
+use Rattle.std.specs.Prelude.{◌&&◌, nat_lt, bytes_eq, option_map, if◌then◌else◌}
 use Rattle.std.specs.Option.{option_and_then}
 use Rattle.std.specs.List.{AllByRecursion, All, slice_split, join_with_byte}
 use Rattle.std.specs.Net.Text.{dotted_text}
@@ -15,10 +15,7 @@ use Rattle.address_model.specs.Bits.{bits_of, value_of, octet_bits}
 use Rattle.address_model.specs.Address.{Address}
 use Rattle.address_model.specs.declared.family.Family.TheVariants.{V4}
 use Rattle.address_model.proofs.BitLaws.{length-bits_of, value-bits_of}
-use Rattle.fib_prefix.specs.Text.{octet_of, bits_text, number_in, octets_in, address_in}
-
-abbrev is_dot : ℕ → Bool
-is_dot b = b == 46
+use Rattle.fib_prefix.specs.Text.{octet_of, bits_text, number_in, octets_in, ipv4_in, is_dot}
 
 digits_no_dot : (cs : List ℕ) → AllDigits 10 cs → AllByRecursion (λ b. is_dot b ≡ false) cs
 digits_no_dot [] h = tt
@@ -27,7 +24,7 @@ digits_no_dot (c ∷ cs) h = let d = digit_from_value c h.0 in (ne_eqb c 46 (ome
 no_dot : (n : ℕ) → n < 256 → All (λ b. is_dot b ≡ false) (decimal n)
 no_dot n h = All-from_recursion _ _ (digits_no_dot (decimal n) (decimal_is_IsNumeral n (omega arith)).0.1)
 
-dots : (a b c d : List ℕ) → (((((a ++ codes ".") ++ b) ++ codes ".") ++ c) ++ codes ".") ++ d ≡ a ++ (46 ∷ (b ++ (46 ∷ (c ++ (46 ∷ d)))))
+pub dots : (a b c d : List ℕ) → (((((a ++ codes ".") ++ b) ++ codes ".") ++ c) ++ codes ".") ++ d ≡ a ++ (46 ∷ (b ++ (46 ∷ (c ++ (46 ∷ d)))))
 dots a b c d = simp append_assoc
 
 split_dotted : (a b c d : ℕ) → a < 256 → b < 256 → c < 256 → d < 256 → slice_split is_dot (dotted_text a b c d) ≡ decimal a ∷ decimal b ∷ decimal c ∷ decimal d ∷ []
@@ -38,11 +35,11 @@ split_dotted a b c d ha hb hc hd =
     ∙ (ap (λ x. decimal a ∷ decimal b ∷ x) (slice_split_at is_dot (decimal c) 46 _ (no_dot c hc) refl)
     ∙ ap (λ x. decimal a ∷ decimal b ∷ decimal c ∷ x) (slice_split_none is_dot (decimal d) (no_dot d hd)))))
 
-bytes_eq_refl : (xs : List ℕ) → bytes_eq xs xs ≡ true
+pub bytes_eq_refl : (xs : List ℕ) → bytes_eq xs xs ≡ true
 bytes_eq_refl [] = refl
 bytes_eq_refl (x ∷ xs) = and_from _ _ (eq-eqb x x refl) (bytes_eq_refl xs)
 
-bytes_eq_is : (xs ys : List ℕ) → bytes_eq xs ys ≡ true → xs ≡ ys
+pub bytes_eq_is : (xs ys : List ℕ) → bytes_eq xs ys ≡ true → xs ≡ ys
 bytes_eq_is [] [] e = refl
 bytes_eq_is [] (y ∷ ys) e = cc
 bytes_eq_is (x ∷ xs) [] e = cc
@@ -59,8 +56,8 @@ number_read n h =
     ∙ ap (λ (t : Bool). cond t (Some n) None) (and_from _ _ (bytes_eq_refl (decimal n)) (lt-ltb n 256 h))
 
 -- four numbers with dots between them are read as the address of these octets
-pub address_in-dotted : (a b c d : ℕ) → a < 256 → b < 256 → c < 256 → d < 256 → address_in (dotted_text a b c d) ≡ Some (record { family = V4; bits = octet_bits (a ∷ b ∷ c ∷ d ∷ []) })
-address_in-dotted a b c d ha hb hc hd =
+pub ipv4_in-dotted : (a b c d : ℕ) → a < 256 → b < 256 → c < 256 → d < 256 → ipv4_in (dotted_text a b c d) ≡ Some (record { family = V4; bits = octet_bits (a ∷ b ∷ c ∷ d ∷ []) })
+ipv4_in-dotted a b c d ha hb hc hd =
     rw (split_dotted a b c d ha hb hc hd, number_read a ha, number_read b hb, number_read c hc, number_read d hd) refl
 
 -- ---- what is written
@@ -139,11 +136,11 @@ pub record IsDottedText (text : List ℕ) (x : Address) : Type 0 where
   pub address : x ≡ record { family = V4; bits = octet_bits (a ∷ b ∷ c ∷ d ∷ []) }
   pub spelled : text ≡ dotted_text a b c d
 
-some_map : {A B : Type 0} (f : A → B) (o : Option A) (y : B) → option_map f o ≡ Some y → (x : A) × (o ≡ Some x) × (y ≡ f x)
+pub some_map : {A B : Type 0} (f : A → B) (o : Option A) (y : B) → option_map f o ≡ Some y → (x : A) × (o ≡ Some x) × (y ≡ f x)
 some_map f None y e = absurd cc
 some_map f (Some x) y e = (x, refl, let h : f x ≡ y = cc in sym h)
 
-pub address_read : (text : List ℕ) (x : Address) → address_in text ≡ Some x → IsDottedText text x
+pub address_read : (text : List ℕ) (x : Address) → ipv4_in text ≡ Some x → IsDottedText text x
 address_read text x e =
     let m = some_map (λ octets. let a : Address = record { family = V4; bits = octet_bits octets } in a) (octets_in (slice_split is_dot text)) x e in
     let r = octets_read (slice_split is_dot text) m.0 m.1 in

@@ -3,6 +3,11 @@ use Rattle.std.specs.Prelude.{ℕ, zero, suc, ◌+◌, List, [], ◌∷◌, ◌+
 use Rattle.std.specs.List.{list_any}
 use Rattle.address_model.specs.Address.{Address, same_address}
 
+-- next hops in the order of their numbers, and how many more get a number without memory
+pub record Hops : Type 0 where
+  pub list : List Address
+  pub spare : ℕ
+
 -- the number of a hop: its place in the list from 1, if it is there
 abbrev pub number_of : List Address → Address → Option ℕ
 number_of hops a = option_map (λ place. place + 1) (position (same_address a) hops)

@@ -1,4 +1,6 @@
 pub mod Seen
+pub mod Groups
 pub mod Text
 pub mod Hops
 pub mod Order
+pub mod Regions

@@ -1,23 +1,35 @@
 //! Laws: each function does nothing, and its clauses hold for all values.
 
 ghost use Rattle.std.specs.Prelude.{◌≡◌, List, ℕ, Some};
-ghost use Rattle.address_model.specs.Address.{Address, IsAddress};
+ghost use Rattle.address_model.specs.Address.{Address, IsAddress, Prefix, IsPrefix};
 ghost use Rattle.address_model.specs.Order.{prefix_cmp};
 ghost use Rattle.address_model.specs.declared.family.Family.TheVariants.{V4};
+ghost use Rattle.std.specs.Net.Text.{longest_zero_run};
+ghost use Rattle.fib_prefix.specs.Groups.{IsLongestZeroRun};
 ghost use Rattle.fib_prefix.specs.Order.{code_cmp};
 ghost use Rattle.fib_prefix.specs.Seen.{prefix_as};
-ghost use Rattle.fib_prefix.specs.Text.{address_in, address_text};
-ghost use Rattle.fib_prefix.specs.declared.prefix.Prefix.{Prefix};
+ghost use Rattle.fib_prefix.specs.Text.{address_in, address_text, prefix_in, prefix_text};
+ghost use Rattle.fib_prefix.specs.declared.prefix.Prefix as code_prefix;
 
-/// What is written of an IPv4 address is read as it, and what is read as an address was written of it: so the texts
-/// that are read are exactly the printed ones.
+/// What is written of an address is read as it, and what is read as an address is one. An IPv4 address has one text alone,
+/// which is its printed one; IPv6 addresses have more. The zero groups that are written `::` are a longest run, and the first
+/// such.
 pub fn text_law()
-    ensures written { (a : Address) → IsAddress a → a.family ≡ V4 → address_in (address_text a) ≡ Some a }
-    ensures read { (text : List ℕ) (a : Address) → address_in text ≡ Some a → IsAddress a × (text ≡ address_text a) }
+    ensures written { (a : Address) → IsAddress a → address_in (address_text a) ≡ Some a }
+    ensures read { (text : List ℕ) (a : Address) → address_in text ≡ Some a → IsAddress a }
+    ensures one_text { (text : List ℕ) (a : Address) → address_in text ≡ Some a → a.family ≡ V4 → text ≡ address_text a }
+    ensures longest { (groups : List ℕ) → IsLongestZeroRun groups (longest_zero_run groups) }
+{}
+
+/// What is written of a prefix is read as it, and what is read as a prefix is one. An IPv4 prefix has one text alone.
+pub fn prefix_text_law()
+    ensures written { (p : Prefix) → IsPrefix p → prefix_in (prefix_text p) ≡ Some p }
+    ensures read { (text : List ℕ) (p : Prefix) → prefix_in text ≡ Some p → IsPrefix p }
+    ensures one_text { (text : List ℕ) (p : Prefix) → prefix_in text ≡ Some p → p.family ≡ V4 → text ≡ prefix_text p }
 {}
 
 /// `cmp` of prefixes is their order: IPv4 before IPv6, then by the bits filled with zeros as a number, then the shorter
 /// first.
 pub fn order_law()
-    ensures { (p q : Prefix) → code_cmp p q ≡ prefix_cmp (prefix_as p) (prefix_as q) }
+    ensures { (p q : code_prefix.Prefix) → code_cmp p q ≡ prefix_cmp (prefix_as p) (prefix_as q) }
 {}

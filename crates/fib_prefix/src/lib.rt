@@ -8,6 +8,7 @@ mod addr;
 mod entry;
 mod event;
 mod hops;
+mod ipv6;
 mod laws;
 mod prefix;
 mod text;
@@ -16,10 +17,10 @@ pub use addr::Addr;
 pub use address_model::Family;
 pub use entry::{Entry, Hop};
 pub use event::{Elem, Event, Peer};
-pub use hops::{HopError, HopTable, MOST_HOPS};
-pub use laws::{order_law, text_law};
+pub use hops::{HopError, HopTable, HopsFull, MOST_HOPS};
+pub use laws::{order_law, prefix_text_law, text_law};
 pub use prefix::Prefix;
-pub use text::{MOST_TEXT, read_addr, write_addr, write_prefix};
+pub use text::{MOST_TEXT, read_addr, read_ipv4, read_prefix, write_addr, write_prefix};
 
 #[cfg(test)]
 mod tests;

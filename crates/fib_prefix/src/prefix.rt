@@ -1,10 +1,12 @@
 //! Prefixes.
 
-ghost use Rattle.std.specs.Prelude.{◌≡◌, ◌≤◌, ◌-◌, ◌*◌, ◌/◌, ◌%◌, ◌^◌, ◌<◌};
+ghost use Rattle.std.specs.Prelude.{◌≡◌, ◌≤◌, ◌+◌, ◌-◌, ◌*◌, ◌/◌, ◌%◌, ◌^◌, ◌<◌, if◌then◌else◌, length, take};
+ghost use Rattle.address_model.specs.Bits.{bits_of, octet_bits};
 ghost use Rattle.address_model.specs.Width.{width};
 
 use crate::addr::Addr;
 use address_model::Family;
+use byteorder::{BigEndian, ByteOrder};
 
 /// A prefix: its first `len` bits filled with zeros as a number. Prefixes are ordered by family, then by that number, then
 /// the shorter first.
@@ -41,8 +43,35 @@ fn filled(bits: u128, unused: u8) -> u128
     }
 }
 
+/// The first `len` bits of octets, as the first of so many.
+fn front_bits(octets: &[u8], len: u8, width: u8) -> u128
+    requires fits { len ≤ width }
+    requires wide { width ≤ 128 }
+    requires hold { length octets.now ≡ (len + 7) / 8 }
+    ensures bits { take len (bits_of width result) ≡ take len (octet_bits octets.now) }
+    ensures below { result < 2 ^ width }
+    ensures cleared { result % 2 ^ (width - len) ≡ 0 }
+{
+    if len == 0 {
+        return 0;
+    }
+    let number = BigEndian::read_uint128(octets, octets.len());
+    let unused = 8 * octets.len() - usize::from(len);
+    (number >> unused) << (width - len)
+}
+
+/// The bits with this one at a place, counted from the lowest, that has only zeros from it down.
+fn with_bit(bits: u128, place: u8, bit: bool) -> u128
+    requires within { place < 128 }
+    requires cleared { bits % 2 ^ (place + 1) ≡ 0 }
+    ensures { result ≡ bits + (if bit then 2 ^ place else 0) }
+{
+    if bit { bits + (1 << place) } else { bits }
+}
+
 impl Prefix {
     ghost use Rattle.address_model.specs.Address.{contains, first_bits};
+    ghost use Rattle.fib_prefix.specs.Regions.{is_within, half_of};
     ghost use Rattle.fib_prefix.specs.Seen.{addr_as, prefix_as};
     ghost use Rattle.fib_prefix.specs.Text.{first_address};
 
@@ -57,6 +86,16 @@ impl Prefix {
             bits,
             len,
         }
+    }
+
+    /// The prefix in the fewest octets that hold its `len` bits, the highest first; bits past the length have no meaning.
+    pub fn from_front(family: Family, len: u8, octets: &[u8]) -> Prefix
+        requires fits { len ≤ width family }
+        requires hold { length octets.now ≡ (len + 7) / 8 }
+        ensures { prefix_as result ≡ record { family = family; bits = take len (octet_bits octets.now) } }
+    {
+        let bits = front_bits(octets, len, family.width());
+        Prefix { family, bits, len }
     }
 
     /// Whether the address begins with the prefix.
@@ -75,5 +114,25 @@ impl Prefix {
             family: self.family,
             bits: self.bits,
         }
+    }
+
+    /// Whether the prefix's region is within the other's: whether it begins with its bits. A prefix is within itself.
+    pub fn is_within(&self, prefix: &Prefix) -> bool
+        ensures { result ≡ is_within (prefix_as self.now) (prefix_as prefix.now) }
+    {
+        prefix.len <= self.len && prefix.contains(&self.first_addr())
+    }
+
+    /// The half of the prefix's region that has this bit next.
+    pub fn half(&self, bit: bool) -> Prefix
+        requires { self.now.len < width self.now.family }
+        ensures { prefix_as result ≡ half_of (prefix_as self.now) bit }
+    {
+        let place = self.family.width() - self.len - 1;
+        let first = Addr {
+            family: self.family,
+            bits: with_bit(self.bits, place, bit),
+        };
+        Prefix::new(&first, self.len + 1)
     }
 }

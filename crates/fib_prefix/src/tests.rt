@@ -3,69 +3,171 @@
 use super::*;
 use std::test::Fail;
 
-#[test]
-fn reads_dotted_text_alone(rt: HostRuntime) {
-    for (text, bits) in [
-        ("0.0.0.0", Some(0)),
-        ("192.0.2.1", Some(0xc000_0201)),
-        ("1.20.255.10", Some(0x0114_ff0a)),
-        ("255.255.255.255", Some(u32::MAX)),
-        ("", None),
-        ("1", None),
-        ("1.2.3", None),
-        ("1.2.3.4.5", None),
-        ("01.2.3.4", None),
-        ("1.2.3.04", None),
-        ("1.00.3.4", None),
-        ("256.0.0.1", None),
-        ("1.2.3.256", None),
-        ("1.2.3.1000", None),
-        ("1.2.3.4294967297", None),
-        ("1.2.3.18446744073709551617", None),
-        (" 1.2.3.4", None),
-        ("1.2.3.4 ", None),
-        ("1. 2.3.4", None),
-        ("+1.2.3.4", None),
-        ("1.2.3.-4", None),
-        ("1.2.3.4.", None),
-        (".1.2.3.4", None),
-        ("1..2.3", None),
-        ("1.2..3.4", None),
-        ("...", None),
-        ("0x1.2.3.4", None),
-        ("c0.0.2.1", None),
-        ("a.b.c.d", None),
-        ("1,2,3,4", None),
-        ("1.2.3.4/32", None),
-        ("1.2.3.4\n", None),
-        ("1.2.3.4\0", None),
-        ("255.255.255.2550", None),
-        ("::", None),
-        ("::ffff:1.2.3.4", None),
-    ] {
-        assert_eq!(rt; read_addr(text.as_bytes()), bits.map(Addr::v4), "{text}");
-    }
+/// Texts of addresses, and the number of each address's bits.
+const DOTTED: [(&str, Option<u32>); 33] = [
+    ("0.0.0.0", Some(0)),
+    ("192.0.2.1", Some(0xc000_0201)),
+    ("1.20.255.10", Some(0x0114_ff0a)),
+    ("255.255.255.255", Some(u32::MAX)),
+    ("", None),
+    ("1", None),
+    ("1.2.3", None),
+    ("1.2.3.4.5", None),
+    ("01.2.3.4", None),
+    ("1.2.3.04", None),
+    ("1.00.3.4", None),
+    ("256.0.0.1", None),
+    ("1.2.3.256", None),
+    ("1.2.3.4294967297", None),
+    ("1.2.3.18446744073709551617", None),
+    (" 1.2.3.4", None),
+    ("1.2.3.4 ", None),
+    ("1. 2.3.4", None),
+    ("+1.2.3.4", None),
+    ("1.2.3.-4", None),
+    ("1.2.3.4.", None),
+    (".1.2.3.4", None),
+    ("1..2.3", None),
+    ("1.2..3.4", None),
+    ("...", None),
+    ("0x1.2.3.4", None),
+    ("c0.0.2.1", None),
+    ("1,2,3,4", None),
+    ("1.2.3.4/32", None),
+    ("1.2.3.4\n", None),
+    ("1.2.3.4\0", None),
+    ("::ffff:1.2.3.4", None),
+    ("1.2.3.4::", None),
+];
+
+/// The same of IPv6 addresses (RFC 4291, section 2.2).
+const GROUPS: [(&str, Option<u128>); 44] = [
+    ("::", Some(0)),
+    ("::1", Some(1)),
+    ("1::", Some(1 << 112)),
+    (
+        "::2:3:4:5:6:7:8",
+        Some(0x0002_0003_0004_0005_0006_0007_0008),
+    ),
+    (
+        "2001:DB8:0:0:8:800:200C:417A",
+        Some(0x2001_0db8_0000_0000_0008_0800_200c_417a),
+    ),
+    (
+        "2001:0db8::0008:0800:200c:417a",
+        Some(0x2001_0db8_0000_0000_0008_0800_200c_417a),
+    ),
+    (
+        "1:2:3:4:5:6:7:8",
+        Some(0x0001_0002_0003_0004_0005_0006_0007_0008),
+    ),
+    (
+        "1:2:3::5:6:7:8",
+        Some(0x0001_0002_0003_0000_0005_0006_0007_0008),
+    ),
+    (
+        "1:2:3:4:5:6:7::",
+        Some(0x0001_0002_0003_0004_0005_0006_0007_0000),
+    ),
+    ("ff01::101", Some(0xff01_0000_0000_0000_0000_0000_0000_0101)),
+    ("ffff:ffff:ffff:ffff:ffff:ffff:ffff:ffff", Some(u128::MAX)),
+    (":", None),
+    (":::", None),
+    ("::::", None),
+    ("1:2:3:4:5:6:7", None),
+    ("1:2:3:4:5:6:7:8:9", None),
+    ("1:2:3:4:5:6:7:8:", None),
+    (":1:2:3:4:5:6:7:8", None),
+    ("1:2:3:4:5:6:7::8", None),
+    ("1::2:3:4:5:6:7:8", None),
+    ("::1:2:3:4:5:6:7:8", None),
+    ("1:2:3:4:5:6:7:8::", None),
+    ("1::2::3", None),
+    ("1:::2", None),
+    ("1:", None),
+    (":1", None),
+    ("1::2:", None),
+    (":1::2", None),
+    ("12345::", None),
+    ("00001::", None),
+    ("g::", None),
+    ("::-1", None),
+    ("::+1", None),
+    ("::0x1", None),
+    (" ::1", None),
+    ("::1 ", None),
+    (":: 1", None),
+    ("fe80::1%0", None),
+    ("fe80::1%eth0", None),
+    ("[::1]", None),
+    ("::/0", None),
+    ("::1\n", None),
+    ("::1\0", None),
+    ("::1::", None),
+];
+
+/// Texts of prefixes, and what is written of each that is read.
+const PREFIXES: [(&str, Option<&str>); 33] = [
+    ("0.0.0.0/0", Some("0.0.0.0/0")),
+    ("192.0.2.0/24", Some("192.0.2.0/24")),
+    ("10.128.0.0/9", Some("10.128.0.0/9")),
+    ("255.255.255.255/32", Some("255.255.255.255/32")),
+    ("::/0", Some("::/0")),
+    ("::1/128", Some("::1/128")),
+    ("2001:0DB8:0:CD30:0:0:0:0/60", Some("2001:db8:0:cd30::/60")),
+    ("2001:DB8:0:0:1:0:0:1/128", Some("2001:db8::1:0:0:1/128")),
+    ("2001:0:0:1:0:0:0:1/128", Some("2001:0:0:1::1/128")),
+    ("2001:db8::1:1:1:1:1/128", Some("2001:db8:0:1:1:1:1:1/128")),
+    ("1:0:1:0:1:0:1:0/128", Some("1:0:1:0:1:0:1:0/128")),
+    ("::ffff:102:304/128", Some("::ffff:102:304/128")),
+    ("8000::/1", Some("8000::/1")),
+    (
+        "ffff:ffff:ffff:ffff:ffff:ffff:ffff:ffff/128",
+        Some("ffff:ffff:ffff:ffff:ffff:ffff:ffff:ffff/128"),
+    ),
+    ("", None),
+    ("/", None),
+    ("/0", None),
+    ("0.0.0.0", None),
+    ("0.0.0.0/", None),
+    ("0.0.0.0/00", None),
+    ("0.0.0.0/+0", None),
+    ("0.0.0.0/-0", None),
+    ("0.0.0.0/ 0", None),
+    ("0.0.0.0/0 ", None),
+    ("0.0.0.0/0/0", None),
+    ("0.0.0.0//0", None),
+    ("0.0.0.0/33", None),
+    ("0.0.0.0/256", None),
+    ("0.0.0.0/18446744073709551616", None),
+    ("192.0.2.1/24", None),
+    ("::/129", None),
+    ("::1/127", None),
+    ("4000::/1", None),
+];
+
+/// Whether this text is written of the prefix.
+fn is_written_as(prefix: &Prefix, text: &str) -> bool {
+    let mut out = [0; MOST_TEXT];
+    let end = write_prefix(prefix, &mut out);
+    &out[..end] == text.as_bytes()
 }
 
 #[test]
-fn writes_addresses_and_prefixes(rt: HostRuntime) {
-    for (bits, len, addr_text, prefix_text) in [
-        (0, 0, "0.0.0.0", "0.0.0.0/0"),
-        (0xc000_0201, 24, "192.0.2.1", "192.0.2.0/24"),
-        (0xc000_0201, 32, "192.0.2.1", "192.0.2.1/32"),
-        (0x0aff_0000, 9, "10.255.0.0", "10.128.0.0/9"),
-        (u32::MAX, 0, "255.255.255.255", "0.0.0.0/0"),
-        (u32::MAX, 32, "255.255.255.255", "255.255.255.255/32"),
-    ] {
-        let addr = Addr::v4(bits);
-        let mut out = [0; MOST_TEXT];
-        let end = write_addr(&addr, &mut out);
-        assert_eq!(rt; &out[..end], addr_text.as_bytes(), "{addr_text}");
-
-        assert!(rt; len <= addr.family.width());
-        let prefix = Prefix::new(&addr, len);
-        let end = write_prefix(&prefix, &mut out);
-        assert_eq!(rt; &out[..end], prefix_text.as_bytes(), "{prefix_text}");
+fn reads_and_writes_text(rt: HostRuntime) {
+    for (text, bits) in DOTTED {
+        assert_eq!(rt; read_addr(text.as_bytes()), bits.map(Addr::v4), "{text}");
+    }
+    for (text, bits) in GROUPS {
+        assert_eq!(rt; read_addr(text.as_bytes()), bits.map(Addr::v6), "{text}");
+    }
+    for (text, written) in PREFIXES {
+        let is_right = match (read_prefix(text.as_bytes()), written) {
+            (Some(prefix), Some(written)) => is_written_as(&prefix, written),
+            (None, None) => true,
+            _ => false,
+        };
+        assert!(rt; is_right, "{text}");
     }
 }
 
@@ -80,12 +182,16 @@ fn numbers_hops_up_to_the_last(rt: HostRuntime) -> Result<(), Fail> {
     assert_eq!(rt; hops.addr(Hop(2)), Some(Addr::v4(7)));
     assert_eq!(rt; hops.addr(Hop(4)), None);
     assert_eq!(rt; hops.addr(Hop::NONE), None);
+    assert_eq!(rt; hops.next(&Addr::v6(8)), Ok(Hop(4)));
+    assert_eq!(rt; hops.next(&Addr::v4(8)), Ok(Hop(3)));
+    assert_eq!(rt; hops.room(), Ok(()));
 
     let mut hops = HopTable::new(rt.alloc());
     for number in 1..=65_534 {
         assert_eq!(rt; hops.number(&Addr::v4(u32::from(number))), Ok(Hop(number)));
     }
     assert_eq!(rt; hops.number(&Addr::v4(65_535)), Err(HopError::HopsFull));
+    assert_eq!(rt; hops.next(&Addr::v4(65_535)), Err(HopsFull));
     assert_eq!(rt; hops.find(&Addr::v4(65_535)), None);
     assert_eq!(rt; hops.number(&Addr::v4(65_534)), Ok(Hop(65_534)));
     Ok(())

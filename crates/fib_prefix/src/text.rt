@@ -1,26 +1,29 @@
 //! The text of addresses and prefixes, read and written.
 //!
-//! IPv4 alone for now: dotted text is read by std's parser, which takes four decimal numbers without leading zeros, and
-//! written digit by digit into the caller's buffer. No call takes memory; each costs the length of the text.
+//! An IPv4 address is four decimal numbers with dots between them, an IPv6 address eight hexadecimal groups with colons
+//! between them, of which one run of zeros may be `::`. Both are read by std's parsers, and written digit by digit into the
+//! caller's buffer. No call takes memory; each costs the length of the text.
 
-ghost use Rattle.std.specs.Prelude.{◌≡◌, ◌+◌, ◌≤◌, ◌++◌, codes, decimal, length, take, option_map};
+ghost use Rattle.std.specs.Prelude.{◌≡◌, ◌+◌, ◌≤◌, ◌++◌, codes, decimal, length, take, option_map, position, IfSome};
 ghost use Rattle.std.specs.Net.Text.{ipv4_text};
 ghost use Rattle.fib_prefix.specs.Seen.{addr_as, prefix_as};
-ghost use Rattle.fib_prefix.specs.Text.{address_in, address_text, prefix_text};
+ghost use Rattle.fib_prefix.specs.Text.{address_in, ipv4_in, is_slash, number_in, prefix_in, address_text, prefix_text};
 
 use crate::addr::Addr;
+use crate::ipv6::{put_ipv6, read_ipv6};
 use crate::prefix::Prefix;
 use address_model::Family;
 use itoa::Buffer;
 use std::net::Ipv4Addr;
+use std::str;
 
 /// The octets that the longest text of an address or a prefix takes.
 pub const MOST_TEXT: usize = 44;
 
-/// Reads an address, from its first octet to its last: IPv4 as four decimal numbers from 0 to 255 without leading
-/// zeros, with dots between them. `None` exactly where the text is anything else.
-pub fn read_addr(text: &[u8]) -> Option<Addr>
-    ensures { option_map addr_as result ≡ address_in text.now }
+/// Reads an IPv4 address alone, from its first octet to its last: four decimal numbers from 0 to 255 without leading zeros,
+/// with dots between them. `None` exactly where the text is anything else.
+pub fn read_ipv4(text: &[u8]) -> Option<Addr>
+    ensures { option_map addr_as result ≡ ipv4_in text.now }
 {
     match Ipv4Addr::parse_ascii(text) {
         Ok(addr) => Some(Addr::v4(addr.to_bits())),
@@ -28,8 +31,54 @@ pub fn read_addr(text: &[u8]) -> Option<Addr>
     }
 }
 
+/// Reads an address, from its first octet to its last: an IPv4 address as `read_ipv4`; an IPv6 address as eight groups of one
+/// to four hexadecimal digits with colons between them, or as at most seven with one `::` for those that are missing
+/// (RFC 4291, section 2.2), without a dotted part or a zone. `None` exactly where the text is anything else.
+pub fn read_addr(text: &[u8]) -> Option<Addr>
+    ensures { option_map addr_as result ≡ address_in text.now }
+{
+    if text.contains(&b'.') {
+        read_ipv4(text)
+    } else {
+        read_ipv6(text)
+    }
+}
+
+/// Reads a decimal number of at most `most`, without a sign or leading zeros.
+fn read_number(text: &[u8], most: u8) -> Option<u8>
+    ensures value { result ≡ number_in (most + 1) text.now }
+    ensures fits { IfSome result (λ number. number ≤ most) }
+{
+    let number = str::from_utf8(text).ok()?.parse::<u8>().ok()?;
+    let mut digits = Buffer::new();
+    if digits.format(number).as_bytes() != text {
+        return None;
+    }
+    (number <= most).then_some(number)
+}
+
+/// The place of the first slash.
+fn slash_at(text: &[u8]) -> Option<usize>
+    ensures { result ≡ position is_slash text.now }
+{
+    text.iter().position(|b| *b == b'/')
+}
+
+/// Reads a prefix, from its first octet to its last: an address, a slash, and a decimal number without leading zeros of at
+/// most the address's width (RFC 4632, section 3.1; RFC 4291, section 2.3). `None` exactly where the text is anything else,
+/// or a bit past the length isn't 0.
+pub fn read_prefix(text: &[u8]) -> Option<Prefix>
+    ensures { option_map prefix_as result ≡ prefix_in text.now }
+{
+    let slash = slash_at(text)?;
+    let addr = read_addr(&text[..slash])?;
+    let len = read_number(&text[slash + 1..], addr.family.width())?;
+    let prefix = Prefix::new(&addr, len);
+    (prefix.first_addr() == addr).then_some(prefix)
+}
+
 /// Puts a piece at a place of the text, and gives the place after it.
-fn put(out: &mut [u8; 44], at: usize, piece: &[u8]) -> usize
+pub(crate) fn put(out: &mut [u8; 44], at: usize, piece: &[u8]) -> usize
     requires { at + length piece.now ≤ 44 }
     ensures text { take result out.new ≡ take at out.old ++ piece.now }
     ensures end { result ≡ at + length piece.now }
@@ -71,15 +120,15 @@ fn put_ipv4(out: &mut [u8; 44], octets: [u8; 4]) -> usize
     put_dot_octet(out, at, d)
 }
 
-/// Writes the address at the front of the buffer, IPv4 as RFC 791 has it, and gives the text's length. Of an IPv6
-/// address nothing is written yet.
+/// Writes the address at the front of the buffer, IPv4 as RFC 791 has it and IPv6 as RFC 5952, section 4, has it, without
+/// a dotted part, and gives the text's length.
 pub fn write_addr(addr: &Addr, out: &mut [u8; 44]) -> usize
     ensures text { take result out.new ≡ address_text (addr_as addr.now) }
     ensures fits { result ≤ 40 }
 {
     match addr.family {
         Family::V4 => put_ipv4(out, (addr.bits as u32).to_be_bytes()),
-        Family::V6 => 0,
+        Family::V6 => put_ipv6(out, addr.bits),
     }
 }
 

@@ -7,7 +7,7 @@ use Rattle.reading_model.specs.Record.{Record, Fault, record_at, cut}
 use Rattle.reading_model.specs.Pieces.{Takes, Breaks}
 use Rattle.reading_model.proofs.More.{record_more, takes_on, stays_too_long, ends_cut, ends_so}
 use Rattle.mrt_frame.specs.declared.Framer.{Framer}
-use Rattle.mrt_frame.specs.Framing.{left, count, refusal, Stands, TakesRecord, TakesNothing, Refuses, next_in, next_of}
+use Rattle.mrt_frame.specs.Framing.{left, count, refusal, left_before, Stands, TakesRecord, TakesNothing, Refuses, next_in, next_of}
 
 -- ---- a refusal is kept, or none is
 
@@ -28,12 +28,14 @@ breaks_cut fed fault b = ap cut (sym (append-nil fed)) ∙ b.whatever []
 
 -- ---- what next leaves
 
-pub takes_record : (old new : Framer) (r : Record) → refusal old ≡ None → refusal new ≡ None → record_at (left old) ≡ Ok (r, left new) → count new ≡ count old + 1 → TakesRecord old r new
-takes_record old new r none still front n = record {
+pub takes_record : (old new : Framer) (r : Record) → refusal old ≡ None → refusal new ≡ None → record_at (left old) ≡ Ok (r, left new) → count new ≡ count old + 1 → new.last < new.at → left_before new ≡ left old → TakesRecord old r new
+takes_record old new r none still front n behind before = record {
   front = front;
   shorter = (record_more (left old) [] r (left new) front).1;
   counts = n;
   refuses = still;
+  has_taken = record { behind = behind; counted = omega (arith, n) };
+  before = before;
   stands = λ fed taken s.
       stands_on fed (taken ++ r ∷ []) new still (n ∙ (ap (λ k. k + 1) s.counts ∙ sym (length-append taken (r ∷ []))))
       (takes_on fed (left old) (left new) taken r (takes_of fed taken old none s) front);

@@ -60,12 +60,29 @@ next_of framer = kept_or (refusal framer) (next_in (count framer) (record_at (le
 abbrev pub IsUsedUp : Framer → Type 0
 IsUsedUp framer = IfNone (refusal framer) (next_of framer ≡ Ok None)
 
+-- the octets that were left before the last record was taken
+abbrev pub left_before : Framer → List ℕ
+left_before framer = drop framer.last framer.kept.items
+
+-- a record was taken, and not yet given back
+pub record HasTaken (framer : Framer) : Type 0 where
+  pub behind : framer.last < framer.at
+  pub counted : 0 < count framer
+
+-- the record taken last is the next one again
+pub record TakesBack (old new : Framer) : Type 0 where
+  pub leaves : left new ≡ left_before old
+  pub counts : count old ≡ count new + 1
+  pub refuses : refusal new ≡ refusal old
+
 -- a record was taken
 pub record TakesRecord (old : Framer) (r : Record) (new : Framer) : Type 0 where
   pub front : record_at (left old) ≡ Ok (r, left new)
   pub shorter : length (left new) < length (left old)
   pub counts : count new ≡ count old + 1
   pub refuses : refusal new ≡ None
+  pub has_taken : HasTaken new
+  pub before : left_before new ≡ left old
   pub stands : (fed : List ℕ) (taken : List Record) → Stands fed taken old → Stands fed (taken ++ r ∷ []) new
 
 -- a header or a body is cut, and nothing was taken

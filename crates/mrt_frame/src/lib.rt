@@ -3,8 +3,8 @@
 //! A record is a Timestamp of 4 octets, a Type and a Subtype of 2 each, a Length of 4, all big-endian, and Length octets
 //! of body (RFC 6396, section 2).
 //!
-//! The framer keeps all that it was fed, and the place up to which records were taken. It holds that this place lies
-//! within what is kept, and that no more records were taken than octets. `feed` costs its piece, `next` a header: a body
+//! The framer keeps all that it was fed, the place up to which records were taken, and the place before the last of them.
+//! It holds that these lie within what is kept, and that no more records were taken than octets. `feed` costs its piece, `next` a header: a body
 //! is lent where it lies. The memory is that of all that was fed.
 #![tactic(auto)]
 
@@ -85,15 +85,18 @@ fn read_header(bytes: &[u8]) -> Result<Header, u8>
 pub struct Framer {
     kept: Vec<u8>,
     at: usize,
+    last: usize,
     number: u64,
     refused: Option<Malformed>,
     ghost within: { at ≤ vec_len kept },
+    ghost behind: { last ≤ at },
     ghost counted: { number ≤ at },
+    ghost counted_behind: { number ≤ last + 1 },
 }
 
 impl Framer {
     ghost use Rattle.std.specs.Borrow.{sem};
-    ghost use Rattle.mrt_frame.specs.Framing.{end_of, Feeds, IsUnchanged, IsUsedUp, left, LendsNext, next_of, refusal, Stands, Tells};
+    ghost use Rattle.mrt_frame.specs.Framing.{end_of, Feeds, HasTaken, IsUnchanged, IsUsedUp, left, LendsNext, next_of, refusal, Stands, TakesBack, Tells};
 
     /// A framer that was fed nothing.
     pub fn new(alloc: Global) -> Framer
@@ -104,6 +107,7 @@ impl Framer {
         Framer {
             kept: Vec::new(alloc),
             at: 0,
+            last: 0,
             number: 0,
             refused: None,
         }
@@ -131,6 +135,7 @@ impl Framer {
             Ok(header) => {
                 let body = self.at + HEADER;
                 let end = body + header.length;
+                self.last = self.at;
                 self.at = end;
                 self.number += 1;
                 Ok(Some(Framed {
@@ -149,6 +154,15 @@ impl Framer {
             }
             Err(_) => Ok(None),
         }
+    }
+
+    /// Makes the record that `next` gave just before the next one again.
+    pub fn again(&mut self)
+        requires { HasTaken self.old }
+        ensures { TakesBack self.old self.new }
+    {
+        self.at = self.last;
+        self.number -= 1;
     }
 
     /// Whether the input may end here: the refusal that is kept, or rule 1 or 2 where a header or a body is cut.

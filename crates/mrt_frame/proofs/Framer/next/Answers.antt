@@ -12,7 +12,7 @@ pub returns-in-Ok : goal.returns-in-Ok
 returns-in-Ok c =
     let none = ap (option_map fault_of) c.in_default.is in
     let front = front_is c.args.self.now.kept.items c.deref.result.now c.deref-in-Ok.result.now c.args.self.now.at c.in-Ok.header.length c.in-Ok.header.kind c.in-Ok.header.sub c.deref.ensures.value c.deref-in-Ok.ensures.value c.in-Ok.ensures.value in
-    ((refl, λ _. tt, takes_record c.args.self.now _ _ none none front (omega arith)), record { gives = sym (next_is c.args.self.now _ none front); after = tt })
+    ((refl, λ _. tt, takes_record c.args.self.now _ _ none none front (omega arith) (omega arith) refl), record { gives = sym (next_is c.args.self.now _ none front); after = tt })
 
 pub returns-in-Err-eq3 : goal.returns-in-Err-eq3
 returns-in-Err-eq3 c =

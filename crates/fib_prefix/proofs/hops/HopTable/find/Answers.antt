@@ -1,6 +1,6 @@
 use Rattle.std.proofs.Common.{ap, ◌∙◌, ◌+◌, Some}
 use Rattle.std.specs.Prelude.{option_map}
-use Rattle.fib_prefix.specs.Hops.{number_of}
+use Rattle.fib_prefix.specs.Hops.{Hops, number_of}
 use Rattle.fib_prefix.specs.Seen.{addr_as}
 use Rattle.fib_prefix.specs.declared.entry.Hop.{Hop}
 use Rattle.fib_prefix.proofs.HopLemmas.{position_same}
@@ -9,7 +9,7 @@ use Rattle.fib_prefix.proofs.hops.HopTable.find.Goals as goal
 pub returns-in_err-place : goal.returns-in_err-place
 returns-in_err-place c =
     ap (option_map (λ (hop : Hop). hop.0)) c.from_residual.ensures
-    ∙ (ap (option_map (λ place. place + 1)) (c.in_err-place.ensures.index ∙ position_same c.args.addr.now c.self.inside.hops.keys) ∙ ap (λ hops. number_of hops (addr_as c.args.addr.now)) c.self.view_is)
+    ∙ (ap (option_map (λ place. place + 1)) (c.in_err-place.ensures.index ∙ position_same c.args.addr.now c.self.inside.hops.keys) ∙ ap (λ hops. number_of hops (addr_as c.args.addr.now)) (ap (λ (t : Hops). t.list) c.self.view_is))
 
 pub returns : goal.returns
-returns c = ap Some c.numbered.ensures ∙ (ap (option_map (λ place. place + 1)) (c.in_ok-place.ensures.index ∙ position_same c.args.addr.now c.self.inside.hops.keys) ∙ ap (λ hops. number_of hops (addr_as c.args.addr.now)) c.self.view_is)
+returns c = ap Some c.numbered.ensures ∙ (ap (option_map (λ place. place + 1)) (c.in_ok-place.ensures.index ∙ position_same c.args.addr.now c.self.inside.hops.keys) ∙ ap (λ hops. number_of hops (addr_as c.args.addr.now)) (ap (λ (t : Hops). t.list) c.self.view_is))

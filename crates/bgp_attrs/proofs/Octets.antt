@@ -1,0 +1,13 @@
+-- One octet is a number.
+use Rattle.std.proofs.Common.{ltb, false, ◌≡◌, ℕ, List, [], ◌∷◌, length, take, Ok, ◌∙◌, arith}
+use Rattle.std.proofs.lemmas.Bool.{le-ltb}
+use Rattle.address_model.specs.Bits.{number}
+use Rattle.octet_fields.specs.Field.{octet_at, number_at}
+use Rattle.octet_fields.proofs.Numbers.{number_of_front}
+
+pub number_octet : (rule : ℕ) (octets : List ℕ) (x : ℕ) (rest : List ℕ) → octet_at rule octets ≡ Ok (x, rest) → number_at rule 1 octets ≡ Ok (x, rest)
+number_octet rule [] x rest h = absurd cc
+number_octet rule (b ∷ octets) x rest h =
+    let e : number (take 1 (b ∷ octets)) ≡ b = number_of_front 1 (b ∷ octets) (omega arith) ∙ omega arith in
+    let le : ltb (length (b ∷ octets)) 1 ≡ false = le-ltb (length (b ∷ octets)) 1 (omega arith) in
+    rw (le, e) h

@@ -1,0 +1,18 @@
+use Rattle.std.proofs.Common.{refl}
+use Rattle.std.proofs.lemmas.Result.{err_from_is_err_and}
+use Rattle.reading_model.specs.Attribute.{attributes}
+use Rattle.octet_fields.proofs.Steps.{left_after, left_at_fault, left_at_end}
+use Rattle.bgp_attrs.proofs.list.read_attrs.Goals as goal
+
+pub loop-rest-preserved : goal.loop-rest-preserved
+loop-rest-preserved c = left_after _ _ _ _ _ _ c.in_ok-before.ensures.value c.in_ok-before.ensures.shorter c.loop-rest.invariant
+
+pub returns-in_err-before : goal.returns-in_err-before
+unfolding attributes
+returns-in_err-before c =
+    let p = err_from_is_err_and c.from_residual.result c.from_residual.ensures.1 in
+    rw (p.1, p.2, left_at_fault _ _ _ _ _ c.in_err-before.ensures.value c.loop-rest-test.ensures c.loop-rest.invariant) refl
+
+pub returns : goal.returns
+unfolding attributes
+returns c = rw (left_at_end _ _ _ _ c.loop-rest-test.ensures c.loop-rest.invariant, c.unwrap_or.ensures) refl

@@ -1,0 +1,71 @@
+//! Next hops.
+
+ghost use Rattle.std.specs.Prelude.{◌≡◌, ◌==◌, ◌||◌, IsTrue, length};
+ghost use Rattle.address_model.specs.declared.family.Family.TheVariants.{V6};
+ghost use Rattle.octet_fields.specs.Gives.{Gives};
+ghost use Rattle.reading_model.specs.Attribute.{full_hop, hop_of, is_hop_length, next_hop_at, rib_hop};
+ghost use Rattle.fib_prefix.specs.Seen.{addr_as};
+
+use fib_prefix::{Addr, Family};
+use octet_fields::{octet, octets};
+use wire_fields::{family, rule};
+
+/// The address in the octets of a next hop: 4 are IPv4, and of 16 or 32 the first 16 are IPv6 (RFC 2545, section 3).
+pub fn next_hop(octets: &[u8]) -> Addr
+    requires { IsTrue (is_hop_length V6 (length octets.now) || length octets.now == 4) }
+    ensures { addr_as result ≡ hop_of octets.now }
+{
+    if octets.len() == 4 {
+        Addr::from_octets(Family::V4, octets)
+    } else {
+        Addr::from_octets(Family::V6, &octets[..16])
+    }
+}
+
+/// Whether a next hop for this family may have so many octets.
+fn is_next_hop(family: Family, len: u8) -> bool
+    ensures { result ≡ is_hop_length family len }
+{
+    match family {
+        Family::V4 => len == 4 || len == 16 || len == 32,
+        Family::V6 => len == 16 || len == 32,
+    }
+}
+
+/// The next hop behind its length, and what follows it.
+#[tactic(auto, unfolding(reading_model::specs::Attribute::next_hop_at))]
+pub fn next_hop_of(family: Family, bytes: &[u8]) -> Result<(Addr, &[u8]), u8>
+    ensures { Gives (λ x. (addr_as x.0, x.1.now)) result (next_hop_at family bytes.now) }
+{
+    let (len, rest) = octet(rule::ATTRIBUTE_VALUE, bytes)?;
+    if !is_next_hop(family, len) {
+        return Err(rule::ATTRIBUTE_VALUE);
+    }
+    let (hop, rest) = octets(rule::ATTRIBUTE_VALUE, usize::from(len), rest)?;
+    Ok((next_hop(hop), rest))
+}
+
+/// The next hop behind AFI and SAFI, which have to name this family.
+#[tactic(auto, unfolding(reading_model::specs::Attribute::full_hop))]
+fn next_hop_in_full(wanted: Family, value: &[u8]) -> Result<(Addr, &[u8]), u8>
+    ensures { Gives (λ x. (addr_as x.0, x.1.now)) result (full_hop wanted value.now) }
+{
+    let (other, rest) = family(value)?;
+    if other != Some(wanted) {
+        return Err(rule::ATTRIBUTE_VALUE);
+    }
+    next_hop_of(wanted, rest)
+}
+
+/// The next hop in the MP_REACH_NLRI of a RIB entry: the short form of RFC 6396, section 4.3.4, or the full one, which
+/// begins with 0.
+#[tactic(auto, unfolding(reading_model::specs::Attribute::rib_hop))]
+pub fn next_hop_in_rib(family: Family, value: &[u8]) -> Result<(Addr, &[u8]), u8>
+    ensures { Gives (λ x. (addr_as x.0, x.1.now)) result (rib_hop family value.now) }
+{
+    match value {
+        [] => Err(rule::ATTRIBUTE_VALUE),
+        [0, ..] => next_hop_in_full(family, value),
+        _ => next_hop_of(family, value),
+    }
+}

@@ -1,0 +1,20 @@
+//! BGP-4 path attributes: what an attribute list says of path, next hop and multiprotocol routes (RFC 4271, sections 4.3 and
+//! 5; RFC 4760; RFC 6396, section 4.3.4).
+//!
+//! Everything is read where it lies: no memory is taken, and a list costs its octets. Used are AS_PATH, NEXT_HOP,
+//! MP_REACH_NLRI and MP_UNREACH_NLRI; all other attributes are passed over unread. A list that can't be read gives the rule
+//! (`wire_fields::rule`) that its first wrong field breaks.
+#![tactic(auto)]
+
+mod hops;
+mod list;
+mod path;
+mod reach;
+
+pub use list::{Attrs, read_attrs};
+pub use path::path_length;
+pub use reach::{Reach, Unreach};
+pub use reading_model::Place;
+
+#[cfg(test)]
+mod tests;

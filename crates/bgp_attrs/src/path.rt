@@ -1,0 +1,60 @@
+//! The path length of an AS_PATH.
+
+ghost use Rattle.std.specs.Prelude.{◌≡◌, ◌+◌, ◌≤◌, ◌<◌, ◌^◌, length, IfOk};
+ghost use Rattle.octet_fields.specs.Gives.{Gives};
+ghost use Rattle.reading_model.specs.Path.{weight, segment_at, as_size, path_of};
+
+use octet_fields::{octet, octets};
+use wire_fields::rule;
+
+/// A segment of AS numbers in no order.
+const AS_SET: u8 = 1;
+
+/// A segment of AS numbers in the order in which they were passed.
+const AS_SEQUENCE: u8 = 2;
+
+/// The greatest segment type (RFC 5065, section 3).
+const AS_CONFED_SET: u8 = 4;
+
+/// What a segment counts in the path length.
+fn weight_of(kind: u8, count: u8) -> u32
+    ensures { result ≡ weight kind count }
+{
+    match kind {
+        AS_SEQUENCE => u32::from(count),
+        AS_SET => u32::from(count.min(1)),
+        _ => 0,
+    }
+}
+
+/// The length with one segment more, and what follows the segment.
+#[tactic(auto, unfolding(reading_model::specs::Path::segment_at))]
+fn segment(so_far: u32, bytes: &[u8], wide: bool) -> Result<(u32, &[u8]), u8>
+    requires { so_far + length bytes.now < 2 ^ 32 }
+    ensures value { Gives (λ x. (x.0, x.1.now)) result (segment_at (as_size wide) so_far bytes.now) }
+    ensures shorter { IfOk result (λ x. length x.1.now < length bytes.now) }
+    ensures fits { IfOk result (λ x. x.0 + length x.1.now ≤ so_far + length bytes.now) }
+{
+    let (kind, rest) = octet(rule::ATTRIBUTE_VALUE, bytes)?;
+    if kind < AS_SET || AS_CONFED_SET < kind {
+        return Err(rule::ATTRIBUTE_VALUE);
+    }
+    let (count, rest) = octet(rule::ATTRIBUTE_VALUE, rest)?;
+    let size = if wide { 4 } else { 2 };
+    let (_numbers, rest) = octets(rule::ATTRIBUTE_VALUE, usize::from(count) * size, rest)?;
+    Ok((so_far + weight_of(kind, count), rest))
+}
+
+/// The path length of an AS_PATH's value, whose AS numbers have four octets where it is wide and else two: the AS numbers
+/// in its sequences, and 1 for each set that isn't empty. A wrong segment breaks `ATTRIBUTE_VALUE`.
+pub fn path_length(bytes: &[u8], wide: bool) -> Result<u32, u8>
+    requires { length bytes.now < 2 ^ 32 }
+    ensures { Gives (λ x. x) result (path_of (as_size wide) bytes.now) }
+{
+    let mut length = 0;
+    let mut rest = bytes;
+    while !rest.is_empty() {
+        (length, rest) = segment(length, rest, wide)?;
+    }
+    Ok(length)
+}

@@ -1,0 +1,71 @@
+//! MP_REACH_NLRI and MP_UNREACH_NLRI (RFC 4760).
+
+ghost use Rattle.std.specs.Prelude.{◌≡◌, option_map};
+ghost use Rattle.octet_fields.specs.Gives.{Gives};
+ghost use Rattle.reading_model.specs.Attribute.{reach_in, reach_of_rib, rib_hop, unreach_in};
+ghost use Rattle.bgp_attrs.specs.Views.{reached, unreached};
+
+use crate::hops::{next_hop_in_rib, next_hop_of};
+use fib_prefix::{Addr, Family};
+use octet_fields::octet;
+use wire_fields::{check_prefixes, rule};
+
+/// What MP_REACH_NLRI gives: a next hop for the prefixes in these octets.
+#[derive(Clone, Copy, Debug)]
+pub struct Reach<'a> {
+    /// The family of the prefixes.
+    pub family: Family,
+    /// The next hop.
+    pub hop: Addr,
+    /// The prefixes, each of them right; empty in a RIB entry.
+    pub nlri: &'a [u8],
+}
+
+/// What MP_UNREACH_NLRI gives: the prefixes in these octets are withdrawn.
+#[derive(Clone, Copy, Debug)]
+pub struct Unreach<'a> {
+    /// The family of the prefixes.
+    pub family: Family,
+    /// The prefixes, each of them right.
+    pub nlri: &'a [u8],
+}
+
+/// MP_REACH_NLRI of a RIB entry; one that can't be read gives nothing.
+pub fn reach_in_rib<'a>(family: Family, value: &'a [u8]) -> Option<Reach<'a>>
+    ensures { option_map reached result ≡ reach_of_rib family (rib_hop family value.now) }
+{
+    match next_hop_in_rib(family, value) {
+        Ok((hop, _)) => Some(Reach {
+            family,
+            hop,
+            nlri: &[],
+        }),
+        Err(_) => None,
+    }
+}
+
+/// MP_REACH_NLRI of an UPDATE behind its AFI and SAFI; another family gives nothing.
+#[tactic(auto, unfolding(reading_model::specs::Attribute::reach_in))]
+pub fn reach_in_update(family: Option<Family>, bytes: &[u8]) -> Result<Option<Reach<'_>>, u8>
+    ensures { Gives (λ x. option_map reached x) result (reach_in family bytes.now) }
+{
+    let Some(family) = family else {
+        return Ok(None);
+    };
+    let (hop, rest) = next_hop_of(family, bytes)?;
+    let (_reserved, nlri) = octet(rule::ATTRIBUTE_VALUE, rest)?;
+    check_prefixes(rule::ATTRIBUTE_VALUE, family, nlri)?;
+    Ok(Some(Reach { family, hop, nlri }))
+}
+
+/// MP_UNREACH_NLRI of an UPDATE behind its AFI and SAFI; another family gives nothing.
+#[tactic(auto, unfolding(reading_model::specs::Attribute::unreach_in))]
+pub fn unreach_in_update(family: Option<Family>, nlri: &[u8]) -> Result<Option<Unreach<'_>>, u8>
+    ensures { Gives (λ x. option_map unreached x) result (unreach_in family nlri.now) }
+{
+    let Some(family) = family else {
+        return Ok(None);
+    };
+    check_prefixes(rule::ATTRIBUTE_VALUE, family, nlri)?;
+    Ok(Some(Unreach { family, nlri }))
+}

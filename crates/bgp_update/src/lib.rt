@@ -1,0 +1,14 @@
+//! BGP-4 messages: what an UPDATE says, event by event (RFC 4271, section 4).
+//!
+//! A message that can't be read gives the rule (`wire_fields::rule`) that its first wrong field breaks, and none of its
+//! events. Reading costs the message's octets, in memory too.
+#![tactic(auto)]
+
+mod message;
+mod update;
+
+pub use message::read_message;
+pub use wire_fields::{Refusal, WireFault, read_wire_prefix};
+
+#[cfg(test)]
+mod tests;

@@ -1,0 +1,55 @@
+//! An UPDATE of both families with each kind of events, and messages that aren't as long as they say.
+
+use super::*;
+use fib_prefix::{Addr, Event, Family, Peer, Prefix};
+use std::test::Fail;
+
+/// Withdraws 10.128.0.0/9, whose octets have further bits, and 2001:db8::/32; announces 11.0.0.0/8 and 2001:db9::/32.
+const UPDATE: [u8; 84] = [
+    0xff, 0xff, 0xff, 0xff, 0xff, 0xff, 0xff, 0xff, 0xff, 0xff, 0xff, 0xff, 0xff, 0xff, 0xff, 0xff,
+    0x00, 0x54, 0x02, 0x00, 0x03, 0x09, 0x0a, 0xff, 0x00, 0x38, 0x40, 0x02, 0x06, 0x02, 0x01, 0x00,
+    0x00, 0xfb, 0xf4, 0x40, 0x03, 0x04, 0xc0, 0x00, 0x02, 0x01, 0x80, 0x0f, 0x08, 0x00, 0x02, 0x01,
+    0x20, 0x20, 0x01, 0x0d, 0xb8, 0x80, 0x0e, 0x1a, 0x00, 0x02, 0x01, 0x10, 0x20, 0x01, 0x0d, 0xb8,
+    0x00, 0x00, 0x00, 0x00, 0x00, 0x00, 0x00, 0x00, 0x00, 0x00, 0x00, 0x01, 0x00, 0x20, 0x20, 0x01,
+    0x0d, 0xb9, 0x08, 0x0b,
+];
+
+#[test]
+fn tells_all_that_an_update_says_in_its_order(rt: HostRuntime) -> Result<(), Fail> {
+    let v4 = Addr::from_octets(Family::V4, &[192, 0, 2, 1]);
+    let v6 = Addr::from_octets(
+        Family::V6,
+        &[0x20, 0x01, 0x0d, 0xb8, 0, 0, 0, 0, 0, 0, 0, 0, 0, 0, 0, 1],
+    );
+    let peer = Peer {
+        addr: v4,
+        asn: 64500,
+    };
+    let events = read_message(rt.alloc(), &UPDATE, true, peer)?;
+    let expected = [
+        Event::Withdraw(peer, Prefix::from_front(Family::V4, 9, &[10, 128])),
+        Event::Withdraw(
+            peer,
+            Prefix::from_front(Family::V6, 32, &[0x20, 0x01, 0x0d, 0xb8]),
+        ),
+        Event::Announce(peer, Prefix::from_front(Family::V4, 8, &[11]), 1, v4),
+        Event::Announce(
+            peer,
+            Prefix::from_front(Family::V6, 32, &[0x20, 0x01, 0x0d, 0xb9]),
+            1,
+            v6,
+        ),
+    ];
+    assert_eq!(rt; events.as_slice(), expected.as_slice());
+    for (bytes, rule) in [
+        (&UPDATE[..18], 13),
+        (&UPDATE[..83], 13),
+        (&UPDATE[..19], 13),
+    ] {
+        match read_message(rt.alloc(), bytes, true, peer) {
+            Ok(_) => assert!(rt; false, "rule {rule}"),
+            Err(refusal) => assert_eq!(rt; refusal, Refusal::Rule(rule)),
+        }
+    }
+    Ok(())
+}

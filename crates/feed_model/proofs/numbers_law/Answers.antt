@@ -1,0 +1,16 @@
+use Rattle.feed_model.proofs.Numbers.{hops_more, stays, one_more_at_most, room, full_in_front, full_behind, routes_numbered, chosen_numbered, entries_stay, change_stays}
+use Rattle.feed_model.proofs.numbers_law.Goals as goal
+
+pub returns : goal.returns
+returns c = record {
+  more = hops_more;
+  stays = stays;
+  one_more = one_more_at_most;
+  room = room;
+  full_in_front = full_in_front;
+  full_behind = full_behind;
+  routes = routes_numbered;
+  chosen = chosen_numbered;
+  entries_stay = entries_stay;
+  change_stays = change_stays;
+}

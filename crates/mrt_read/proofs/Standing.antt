@@ -1,0 +1,135 @@
+-- How a reader stands.
+use Rattle.std.proofs.Common.{◌≡◌, ℕ, ◌+◌, List, [], ◌∷◌, ◌++◌, length, map, Option, Some, None, IfNone, IfSome, option_map, Result, Ok, Err, refl, sym, ap, ◌∙◌, inl, inr, append-nil, arith}
+use Rattle.std.proofs.lemmas.Bool.{ne_eqb}
+use Rattle.std.specs.declared.vec.Vec.{Vec}
+use Rattle.route_model.specs.Events.{Peer, Event}
+use Rattle.octet_fields.specs.Field.{◌>>=◌}
+use Rattle.reading_model.specs.Record.{Record, Fault, record_at, at_record}
+use Rattle.reading_model.specs.Input.{Progress, start, record_in, counted, input}
+use Rattle.reading_model.specs.Reading.{Reads, ReadsNo}
+use Rattle.reading_model.proofs.Reading.{reading_starts, reading_takes, reading_breaks, reading_too_long, reading_ends_cut, reading_ends}
+use Rattle.mrt_frame.specs.Framing as framing
+use Rattle.mrt_frame.specs.Records.{answer_of}
+use Rattle.mrt_frame.specs.declared.Malformed.{Malformed}
+use Rattle.fib_prefix.specs.Seen.{event_as}
+use Rattle.fib_prefix.specs.declared.event.Event as code_event
+use Rattle.wire_fields.specs.declared.refusal.Refusal.{Refusal}
+use Rattle.wire_fields.specs.declared.refusal.Refusal.TheVariants.{Rule}
+use Rattle.mrt_read.specs.Next as next
+use Rattle.mrt_read.specs.Seen.{read_as, told_events}
+use Rattle.mrt_read.specs.Standing.{left, peers, refusal, Stands, next_in, IsUsedUp, IsFault, TakesEvents, Refuses, Tells}
+use Rattle.mrt_read.specs.declared.reader.Reader.{Reader}
+
+-- ---- a refusal is kept, or none is
+
+stands_on : (fed : List ℕ) (read : Progress) (r : Reader) → refusal r ≡ None → read.peers ≡ peers r → read.records ≡ r.records → read.skipped ≡ r.skipped → Reads fed read (left r) → Stands fed read r
+stands_on fed read r none p n k t = record { peers = p; records = n; skipped = k; goes_on = rw none t; refuses = rw none tt }
+
+reads_of : (fed : List ℕ) (read : Progress) (r : Reader) → refusal r ≡ None → Stands fed read r → Reads fed read (left r)
+reads_of fed read r none s = rw none at s.goes_on
+
+stops : (fed : List ℕ) (read : Progress) (rule : ℕ) → ReadsNo fed (record { read = read; rule = rule }) → input fed ≡ Err (record { read = read; rule = rule })
+stops fed read rule b = ap input (sym (append-nil fed)) ∙ b.whatever []
+
+refused_of : (fed : List ℕ) (read : Progress) (r : Reader) (fault : Fault) → refusal r ≡ Some fault → Stands fed read r → IsFault fed read fault
+refused_of fed read r fault kept s = let both = rw kept at s.refuses in (both.0, stops fed read fault.rule both.1)
+
+pub stands_at_start : (r : Reader) → refusal r ≡ None → left r ≡ [] → peers r ≡ None → r.records ≡ 0 → r.skipped ≡ 0 → Stands [] start r
+stands_at_start r none empty p n k = stands_on [] start r none (sym p) (sym n) (sym k) (rw empty reading_starts)
+
+pub refuses_again : (r : Reader) (fault : Fault) → refusal r ≡ Some fault → Refuses r fault r
+refuses_again r fault kept = record { refuses = kept; tells = λ fed read s. refused_of fed read r fault kept s; stands = λ fed read s. s }
+
+pub tells_refused : (r : Reader) (fault : Fault) → refusal r ≡ Some fault → (fed : List ℕ) (read : Progress) → Stands fed read r → IsFault fed read fault
+tells_refused r fault kept fed read s = refused_of fed read r fault kept s
+
+-- ---- a record more
+
+same_progress : {A : Type 0} (read : Progress) (table : Option (List Peer)) (told : Option (Vec code_event.Event A)) (events : List Event) (records skipped : ℕ)
+    → events ≡ told_events (option_map (λ v. map event_as v.items) told) → records ≡ read.records + 1 → IfNone told (skipped ≡ read.skipped + 1) → IfSome told (λ v. skipped ≡ read.skipped)
+    → counted read (table, option_map (λ v. map event_as v.items) told) ≡ record { peers = table; events = read.events ++ events; records = records; skipped = skipped }
+same_progress read table None events records skipped e n none some = rw (e, n, none, append-nil read.events) refl
+same_progress read table (Some v) events records skipped e n none some = rw (e, n, some) refl
+
+abbrev pub source : Reader → next.Source
+source r = record { framer = r.framer; table = r.table }
+
+pub takes_events : {A : Type 0} (old new : Reader) (told : Option (Vec code_event.Event A)) (events : List Event) → refusal old ≡ None → refusal new ≡ None → next.Reads (source old) told (source new)
+    → events ≡ told_events (option_map (λ v. map event_as v.items) told) → new.records ≡ old.records + 1 → IfNone told (new.skipped ≡ old.skipped + 1) → IfSome told (λ v. new.skipped ≡ old.skipped) → TakesEvents old events new
+takes_events {A = A} old new told events none still r e n skips keeps = record {
+  shorter = r.shorter;
+  counts = n;
+  refuses = still;
+  stands = λ fed read s.
+      let says : record_in read.peers r.read ≡ Ok (read_as new.table told) = rw s.peers r.says in
+      let on = reading_takes fed (left old) (left new) read r.read (read_as new.table told) (reads_of fed read old none s) r.front says in
+      let same = same_progress read (peers new) told events new.records new.skipped e (rw s.records n) (rw s.skipped skips) (rw s.skipped keeps) in
+      stands_on fed _ new still refl refl refl (rw same at on);
+}
+
+pub went_on : {A : Type 0} (old new : next.Source) (given : Option (Option (Vec code_event.Event A))) (told : Option (Vec code_event.Event A)) → given ≡ Some told → next.Goes old (Ok given) new → next.Reads old told new
+went_on {A = A} old new given told is goes = rw is at goes
+
+pub went_wrong : (old new : next.Source) (why : Refusal) (rule : ℕ) → why ≡ Rule rule → next.Fails old why new → next.Breaks old rule × (new.table ≡ old.table)
+went_wrong old new why rule is fails = rw is at fails
+
+-- ---- a rule is broken
+
+breaks : (old : Reader) (rule : ℕ) → refusal old ≡ None → next.Breaks (source old) rule → (fed : List ℕ) (read : Progress) → Stands fed read old → ReadsNo fed (record { read = read; rule = rule })
+breaks old rule none (inl over) fed read s = rw over.1 (reading_too_long fed (left old) read (reads_of fed read old none s) over.0)
+breaks old rule none (inr b) fed read s = reading_breaks fed (left old) b.1 read b.0 rule (reads_of fed read old none s) b.2 (rw s.peers b.3)
+
+pub refuses_rule : (old new : Reader) (fault : Fault) → refusal old ≡ None → fault.number ≡ old.records → next.Breaks (source old) fault.rule → refusal new ≡ Some fault → new.records ≡ old.records → new.skipped ≡ old.skipped → peers new ≡ peers old → Refuses old fault new
+refuses_rule old new fault none number b kept n k p = record {
+  refuses = kept;
+  tells = λ fed read s. (number ∙ sym s.records, stops fed read fault.rule (breaks old fault.rule none b fed read s));
+  stands = λ fed read s. record {
+    peers = s.peers ∙ sym p;
+    records = s.records ∙ sym n;
+    skipped = s.skipped ∙ sym k;
+    goes_on = rw kept tt;
+    refuses = rw kept (number ∙ sym s.records, breaks old fault.rule none b fed read s);
+  };
+}
+
+-- ---- the end
+
+not_empty : (number b : ℕ) (octets : List ℕ) (rule : ℕ) → framing.end_in number (b ∷ octets) (Err rule) ≡ Err (record { number = number; rule = rule })
+not_empty number b octets rule = rw (ne_eqb (length (b ∷ octets)) 0 (λ e. omega arith)) refl
+
+abbrev failed : Fault → Result (Unit {0}) Fault
+failed f = Err f
+
+same_fault : (f g : Fault) → failed f ≡ failed g → f ≡ g
+same_fault f g e = cc
+
+ok_not_err : (x : Unit {0}) (fault : Fault) → Ok x ≡ Err fault → ⊥
+ok_not_err x fault e = cc
+
+err_not_ok : (fault : Fault) (x : Unit {0}) → Err fault ≡ Ok x → ⊥
+err_not_ok fault x e = cc
+
+next_some : (number : ℕ) (table : Option (List Peer)) (r : Record) → (at_record number (record_in table r >>= λ told. Ok (Some (told_events told.1)))) ≡ Ok None → ⊥
+next_some number table r e = said (record_in table r) e where
+  said : (told : Result (Option (List Peer) × Option (List Event)) ℕ) → at_record number (told >>= λ told. Ok (Some (told_events told.1))) ≡ Ok None → ⊥
+  said (Ok told) e = absurd cc
+  said (Err rule) e = absurd cc
+
+ended : (r : Reader) (front : Result (Record × List ℕ) ℕ) → refusal r ≡ None → next_in r.records (peers r) front ≡ Ok None → (result : Result (Unit {0}) Malformed) → answer_of (λ x. x) result ≡ framing.end_in r.records (left r) front → record_at (left r) ≡ front → Tells r result
+ended r (Ok front) none e result gives is = absurd (next_some r.records (peers r) front.0 e)
+ended r (Err rule) none e result gives is = at_end (left r) refl result gives where
+  at_end : (octets : List ℕ) → left r ≡ octets → (result : Result (Unit {0}) Malformed) → answer_of (λ x. x) result ≡ framing.end_in r.records octets (Err rule) → Tells r result
+  at_end [] empty (Ok x) gives = λ fed read s. reading_ends fed read (rw empty at (reads_of fed read r none s))
+  at_end [] empty (Err malformed) gives = absurd (err_not_ok _ _ gives)
+  at_end (b ∷ octets) some (Ok x) gives = absurd (ok_not_err x (record { number = r.records; rule = rule }) (gives ∙ not_empty r.records b octets rule))
+  at_end (b ∷ octets) some (Err malformed) gives = λ fed read s.
+      let same = same_fault _ _ (gives ∙ not_empty r.records b octets rule) in
+      (ap (λ (f : Fault). f.number) same ∙ sym s.records, reading_ends_cut fed (left r) read malformed.rule (reads_of fed read r none s) (omega (arith, ap length some)) (is ∙ ap Err (sym (ap (λ (f : Fault). f.rule) same))))
+
+nothing_next : (refused : Option Fault) (comes : Result (Option (List Event)) Fault) → refused ≡ None → IfNone refused (framing.kept_or refused comes ≡ Ok None) → comes ≡ Ok None
+nothing_next None comes e used = used
+nothing_next (Some fault) comes e used = absurd cc
+
+pub tells : (r : Reader) (result : Result (Unit {0}) Malformed) → refusal r ≡ None → framing.refusal r.framer ≡ None → framing.count r.framer ≡ r.records → IsUsedUp r → answer_of (λ x. x) result ≡ framing.end_of r.framer → Tells r result
+tells r result none going counts used gives =
+    ended r (record_at (left r)) none (nothing_next (refusal r) _ none used) result (rw (going, counts) at gives) refl

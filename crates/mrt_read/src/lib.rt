@@ -1,0 +1,17 @@
+//! The events of an input of MRT records, record by record, however the input was cut into pieces.
+//!
+//! A `Reader` is fed the octets as they come. Each whole record is read by the rules of its type, behind the latest peer
+//! table; a record of a type that isn't read is skipped and counted. The first record that breaks a rule ends the
+//! reading for good, and none of its events is given.
+//!
+//! `feed` costs its piece, `take_events` the record. The memory is that of all that was fed, and of the peer table.
+#![tactic(auto)]
+
+mod reader;
+mod records;
+
+pub use mrt_frame::Malformed;
+pub use reader::{ReadError, Reader};
+
+#[cfg(test)]
+mod tests;

@@ -1,0 +1,152 @@
+//! The reader of an input that comes in pieces.
+
+ghost use Rattle.std.specs.Prelude.{◌≡◌, ◌≤◌, None, OnErr, OnOk, []};
+ghost use Rattle.std.specs.Option.{ForNone};
+ghost use Rattle.mrt_frame.specs.Framing as framing;
+ghost use Rattle.mrt_frame.specs.Framing.{count};
+ghost use Rattle.mrt_read.specs.Next.{Goes, Source};
+ghost use Rattle.reading_model.specs.Input.{start};
+
+use crate::records::read_record;
+use fib_prefix::Event;
+use mrt_frame::{Framer, Malformed};
+use mrt_records::{PeerTable, Refusal};
+use std::alloc::{AllocError, Global};
+use thiserror::Error;
+
+/// Why no events were taken.
+#[derive(Clone, Copy, Debug, PartialEq, Eq, Error)]
+pub enum ReadError {
+    /// The next record breaks a rule.
+    #[error("{0}")]
+    Malformed(Malformed),
+    /// Memory ran out.
+    #[error("no memory")]
+    NoMemory,
+}
+
+/// What the next whole record says, or `None` where there is none; `Some(None)` where it is skipped.
+fn read_next(
+    alloc: Global,
+    framer: &mut Framer,
+    table: &mut Option<PeerTable>,
+) -> Result<Option<Option<Vec<Event>>>, Refusal>
+    requires { framing.refusal framer.old ≡ None }
+    ensures { Goes (record { framer = framer.old; table = table.old }) result (record { framer = framer.new; table = table.new }) }
+{
+    match framer.next() {
+        Err(malformed) => Err(Refusal::Rule(malformed.rule)),
+        Ok(None) => Ok(None),
+        Ok(Some(framed)) => match read_record(alloc, table, &framed) {
+            Ok(told) => Ok(Some(told)),
+            Err(Refusal::Rule(rule)) => Err(Refusal::Rule(rule)),
+            Err(Refusal::NoMemory) => {
+                framer.again();
+                Err(Refusal::NoMemory)
+            }
+        },
+    }
+}
+
+/// An input of MRT records that is fed in pieces.
+#[derive(Debug, Drop)]
+pub struct Reader {
+    alloc: Global,
+    framer: Framer,
+    table: Option<PeerTable>,
+    refused: Option<Malformed>,
+    records: u64,
+    skipped: u64,
+    ghost going: { ForNone refused ((framing.refusal framer ≡ None) × (count framer ≡ records)) },
+    ghost counted: { skipped ≤ records },
+}
+
+impl Reader {
+    ghost use Rattle.mrt_read.specs.Standing.{Answers, Feeds, IsUnchanged, IsUsedUp, left, next_of, refusal, Stands, Tells, Took};
+
+    /// A reader that was fed nothing.
+    pub fn new(alloc: Global) -> Reader
+        ensures nothing { left result ≡ [] }
+        ensures going { refusal result ≡ None }
+        ensures stands { Stands [] start result }
+    {
+        Reader {
+            alloc,
+            framer: Framer::new(alloc),
+            table: None,
+            refused: None,
+            records: 0,
+            skipped: 0,
+        }
+    }
+
+    /// Adds the piece to what was fed; where memory runs out, the reader is as it was.
+    pub fn feed(&mut self, piece: &[u8]) -> Result<(), AllocError>
+        ensures ok { OnOk result (Feeds self.old piece.now self.new) }
+        ensures err { OnErr result (IsUnchanged self.old self.new) }
+    {
+        self.framer.feed(piece)
+    }
+
+    /// Takes the next whole record of what was fed, and gives its events, none where it is skipped; `None` where there is
+    /// no whole record.
+    ///
+    /// The first record that breaks a rule is refused, for good, and none of its events is given. Where memory runs out,
+    /// the reader is as it was.
+    pub fn take_events(&mut self) -> Result<Option<Vec<Event>>, ReadError>
+        ensures gives { Answers result (next_of self.old) }
+        ensures after { Took self.old result self.new }
+    {
+        if let Some(refused) = self.refused {
+            return Err(ReadError::Malformed(refused));
+        }
+        match read_next(self.alloc, &mut self.framer, &mut self.table) {
+            Ok(None) => Ok(None),
+            Ok(Some(Some(events))) => {
+                self.records += 1;
+                Ok(Some(events))
+            }
+            Ok(Some(None)) => {
+                self.records += 1;
+                self.skipped += 1;
+                Ok(Some(Vec::new(self.alloc)))
+            }
+            Err(Refusal::NoMemory) => Err(ReadError::NoMemory),
+            Err(Refusal::Rule(rule)) => {
+                let refused = Malformed {
+                    number: self.records,
+                    rule,
+                };
+                self.refused = Some(refused);
+                Err(ReadError::Malformed(refused))
+            }
+        }
+    }
+
+    /// Whether the input may end here: the refusal that is kept, or rule 1 or 2 where a header or a body is cut.
+    ///
+    /// It is asked once `take_events` gives no further events.
+    pub fn finish(&self) -> Result<(), Malformed>
+        requires { IsUsedUp self.now }
+        ensures { Tells self.now result }
+    {
+        if let Some(refused) = self.refused {
+            return Err(refused);
+        }
+        self.framer.finish()
+    }
+
+    /// How many whole records were read, skipped ones too.
+    pub fn records(&self) -> u64
+        ensures { result ≡ self.now.records }
+    {
+        self.records
+    }
+
+    /// How many records were skipped.
+    pub fn skipped(&self) -> u64
+        ensures { result ≡ self.now.skipped }
+    {
+        self.skipped
+    }
+}

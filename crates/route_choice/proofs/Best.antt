@@ -1,0 +1,289 @@
+-- The best candidate of a prefix, and the choice that an elementary event makes.
+use Rattle.std.proofs.Common.{◌≡◌, ℕ, List, [], ◌∷◌, Bool, true, false, cond, Option, Some, None, refl, sym, ap, ◌∙◌, arith}
+use Rattle.std.specs.Prelude.{option_map, if◌then◌else◌, filter, ◌||◌, ◌==◌}
+use Rattle.std.specs.List.{AllByRecursion, list_any}
+use Rattle.std.specs.List.Sorted.{IsStrictlySortedBy}
+use Rattle.std.specs.Map.{lookup}
+use Rattle.std.specs.Ordering.{nat_cmp, ordering_then, is_eq, is_gt}
+use Rattle.std.specs.BTreeMap.{is_at}
+use Rattle.std.specs.declared.cmp.Ordering.{Ordering}
+use Rattle.std.specs.declared.cmp.Ordering.TheVariants.{Less, Equal, Greater}
+use Rattle.std.proofs.lemmas.Cmp.{tied_itself, tied_back, ranked}
+use Rattle.address_model.specs.Address.{Prefix, same_prefix}
+use Rattle.address_model.proofs.Same.{same_prefix_is}
+use Rattle.fib_prefix.specs.Seen.{prefix_as, peer_as}
+use Rattle.fib_prefix.specs.Order.{code_cmp}
+use Rattle.fib_prefix.specs.declared.prefix.Prefix as code
+use Rattle.fib_prefix.specs.declared.event.Peer.{Peer}
+use Rattle.route_model.specs.Events as events
+use Rattle.route_model.specs.Events.{same_peer, peer_cmp}
+use Rattle.route_model.specs.Choice as model
+use Rattle.route_model.specs.Choice.{Place, Candidates, AreCandidates, IsHeld, IsPlace, same_place, after_elem, beats, chosen_for, offered, is_about}
+use Rattle.route_model.proofs.Places.{peer_key}
+use Rattle.route_model.proofs.Choices.{beats_flipped}
+use Rattle.route_choice.specs.declared.keys.Seat.{Seat}
+use Rattle.route_choice.specs.declared.keys.Rank.{Rank}
+use Rattle.route_choice.specs.declared.keys.Offer.{Offer}
+use Rattle.route_choice.specs.declared.keys.Candidate.{Candidate}
+use Rattle.route_choice.specs.Orders.{seat_cmp, rank_cmp}
+use Rattle.fib_prefix.specs.Order.{code_peer_cmp}
+use Rattle.route_choice.specs.Seats.{Seats, place_as, held_in, flat, offer_at, rank_at, seat_of, IsIndexed}
+use Rattle.route_choice.specs.Walks.{ranks_of, with_path, offer_ranked, is_out, or_next, first_in}
+use Rattle.route_choice.proofs.Orders.{peer_is, peer_same, prefix_same, prefix_total, seat_total, rank_total, peer_total}
+use Rattle.route_choice.proofs.Views.{offer_as, at_seat, has_seat, lookup_by_test}
+
+-- ---- what the walk over ranks finds
+
+record IsFirst (seats : Seats) (but : Option Peer) (Q : Rank → Type 0) (ranks : List Rank) (c : Candidate) : Type 0 where
+  rank : Rank
+  meets : Q rank
+  live : offer_ranked seats rank ≡ Some c.offer
+  peer : rank.peer ≡ c.peer
+  kept : is_out but rank.peer ≡ false
+  least : AllByRecursion (λ t. (offer : Offer) → offer_ranked seats t ≡ Some offer → is_out but t.peer ≡ false → is_gt (rank_cmp rank t) ≡ false) ranks
+
+all_map : {K : Type 0} (P Q : K → Type 0) (ks : List K) → ((k : K) → P k → Q k) → AllByRecursion P ks → AllByRecursion Q ks
+all_map P Q [] f a = tt
+all_map P Q (k ∷ ks) f a = (f k a.0, all_map P Q ks f a.1)
+
+candidate_is : (c d : Candidate) → Some c ≡ Some d → c ≡ d
+candidate_is c d e = cc
+
+candidate_peer : (q : Peer) (offer : Offer) (c : Candidate) → Some (record { peer = q; offer = offer }) ≡ Some c → q ≡ c.peer
+candidate_peer q offer c e = ap (λ (d : Candidate). d.peer) (candidate_is (record { peer = q; offer = offer }) c e)
+
+candidate_offer : (q : Peer) (offer : Offer) (c : Candidate) → Some (record { peer = q; offer = offer }) ≡ Some c → offer ≡ c.offer
+candidate_offer q offer c e = ap (λ (d : Candidate). d.offer) (candidate_is (record { peer = q; offer = offer }) c e)
+
+all_both : {K : Type 0} (P Q : K → Type 0) (ks : List K) → AllByRecursion P ks → AllByRecursion Q ks → AllByRecursion (λ k. P k × Q k) ks
+all_both P Q [] a b = tt
+all_both P Q (k ∷ ks) a b = ((a.0, b.0), all_both P Q ks a.1 b.1)
+
+first_is : (seats : Seats) (but : Option Peer) (Q : Rank → Type 0) (ranks : List Rank) (c : Candidate) → IsStrictlySortedBy rank_cmp ranks → AllByRecursion Q ranks → first_in seats but ranks ≡ Some c → IsFirst seats but Q ranks c
+unfolding IsStrictlySortedBy first_in
+first_is seats but Q [] c s a h = absurd cc
+first_is seats but Q (r ∷ ranks) c s a h = by_out (is_out but r.peer) refl (offer_ranked seats r) refl h (first_is seats but Q ranks c s.1 a.1)
+  where
+    later : IsFirst seats but Q ranks c → ((offer : Offer) → offer_ranked seats r ≡ Some offer → is_out but r.peer ≡ false → ⊥) → IsFirst seats but Q (r ∷ ranks) c
+    later f none = record { rank = f.rank; meets = f.meets; live = f.live; peer = f.peer; kept = f.kept; least = ((λ offer g o. absurd (none offer g o)), f.least) }
+
+    by_out : (b : Bool) → is_out but r.peer ≡ b → (o : Option Offer) → offer_ranked seats r ≡ o → (if b then first_in seats but ranks else or_next r.peer o (first_in seats but ranks)) ≡ Some c
+        → (first_in seats but ranks ≡ Some c → IsFirst seats but Q ranks c) → IsFirst seats but Q (r ∷ ranks) c
+    by_out true t o g e ih = later (ih e) (λ offer x y. let z : true ≡ false = sym t ∙ y in absurd cc)
+    by_out false t None g e ih = later (ih e) (λ offer x y. let z : None ≡ Some offer = sym g ∙ x in absurd cc)
+    by_out false t (Some offer) g e ih =
+        let x : r.peer ≡ c.peer = candidate_peer r.peer offer c e in
+        let y : offer ≡ c.offer = candidate_offer r.peer offer c e in
+        record {
+          rank = r;
+          meets = a.0;
+          live = g ∙ ap Some y;
+          peer = x;
+          kept = t;
+          least = ((λ offer x y. ap is_gt (tied_itself rank_total r)), all_map (λ t. rank_cmp r t ≡ Less) (λ t. (offer : Offer) → offer_ranked seats t ≡ Some offer → is_out but t.peer ≡ false → is_gt (rank_cmp r t) ≡ false) ranks (λ t l offer x y. ap is_gt l) s.0);
+        }
+
+none_is : (seats : Seats) (but : Option Peer) (ranks : List Rank) → first_in seats but ranks ≡ None → AllByRecursion (λ t. (offer : Offer) → offer_ranked seats t ≡ Some offer → is_out but t.peer ≡ true) ranks
+unfolding first_in
+none_is seats but [] h = tt
+none_is seats but (r ∷ ranks) h = by_out (is_out but r.peer) refl (offer_ranked seats r) refl h (none_is seats but ranks)
+  where
+    by_out : (b : Bool) → is_out but r.peer ≡ b → (o : Option Offer) → offer_ranked seats r ≡ o → (if b then first_in seats but ranks else or_next r.peer o (first_in seats but ranks)) ≡ None
+        → (first_in seats but ranks ≡ None → AllByRecursion (λ t. (offer : Offer) → offer_ranked seats t ≡ Some offer → is_out but t.peer ≡ true) ranks)
+        → AllByRecursion (λ t. (offer : Offer) → offer_ranked seats t ≡ Some offer → is_out but t.peer ≡ true) (r ∷ ranks)
+    by_out true t o g e ih = ((λ offer x. t), ih e)
+    by_out false t None g e ih = ((λ offer x. let z : None ≡ Some offer = sym g ∙ x in absurd cc), ih e)
+    by_out false t (Some offer) g e ih = absurd cc
+
+-- ---- each candidate of a prefix is among its ranks
+
+any_element : {K : Type 0} (test : K → Bool) (T : K → Type 0) (ks : List K) → list_any test ks ≡ true → AllByRecursion T ks → (k : K) × (test k ≡ true) × T k
+any_element test T [] h a = absurd cc
+any_element {K = K} test T (k ∷ ks) h a = by_test (test k) refl h (λ g. any_element test T ks g a.1)
+  where
+    by_test : (b : Bool) → test k ≡ b → (b || list_any test ks) ≡ true → (list_any test ks ≡ true → (x : K) × (test x ≡ true) × T x) → (x : K) × (test x ≡ true) × T x
+    by_test true t g ih = (k, t, a.0)
+    by_test false t g ih = ih g
+
+filtered : {K : Type 0} (p : K → Bool) (ks : List K) → AllByRecursion (λ k. p k ≡ true) (filter p ks)
+filtered p [] = tt
+filtered p (k ∷ ks) = by_test (p k) refl (filtered p ks)
+  where
+    by_test : (b : Bool) → p k ≡ b → AllByRecursion (λ k. p k ≡ true) (filter p ks) → AllByRecursion (λ k. p k ≡ true) (cond b (k ∷ filter p ks) (filter p ks))
+    by_test true t ih = (t, ih)
+    by_test false t ih = ih
+
+filtered_all : {K : Type 0} (p : K → Bool) (Q : K → Type 0) (ks : List K) → AllByRecursion Q ks → AllByRecursion Q (filter p ks)
+filtered_all p Q [] a = tt
+filtered_all p Q (k ∷ ks) a = by_test (p k) (filtered_all p Q ks a.1)
+  where
+    by_test : (b : Bool) → AllByRecursion Q (filter p ks) → AllByRecursion Q (cond b (k ∷ filter p ks) (filter p ks))
+    by_test true ih = (a.0, ih)
+    by_test false ih = ih
+
+filtered_sorted : {K : Type 0} (R : K → K → Ordering) (p : K → Bool) (ks : List K) → IsStrictlySortedBy R ks → IsStrictlySortedBy R (filter p ks)
+unfolding IsStrictlySortedBy
+filtered_sorted R p [] s = tt
+filtered_sorted R p (k ∷ ks) s = by_test (p k) (filtered_sorted R p ks s.1)
+  where
+    by_test : (b : Bool) → IsStrictlySortedBy R (filter p ks) → IsStrictlySortedBy R (cond b (k ∷ filter p ks) (filter p ks))
+    by_test true ih = (filtered_all p (λ r. R k r ≡ Less) ks s.0, ih)
+    by_test false ih = ih
+
+-- what passes a test and lies in a list lies in the part that passes another that it passes
+any_filtered : {K : Type 0} (test p : K → Bool) (ks : List K) → ((k : K) → test k ≡ true → p k ≡ true) → list_any test ks ≡ true → list_any test (filter p ks) ≡ true
+any_filtered test p [] f h = h
+any_filtered test p (k ∷ ks) f h = by_test (test k) refl (p k) refl h (any_filtered test p ks f)
+  where
+    by_test : (b : Bool) → test k ≡ b → (d : Bool) → p k ≡ d → (b || list_any test ks) ≡ true → (list_any test ks ≡ true → list_any test (filter p ks) ≡ true) → list_any test (cond d (k ∷ filter p ks) (filter p ks)) ≡ true
+    by_test true t true u g ih = ap (λ x. x || list_any test (filter p ks)) t
+    by_test true t false u g ih = let z : p k ≡ true = f k t in absurd cc
+    by_test false t true u g ih = ap (λ x. x || list_any test (filter p ks)) t ∙ ih g
+    by_test false t false u g ih = ih g
+
+pub record HasCode (seats : Seats) (d : Place × model.Offer) : Type 0 where
+  pub seat : Seat
+  pub place : place_as seat ≡ d.0
+  pub offer : Offer
+  pub here : offer_at seats seat ≡ Some offer
+  pub is : offer_as offer ≡ d.1
+
+pub code_of : (seats : Seats) (d : Place × model.Offer) → IsHeld (held_in seats) d → HasCode seats d
+code_of seats d h = by_seat (has_seat d.0 d.1 seats h)
+  where
+    by_offer : (s : Seat) → place_as s ≡ d.0 → (o : Option Offer) → offer_at seats s ≡ o → option_map offer_as o ≡ Some d.1 → HasCode seats d
+    by_offer s e None f g = absurd cc
+    by_offer s e (Some offer) f g = record { seat = s; place = e; offer = offer; here = f; is = same_value (offer_as offer) d.1 g }
+      where
+        same_value : (v w : model.Offer) → Some v ≡ Some w → v ≡ w
+        same_value v w i = cc
+
+    by_seat : (s : Seat) × (place_as s ≡ d.0) → HasCode seats d
+    by_seat r = by_offer r.0 r.1 (offer_at seats r.0) refl (sym (at_seat r.0 seats) ∙ (ap (λ q. lookup (same_place q) (held_in seats)) r.1 ∙ h))
+
+eq_parts : (a b : Ordering) → is_eq (ordering_then a b) ≡ true → (a ≡ Equal) × (is_eq b ≡ true)
+eq_parts Less b e = cc
+eq_parts Equal b e = (refl, e)
+eq_parts Greater b e = cc
+
+pub is_equal : (o : Ordering) → is_eq o ≡ true → o ≡ Equal
+is_equal Less e = cc
+is_equal Equal e = refl
+is_equal Greater e = cc
+
+path_equal : (x y : ℕ) → nat_cmp x y ≡ Equal → x ≡ y
+path_equal x y e = ranked x y Equal (sym e)
+
+-- what a rank that equals another's has to do with it
+pub record SameRank (r t : Rank) : Type 0 where
+  pub prefix : code_cmp r.prefix t.prefix ≡ Equal
+  pub path : r.path ≡ t.path
+  pub peer : code_peer_cmp r.peer t.peer ≡ Equal
+
+pub same_rank : (r t : Rank) → is_eq (rank_cmp r t) ≡ true → SameRank r t
+same_rank r t e =
+    let x = eq_parts (code_cmp r.prefix t.prefix) (ordering_then (nat_cmp r.path t.path) (code_peer_cmp r.peer t.peer)) e in
+    let y = eq_parts (nat_cmp r.path t.path) (code_peer_cmp r.peer t.peer) x.1 in
+    record { prefix = x.0; path = path_equal r.path t.path y.0; peer = is_equal (code_peer_cmp r.peer t.peer) y.1 }
+
+-- seats that the order doesn't tell apart offer the same
+pub same_offer : (seats : Seats) (s t : Seat) → seat_cmp s t ≡ Equal → offer_at seats t ≡ offer_at seats s
+same_offer seats s t e = ap flat (lookup_by_test (is_at (seat_cmp t)) (is_at (seat_cmp s)) seats (λ k. ap is_eq (sym (seat_total.congr s t k e))))
+
+pub with_own_path : (n : ℕ) (offer : Offer) → offer.path ≡ n → with_path n (Some offer) ≡ Some offer
+with_own_path n offer e = ap (λ (b : Bool). if b then Some offer else None) (let x : (offer.path == n) ≡ true = grind (arith, e) in x)
+
+with_path_parts : (n : ℕ) (o : Option Offer) (offer : Offer) → with_path n o ≡ Some offer → (o ≡ Some offer) × (offer.path ≡ n)
+with_path_parts n None offer e = absurd cc
+with_path_parts n (Some x) offer e = by_test (x.path == n) refl e
+  where
+    by_test : (b : Bool) → (x.path == n) ≡ b → (if b then Some x else None) ≡ Some offer → (Some x ≡ Some offer) × (offer.path ≡ n)
+    by_test true t f = let p : x ≡ offer = same_value x offer f in let q : x.path ≡ n = same_number x.path n t in (f, sym (ap (λ (y : Offer). y.path) p) ∙ q)
+      where
+        same_value : (v w : Offer) → Some v ≡ Some w → v ≡ w
+        same_value v w i = cc
+
+        same_number : (a b : ℕ) → (a == b) ≡ true → a ≡ b
+        same_number a b i = grind arith
+    by_test false t f = absurd cc
+
+record Ranked (seats : Seats) (T : Rank → Type 0) (d : Place × model.Offer) : Type 0 where
+  rank : Rank
+  meets : T rank
+  offer : Offer
+  live : offer_ranked seats rank ≡ Some offer
+  path : rank.path ≡ d.1.path
+  peer : peer_as rank.peer ≡ d.0.peer
+
+rank_of : (seats : Seats) (ranks : List Rank) (p : code.Prefix) (T : Rank → Type 0) (d : Place × model.Offer) → IsIndexed seats ranks → AllByRecursion T (ranks_of p ranks) → IsHeld (held_in seats) d → same_prefix (prefix_as p) d.0.prefix ≡ true → Ranked seats T d
+rank_of seats ranks p T d i a h e =
+    let c = code_of seats d h in
+    let s = c.seat in
+    let own : Rank = rank_at s c.offer.path in
+    let at_p : code_cmp p s.prefix ≡ Equal = is_equal (code_cmp p s.prefix) (prefix_same p s.prefix ∙ (ap (λ (q : Place). same_prefix (prefix_as p) q.prefix) c.place ∙ e)) in
+    let there : list_any (is_at (rank_cmp own)) (ranks_of p ranks) ≡ true =
+    any_filtered (is_at (rank_cmp own)) (λ r. is_eq (code_cmp p r.prefix)) ranks (λ k t. ap is_eq (prefix_total.congr p s.prefix k.prefix at_p ∙ (same_rank own k t).prefix)) (i s c.offer c.here) in
+    let r = any_element (is_at (rank_cmp own)) T (ranks_of p ranks) there a in
+    let f = same_rank own r.0 r.1 in
+    let seat : seat_cmp s (seat_of r.0) ≡ Equal = ap (λ o. ordering_then o (code_cmp s.prefix r.0.prefix)) f.peer ∙ f.prefix in
+    let peer : code_peer_cmp r.0.peer s.peer ≡ Equal = tied_back peer_total s.peer r.0.peer f.peer in
+    record {
+      rank = r.0;
+      meets = r.2;
+      offer = c.offer;
+      live = ap (with_path r.0.path) (same_offer seats s (seat_of r.0) seat ∙ c.here) ∙ with_own_path r.0.path c.offer f.path;
+      path = sym f.path ∙ ap (λ (o : model.Offer). o.path) c.is;
+      peer = peer_key.same (peer_as r.0.peer) (peer_as s.peer) (sym (peer_same r.0.peer s.peer) ∙ ap is_eq peer) ∙ ap (λ (q : Place). q.peer) c.place;
+    }
+
+-- ---- the best candidate of a prefix, of the peers that aren't out
+
+abbrev pub IsBestOf : Candidates → Prefix → (events.Peer → Bool) → Option (Place × model.Offer) → Type 0
+IsBestOf held p out None = (d : Place × model.Offer) → IsHeld held d → same_prefix p d.0.prefix ≡ true → out d.0.peer ≡ true
+IsBestOf held p out (Some c) =
+    IsHeld held c × (c.0.prefix ≡ p) × (out c.0.peer ≡ false) × ((d : Place × model.Offer) → IsHeld held d → same_prefix p d.0.prefix ≡ true → out d.0.peer ≡ false → beats d c ≡ false)
+
+abbrev pub out_as : Option Peer → events.Peer → Bool
+out_as None m = false
+out_as (Some q) m = same_peer (peer_as q) m
+
+is_out_as : (but : Option Peer) (q : Peer) → is_out but q ≡ out_as but (peer_as q)
+is_out_as None q = refl
+is_out_as (Some p) q = peer_same p q
+
+abbrev pub candidate_as : Prefix → Candidate → Place × model.Offer
+candidate_as p c = (record { prefix = p; peer = peer_as c.peer }, offer_as c.offer)
+
+pub best_is : (seats : Seats) (ranks : List Rank) (p : code.Prefix) (but : Option Peer) → IsIndexed seats ranks → IsStrictlySortedBy rank_cmp ranks → (o : Option Candidate) → first_in seats but (ranks_of p ranks) ≡ o → IsBestOf (held_in seats) (prefix_as p) (out_as but) (option_map (candidate_as (prefix_as p)) o)
+best_is seats ranks p but i s None f = λ d h e.
+    let a = none_is seats but (ranks_of p ranks) f in
+    let r = rank_of seats ranks p (λ t. (offer : Offer) → offer_ranked seats t ≡ Some offer → is_out but t.peer ≡ true) d i a h e in
+    sym (ap (out_as but) r.peer) ∙ (sym (is_out_as but r.rank.peer) ∙ r.meets r.offer r.live)
+best_is seats ranks p but i s (Some c) f = (held, refl, sym (is_out_as but c.peer) ∙ (ap (is_out but) (sym b.peer) ∙ b.kept), best)
+  where
+    b : IsFirst seats but (λ r. is_eq (code_cmp p r.prefix) ≡ true) (ranks_of p ranks) c
+    b = first_is seats but (λ r. is_eq (code_cmp p r.prefix) ≡ true) (ranks_of p ranks) c (filtered_sorted rank_cmp (λ r. is_eq (code_cmp p r.prefix)) ranks s) (filtered (λ r. is_eq (code_cmp p r.prefix)) ranks) f
+
+    x : (offer_at seats (seat_of b.rank) ≡ Some c.offer) × (c.offer.path ≡ b.rank.path)
+    x = with_path_parts b.rank.path (offer_at seats (seat_of b.rank)) c.offer b.live
+
+    prefix : prefix_as b.rank.prefix ≡ prefix_as p
+    prefix = sym (same_prefix_is (prefix_as p) (prefix_as b.rank.prefix) (sym (prefix_same p b.rank.prefix) ∙ b.meets))
+
+    place : place_as (seat_of b.rank) ≡ (candidate_as (prefix_as p) c).0
+    place = ap (λ y. let r : Place = record { prefix = y; peer = peer_as b.rank.peer } in r) prefix ∙ ap (λ y. let r : Place = record { prefix = prefix_as p; peer = peer_as y } in r) b.peer
+
+    held : IsHeld (held_in seats) (candidate_as (prefix_as p) c)
+    held = ap (λ y. lookup (same_place y) (held_in seats)) (sym place) ∙ (at_seat (seat_of b.rank) seats ∙ ap (option_map offer_as) x.0)
+
+    best : (d : Place × model.Offer) → IsHeld (held_in seats) d → same_prefix (prefix_as p) d.0.prefix ≡ true → out_as but d.0.peer ≡ false → beats d (candidate_as (prefix_as p) c) ≡ false
+    best d h e n =
+        let both_meet = all_both (λ t. is_eq (code_cmp p t.prefix) ≡ true) (λ t. (offer : Offer) → offer_ranked seats t ≡ Some offer → is_out but t.peer ≡ false → is_gt (rank_cmp b.rank t) ≡ false) (ranks_of p ranks) (filtered (λ r. is_eq (code_cmp p r.prefix)) ranks) b.least in
+        let r = rank_of seats ranks p (λ t. (is_eq (code_cmp p t.prefix) ≡ true) × ((offer : Offer) → offer_ranked seats t ≡ Some offer → is_out but t.peer ≡ false → is_gt (rank_cmp b.rank t) ≡ false)) d i both_meet h e in
+        let kept : is_out but r.rank.peer ≡ false = is_out_as but r.rank.peer ∙ (ap (out_as but) r.peer ∙ n) in
+        let up : is_gt (rank_cmp b.rank r.rank) ≡ false = r.meets.1 r.offer r.live kept in
+        let same : code_cmp b.rank.prefix r.rank.prefix ≡ Equal = sym (prefix_total.congr p b.rank.prefix r.rank.prefix (is_equal _ b.meets)) ∙ is_equal _ r.meets.0 in
+        let up2 : is_gt (ordering_then (nat_cmp b.rank.path r.rank.path) (code_peer_cmp b.rank.peer r.rank.peer)) ≡ false = ap (λ o. is_gt (ordering_then o (ordering_then (nat_cmp b.rank.path r.rank.path) (code_peer_cmp b.rank.peer r.rank.peer)))) (sym same) ∙ up in
+        let peers : code_peer_cmp b.rank.peer r.rank.peer ≡ peer_cmp (peer_as c.peer) d.0.peer = peer_is b.rank.peer r.rank.peer ∙ (ap (λ y. peer_cmp (peer_as y) (peer_as r.rank.peer)) b.peer ∙ ap (peer_cmp (peer_as c.peer)) r.peer) in
+        let paths : nat_cmp b.rank.path r.rank.path ≡ nat_cmp c.offer.path d.1.path = ap (λ n. nat_cmp n r.rank.path) (sym x.1) ∙ ap (nat_cmp c.offer.path) r.path in
+        sym (beats_flipped d (candidate_as (prefix_as p) c)) ∙ (sym (ap (λ o. is_gt (ordering_then o (peer_cmp (peer_as c.peer) d.0.peer))) paths) ∙ (sym (ap (λ o. is_gt (ordering_then (nat_cmp b.rank.path r.rank.path) o)) peers) ∙ up2))

@@ -1,0 +1,276 @@
+-- Steps of the walks over ranks and seats.
+use Rattle.std.proofs.Common.{◌≡◌, ℕ, ◌<◌, List, [], ◌∷◌, ◌++◌, Bool, true, false, cond, not, Option, Some, None, nat_eq, refl, sym, ap, subst, ◌∙◌, arith, append_assoc, append-nil}
+use Rattle.std.specs.Prelude.{if◌then◌else◌, filter, ◌&&◌, is_some}
+use Rattle.std.specs.List.{AllByRecursion}
+use Rattle.std.specs.List.Sorted.{IsStrictlySortedBy}
+use Rattle.std.specs.Ordering.{nat_cmp, ordering_then, ordering_reverse, is_eq, is_lt, is_le, is_gt}
+use Rattle.std.specs.declared.cmp.Ordering.{Ordering}
+use Rattle.std.specs.declared.cmp.Ordering.TheVariants.{Less, Equal, Greater}
+use Rattle.std.proofs.lemmas.Bool.{not-true, not-false}
+use Rattle.std.proofs.lemmas.Cmp.{ranked, alike_right}
+use Rattle.address_model.specs.declared.family.Family.{Family}
+use Rattle.address_model.specs.declared.family.Family.TheVariants.{V4, V6}
+use Rattle.address_model.specs.contracts.family.Family.{the_type}
+use Rattle.address_model.specs.contracts.family.FamilyOrd.TheImpl as family_ord
+use Rattle.fib_prefix.specs.Order.{code_cmp}
+use Rattle.fib_prefix.specs.declared.prefix.Prefix as code
+use Rattle.fib_prefix.specs.declared.event.Peer.{Peer}
+use Rattle.fib_prefix.specs.declared.event.Elem.{Elem}
+use Rattle.fib_prefix.specs.declared.event.Elem.TheVariants.{Cut}
+use Rattle.route_choice.specs.declared.keys.Seat.{Seat}
+use Rattle.route_choice.specs.declared.keys.Rank.{Rank}
+use Rattle.route_choice.specs.declared.keys.Offer.{Offer}
+use Rattle.route_choice.specs.Orders.{seat_cmp, rank_cmp}
+use Rattle.fib_prefix.specs.Order.{code_peer_cmp}
+use Rattle.route_choice.specs.Seats.{Seats}
+use Rattle.route_choice.specs.Walks.{ranks_of, seats_of, offer_ranked, is_out, or_next, first_in, cuts_in}
+use Rattle.route_choice.proofs.Orders.{prefix_total, seat_total}
+use denote.Enum.Bare.{sameb}
+
+-- ---- the code's tests of equality say what its orders do
+
+family_eq : (f g : Family) → sameb the_type f g ≡ is_eq ((family_ord.ghosts).cmp f g)
+family_eq V4 V4 = refl
+family_eq V4 V6 = refl
+family_eq V6 V4 = refl
+family_eq V6 V6 = refl
+
+number_eq : (m n : ℕ) → nat_eq m n ≡ is_eq (nat_cmp m n)
+number_eq m n = by_order (nat_cmp m n) refl
+  where
+    by_order : (o : Ordering) → nat_cmp m n ≡ o → nat_eq m n ≡ is_eq o
+    by_order Less e = let x : m < n = ranked m n Less (sym e) in grind arith
+    by_order Equal e = let x : m ≡ n = ranked m n Equal (sym e) in grind arith
+    by_order Greater e = let x : n < m = ranked m n Greater (sym e) in grind arith
+
+then_eq : (a b : Ordering) → is_eq (ordering_then a b) ≡ (is_eq a && is_eq b)
+then_eq Less b = refl
+then_eq Equal b = refl
+then_eq Greater b = refl
+
+pub peer_eq : (p q : Peer) → ((sameb the_type p.addr.family q.addr.family && nat_eq p.addr.bits q.addr.bits) && nat_eq p.asn q.asn) ≡ is_eq (code_peer_cmp p q)
+peer_eq p q =
+    let f = (family_ord.ghosts).cmp p.addr.family q.addr.family in
+    ap (λ b. (b && nat_eq p.addr.bits q.addr.bits) && nat_eq p.asn q.asn) (family_eq p.addr.family q.addr.family)
+    ∙ (ap (λ b. (is_eq f && b) && nat_eq p.asn q.asn) (number_eq p.addr.bits q.addr.bits)
+    ∙ (ap (λ b. (is_eq f && is_eq (nat_cmp p.addr.bits q.addr.bits)) && b) (number_eq p.asn q.asn)
+    ∙ (ap (λ b. b && is_eq (nat_cmp p.asn q.asn)) (sym (then_eq f (nat_cmp p.addr.bits q.addr.bits))) ∙ sym (then_eq (ordering_then f (nat_cmp p.addr.bits q.addr.bits)) (nat_cmp p.asn q.asn)))))
+
+and_regroup : (a b c : Bool) → (a && (b && c)) ≡ ((a && b) && c)
+and_regroup true b c = refl
+and_regroup false b c = refl
+
+pub prefix_eq : (p q : code.Prefix) → (sameb the_type p.family q.family && (nat_eq p.bits q.bits && nat_eq p.len q.len)) ≡ is_eq (code_cmp p q)
+prefix_eq p q =
+    let f = (family_ord.ghosts).cmp p.family q.family in
+    ap (λ b. b && (nat_eq p.bits q.bits && nat_eq p.len q.len)) (family_eq p.family q.family)
+    ∙ (ap (λ b. is_eq f && (b && nat_eq p.len q.len)) (number_eq p.bits q.bits)
+    ∙ (ap (λ b. is_eq f && (is_eq (nat_cmp p.bits q.bits) && b)) (number_eq p.len q.len)
+    ∙ (ap (λ b. is_eq f && b) (sym (then_eq (nat_cmp p.bits q.bits) (nat_cmp p.len q.len))) ∙ sym (then_eq f (ordering_then (nat_cmp p.bits q.bits) (nat_cmp p.len q.len))))))
+
+-- ---- parts of lists
+
+filter_congr : {K : Type 0} (p q : K → Bool) (ks : List K) → ((k : K) → p k ≡ q k) → filter p ks ≡ filter q ks
+filter_congr p q [] h = refl
+filter_congr {K = K} p q (k ∷ ks) h = ap (λ b. cond b (k ∷ filter p ks) (filter p ks)) (h k) ∙ ap (λ (xs : List K). cond (q k) (k ∷ xs) xs) (filter_congr p q ks h)
+
+filter_part : {K : Type 0} (p q : K → Bool) (ks : List K) → ((k : K) → p k ≡ true → q k ≡ true) → filter p (filter q ks) ≡ filter p ks
+filter_part p q [] h = refl
+filter_part {K = K} p q (k ∷ ks) h = by_test (q k) refl (p k) refl (filter_part p q ks h)
+  where
+    by_test : (d : Bool) → q k ≡ d → (b : Bool) → p k ≡ b → filter p (filter q ks) ≡ filter p ks → filter p (cond d (k ∷ filter q ks) (filter q ks)) ≡ cond b (k ∷ filter p ks) (filter p ks)
+    by_test true t true u ih = ap (λ b. cond b (k ∷ filter p (filter q ks)) (filter p (filter q ks))) u ∙ ap (λ xs. k ∷ xs) ih
+    by_test true t false u ih = ap (λ b. cond b (k ∷ filter p (filter q ks)) (filter p (filter q ks))) u ∙ ih
+    by_test false t true u ih = let x : q k ≡ true = h k u in absurd cc
+    by_test false t false u ih = ih
+
+filter_none : {K : Type 0} (p : K → Bool) (ks : List K) → AllByRecursion (λ k. p k ≡ false) ks → filter p ks ≡ []
+filter_none p [] a = refl
+filter_none p (k ∷ ks) a = ap (λ b. cond b (k ∷ filter p ks) (filter p ks)) a.0 ∙ filter_none p ks a.1
+
+all_filtered : {K : Type 0} (p : K → Bool) (Q : K → Type 0) (ks : List K) → ((k : K) → p k ≡ true → Q k) → AllByRecursion Q (filter p ks)
+all_filtered p Q [] h = tt
+all_filtered p Q (k ∷ ks) h = by_test (p k) refl (all_filtered p Q ks h)
+  where
+    by_test : (b : Bool) → p k ≡ b → AllByRecursion Q (filter p ks) → AllByRecursion Q (cond b (k ∷ filter p ks) (filter p ks))
+    by_test true t ih = (h k t, ih)
+    by_test false t ih = ih
+
+pub all_kept : {K : Type 0} (p : K → Bool) (Q : K → Type 0) (ks : List K) → AllByRecursion Q ks → AllByRecursion Q (filter p ks)
+all_kept p Q [] a = tt
+all_kept p Q (k ∷ ks) a = by_test (p k) (all_kept p Q ks a.1)
+  where
+    by_test : (b : Bool) → AllByRecursion Q (filter p ks) → AllByRecursion Q (cond b (k ∷ filter p ks) (filter p ks))
+    by_test true ih = (a.0, ih)
+    by_test false ih = ih
+
+pub sorted_kept : {K : Type 0} (R : K → K → Ordering) (p : K → Bool) (ks : List K) → IsStrictlySortedBy R ks → IsStrictlySortedBy R (filter p ks)
+unfolding IsStrictlySortedBy
+sorted_kept R p [] s = tt
+sorted_kept R p (k ∷ ks) s = by_test (p k) (sorted_kept R p ks s.1)
+  where
+    by_test : (b : Bool) → IsStrictlySortedBy R (filter p ks) → IsStrictlySortedBy R (cond b (k ∷ filter p ks) (filter p ks))
+    by_test true ih = (all_kept p (λ r. R k r ≡ Less) ks s.0, ih)
+    by_test false ih = ih
+
+-- ---- the walk over a prefix's ranks
+
+-- at the first rank that isn't below the least of the prefix
+not_above : (a b : Ordering) → is_gt (ordering_then a b) ≡ false → is_gt a ≡ false
+not_above Less b e = refl
+not_above Equal b e = refl
+not_above Greater b e = e
+
+from_least : (a : Bool) → (a && not false) ≡ a
+from_least true = refl
+from_least false = refl
+
+le_is : (o : Ordering) → is_le o ≡ true → is_gt o ≡ false
+le_is Less e = refl
+le_is Equal e = refl
+le_is Greater e = cc
+
+is_le_from : (o : Ordering) → is_gt o ≡ false → is_le o ≡ true
+is_le_from Less e = refl
+is_le_from Equal e = refl
+is_le_from Greater e = cc
+
+is_equal : (o : Ordering) → is_eq o ≡ true → o ≡ Equal
+is_equal Less e = cc
+is_equal Equal e = refl
+is_equal Greater e = cc
+
+abbrev pub ranks_from : Rank → List Rank → List Rank
+ranks_from least ranks = filter (λ r. is_le (rank_cmp least r) && not false) ranks
+
+pub from_above : (p : code.Prefix) (least : Rank) (ranks : List Rank) → least.prefix ≡ p → AllByRecursion (λ r. is_gt (code_cmp p r.prefix) ≡ false) (ranks_from least ranks)
+from_above p least ranks e = all_filtered (λ r. is_le (rank_cmp least r) && not false) (λ r. is_gt (code_cmp p r.prefix) ≡ false) ranks (λ r t. ap (λ q. is_gt (code_cmp q r.prefix)) (sym e) ∙ not_above (code_cmp least.prefix r.prefix) (ordering_then (nat_cmp least.path r.path) (code_peer_cmp least.peer r.peer)) (le_is (rank_cmp least r) (sym (from_least (is_le (rank_cmp least r))) ∙ t)))
+
+pub from_same : (p : code.Prefix) (least : Rank) (ranks : List Rank) → ((r : Rank) → code_cmp p r.prefix ≡ Equal → is_gt (rank_cmp least r) ≡ false) → ranks_of p (ranks_from least ranks) ≡ ranks_of p ranks
+from_same p least ranks h = filter_part (λ r. is_eq (code_cmp p r.prefix)) (λ r. is_le (rank_cmp least r) && not false) ranks (λ r t. from_least (is_le (rank_cmp least r)) ∙ is_le_from (rank_cmp least r) (h r (is_equal (code_cmp p r.prefix) t)))
+
+-- past the prefix nothing is left
+pub past_it : (p : code.Prefix) (r : Rank) (rest : List Rank) → IsStrictlySortedBy rank_cmp (r ∷ rest) → is_gt (code_cmp p r.prefix) ≡ false → is_eq (code_cmp p r.prefix) ≡ false → ranks_of p (r ∷ rest) ≡ []
+unfolding IsStrictlySortedBy
+past_it p r rest s g n = by_order (code_cmp p r.prefix) refl g n
+  where
+    later : code_cmp p r.prefix ≡ Less → (rs : List Rank) → AllByRecursion (λ t. rank_cmp r t ≡ Less) rs → AllByRecursion (λ t. is_eq (code_cmp p t.prefix) ≡ false) rs
+    later e [] a = tt
+    later e (t ∷ rs) a = (by_next (code_cmp r.prefix t.prefix) refl a.0, later e rs a.1)
+      where
+        by_next : (o : Ordering) → code_cmp r.prefix t.prefix ≡ o → ordering_then o (ordering_then (nat_cmp r.path t.path) (code_peer_cmp r.peer t.peer)) ≡ Less → is_eq (code_cmp p t.prefix) ≡ false
+        by_next Less u l = ap is_eq (prefix_total.trans p r.prefix t.prefix e u)
+        by_next Equal u l = ap is_eq (sym (alike_right prefix_total r.prefix t.prefix p u) ∙ e)
+        by_next Greater u l = absurd cc
+
+    by_order : (o : Ordering) → code_cmp p r.prefix ≡ o → is_gt o ≡ false → is_eq o ≡ false → ranks_of p (r ∷ rest) ≡ []
+    by_order Less e g n = filter_none (λ t. is_eq (code_cmp p t.prefix)) (r ∷ rest) (ap is_eq e, later e rest s.0)
+    by_order Equal e g n = absurd cc
+    by_order Greater e g n = absurd cc
+
+-- at a rank of the prefix
+pub at_rank : (seats : Seats) (but : Option Peer) (p : code.Prefix) (r : Rank) (rest : List Rank) → is_eq (code_cmp p r.prefix) ≡ true → first_in seats but (ranks_of p (r ∷ rest)) ≡ (if is_out but r.peer then first_in seats but (ranks_of p rest) else or_next r.peer (offer_ranked seats r) (first_in seats but (ranks_of p rest)))
+unfolding first_in
+at_rank seats but p r rest e = ap (λ b. first_in seats but (cond b (r ∷ ranks_of p rest) (ranks_of p rest))) e
+
+pub nothing_in : (seats : Seats) (but : Option Peer) → first_in seats but [] ≡ None
+unfolding first_in
+nothing_in seats but = refl
+
+pub record AtRanks (seats : Seats) (but : Option Peer) (p : code.Prefix) (ranks rest : List Rank) : Type 0 where
+  pub ordered : IsStrictlySortedBy rank_cmp ranks
+  pub sorted : IsStrictlySortedBy rank_cmp rest
+  pub above : AllByRecursion (λ r. is_gt (code_cmp p r.prefix) ≡ false) rest
+  pub found : first_in seats but (ranks_of p ranks) ≡ first_in seats but (ranks_of p rest)
+
+pub walk_start : (seats : Seats) (but : Option Peer) (p : code.Prefix) (least : Rank) (ranks items rest : List Rank) → IsStrictlySortedBy rank_cmp ranks → items ≡ ranks_from least ranks → rest ≡ items → least.prefix ≡ p → ((r : Rank) → code_cmp p r.prefix ≡ Equal → is_gt (rank_cmp least r) ≡ false) → AtRanks seats but p ranks rest
+walk_start seats but p least ranks items rest s e f g h =
+    let x : ranks_from least ranks ≡ rest = sym (f ∙ e) in
+    record {
+      ordered = s;
+      sorted = subst (λ rs. IsStrictlySortedBy rank_cmp rs) x (sorted_kept rank_cmp (λ r. is_le (rank_cmp least r) && not false) ranks s);
+      above = subst (λ rs. AllByRecursion (λ r. is_gt (code_cmp p r.prefix) ≡ false) rs) x (from_above p least ranks g);
+      found = ap (first_in seats but) (sym (from_same p least ranks h)) ∙ ap (λ rs. first_in seats but (ranks_of p rs)) x;
+    }
+
+module _ (seats : Seats) (but : Option Peer) (p : code.Prefix) (ranks it : List Rank) (r : Rank) (rest : List Rank) (at : AtRanks seats but p ranks it) (step : it ≡ r ∷ rest) (f : code.Prefix) (own : f ≡ r.prefix) (ne : Bool)
+    (test : ne ≡ not (sameb the_type p.family f.family && (nat_eq p.bits f.bits && nat_eq p.len f.len))) where
+  here : AtRanks seats but p ranks (r ∷ rest)
+  here = subst (λ rs. AtRanks seats but p ranks rs) step at
+
+  differs : ne ≡ not (is_eq (code_cmp p r.prefix))
+  differs = test ∙ (ap not (prefix_eq p f) ∙ ap (λ x. not (is_eq (code_cmp p x))) own)
+
+  pub walk_past : ne ≡ true → None ≡ first_in seats but (ranks_of p ranks)
+  walk_past t = sym (here.found ∙ (ap (first_in seats but) (past_it p r rest here.sorted here.above.0 (not-true _ (sym differs ∙ t))) ∙ nothing_in seats but))
+
+  is_same : ne ≡ false → is_eq (code_cmp p r.prefix) ≡ true
+  is_same t = not-false _ (sym differs ∙ t)
+
+  pub walk_found : ne ≡ false → (out : Bool) → out ≡ is_out but r.peer → out ≡ false → (o : Option Offer) → o ≡ offer_ranked seats r → (offer : Offer) → o ≡ Some offer → Some (record { peer = r.peer; offer = offer }) ≡ first_in seats but (ranks_of p ranks)
+  walk_found t out a b o c offer d =
+      sym (here.found ∙ (at_rank seats but p r rest (is_same t) ∙ (ap (λ x. if x then first_in seats but (ranks_of p rest) else or_next r.peer (offer_ranked seats r) (first_in seats but (ranks_of p rest))) (sym a ∙ b) ∙ ap (λ x. or_next r.peer x (first_in seats but (ranks_of p rest))) (sym c ∙ d))))
+
+  walk_on : first_in seats but (ranks_of p (r ∷ rest)) ≡ first_in seats but (ranks_of p rest) → AtRanks seats but p ranks rest
+  unfolding IsStrictlySortedBy
+  walk_on e = record { ordered = here.ordered; sorted = here.sorted.1; above = here.above.1; found = here.found ∙ e }
+
+  pub walk_out : ne ≡ false → (out : Bool) → out ≡ is_out but r.peer → out ≡ true → AtRanks seats but p ranks rest
+  walk_out t out a b = walk_on (at_rank seats but p r rest (is_same t) ∙ ap (λ x. if x then first_in seats but (ranks_of p rest) else or_next r.peer (offer_ranked seats r) (first_in seats but (ranks_of p rest))) (sym a ∙ b))
+
+  pub walk_none : ne ≡ false → (out : Bool) → out ≡ is_out but r.peer → out ≡ false → (o : Option Offer) → o ≡ offer_ranked seats r → o ≡ None → AtRanks seats but p ranks rest
+  walk_none t out a b o c d =
+      walk_on (at_rank seats but p r rest (is_same t) ∙ (ap (λ x. if x then first_in seats but (ranks_of p rest) else or_next r.peer (offer_ranked seats r) (first_in seats but (ranks_of p rest))) (sym a ∙ b) ∙ ap (λ x. or_next r.peer x (first_in seats but (ranks_of p rest))) (sym c ∙ d)))
+
+pub walk_end : (seats : Seats) (but : Option Peer) (p : code.Prefix) (ranks it : List Rank) → AtRanks seats but p ranks it → it ≡ [] → None ≡ first_in seats but (ranks_of p ranks)
+walk_end seats but p ranks it at e = sym (at.found ∙ (ap (λ rs. first_in seats but (ranks_of p rs)) e ∙ nothing_in seats but))
+
+-- ---- the walk over a peer's seats
+
+flip_lt : (o : Ordering) → is_gt (ordering_reverse o) ≡ is_lt o
+flip_lt Less = refl
+flip_lt Equal = refl
+flip_lt Greater = refl
+
+between_is : (q : Peer) (lo hi : Seat) (seats items : Seats) → items ≡ filter (λ e. is_le (seat_cmp lo e.0) && not (is_lt (seat_cmp hi e.0))) seats → lo.peer ≡ q → hi.peer ≡ q
+    → ((s : Seat) → code_peer_cmp q s.peer ≡ Equal → is_gt (seat_cmp lo s) ≡ false) → ((s : Seat) → code_peer_cmp q s.peer ≡ Equal → is_gt (seat_cmp s hi) ≡ false) → items ≡ seats_of q seats
+between_is q lo hi seats items e l h least greatest = e ∙ filter_congr (λ x. is_le (seat_cmp lo x.0) && not (is_lt (seat_cmp hi x.0))) (λ x. is_eq (code_peer_cmp q x.0.peer)) seats (λ x. at x.0)
+  where
+    low : (s : Seat) → code_peer_cmp lo.peer s.peer ≡ code_peer_cmp q s.peer
+    low s = ap (λ p. code_peer_cmp p s.peer) l
+
+    high : (s : Seat) → code_peer_cmp hi.peer s.peer ≡ code_peer_cmp q s.peer
+    high s = ap (λ p. code_peer_cmp p s.peer) h
+
+    by_order : (s : Seat) (o : Ordering) → code_peer_cmp q s.peer ≡ o → (is_le (ordering_then o (code_cmp lo.prefix s.prefix)) && not (is_lt (ordering_then o (code_cmp hi.prefix s.prefix)))) ≡ is_eq o
+    by_order s Less e = refl
+    by_order s Greater e = refl
+    by_order s Equal e =
+        let x : is_le (code_cmp lo.prefix s.prefix) ≡ true = ap (λ o. is_le (ordering_then o (code_cmp lo.prefix s.prefix))) (sym (low s ∙ e)) ∙ is_le_from (seat_cmp lo s) (least s e) in
+        let y : is_lt (code_cmp hi.prefix s.prefix) ≡ false = ap (λ o. is_lt (ordering_then o (code_cmp hi.prefix s.prefix))) (sym (high s ∙ e)) ∙ (sym (flip_lt (seat_cmp hi s)) ∙ (ap is_gt (sym (seat_total.antisymm s hi)) ∙ greatest s e)) in
+        ap (λ b. b && not (is_lt (code_cmp hi.prefix s.prefix))) x ∙ ap not y
+
+    at : (s : Seat) → (is_le (seat_cmp lo s) && not (is_lt (seat_cmp hi s))) ≡ is_eq (code_peer_cmp q s.peer)
+    at s =
+        ap (λ o. is_le (ordering_then o (code_cmp lo.prefix s.prefix)) && not (is_lt (seat_cmp hi s))) (low s)
+        ∙ (ap (λ o. is_le (ordering_then (code_peer_cmp q s.peer) (code_cmp lo.prefix s.prefix)) && not (is_lt (ordering_then o (code_cmp hi.prefix s.prefix)))) (high s) ∙ by_order s (code_peer_cmp q s.peer) refl)
+
+pub cut_more : (q : Peer) (s : Seat) (o : Option Offer) (cuts more : List Elem) (it rest all : Seats) → it ≡ (s, o) ∷ rest → (b : Bool) → b ≡ is_some o → b ≡ true → more ≡ cuts ++ (Cut q s.prefix ∷ []) → cuts ++ cuts_in q it ≡ cuts_in q all → more ++ cuts_in q rest ≡ cuts_in q all
+unfolding cuts_in
+cut_more q s (Some offer) cuts more it rest all e b t u m h =
+    ap (λ xs. xs ++ cuts_in q rest) m ∙ (append_assoc cuts (Cut q s.prefix ∷ []) (cuts_in q rest) ∙ (ap (λ es. cuts ++ cuts_in q es) (sym e) ∙ h))
+cut_more q s None cuts more it rest all e b t u m h = let x : true ≡ false = sym u ∙ t in absurd cc
+
+pub no_cut : (q : Peer) (s : Seat) (o : Option Offer) (cuts : List Elem) (it rest all : Seats) → it ≡ (s, o) ∷ rest → (b : Bool) → b ≡ is_some o → b ≡ false → cuts ++ cuts_in q it ≡ cuts_in q all → cuts ++ cuts_in q rest ≡ cuts_in q all
+unfolding cuts_in
+no_cut q s (Some offer) cuts it rest all e b t u h = let x : false ≡ true = sym u ∙ t in absurd cc
+no_cut q s None cuts it rest all e b t u h = ap (λ es. cuts ++ cuts_in q es) (sym e) ∙ h
+
+pub all_cut : (q : Peer) (cuts : List Elem) (it all : Seats) → it ≡ [] → cuts ++ cuts_in q it ≡ cuts_in q all → cuts ≡ cuts_in q all
+unfolding cuts_in
+all_cut q cuts it all e h = sym (append-nil cuts) ∙ (ap (λ es. cuts ++ cuts_in q es) (sym e) ∙ h)
+
+pub between_at : (q : Peer) (lo hi a b : Seat) (seats items : Seats) → a ≡ lo → b ≡ hi → items ≡ filter (λ e. is_le (seat_cmp a e.0) && not (is_lt (seat_cmp b e.0))) seats → lo.peer ≡ q → hi.peer ≡ q
+    → ((s : Seat) → code_peer_cmp q s.peer ≡ Equal → is_gt (seat_cmp lo s) ≡ false) → ((s : Seat) → code_peer_cmp q s.peer ≡ Equal → is_gt (seat_cmp s hi) ≡ false) → items ≡ seats_of q seats
+between_at q lo hi a b seats items x y e l h least greatest =
+    between_is q a b seats items e (ap (λ (s : Seat). s.peer) x ∙ l) (ap (λ (s : Seat). s.peer) y ∙ h) (λ s t. ap (λ r. is_gt (seat_cmp r s)) x ∙ least s t) (λ s t. ap (λ r. is_gt (seat_cmp s r)) y ∙ greatest s t)

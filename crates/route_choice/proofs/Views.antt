@@ -1,0 +1,130 @@
+-- The candidates that seats hold.
+use Rattle.std.proofs.Common.{◌≡◌, List, [], ◌∷◌, Bool, true, false, cond, Option, Some, None, refl, sym, ap, ◌∙◌}
+use Rattle.std.specs.Prelude.{option_map, if◌then◌else◌}
+use Rattle.std.specs.Map.{lookup}
+use Rattle.std.specs.Ordering.{is_eq, ordering_reverse}
+use Rattle.std.specs.BTreeMap.{is_at}
+use Rattle.std.specs.declared.cmp.Ordering.{Ordering}
+use Rattle.std.specs.declared.cmp.Ordering.TheVariants.{Less, Equal, Greater}
+use Rattle.fib_prefix.specs.Seen.{addr_as, elem_as}
+use Rattle.fib_prefix.specs.declared.event.Elem.{Elem}
+use Rattle.fib_prefix.specs.declared.event.Elem.TheVariants as elem
+use Rattle.route_model.specs.Choice as model
+use Rattle.route_model.specs.Choice.{Place, Candidates, AreCandidates, IsPlace, IsElem, same_place, after_elem, is_about, offered}
+use Rattle.route_model.proofs.Keyed.{same_entries}
+use Rattle.route_model.proofs.Places.{place_key}
+use Rattle.route_model.proofs.Said.{none_yet, candidates_after, offer_after}
+use Rattle.route_choice.specs.declared.keys.Seat.{Seat}
+use Rattle.route_choice.specs.declared.keys.Offer.{Offer}
+use Rattle.route_choice.specs.Orders.{seat_cmp}
+use Rattle.route_choice.specs.Seats.{Seats, place_as, said_by, held_in, flat, offer_at, seat_in, offer_in}
+use Rattle.route_choice.proofs.Orders.{seat_same, seat_total, is_place, is_prefix, is_peer}
+
+abbrev pub offer_as : Offer → model.Offer
+offer_as offer = record { path = offer.path; hop = addr_as offer.hop }
+
+said_is : (s : Seat) (o : Option Offer) → IsElem (said_by s o)
+said_is s (Some offer) = is_place s
+said_is s None = is_place s
+
+pub are_candidates : (seats : Seats) → AreCandidates (held_in seats)
+unfolding held_in
+are_candidates [] = none_yet
+are_candidates (e ∷ seats) = candidates_after (held_in seats) (said_by e.0 e.1) (are_candidates seats) (said_is e.0 e.1)
+
+pub lookup-held : (at : Place) (seats : Seats) → lookup (same_place at) (held_in seats) ≡ option_map offer_as (flat (lookup (λ s. same_place at (place_as s)) seats))
+unfolding held_in
+lookup-held at [] = refl
+lookup-held at (e ∷ seats) = offer_after at (held_in seats) (said_by e.0 e.1) (are_candidates seats) (said_is e.0 e.1) ∙ by_offer e.1 (same_place at (place_as e.0)) refl (lookup-held at seats)
+  where
+    there : Option (Option Offer)
+    there = lookup (λ s. same_place at (place_as s)) seats
+
+    by_offer : (o : Option Offer) (b : Bool) → same_place at (place_as e.0) ≡ b → lookup (same_place at) (held_in seats) ≡ option_map offer_as (flat there)
+        → (if is_about at (said_by e.0 o) then offered (said_by e.0 o) else lookup (same_place at) (held_in seats)) ≡ option_map offer_as (flat (cond b (Some o) there))
+    by_offer (Some offer) true t ih = ap (λ c. cond c (Some (offer_as offer)) (lookup (same_place at) (held_in seats))) t
+    by_offer (Some offer) false t ih = ap (λ c. cond c (Some (offer_as offer)) (lookup (same_place at) (held_in seats))) t ∙ ih
+    by_offer None true t ih = ap (λ c. cond c None (lookup (same_place at) (held_in seats))) t
+    by_offer None false t ih = ap (λ c. cond c None (lookup (same_place at) (held_in seats))) t ∙ ih
+
+pub lookup_by_test : {K X : Type 0} (f g : K → Bool) (es : List (K × X)) → ((k : K) → f k ≡ g k) → lookup f es ≡ lookup g es
+lookup_by_test f g [] h = refl
+lookup_by_test f g (e ∷ es) h = ap (λ b. cond b (Some e.1) (lookup f es)) (h e.0) ∙ ap (cond (g e.0) (Some e.1)) (lookup_by_test f g es h)
+
+-- at a seat's place
+pub at_seat : (s : Seat) (seats : Seats) → lookup (same_place (place_as s)) (held_in seats) ≡ option_map offer_as (offer_at seats s)
+at_seat s seats = lookup-held (place_as s) seats ∙ ap (λ o. option_map offer_as (flat o)) (lookup_by_test (λ t. same_place (place_as s) (place_as t)) (is_at (seat_cmp s)) seats (λ t. sym (seat_same s t)))
+
+passing : {K X : Type 0} (test : K → Bool) (v : X) (es : List (K × X)) → lookup test es ≡ Some v → (k : K) × (test k ≡ true)
+passing test v [] h = absurd cc
+passing {K = K} {X = X} test v (e ∷ es) h = by_test (test e.0) refl h (passing test v es)
+  where
+    by_test : (b : Bool) → test e.0 ≡ b → cond b (Some e.1) (lookup test es) ≡ Some v → (lookup test es ≡ Some v → (k : K) × (test k ≡ true)) → (k : K) × (test k ≡ true)
+    by_test true t g ih = (e.0, t)
+    by_test false t g ih = ih g
+
+-- a place where something is held is a seat's
+pub has_seat : (q : Place) (v : model.Offer) (seats : Seats) → lookup (same_place q) (held_in seats) ≡ Some v → (s : Seat) × (place_as s ≡ q)
+has_seat q v seats h = by_found (lookup (λ s. same_place q (place_as s)) seats) refl (sym (lookup-held q seats) ∙ h)
+  where
+    by_found : (o : Option (Option Offer)) → lookup (λ s. same_place q (place_as s)) seats ≡ o → option_map offer_as (flat o) ≡ Some v → (s : Seat) × (place_as s ≡ q)
+    by_found None f e = absurd cc
+    by_found (Some o) f e = let r = passing (λ s. same_place q (place_as s)) o seats f in (r.0, sym (place_key.same q (place_as r.0) r.1))
+
+by_seats : (seats : Seats) (held : Candidates) → AreCandidates held → ((q : Place) (v : model.Offer) → lookup (same_place q) held ≡ Some v → (s : Seat) × (place_as s ≡ q)) → ((s : Seat) → option_map offer_as (offer_at seats s) ≡ lookup (same_place (place_as s)) held) → held_in seats ≡ held
+by_seats seats held a i h = same_entries place_key (held_in seats) held (are_candidates seats).1 a.1 (are_candidates seats).0 a.0 (λ q. by_found q (lookup (same_place q) (held_in seats)) refl (lookup (same_place q) held) refl)
+  where
+    at_one : (q : Place) (s : Seat) → place_as s ≡ q → lookup (same_place q) (held_in seats) ≡ lookup (same_place q) held
+    at_one q s e = ap (λ r. lookup (same_place r) (held_in seats)) (sym e) ∙ (at_seat s seats ∙ (h s ∙ ap (λ r. lookup (same_place r) held) e))
+
+    by_found : (q : Place) (x : Option model.Offer) → lookup (same_place q) (held_in seats) ≡ x → (y : Option model.Offer) → lookup (same_place q) held ≡ y → lookup (same_place q) (held_in seats) ≡ lookup (same_place q) held
+    by_found q (Some v) f y g = let r = has_seat q v seats f in at_one q r.0 r.1
+    by_found q None f (Some w) g = let r = i q w g in at_one q r.0 r.1
+    by_found q None f None g = f ∙ sym g
+
+-- seats with the same offers hold the same candidates
+pub unchanged : (seats after : Seats) → ((s : Seat) → offer_at after s ≡ offer_at seats s) → held_in after ≡ held_in seats
+unchanged seats after h = by_seats after (held_in seats) (are_candidates seats) (λ q v f. has_seat q v seats f) (λ s. ap (option_map offer_as) (h s) ∙ sym (at_seat s seats))
+
+pub about_is : (at : Place) (e : Elem) → is_about at (elem_as e) ≡ same_place at (place_as (seat_in e))
+about_is at (elem.Put q p path hop) = refl
+about_is at (elem.Cut q p) = refl
+
+pub offered_is : (e : Elem) → offered (elem_as e) ≡ option_map offer_as (offer_in e)
+offered_is (elem.Put q p path hop) = refl
+offered_is (elem.Cut q p) = refl
+
+pub is_elem : (e : Elem) → IsElem (elem_as e)
+is_elem (elem.Put q p path hop) = (is_prefix p, is_peer q)
+is_elem (elem.Cut q p) = (is_prefix p, is_peer q)
+
+pub flipped : (s t : Seat) → is_eq (seat_cmp s t) ≡ is_eq (seat_cmp t s)
+flipped s t = ap is_eq (seat_total.antisymm s t) ∙ reversed (seat_cmp t s)
+  where
+    reversed : (o : Ordering) → is_eq (ordering_reverse o) ≡ is_eq o
+    reversed Less = refl
+    reversed Equal = refl
+    reversed Greater = refl
+
+-- seats that offer what an elementary event says, and else the same, hold the candidates after it
+pub changed : (seats after : Seats) (e : Elem) → ((s : Seat) → offer_at after s ≡ cond (is_eq (seat_cmp (seat_in e) s)) (offer_in e) (offer_at seats s)) → held_in after ≡ after_elem (held_in seats) (elem_as e)
+changed seats after e h = by_seats after (after_elem (held_in seats) (elem_as e)) (candidates_after (held_in seats) (elem_as e) (are_candidates seats) (is_elem e)) image here
+  where
+    after_it : (q : Place) → lookup (same_place q) (after_elem (held_in seats) (elem_as e)) ≡ (if same_place q (place_as (seat_in e)) then option_map offer_as (offer_in e) else lookup (same_place q) (held_in seats))
+    after_it q = offer_after q (held_in seats) (elem_as e) (are_candidates seats) (is_elem e) ∙ (ap (λ b. cond b (offered (elem_as e)) (lookup (same_place q) (held_in seats))) (about_is q e) ∙ ap (λ o. cond (same_place q (place_as (seat_in e))) o (lookup (same_place q) (held_in seats))) (offered_is e))
+
+    by_test : (q : Place) (v : model.Offer) (b : Bool) → same_place q (place_as (seat_in e)) ≡ b → cond b (option_map offer_as (offer_in e)) (lookup (same_place q) (held_in seats)) ≡ Some v → (s : Seat) × (place_as s ≡ q)
+    by_test q v true t g = (seat_in e, sym (place_key.same q (place_as (seat_in e)) t))
+    by_test q v false t g = has_seat q v seats g
+
+    image : (q : Place) (v : model.Offer) → lookup (same_place q) (after_elem (held_in seats) (elem_as e)) ≡ Some v → (s : Seat) × (place_as s ≡ q)
+    image q v f = by_test q v (same_place q (place_as (seat_in e))) refl (sym (after_it q) ∙ f)
+
+    mapped : (b : Bool) (s : Seat) → option_map offer_as (cond b (offer_in e) (offer_at seats s)) ≡ cond b (option_map offer_as (offer_in e)) (lookup (same_place (place_as s)) (held_in seats))
+    mapped true s = refl
+    mapped false s = sym (at_seat s seats)
+
+    here : (s : Seat) → option_map offer_as (offer_at after s) ≡ lookup (same_place (place_as s)) (after_elem (held_in seats) (elem_as e))
+    here s =
+        ap (option_map offer_as) (h s) ∙ (mapped (is_eq (seat_cmp (seat_in e) s)) s
+        ∙ (ap (λ b. cond b (option_map offer_as (offer_in e)) (lookup (same_place (place_as s)) (held_in seats))) (flipped (seat_in e) s ∙ seat_same s (seat_in e)) ∙ sym (after_it (place_as s))))

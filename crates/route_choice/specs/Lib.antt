@@ -1,0 +1,5 @@
+pub mod Keys
+pub mod Orders
+pub mod Seats
+pub mod Walks
+pub mod Held

@@ -1,0 +1,68 @@
+-- What seats and ranks stand for.
+use Rattle.std.specs.Prelude.{◌≡◌, ⊤, ℕ, List, [], ◌∷◌, Bool, true, Option, Some, None, IsSome}
+use Rattle.std.specs.List.{list_any}
+use Rattle.std.specs.Map.{lookup}
+use Rattle.std.specs.BTreeMap.{is_at}
+use Rattle.fib_prefix.specs.Seen.{addr_as, prefix_as, peer_as}
+use Rattle.fib_prefix.specs.declared.event.Elem.{Elem}
+use Rattle.fib_prefix.specs.declared.event.Elem.TheVariants as elem
+use Rattle.route_model.specs.Events as model
+use Rattle.route_model.specs.Choice.{Place, Candidates, after_elem}
+use Rattle.route_choice.specs.declared.keys.Seat.{Seat}
+use Rattle.route_choice.specs.declared.keys.Rank.{Rank}
+use Rattle.route_choice.specs.declared.keys.Offer.{Offer}
+use Rattle.route_choice.specs.Orders.{seat_cmp, rank_cmp}
+
+abbrev pub place_as : Seat → Place
+place_as s = record { prefix = prefix_as s.prefix; peer = peer_as s.peer }
+
+-- the seats, with what is offered at each
+abbrev pub Seats : Type 0
+Seats = List (Seat × Option Offer)
+
+-- what a seat says of its place: what is offered there, or nothing
+abbrev pub said_by : Seat → Option Offer → model.Elem
+said_by s (Some offer) = model.Put (peer_as s.peer) (prefix_as s.prefix) offer.path (addr_as offer.hop)
+said_by s None = model.Cut (peer_as s.peer) (prefix_as s.prefix)
+
+-- the candidates: what all seats say
+unfoldable pub held_in : Seats → Candidates
+held_in [] = []
+held_in (e ∷ seats) = after_elem (held_in seats) (said_by e.0 e.1)
+
+-- what is offered at a seat
+abbrev pub flat : Option (Option Offer) → Option Offer
+flat None = None
+flat (Some offer) = offer
+
+abbrev pub offer_at : Seats → Seat → Option Offer
+offer_at seats s = flat (lookup (is_at (seat_cmp s)) seats)
+
+-- the rank of what is offered at a seat with this path, and the seat of a rank
+abbrev pub rank_at : Seat → ℕ → Rank
+rank_at s path = record { prefix = s.prefix; path = path; peer = s.peer }
+
+abbrev pub seat_of : Rank → Seat
+seat_of r = record { peer = r.peer; prefix = r.prefix }
+
+abbrev pub has_rank : List Rank → Rank → Bool
+has_rank ranks r = list_any (is_at (rank_cmp r)) ranks
+
+-- each offer has its rank
+abbrev pub IsIndexed : Seats → List Rank → Type 0
+IsIndexed seats ranks = (s : Seat) (offer : Offer) → offer_at seats s ≡ Some offer → has_rank ranks (rank_at s offer.path) ≡ true
+
+-- the seat that an elementary event is about, and what it offers there
+abbrev pub seat_in : Elem → Seat
+seat_in (elem.Put q p path hop) = record { peer = q; prefix = p }
+seat_in (elem.Cut q p) = record { peer = q; prefix = p }
+
+abbrev pub offer_in : Elem → Option Offer
+offer_in (elem.Put q p path hop) = Some (record { path = path; hop = hop })
+offer_in (elem.Cut q p) = None
+
+-- there is room for what it offers
+abbrev pub HasRoom : Seats → List Rank → Option Elem → Type 0
+HasRoom seats ranks None = ⊤
+HasRoom seats ranks (Some (elem.Put q p path hop)) = IsSome (lookup (is_at (seat_cmp (record { peer = q; prefix = p }))) seats) × (has_rank ranks (record { prefix = p; path = path; peer = q }) ≡ true)
+HasRoom seats ranks (Some (elem.Cut q p)) = ⊤

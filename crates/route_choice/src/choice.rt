@@ -1,0 +1,34 @@
+//! What an elementary event changes.
+
+ghost use Rattle.std.specs.Prelude.{◌≡◌};
+
+use fib_prefix::{Addr, Elem, Prefix};
+
+/// The chosen hop of a prefix before and after an elementary event about it.
+#[derive(Clone, Copy, Debug, PartialEq, Eq)]
+pub struct Choice {
+    /// The prefix.
+    pub prefix: Prefix,
+    /// The hop before, if the prefix had a candidate.
+    pub before: Option<Addr>,
+    /// The hop after, if it has one then.
+    pub after: Option<Addr>,
+}
+
+/// An elementary event for which `Candidates::plan` has made room, with the choice that it will make.
+#[derive(Clone, Copy, Debug, PartialEq, Eq)]
+pub struct Pick {
+    pub(crate) elem: Elem,
+    pub(crate) choice: Choice,
+}
+
+impl Pick {
+    ghost use Rattle.route_choice.specs.Held.{told};
+
+    /// The choice that it will make.
+    pub fn choice(&self) -> &Choice
+        ensures { result.now ≡ told self.now }
+    {
+        &self.choice
+    }
+}

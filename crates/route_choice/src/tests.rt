@@ -1,0 +1,88 @@
+//! Candidates come and go.
+
+use super::*;
+use fib_prefix::{Addr, Elem, Event, Peer, Prefix};
+use std::alloc::AllocError;
+use std::test::Fail;
+
+fn peer(n: u32) -> Peer {
+    Peer {
+        addr: Addr::v4(n),
+        asn: 64_512,
+    }
+}
+
+fn hop(n: u8) -> Addr {
+    Addr::v4(0xc000_0200 + u32::from(n))
+}
+
+#[test]
+fn the_shortest_path_is_chosen(rt: HostRuntime) -> Result<(), AllocError> {
+    let mut held = Candidates::new(rt.alloc());
+    let wide = Prefix::new(&Addr::v4(0x0a00_0000), 8);
+    let narrow = Prefix::new(&Addr::v4(0x0a00_0000), 16);
+    for (elem, before, after) in [
+        // a cut of what isn't there
+        (Elem::Cut(peer(1), wide), None, None),
+        (Elem::Put(peer(2), wide, 3, hop(2)), None, Some(hop(2))),
+        // a longer path, then a tie that the lesser peer wins
+        (
+            Elem::Put(peer(1), wide, 4, hop(1)),
+            Some(hop(2)),
+            Some(hop(2)),
+        ),
+        (
+            Elem::Put(peer(1), wide, 3, hop(1)),
+            Some(hop(2)),
+            Some(hop(1)),
+        ),
+        // the same path once more with another hop
+        (
+            Elem::Put(peer(1), wide, 3, hop(6)),
+            Some(hop(1)),
+            Some(hop(6)),
+        ),
+        (
+            Elem::Put(peer(3), wide, 2, hop(3)),
+            Some(hop(6)),
+            Some(hop(3)),
+        ),
+        // the next one comes after a cut
+        (Elem::Cut(peer(3), wide), Some(hop(3)), Some(hop(6))),
+        (Elem::Put(peer(2), narrow, 9, hop(5)), None, Some(hop(5))),
+        // the chosen one's path gets longer
+        (
+            Elem::Put(peer(1), wide, 5, hop(1)),
+            Some(hop(6)),
+            Some(hop(2)),
+        ),
+    ] {
+        held.plan(&Elem::Put(peer(9), wide, 0, hop(9)))?;
+        let choice = held.apply(&elem)?;
+        assert_eq!(rt; (choice.before, choice.after), (before, after));
+        assert_eq!(rt; held.chosen(&choice.prefix), after);
+    }
+    assert_eq!(rt;
+        held.routes()?.as_slice(),
+        [(wide, hop(2)), (narrow, hop(5))].as_slice()
+    );
+    let cuts = held.elementary(&Event::Down(peer(2)))?;
+    assert_eq!(rt;
+        cuts.as_slice(),
+        [Elem::Cut(peer(2), wide), Elem::Cut(peer(2), narrow)].as_slice()
+    );
+    for cut in &cuts {
+        held.apply(cut)?;
+    }
+    assert_eq!(rt; held.routes()?.as_slice(), [(wide, hop(1))].as_slice());
+    let put = held.elementary(&Event::Announce(peer(4), narrow, 1, hop(4)))?;
+    assert_eq!(rt;
+        put.as_slice(),
+        [Elem::Put(peer(4), narrow, 1, hop(4))].as_slice()
+    );
+    let pick = held.plan(&put[0])?;
+    assert_eq!(rt; pick.choice().after, Some(hop(4)));
+    assert_eq!(rt; held.commit(pick).before, None);
+    assert_eq!(rt; held.chosen(&narrow), Some(hop(4)));
+    Ok(())
+}

@@ -1,0 +1,33 @@
+-- What a reader returned is what the definition gives, unless memory ran out.
+use Rattle.std.specs.Prelude.{◌≡◌, ℕ, List, drop, Result, Ok, Err}
+use Rattle.fib_prefix.specs.declared.prefix.Prefix as code
+use Rattle.fib_prefix.specs.Seen.{prefix_as}
+use Rattle.address_model.specs.Address.{Prefix}
+use Rattle.wire_fields.specs.declared.refusal.Refusal.{Refusal}
+use Rattle.wire_fields.specs.declared.refusal.Refusal.TheVariants.{NoMemory, Rule}
+use Rattle.wire_fields.specs.declared.wire_prefix.WireFault.{WireFault}
+use Rattle.wire_fields.specs.declared.wire_prefix.WireFault.TheVariants.{Cut, TooLong}
+
+-- the refusal is the definition's; running out of memory says nothing
+abbrev pub Refuses : {Y : Type 0} → Refusal → Result Y ℕ → Type 0
+Refuses NoMemory read = Unit {0}
+Refuses (Rule rule) read = read ≡ Err rule
+
+-- a reader that takes memory
+abbrev pub GivesInMemory : {X Y : Type 0} → (X → Y) → Result X Refusal → Result Y ℕ → Type 0
+GivesInMemory view (Ok x) read = read ≡ Ok (view x)
+GivesInMemory view (Err refusal) read = Refuses refusal read
+
+abbrev pub rule_of : ℕ → WireFault → ℕ
+rule_of cut Cut = cut
+rule_of cut TooLong = 6
+
+-- a prefix and how many octets it takes, where a cut breaks this rule
+abbrev pub GivesPrefix : ℕ → List ℕ → Result (code.Prefix × ℕ) WireFault → Result (Prefix × List ℕ) ℕ → Type 0
+GivesPrefix cut octets (Ok x) read = read ≡ Ok (prefix_as x.0, drop x.1 octets)
+GivesPrefix cut octets (Err fault) read = read ≡ Err (rule_of cut fault)
+
+-- a walk that keeps no value: there is one, or the rule is the definition's
+abbrev pub Passes : {X Y : Type 0} → Result X ℕ → Result Y ℕ → Type 0
+Passes {Y = Y} (Ok x) read = (y : Y) × (read ≡ Ok y)
+Passes (Err rule) read = read ≡ Err rule

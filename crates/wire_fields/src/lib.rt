@@ -1,0 +1,20 @@
+//! What attribute lists, UPDATE messages and MRT records have in common: addresses, prefixes and families on the wire, and
+//! the rules of reading by name.
+//!
+//! Each reader takes its field from the front, and stands against its definition in `reading_model::specs::Wire`. The
+//! rule that a cut breaks is handed in, since it depends on the place. All cost what they read, and only `prefixes_of` and
+//! `push_routes` take memory.
+#![tactic(auto)]
+
+mod event;
+mod families;
+mod list;
+mod refusal;
+pub mod rule;
+mod wire_prefix;
+
+pub use event::{event_of, push_routes};
+pub use families::{address, family, family_of};
+pub use list::{check_prefixes, prefixes_of};
+pub use refusal::Refusal;
+pub use wire_prefix::{WireFault, prefix, read_wire_prefix};

@@ -1,0 +1,42 @@
+//! Why something couldn't be read.
+
+ghost use Rattle.std.specs.Prelude.{◌≡◌};
+ghost use Rattle.wire_fields.specs.declared.refusal.Refusal.TheVariants.{NoMemory, Rule};
+
+use std::alloc::{AllocError, AllocFailed};
+use thiserror::Error;
+
+/// What a reader answers that takes memory.
+#[derive(Clone, Copy, Debug, PartialEq, Eq, Error)]
+pub enum Refusal {
+    /// Memory ran out.
+    #[error("out of memory")]
+    NoMemory,
+    /// The octets break this rule (`rule`).
+    #[error("rule {0} of reading is broken")]
+    Rule(u8),
+}
+
+impl From<u8> for Refusal {
+    ghost from_gives = { λ rule e. e ≡ Rule rule };
+
+    fn from(rule: u8) -> Refusal {
+        Refusal::Rule(rule)
+    }
+}
+
+impl From<AllocError> for Refusal {
+    ghost from_gives = { λ _ e. e ≡ NoMemory };
+
+    fn from(_e: AllocError) -> Refusal {
+        Refusal::NoMemory
+    }
+}
+
+impl<T: Drop> From<AllocFailed<T>> for Refusal {
+    ghost from_gives = { λ _ e. e ≡ NoMemory };
+
+    fn from(_e: AllocFailed<T>) -> Refusal {
+        Refusal::NoMemory
+    }
+}
