@@ -80,7 +80,7 @@ def measured(program, n, options, folder):
     """The columns of one size."""
     dump, asks = make(n, options, folder)
     words, out = [program, "run", dump, "--ask", asks], os.path.join(folder, "out")
-    due = {"route": n, "change": n, "answer": ASKS, "table": n}
+    due = {"route": n, "change": n, "answer": ASKS, "table": n, "report": 5}
     best = None
     for _ in range(RUNS):
         status, seconds = timed(words, out)

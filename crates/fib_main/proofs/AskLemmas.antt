@@ -1,12 +1,15 @@
 -- One line after another.
-use Rattle.std.proofs.Common.{◌≡◌, ℕ, suc, List, [], ◌∷◌, ◌++◌, Bool, true, false, cond, not, Option, Some, None, length, take, drop, map, refl, sym, ap, ◌∙◌, arith, append_assoc}
-use Rattle.std.specs.Prelude.{option_map, ◌==◌, filter}
+use Rattle.std.proofs.Common.{◌≡◌, ℕ, suc, List, [], ◌∷◌, ◌++◌, Bool, true, false, cond, Some, None, Result, Ok, Err, length, take, drop, map, refl, sym, ap, ◌∙◌, arith, append_assoc}
+use Rattle.std.specs.Prelude.{◌==◌, ◌+◌, ◌≤◌}
+use Rattle.octet_fields.specs.Field.{◌>>=◌}
 use Rattle.std.proofs.Common.{append-nil}
+use Rattle.std.proofs.lemmas.Bool.{eqb-true}
+use Rattle.std.proofs.lemmas.List.{length-map}
 use Rattle.bstr.specs.Text.{line_len, without_terminator, lines_of as cut_lines}
 use Rattle.bstr.proofs.lemmas.LineLemmas.{lines-nil, lines-step}
 use Rattle.address_model.specs.Address.{Address}
 use Rattle.fib_prefix.specs.Text.{address_in}
-use Rattle.fib_main.specs.Asks.{in_front, lines_of, all_some, is_filled, addresses_in, asks_in}
+use Rattle.fib_main.specs.Asks.{in_front, lines_of, address_or, addresses_from, asks_in}
 
 -- ---- the lines are those of bstr
 
@@ -35,54 +38,80 @@ lines_same (b ∷ text) = by_test (b == 10) refl (lines_same text)
     by_test true e ih = line_long b text e ∙ ap (λ ls. (b ∷ []) ∷ ls) ih
     by_test false e ih = line_more b text e ∙ ap (in_front b) ih
 
+-- ---- there are no more lines than octets
+
+front_long : (b : ℕ) (lines : List (List ℕ)) → length (in_front b lines) ≤ suc (length lines)
+front_long b [] = omega arith
+front_long b (line ∷ lines) = omega arith
+
+few_lines : (text : List ℕ) → length (lines_of text) ≤ length text
+unfolding lines_of
+few_lines [] = omega arith
+few_lines (b ∷ text) = by_test (b == 10) (few_lines text)
+  where
+    by_test : (t : Bool) → length (lines_of text) ≤ length text → length (cond t ((b ∷ []) ∷ lines_of text) (in_front b (lines_of text))) ≤ suc (length text)
+    by_test true le = omega (arith, le)
+    by_test false le = omega (arith, le, front_long b (lines_of text))
+
 -- ---- asks so far and the lines left
 
--- the asks so far, and what the lines left give
-pub record Left (asks : List Address) (lines : List (List ℕ)) (text : List ℕ) : Type 0 where
-  pub all : option_map (λ more. asks ++ more) (addresses_in lines) ≡ asks_in text
+-- the asks of the n lines so far, and what the lines left give
+pub record Left (asks : List Address) (n : ℕ) (lines : List (List ℕ)) (text : List ℕ) : Type 0 where
+  pub all : (addresses_from (n + 1) lines >>= λ more. Ok (asks ++ more)) ≡ asks_in text
+  pub few : n + length lines ≤ length text
 
-nothing_before : {A : Type 0} (o : Option (List A)) → option_map (λ more. [] ++ more) o ≡ o
-nothing_before None = refl
-nothing_before (Some xs) = refl
+nothing_before : (read : Result (List Address) ℕ) → (read >>= λ more. Ok ([] ++ more)) ≡ read
+nothing_before (Ok addresses) = refl
+nothing_before (Err n) = refl
 
-pub starts : (text : List ℕ) (asks : List Address) (lines : List (List ℕ)) → asks ≡ [] → lines ≡ map without_terminator (cut_lines text) → Left asks lines text
+pub starts : (text : List ℕ) (asks : List Address) (lines : List (List ℕ)) → asks ≡ [] → lines ≡ map without_terminator (cut_lines text) → Left asks 0 lines text
 unfolding asks_in
-starts text asks lines a l = record {
-  all =
-      ap (λ xs. option_map (λ more. xs ++ more) (addresses_in lines)) a
-      ∙ (nothing_before (addresses_in lines) ∙ (ap addresses_in (l ∙ ap (map without_terminator) (lines_same text))));
+starts text asks lines a l =
+    let same : lines ≡ map without_terminator (lines_of text) = l ∙ ap (map without_terminator) (lines_same text) in
+    record {
+      all = ap (λ xs. addresses_from 1 lines >>= λ more. Ok (xs ++ more)) a ∙ (nothing_before (addresses_from 1 lines) ∙ ap (addresses_from 1) same);
+      few = omega (arith, few_lines text, ap length same, length-map (lines_of text) without_terminator);
+    }
+
+empty_here : (n : ℕ) (line : List ℕ) (lines : List (List ℕ)) → true ≡ (length line == 0) → addresses_from n (line ∷ lines) ≡ addresses_from (n + 1) lines
+unfolding addresses_from
+empty_here n [] lines e = refl
+empty_here n (b ∷ line) lines e = absurd (not_empty (sym e)) where
+  not_empty : (suc (length line) == 0) ≡ true → ⊥
+  not_empty h = let z : suc (length line) ≡ 0 = eqb-true (suc (length line)) 0 h in omega arith
+
+filled_here : (n : ℕ) (line : List ℕ) (lines : List (List ℕ)) → false ≡ (length line == 0) → addresses_from n (line ∷ lines) ≡ address_or n (address_in line) (addresses_from (n + 1) lines)
+unfolding addresses_from
+filled_here n [] lines e = absurd cc
+filled_here n (b ∷ line) lines e = refl
+
+pub empty_line : (asks : List Address) (n : ℕ) (line : List ℕ) (lines left : List (List ℕ)) (text : List ℕ) → lines ≡ line ∷ left → true ≡ (length line == 0) → Left asks n lines text → Left asks (n + 1) left text
+empty_line asks n line lines left text e t l = record {
+  all = sym (ap (λ ls. addresses_from (n + 1) ls >>= λ more. Ok (asks ++ more)) e ∙ ap (λ read. read >>= λ more. Ok (asks ++ more)) (empty_here (n + 1) line left t)) ∙ l.all;
+  few = omega (arith, l.few, ap length e);
 }
 
-filled_line : (line : List ℕ) (lines : List (List ℕ)) → (length line == 0) ≡ false → addresses_in (line ∷ lines) ≡ all_some (address_in line ∷ map address_in (filter is_filled lines))
-filled_line line lines e = ap (λ t. all_some (map address_in (cond (not t) (line ∷ filter is_filled lines) (filter is_filled lines)))) e
+one_more : (asks : List Address) (a : Address) (read : Result (List Address) ℕ) → (read >>= λ more. Ok ((asks ++ a ∷ []) ++ more)) ≡ ((read >>= λ addresses. Ok (a ∷ addresses)) >>= λ more. Ok (asks ++ more))
+one_more asks a (Ok addresses) = ap Ok (append_assoc asks (a ∷ []) addresses)
+one_more asks a (Err n) = refl
 
-pub empty_line : (asks : List Address) (line : List ℕ) (lines left : List (List ℕ)) (text : List ℕ) → lines ≡ line ∷ left → true ≡ (length line == 0) → Left asks lines text → Left asks left text
-empty_line asks line lines left text e t l = record {
+pub ask_line : (asks more : List Address) (n : ℕ) (a : Address) (line : List ℕ) (lines left : List (List ℕ)) (text : List ℕ) → lines ≡ line ∷ left → false ≡ (length line == 0) → Some a ≡ address_in line → more ≡ asks ++ a ∷ [] → Left asks n lines text → Left more (n + 1) left text
+ask_line asks more n a line lines left text e t r m l = record {
   all =
-      sym (ap (λ ls. option_map (λ more. asks ++ more) (addresses_in ls)) e
-      ∙ ap (λ b. option_map (λ more. asks ++ more) (all_some (map address_in (cond (not b) (line ∷ filter is_filled left) (filter is_filled left))))) (sym t))
-      ∙ l.all;
-}
-
-one_more : (asks : List Address) (a : Address) (o : Option (List Address)) → option_map (λ more. (asks ++ a ∷ []) ++ more) o ≡ option_map (λ more. asks ++ more) (option_map (λ xs. a ∷ xs) o)
-one_more asks a None = refl
-one_more asks a (Some xs) = ap Some (append_assoc asks (a ∷ []) xs)
-
-pub ask_line : (asks more : List Address) (a : Address) (line : List ℕ) (lines left : List (List ℕ)) (text : List ℕ) → lines ≡ line ∷ left → false ≡ (length line == 0) → Some a ≡ address_in line → more ≡ asks ++ a ∷ [] → Left asks lines text → Left more left text
-ask_line asks more a line lines left text e t r m l = record {
-  all =
-      ap (λ xs. option_map (λ ys. xs ++ ys) (addresses_in left)) m
-      ∙ (one_more asks a (addresses_in left)
-      ∙ (sym (ap (λ ls. option_map (λ ys. asks ++ ys) (addresses_in ls)) e
-      ∙ ap (option_map (λ ys. asks ++ ys)) (filled_line line left (sym t) ∙ ap (λ o. all_some (o ∷ map address_in (filter is_filled left))) (sym r)))
+      ap (λ xs. addresses_from (n + 1 + 1) left >>= λ ys. Ok (xs ++ ys)) m
+      ∙ (one_more asks a (addresses_from (n + 1 + 1) left)
+      ∙ (sym (ap (λ ls. addresses_from (n + 1) ls >>= λ ys. Ok (asks ++ ys)) e
+      ∙ ap (λ read. read >>= λ ys. Ok (asks ++ ys)) (filled_here (n + 1) line left t ∙ ap (λ o. address_or (n + 1) o (addresses_from (n + 1 + 1) left)) (sym r)))
       ∙ l.all));
+  few = omega (arith, l.few, ap length e);
 }
 
-pub wrong_line : (asks : List Address) (line : List ℕ) (lines left : List (List ℕ)) (text : List ℕ) → lines ≡ line ∷ left → false ≡ (length line == 0) → None ≡ address_in line → Left asks lines text → asks_in text ≡ None
-wrong_line asks line lines left text e t r l =
+pub wrong_line : (asks : List Address) (n : ℕ) (line : List ℕ) (lines left : List (List ℕ)) (text : List ℕ) → lines ≡ line ∷ left → false ≡ (length line == 0) → None ≡ address_in line → Left asks n lines text → asks_in text ≡ Err (n + 1)
+wrong_line asks n line lines left text e t r l =
     sym (l.all)
-    ∙ (ap (λ ls. option_map (λ ys. asks ++ ys) (addresses_in ls)) e
-    ∙ ap (option_map (λ ys. asks ++ ys)) (filled_line line left (sym t) ∙ ap (λ o. all_some (o ∷ map address_in (filter is_filled left))) (sym r)))
+    ∙ (ap (λ ls. addresses_from (n + 1) ls >>= λ ys. Ok (asks ++ ys)) e
+    ∙ ap (λ read. read >>= λ ys. Ok (asks ++ ys)) (filled_here (n + 1) line left t ∙ ap (λ o. address_or (n + 1) o (addresses_from (n + 1 + 1) left)) (sym r)))
 
-pub no_line : (asks : List Address) (lines : List (List ℕ)) (text : List ℕ) → lines ≡ [] → Left asks lines text → asks_in text ≡ Some asks
-no_line asks lines text e l = sym (l.all) ∙ (ap (λ ls. option_map (λ ys. asks ++ ys) (addresses_in ls)) e ∙ ap Some (append-nil asks))
+pub no_line : (asks : List Address) (n : ℕ) (lines : List (List ℕ)) (text : List ℕ) → lines ≡ [] → Left asks n lines text → asks_in text ≡ Ok asks
+unfolding addresses_from
+no_line asks n lines text e l = sym (l.all) ∙ (ap (λ ls. addresses_from (n + 1) ls >>= λ ys. Ok (asks ++ ys)) e ∙ ap Ok (append-nil asks))

@@ -3,7 +3,7 @@ use Rattle.std.proofs.Common.{◌≡◌, ℕ, List, Option, Some, Result, ◌⊎
 use Rattle.std.specs.Prelude.{IfSome}
 use Rattle.fib_io.specs.Causes.{Rose}
 use Rattle.fib_main.specs.declared.outcome.Outcome.{Outcome}
-use Rattle.fib_main.specs.declared.outcome.Outcome.TheVariants.{Done, Usage, ReadFault, WriteFault, NoMemory, TooLarge, NotBuilt}
+use Rattle.fib_main.specs.declared.outcome.Outcome.TheVariants.{Done, Usage, ReadFault, WriteFault, NoMemory, TooLarge, Malformed, HopsFull, BadLine}
 use Rattle.fib_main.specs.Stops.{Stop}
 use Rattle.fib_main.specs.Due.{Printed}
 use Rattle.fib_main.specs.Ends.{ending, Meets, ReadsBy, WritesBy, Completes}
@@ -19,4 +19,6 @@ completes d f before now b n NoMemory m r w = λ o e nr nw. inr refl
 completes d f before now b n Done m r w = λ o e nr nw. due_comes (ending d) _ o m e
 completes d f before now b n Usage m r w = λ o e nr nw. due_comes (ending d) _ o m e
 completes d f before now b n (TooLarge input) m r w = λ o e nr nw. due_comes (ending d) _ o m e
-completes d f before now b n (NotBuilt input) m r w = λ o e nr nw. due_comes (ending d) _ o m e
+completes d f before now b n (Malformed input number rule) m r w = λ o e nr nw. due_comes (ending d) _ o m e
+completes d f before now b n (HopsFull event) m r w = λ o e nr nw. due_comes (ending d) _ o m e
+completes d f before now b n (BadLine input line why) m r w = λ o e nr nw. due_comes (ending d) _ o m e

@@ -1,11 +1,11 @@
-pub mod Peers
-pub mod Padded
 pub mod AskLemmas
+pub mod Completing
+pub mod Due
+pub mod Feeding
+pub mod Fronts
 pub mod Maps
 pub mod Probing
-pub mod Tabling
-pub mod Routing
-pub mod Fronts
 pub mod Reporting
-pub mod Completing
 pub mod Running
+pub mod Steps
+pub mod Telling

@@ -1,59 +1,95 @@
 -- What holds of all that a run may print.
-use Rattle.std.proofs.Common.{◌≡◌, ℕ, zero, List, [], ◌∷◌, Option, Some, None, Result, Ok, Err, map, refl, ap, ◌∙◌}
-use Rattle.std.specs.Prelude.{option_map}
+use Rattle.std.proofs.Common.{◌≡◌, ℕ, List, [], ◌∷◌, ◌++◌, Option, Some, None, Result, Ok, Err, refl, sym, ap, ◌∙◌, subst}
+use Rattle.std.proofs.lemmas.List.Sums.{fold-append}
 use Rattle.std.specs.List.{AllByRecursion}
 use Rattle.address_model.specs.Address.{Address}
 use Rattle.table_model.specs.Entries.{Entries, match_in}
-use Rattle.table_model.specs.Changes.{Change, additions, sum_of}
-use Rattle.table_model.proofs.Sums.{in_order_sorted, sum_of-additions}
+use Rattle.route_model.specs.Events.{Elem}
+use Rattle.route_model.specs.Choice.{IsElem, after_elem, after_elems}
+use Rattle.route_model.proofs.Elems.{candidates_stay, elems_of_events}
+use Rattle.route_model.proofs.Said.{none_yet}
+use Rattle.reading_model.specs.Input.{Progress, Stopped, input}
+use Rattle.reading_model.proofs.Told.{read_events}
+use Rattle.feed_model.specs.Feed.{hops_after, full_at, entries_of}
+use Rattle.feed_model.proofs.Tables.{all}
 use Rattle.fib_report.specs.Seen.{Told}
-use Rattle.fib_main.specs.declared.outcome.Which.TheVariants.{Dump}
-use Rattle.fib_main.specs.Stops.{Stop, ◌>>=◌, built}
-use Rattle.fib_main.specs.Words.{Named, command_of, usage}
-use Rattle.fib_main.specs.Plain.{Route}
-use Rattle.fib_main.specs.Dump.{dump_in, table_in, entry_of, hops_in}
-use Rattle.fib_main.specs.Due.{printed, run_of, input_at, asks_at, table_at, due, answers_to}
+use Rattle.fib_words.specs.Commands.{Named, command_of}
+use Rattle.fib_main.specs.declared.outcome.Which.{Which}
+use Rattle.fib_main.specs.declared.outcome.Which.TheVariants.{Dump, Updates}
+use Rattle.fib_main.specs.Stops.{Stop, ◌>>=◌, few_hops, whole}
+use Rattle.fib_main.specs.Due.{Feed, printed, input_at, asks_at, feed_at, feed_of, feed_in, elems_in, read_part, told_at, due, usage, answers_to}
 use Rattle.fib_main.specs.Runs.{IfDue, SumsUp, Forwards, Answers}
 
--- a property of what is told of each dump's table and each list of asks
+-- ---- what an input brings is of prefixes and peers that there are
+
+few_ok : (which : Which) (o : Option ℕ) (next : Result Feed Stop) (feed : Feed) → few_hops which o next ≡ Ok feed → next ≡ Ok feed
+few_ok which None next feed e = e
+few_ok which (Some n) next feed e = absurd cc
+
+abbrev brought : Feed → Result Feed Stop
+brought feed = Ok feed
+
+same_feed : (f g : Feed) → brought f ≡ brought g → f ≡ g
+same_feed f g e = cc
+
+feed_proper : (which : Which) (before : List Elem) (octets : List ℕ) (feed : Feed) → AllByRecursion IsElem before → feed_of which before octets ≡ Ok feed → AllByRecursion IsElem feed.elems
+unfolding feed_of
+feed_proper which before octets feed p e = by_input (input octets) refl (few_ok which (full_at (hops_after [] before) (elems_in before (read_part (input octets)))) (whole which (input octets) >>= λ read. Ok (feed_in before read)) feed e)
+  where
+    by_input : (r : Result Progress Stopped) → input octets ≡ r → (whole which r >>= λ read. Ok (feed_in before read)) ≡ Ok feed → AllByRecursion IsElem feed.elems
+    by_input (Ok read) is e = subst (λ (f : Feed). AllByRecursion IsElem f.elems) (same_feed (feed_in before read) feed e) (elems_of_events (after_elems [] before) read.events (candidates_stay [] before none_yet p) (read_events octets read is))
+    by_input (Err stopped) is e = absurd cc
+
+named_proper : (content : List ℕ → Option (List ℕ)) (which : Which) (before : List Elem) (name : Option (List ℕ)) (feed : Feed) → AllByRecursion IsElem before → feed_at content which before name ≡ Ok feed → AllByRecursion IsElem feed.elems
+unfolding feed_at
+named_proper content which before None feed p e = let none = same_feed _ feed e in subst (λ (f : Feed). AllByRecursion IsElem f.elems) none tt
+named_proper content which before (Some name) feed p e = by_octets (input_at content which name) e
+  where
+    by_octets : (r : Result (List ℕ) Stop) → (r >>= feed_of which before) ≡ Ok feed → AllByRecursion IsElem feed.elems
+    by_octets (Ok octets) e = feed_proper which before octets feed p e
+    by_octets (Err stop) e = absurd cc
+
+-- ---- whatever is due
+
+-- a property of what is told of each dump and each list of updates and of asks
 abbrev pub OfEach : (Told → Type 0) → Type 0
-OfEach P = (routes : List Route) (asks : List Address) → P (run_of (table_in routes).entries asks)
+OfEach P = (load updates : Feed) (asks : List Address) → AllByRecursion IsElem load.elems → AllByRecursion IsElem updates.elems → P (printed load updates asks).told
 
-table_due : (P : Told → Type 0) → OfEach P → (asks : List Address) (o : Option (List Route)) → IfDue (built Dump (option_map table_in o) >>= λ table. Ok (printed table asks)) P
-table_due P each asks None = tt
-table_due P each asks (Some routes) = each routes asks
+told_due : (P : Told → Type 0) → OfEach P → (content : List ℕ → Option (List ℕ)) (named : Named) (asks : List Address) → IfDue (told_at content named asks) P
+unfolding told_at
+told_due P each content named asks = by_load (feed_at content Dump [] (Some named.dump)) refl
+  where
+    by_updates : (load : Feed) → AllByRecursion IsElem load.elems → (u : Result Feed Stop) → feed_at content Updates load.elems named.updates ≡ u → IfDue (u >>= λ updates. Ok (printed load updates asks)) P
+    by_updates load p (Ok updates) e = each load updates asks p (named_proper content Updates load.elems named.updates updates p e)
+    by_updates load p (Err stop) e = tt
 
-read_due : (P : Told → Type 0) → OfEach P → (asks : List Address) (r : Result (List ℕ) Stop) → IfDue ((r >>= λ octets. built Dump (option_map table_in (dump_in octets))) >>= λ table. Ok (printed table asks)) P
-read_due P each asks (Err stop) = tt
-read_due P each asks (Ok octets) = table_due P each asks (dump_in octets)
+    by_load : (l : Result Feed Stop) → feed_at content Dump [] (Some named.dump) ≡ l → IfDue (l >>= λ load. feed_at content Updates load.elems named.updates >>= λ updates. Ok (printed load updates asks)) P
+    by_load (Ok load) e = by_updates load (named_proper content Dump [] (Some named.dump) load tt e) (feed_at content Updates load.elems named.updates) refl
+    by_load (Err stop) e = tt
 
-asks_due : (P : Told → Type 0) → OfEach P → (content : List ℕ → Option (List ℕ)) (name : List ℕ) (r : Result (List Address) Stop) → IfDue (r >>= λ asks. table_at content name >>= λ table. Ok (printed table asks)) P
-unfolding table_at
-asks_due P each content name (Err stop) = tt
-asks_due P each content name (Ok asks) = read_due P each asks (input_at content Dump name)
+asks_due : (P : Told → Type 0) → OfEach P → (content : List ℕ → Option (List ℕ)) (named : Named) (r : Result (List Address) Stop) → IfDue (r >>= told_at content named) P
+asks_due P each content named (Err stop) = tt
+asks_due P each content named (Ok asks) = told_due P each content named asks
 
-words_due : (P : Told → Type 0) → OfEach P → (content : List ℕ → Option (List ℕ)) (o : Option Named) → IfDue (usage o >>= λ named. asks_at content named.asks >>= λ asks. table_at content named.dump >>= λ table. Ok (printed table asks)) P
+words_due : (P : Told → Type 0) → OfEach P → (content : List ℕ → Option (List ℕ)) (o : Option Named) → IfDue (usage o >>= λ named. asks_at content named.asks >>= λ asks. told_at content named asks) P
 words_due P each content None = tt
-words_due P each content (Some named) = asks_due P each content named.dump (asks_at content named.asks)
+words_due P each content (Some named) = asks_due P each content named (asks_at content named.asks)
 
 each_due : (P : Told → Type 0) → OfEach P → (words : List (List ℕ)) (content : List ℕ → Option (List ℕ)) → IfDue (due words content) P
 unfolding due
 each_due P each words content = words_due P each content (command_of words)
 
-changes_alone : (cs : List Change) → map (λ (c : ℕ × Change). c.1) (map (λ (c : Change). (zero, c)) cs) ≡ cs
-changes_alone [] = refl
-changes_alone (c ∷ cs) = ap (λ ds. c ∷ ds) (changes_alone cs)
-
 pub sums_up : (words : List (List ℕ)) (content : List ℕ → Option (List ℕ)) → IfDue (due words content) SumsUp
-sums_up = each_due SumsUp (λ routes asks.
-    ap sum_of (changes_alone (additions (table_in routes).entries)) ∙ sum_of-additions (table_in routes).entries (in_order_sorted (map (entry_of (hops_in routes)) routes)))
+sums_up = each_due SumsUp (λ load updates asks p q.
+    let hops : List Address = hops_after [] (load.elems ++ updates.elems) in
+    all hops (after_elems [] load.elems) updates.elems (candidates_stay [] load.elems none_yet p) q ∙ ap (λ held. Some (entries_of hops held)) (sym (fold-append after_elem [] load.elems updates.elems)))
 
 pub forwards : (words : List (List ℕ)) (content : List ℕ → Option (List ℕ)) → IfDue (due words content) Forwards
-forwards = each_due Forwards (λ routes asks a is. refl)
+forwards = each_due Forwards (λ load updates asks p q a is. refl)
 
 all_answer : (routes : Entries) (asks : List Address) → AllByRecursion (λ (a : Address × ℕ). a.1 ≡ match_in routes a.0) (answers_to routes asks)
 all_answer routes [] = tt
 all_answer routes (a ∷ asks) = (refl, all_answer routes asks)
 
 pub answers : (words : List (List ℕ)) (content : List ℕ → Option (List ℕ)) → IfDue (due words content) Answers
-answers = each_due Answers (λ routes asks. all_answer (table_in routes).entries asks)
+answers = each_due Answers (λ load updates asks p q. all_answer (entries_of (hops_after [] (load.elems ++ updates.elems)) (after_elems [] (load.elems ++ updates.elems))) asks)

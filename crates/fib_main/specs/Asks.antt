@@ -1,5 +1,6 @@
 -- The list of addresses that are asked for.
-use Rattle.std.specs.Prelude.{ℕ, List, [], ◌∷◌, Bool, not, Option, Some, None, option_map, map, filter, length, ◌==◌, if◌then◌else◌}
+use Rattle.std.specs.Prelude.{ℕ, ◌+◌, List, [], ◌∷◌, Option, Some, None, Result, Ok, Err, map, ◌==◌, if◌then◌else◌}
+use Rattle.octet_fields.specs.Field.{◌>>=◌}
 use Rattle.bstr.specs.Text.{without_terminator}
 use Rattle.address_model.specs.Address.{Address}
 use Rattle.fib_prefix.specs.Text.{address_in}
@@ -18,19 +19,17 @@ lines_of (b ∷ text) = if b == 10 then (b ∷ []) ∷ lines_of text else in_fro
 abbrev pub line_texts : List ℕ → List (List ℕ)
 line_texts text = map without_terminator (lines_of text)
 
--- the values, where all are there
-abbrev pub all_some : {A : Type 0} → List (Option A) → Option (List A)
-all_some [] = Some []
-all_some (None ∷ more) = None
-all_some (Some x ∷ more) = option_map (λ xs. x ∷ xs) (all_some more)
+-- the address in front of more, or the number of its line where it is none
+abbrev pub address_or : ℕ → Option Address → Result (List Address) ℕ → Result (List Address) ℕ
+address_or n None more = Err n
+address_or n (Some a) more = more >>= λ addresses. Ok (a ∷ addresses)
 
-abbrev pub is_filled : List ℕ → Bool
-is_filled line = not (length line == 0)
+-- The addresses of lines that are numbered from n, or the number of the first that is neither empty nor an address. An empty line is counted all the same.
+unfoldable pub addresses_from : ℕ → List (List ℕ) → Result (List Address) ℕ
+addresses_from n [] = Ok []
+addresses_from n ([] ∷ lines) = addresses_from (n + 1) lines
+addresses_from n ((b ∷ line) ∷ lines) = address_or n (address_in (b ∷ line)) (addresses_from (n + 1) lines)
 
--- the addresses of lines, where each line that isn't empty is one
-abbrev pub addresses_in : List (List ℕ) → Option (List Address)
-addresses_in lines = all_some (map address_in (filter is_filled lines))
-
--- the asks: an address on each line that isn't empty
-unfoldable pub asks_in : List ℕ → Option (List Address)
-asks_in text = addresses_in (line_texts text)
+-- the asks: an address on each line that isn't empty, the first line being line 1
+unfoldable pub asks_in : List ℕ → Result (List Address) ℕ
+asks_in text = addresses_from 1 (line_texts text)

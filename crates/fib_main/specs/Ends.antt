@@ -1,14 +1,14 @@
 -- What a run leaves.
-use Rattle.std.specs.Prelude.{◌≡◌, ℕ, List, [], ◌∷◌, ◌++◌, codes, Option, Some, None, IfSome, Result, Ok, Err, ◌⊎◌}
+use Rattle.std.specs.Prelude.{◌≡◌, ℕ, List, [], ◌∷◌, ◌++◌, codes, decimal, Option, Some, None, IfSome, Result, Ok, Err, ◌⊎◌}
 use Rattle.fib_io.specs.Causes.{Rose}
 use Rattle.fib_io.specs.Octets.{Adds, AddsSome}
 use Rattle.fib_main.specs.declared.outcome.Which.{Which}
-use Rattle.fib_main.specs.declared.outcome.Which.TheVariants.{Asks, Dump}
+use Rattle.fib_main.specs.declared.outcome.Which.TheVariants.{Asks, Dump, Updates}
 use Rattle.fib_main.specs.declared.outcome.Outcome.{Outcome}
-use Rattle.fib_main.specs.declared.outcome.Outcome.TheVariants.{Done, Usage, ReadFault, WriteFault, NoMemory, TooLarge, NotBuilt}
+use Rattle.fib_main.specs.declared.outcome.Outcome.TheVariants.{Done, Usage, ReadFault, WriteFault, NoMemory, TooLarge, Malformed, HopsFull, BadLine}
 use Rattle.fib_main.specs.Stops.{Stop, Untold, Refused}
-use Rattle.fib_main.specs.Words.{Named, command_of}
-use Rattle.fib_main.specs.Due.{Printed, asks_at, text_of}
+use Rattle.fib_words.specs.Commands.{Named, command_of}
+use Rattle.fib_main.specs.Due.{Printed, asks_at, feed_at, text_of}
 
 -- the outcome that is due, if all that it rests on is told
 abbrev pub ending : Result Printed Stop → Option Outcome
@@ -41,10 +41,19 @@ after (Err (Refused o)) names = []
 after (Err Untold) names = names
 after (Ok x) names = names
 
+-- a name, if there is one
+abbrev pub one : Option (List ℕ) → List (List ℕ)
+one None = []
+one (Some name) = name ∷ []
+
+-- the dump and then the updates
+abbrev pub feeds_named : (List ℕ → Option (List ℕ)) → Named → List (List ℕ)
+feeds_named content named = named.dump ∷ after (feed_at content Dump [] (Some named.dump)) (one named.updates)
+
 -- the inputs that are to be read, up to the first that is refused
 abbrev pub reads_named : (List ℕ → Option (List ℕ)) → Option Named → List (List ℕ)
 reads_named content None = []
-reads_named content (Some named) = named.asks ∷ after (asks_at content named.asks) (named.dump ∷ [])
+reads_named content (Some named) = one named.asks ++ after (asks_at content named.asks) (feeds_named content named)
 
 unfoldable pub reads : List (List ℕ) → (List ℕ → Option (List ℕ)) → List (List ℕ)
 reads words content = reads_named content (command_of words)
@@ -72,6 +81,7 @@ WritesBy before now outcome = now ≡ before
 abbrev pub name_of : Which → List ℕ
 name_of Asks = codes "asks"
 name_of Dump = codes "dump"
+name_of Updates = codes "updates"
 
 -- the line for an outcome
 abbrev pub line_of : Outcome → List ℕ
@@ -81,7 +91,9 @@ line_of ReadFault = codes "fib: read fault\n"
 line_of WriteFault = codes "fib: write fault\n"
 line_of NoMemory = codes "fib: no memory\n"
 line_of (TooLarge input) = codes "fib: too large " ++ name_of input ++ codes "\n"
-line_of (NotBuilt input) = codes "fib: not built " ++ name_of input ++ codes "\n"
+line_of (Malformed input number rule) = codes "fib: malformed " ++ name_of input ++ codes " record " ++ decimal number ++ codes " rule " ++ decimal rule ++ codes "\n"
+line_of (HopsFull event) = codes "fib: too many hops at event " ++ decimal event ++ codes "\n"
+line_of (BadLine input line why) = codes "fib: bad line " ++ name_of input ++ codes " " ++ decimal line ++ codes " why " ++ decimal why ++ codes "\n"
 
 abbrev pub status_of : Outcome → ℕ
 status_of Done = 0
@@ -90,7 +102,9 @@ status_of ReadFault = 3
 status_of WriteFault = 4
 status_of NoMemory = 9
 status_of (TooLarge input) = 10
-status_of (NotBuilt input) = 14
+status_of (Malformed input number rule) = 5
+status_of (HopsFull event) = 7
+status_of (BadLine input line why) = 8
 
 -- err has the line at its end, or its count rose and it has a front of the line
 abbrev pub Tells : List ℕ → Option (List ℕ) → Option (List ℕ) → ℕ → ℕ → Type 0

@@ -1,11 +1,8 @@
-pub mod Plain
 pub mod Asks
-pub mod Form
-pub mod Dump
-pub mod Seen
 pub mod Stops
-pub mod Words
 pub mod Due
+pub mod Seen
+pub mod Standing
 pub mod Ends
 pub mod Reads
 pub mod Runs

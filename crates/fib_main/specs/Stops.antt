@@ -1,8 +1,10 @@
 -- Where a run stops, and what a call gives of it.
 use Rattle.std.specs.Prelude.{◌≡◌, ℕ, ◌^◌, List, length, Option, Some, None, Result, Ok, Err, nat_le, if◌then◌else◌}
+use Rattle.reading_model.specs.Input.{Progress, Stopped}
 use Rattle.fib_main.specs.declared.outcome.Outcome.{Outcome}
-use Rattle.fib_main.specs.declared.outcome.Outcome.TheVariants.{Done, NoMemory, ReadFault, WriteFault, TooLarge, NotBuilt}
+use Rattle.fib_main.specs.declared.outcome.Outcome.TheVariants.{Done, NoMemory, ReadFault, WriteFault, TooLarge, Malformed, HopsFull, BadLine}
 use Rattle.fib_main.specs.declared.outcome.Which.{Which}
+use Rattle.fib_main.specs.declared.outcome.Which.TheVariants.{Dump, Asks, Updates}
 
 -- an input that doesn't tell its content, or a refusal
 pub data Stop : Type 0 where
@@ -23,10 +25,26 @@ told (Some octets) = Ok octets
 unfoldable pub sized : Which → List ℕ → Result (List ℕ) Stop
 sized which octets = if nat_le (length octets) (2 ^ 36) then Ok octets else Err (Refused (TooLarge which))
 
--- the value of an input, where it is in the form that is built
-abbrev pub built : {A : Type 0} → Which → Option A → Result A Stop
-built which (Some x) = Ok x
-built which None = Err (Refused (NotBuilt which))
+-- lines that are all of their form, or the number of the first that isn't; a line that should be an address is wrong for reason 1
+abbrev pub lined : {A : Type 0} → Which → Result A ℕ → Result A Stop
+lined which (Ok x) = Ok x
+lined which (Err line) = Err (Refused (BadLine which line 1))
+
+-- records that break no rule, or the first that does
+abbrev pub whole : Which → Result Progress Stopped → Result Progress Stop
+whole which (Ok read) = Ok read
+whole which (Err stopped) = Err (Refused (Malformed which stopped.read.records stopped.rule))
+
+-- the event that a refusal names: those of a dump are the load, event 0
+abbrev pub event_in : Which → ℕ → ℕ
+event_in Asks n = 0
+event_in Dump n = 0
+event_in Updates n = n
+
+-- no elementary event brings one hop too many, or the first that does
+abbrev pub few_hops : {A : Type 0} → Which → Option ℕ → Result A Stop → Result A Stop
+few_hops which None next = next
+few_hops which (Some n) next = Err (Refused (HopsFull (event_in which n)))
 
 -- what is due is this, if all that it rests on is told
 abbrev pub Is : {Y : Type 0} → Result Y Stop → Result Y Stop → Type 0

@@ -1,7 +1,15 @@
 //! What a run comes to.
 
-ghost use Rattle.std.specs.Prelude.{◌≡◌};
-ghost use Rattle.fib_main.specs.Ends.{line_of, status_of};
+ghost use Rattle.std.specs.Prelude.{◌≡◌, ◌+◌, ◌++◌, ◌≤◌, decimal, length};
+ghost use Rattle.arrayvec.specs.ArrayString.{array_string_len};
+ghost use Rattle.fib_main.specs.Ends.{line_of, name_of, status_of};
+ghost use Rattle.fib_main.specs.declared.outcome.Outcome.TheVariants.{Malformed as IsMalformed, HopsFull as IsHopsFull, BadLine as IsBadLine, TooLarge as IsTooLarge};
+
+use arrayvec::ArrayString;
+use itoa::Buffer;
+
+/// The most octets of the line that tells an outcome.
+pub const MOST_LINE: usize = 96;
 
 /// An input, by what it is for.
 #[derive(Clone, Copy, Debug, PartialEq, Eq)]
@@ -10,6 +18,8 @@ pub enum Which {
     Asks,
     /// The dump of routes.
     Dump,
+    /// The updates to them.
+    Updates,
 }
 
 /// What a run comes to.
@@ -23,6 +33,29 @@ pub enum Outcome {
     ReadFault,
     /// The output couldn't be written; a front of it was.
     WriteFault,
+    /// A record of this input breaks a rule of reading.
+    Malformed {
+        /// The input.
+        input: Which,
+        /// The record's number in its input, from 0.
+        number: u64,
+        /// The rule.
+        rule: u8,
+    },
+    /// An event brings the 65,535th different next hop.
+    HopsFull {
+        /// The number of the elementary event in the updates, from 1; 0 for the load.
+        event: u64,
+    },
+    /// A line of this input isn't of its form.
+    BadLine {
+        /// The input.
+        input: Which,
+        /// The line's number, from 1.
+        line: u64,
+        /// What is wrong with it: 1 where an address is due.
+        why: u8,
+    },
     /// Memory ran out.
     NoMemory,
     /// This input has more than 2^36 octets.
@@ -30,11 +63,94 @@ pub enum Outcome {
         /// The input.
         input: Which,
     },
-    /// This input isn't in the form that is built so far.
-    NotBuilt {
-        /// The input.
-        input: Which,
-    },
+}
+
+/// The line that tells an outcome.
+pub type Line = ArrayString<MOST_LINE>;
+
+impl Which {
+    /// What the input is called.
+    fn name(self) -> &'static str
+        ensures name { result.now ≡ name_of self }
+        ensures short { length result.now ≤ 7 }
+    {
+        match self {
+            Which::Asks => "asks",
+            Which::Dump => "dump",
+            Which::Updates => "updates",
+        }
+    }
+}
+
+/// Adds a number to a line.
+fn push_number(line: &mut Line, number: u64)
+    requires { array_string_len line.old + 20 ≤ MOST_LINE }
+    ensures text { line.new.bytes ≡ line.old.bytes ++ decimal number }
+    ensures len { array_string_len line.new ≤ array_string_len line.old + 20 }
+{
+    line.push_str(Buffer::new().format(number));
+}
+
+/// `fib: malformed INPUT record NUMBER rule RULE`.
+fn malformed(input: Which, number: u64, rule: u8) -> Line
+    ensures { result.bytes ≡ line_of (IsMalformed input number rule) }
+{
+    let mut line = Line::new();
+    line.push_str("fib: malformed ");
+    line.push_str(input.name());
+    line.push_str(" record ");
+    push_number(&mut line, number);
+    line.push_str(" rule ");
+    push_number(&mut line, u64::from(rule));
+    line.push_str("\n");
+    line
+}
+
+/// `fib: too many hops at event EVENT`.
+fn hops_full(event: u64) -> Line
+    ensures { result.bytes ≡ line_of (IsHopsFull event) }
+{
+    let mut line = Line::new();
+    line.push_str("fib: too many hops at event ");
+    push_number(&mut line, event);
+    line.push_str("\n");
+    line
+}
+
+/// `fib: bad line INPUT LINE why WHY`.
+fn bad_line(input: Which, number: u64, why: u8) -> Line
+    ensures { result.bytes ≡ line_of (IsBadLine input number why) }
+{
+    let mut line = Line::new();
+    line.push_str("fib: bad line ");
+    line.push_str(input.name());
+    line.push_str(" ");
+    push_number(&mut line, number);
+    line.push_str(" why ");
+    push_number(&mut line, u64::from(why));
+    line.push_str("\n");
+    line
+}
+
+/// `fib: too large INPUT`.
+fn too_large(input: Which) -> Line
+    ensures { result.bytes ≡ line_of (IsTooLarge input) }
+{
+    let mut line = Line::new();
+    line.push_str("fib: too large ");
+    line.push_str(input.name());
+    line.push_str("\n");
+    line
+}
+
+/// A line that is always the same.
+fn plain(text: &str) -> Line
+    requires { length text.now ≤ MOST_LINE }
+    ensures { result.bytes ≡ text.now }
+{
+    let mut line = Line::new();
+    line.push_str(text);
+    line
 }
 
 impl Outcome {
@@ -47,26 +163,32 @@ impl Outcome {
             Outcome::Usage => 2,
             Outcome::ReadFault => 3,
             Outcome::WriteFault => 4,
+            Outcome::Malformed { .. } => 5,
+            Outcome::HopsFull { .. } => 7,
+            Outcome::BadLine { .. } => 8,
             Outcome::NoMemory => 9,
             Outcome::TooLarge { .. } => 10,
-            Outcome::NotBuilt { .. } => 14,
         }
     }
 
     /// The line that tells it, with its line feed; nothing for Done.
-    pub fn line(&self) -> &'static [u8]
-        ensures { result.now ≡ line_of self.now }
+    pub fn line(&self) -> Line
+        ensures { result.bytes ≡ line_of self.now }
     {
-        match self {
-            Outcome::Done => b"",
-            Outcome::Usage => b"fib: usage\n",
-            Outcome::ReadFault => b"fib: read fault\n",
-            Outcome::WriteFault => b"fib: write fault\n",
-            Outcome::NoMemory => b"fib: no memory\n",
-            Outcome::TooLarge { input: Which::Asks } => b"fib: too large asks\n",
-            Outcome::TooLarge { input: Which::Dump } => b"fib: too large dump\n",
-            Outcome::NotBuilt { input: Which::Asks } => b"fib: not built asks\n",
-            Outcome::NotBuilt { input: Which::Dump } => b"fib: not built dump\n",
+        match *self {
+            Outcome::Done => plain(""),
+            Outcome::Usage => plain("fib: usage\n"),
+            Outcome::ReadFault => plain("fib: read fault\n"),
+            Outcome::WriteFault => plain("fib: write fault\n"),
+            Outcome::Malformed {
+                input,
+                number,
+                rule,
+            } => malformed(input, number, rule),
+            Outcome::HopsFull { event } => hops_full(event),
+            Outcome::BadLine { input, line, why } => bad_line(input, line, why),
+            Outcome::NoMemory => plain("fib: no memory\n"),
+            Outcome::TooLarge { input } => too_large(input),
         }
     }
 }

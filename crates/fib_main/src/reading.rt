@@ -1,25 +1,29 @@
 //! From the words and the inputs to the text.
 
-ghost use Rattle.std.specs.Prelude.{◌≡◌, map};
+ghost use Rattle.std.specs.Prelude.{◌≡◌, List, [], Some, map};
 ghost use Rattle.std.specs.String.{string_bytes};
 ghost use Rattle.fib_io.specs.Causes.{Rose};
 ghost use Rattle.fib_prefix.specs.Seen.{addr_as};
-ghost use Rattle.fib_main.specs.Due.{asks_at, due, input_at, table_at, text_at};
-ghost use Rattle.fib_main.specs.Ends.{OneRose, reads, ReadsFor};
-ghost use Rattle.fib_main.specs.Seen.{table_as};
-ghost use Rattle.fib_main.specs.Stops.{Gives};
+ghost use Rattle.fib_main.specs.Due.{asks_at, due, feed_at, input_at, text_at, told_at, with_text};
+ghost use Rattle.fib_main.specs.Ends.{feeds_named, one, OneRose, reads, ReadsFor};
+ghost use Rattle.fib_main.specs.Standing.{Feeds, refusal_of, Stands};
+ghost use Rattle.fib_main.specs.Stops.{Gives, event_in};
+ghost use Rattle.fib_words.specs.Commands.{named_as};
+ghost use Rattle.route_model.specs.Events.{Elem};
 
-use crate::asks::read_asks;
-use crate::dump::read_dump;
-use crate::form::FormError;
+use crate::asks::{AskError, read_asks};
+use crate::feed::{Counts, feed};
 use crate::inputs::{ReadError, read_whole};
 use crate::outcome::{Outcome, Which};
-use crate::report::write_text;
-use crate::table::Table;
-use crate::words::read_words;
+use crate::report::{Fed, write_text};
+use crate::state::{FeedError, State};
 use fib_io::Inputs;
 use fib_prefix::Addr;
+use fib_words::{RunWords, WordsError, read_words};
 use std::alloc::Global;
+
+/// What is wrong with a line where an address is due.
+const NO_ADDRESS: u8 = 1;
 
 /// The octets of an input.
 #[tactic(auto, unfolding(crate::specs::Due::input_at, crate::specs::Stops::sized))]
@@ -41,33 +45,126 @@ fn octets_of<I: Inputs>(
     }
 }
 
-/// The addresses that are asked for.
+/// The addresses that are asked for, none where no asks are named.
 #[tactic(auto, unfolding(crate::specs::Due::asks_at))]
-fn asks_of<I: Inputs>(alloc: Global, inputs: &mut I, name: &str) -> Result<Vec<Addr>, Outcome>
-    ensures due { Gives (λ v. map addr_as v.items) result (asks_at (I.content inputs.old) name.now) }
+fn asks_of<I: Inputs>(
+    alloc: Global,
+    inputs: &mut I,
+    command: &RunWords<'_>,
+) -> Result<Vec<Addr>, Outcome>
+    ensures due { Gives (λ v. map addr_as v.items) result (asks_at (I.content inputs.old) (named_as command.now).asks) }
     ensures same { I.content inputs.new ≡ I.content inputs.old }
-    ensures cause { ReadsFor (Rose (I.faults inputs.old name.now) (I.faults inputs.new name.now)) (I.faults inputs.old) (I.faults inputs.new) result }
+    ensures cause { ReadsFor (OneRose (one (named_as command.now).asks) (I.faults inputs.old) (I.faults inputs.new)) (I.faults inputs.old) (I.faults inputs.new) result }
 {
+    let Some(name) = command.asks else {
+        return Ok(Vec::new(alloc));
+    };
     let octets = octets_of(alloc, inputs, name, Which::Asks)?;
     match read_asks(alloc, &octets) {
         Ok(asks) => Ok(asks),
-        Err(FormError::NotInForm) => Err(Outcome::NotBuilt { input: Which::Asks }),
-        Err(FormError::NoMemory) => Err(Outcome::NoMemory),
+        Err(AskError::BadLine(line)) => Err(Outcome::BadLine {
+            input: Which::Asks,
+            line,
+            why: NO_ADDRESS,
+        }),
+        Err(AskError::NoMemory) => Err(Outcome::NoMemory),
     }
 }
 
-/// The table of the dump.
-#[tactic(auto, unfolding(crate::specs::Due::table_at))]
-fn table_of<I: Inputs>(alloc: Global, inputs: &mut I, name: &str) -> Result<Table, Outcome>
-    ensures due { Gives table_as result (table_at (I.content inputs.old) name.now) }
+/// The event that a refusal names: those of a dump are the load, event 0.
+fn event_in(which: Which, event: u64) -> u64
+    ensures { result ≡ event_in which event }
+{
+    match which {
+        Which::Updates => event,
+        Which::Asks | Which::Dump => 0,
+    }
+}
+
+/// The outcome where an input brings nothing.
+fn refused(which: Which, error: FeedError) -> Outcome
+    ensures { result ≡ refusal_of which error }
+{
+    match error {
+        FeedError::Malformed(malformed) => Outcome::Malformed {
+            input: which,
+            number: malformed.number,
+            rule: malformed.rule,
+        },
+        FeedError::HopsFull(event) => Outcome::HopsFull {
+            event: event_in(which, event),
+        },
+        FeedError::NoMemory => Outcome::NoMemory,
+    }
+}
+
+/// Takes what an input brings.
+#[tactic(auto, unfolding(crate::specs::Due::feed_at))]
+fn feed_of<I: Inputs>(
+    alloc: Global,
+    inputs: &mut I,
+    state: &mut State,
+    which: Which,
+    name: &str,
+) -> Result<Counts, Outcome>
+    ensures due { (before : List Elem) → Stands which before [] state.old → Feeds which before result state.new (feed_at (I.content inputs.old) which before (Some name.now)) }
     ensures same { I.content inputs.new ≡ I.content inputs.old }
     ensures cause { ReadsFor (Rose (I.faults inputs.old name.now) (I.faults inputs.new name.now)) (I.faults inputs.old) (I.faults inputs.new) result }
 {
-    let octets = octets_of(alloc, inputs, name, Which::Dump)?;
-    match read_dump(alloc, &octets) {
-        Ok(table) => Ok(table),
-        Err(FormError::NotInForm) => Err(Outcome::NotBuilt { input: Which::Dump }),
-        Err(FormError::NoMemory) => Err(Outcome::NoMemory),
+    let octets = octets_of(alloc, inputs, name, which)?;
+    match feed(alloc, state, which, &octets) {
+        Ok(counts) => Ok(counts),
+        Err(error) => Err(refused(which, error)),
+    }
+}
+
+/// Takes what the updates bring, if any are named.
+#[tactic(auto, unfolding(crate::specs::Due::feed_at))]
+fn updates_of<I: Inputs>(
+    alloc: Global,
+    inputs: &mut I,
+    state: &mut State,
+    command: &RunWords<'_>,
+) -> Result<Counts, Outcome>
+    ensures due { (before : List Elem) → Stands Which.Updates before [] state.old → Feeds Which.Updates before result state.new (feed_at (I.content inputs.old) Which.Updates before (named_as command.now).updates) }
+    ensures same { I.content inputs.new ≡ I.content inputs.old }
+    ensures cause { ReadsFor (OneRose (one (named_as command.now).updates) (I.faults inputs.old) (I.faults inputs.new)) (I.faults inputs.old) (I.faults inputs.new) result }
+{
+    match command.updates {
+        Some(name) => feed_of(alloc, inputs, state, Which::Updates, name),
+        None => Ok(Counts {
+            records: 0,
+            skipped: 0,
+            events: 0,
+        }),
+    }
+}
+
+/// Takes the dump and the updates, and gives the text.
+#[tactic(auto, unfolding(crate::specs::Due::told_at))]
+fn text_of<I: Inputs>(
+    alloc: Global,
+    inputs: &mut I,
+    command: &RunWords<'_>,
+    asks: &[Addr],
+) -> Result<Vec<u8>, Outcome>
+    ensures due { Gives (λ v. v.items) result (with_text (told_at (I.content inputs.old) (named_as command.now) (map addr_as asks.now))) }
+    ensures cause { ReadsFor (OneRose (feeds_named (I.content inputs.old) (named_as command.now)) (I.faults inputs.old) (I.faults inputs.new)) (I.faults inputs.old) (I.faults inputs.new) result }
+{
+    let mut state = State::new(alloc);
+    let load = feed_of(alloc, inputs, &mut state, Which::Dump, command.dump)?;
+    let Ok(loaded) = state.candidates.routes() else {
+        return Err(Outcome::NoMemory);
+    };
+    let updates = updates_of(alloc, inputs, &mut state, command)?;
+    let fed = Fed {
+        loaded: &loaded,
+        load,
+        updates,
+    };
+    match write_text(alloc, &state, &fed, asks) {
+        Ok(text) => Ok(text),
+        Err(_) => Err(Outcome::NoMemory),
     }
 }
 
@@ -81,11 +178,11 @@ pub fn text_for<I: Inputs>(
     ensures due { Gives (λ v. v.items) result (text_at (map string_bytes words.now) (I.content inputs.old)) }
     ensures cause { ReadsFor (OneRose (reads (map string_bytes words.now) (I.content inputs.old)) (I.faults inputs.old) (I.faults inputs.new)) (I.faults inputs.old) (I.faults inputs.new) result }
 {
-    let command = read_words(words)?;
-    let asks = asks_of(alloc, inputs, command.asks)?;
-    let table = table_of(alloc, inputs, command.dump)?;
-    match write_text(alloc, &table, &asks) {
-        Ok(text) => Ok(text),
-        Err(_) => Err(Outcome::NoMemory),
-    }
+    let command = match read_words(alloc, words) {
+        Ok(command) => command,
+        Err(WordsError::Usage) => return Err(Outcome::Usage),
+        Err(WordsError::NoMemory) => return Err(Outcome::NoMemory),
+    };
+    let asks = asks_of(alloc, inputs, &command)?;
+    text_of(alloc, inputs, &command, &asks)
 }

@@ -1,24 +1,47 @@
-//! The rows that tell of a table: its routes, the changes that build it, the answers and the table again.
+//! What is told of a run: its routes, the changes that led to them, the answers, the table and the counts.
 //!
 //! Until tables are aggregated the printed table is that of the routes.
 
-ghost use Rattle.std.specs.Prelude.{◌≡◌, IfOk, map};
+ghost use Rattle.std.specs.Prelude.{◌≡◌, ◌++◌, IfOk, map};
+ghost use Rattle.table_model.specs.Changes.{additions};
+ghost use Rattle.feed_model.specs.Feed.{at_event};
 ghost use Rattle.fib_prefix.specs.Seen.{addr_as, entry_as};
+ghost use Rattle.fib_main.specs.Due.{answers_to, Feed, printed, text_of};
 ghost use Rattle.fib_report.specs.Seen.{run_as};
-ghost use Rattle.fib_main.specs.Due.{answers_to, changes_at_load, printed, run_of, text_of};
-ghost use Rattle.fib_main.specs.Seen.{answers_as, changes_as, entries_as, table_as};
+ghost use Rattle.fib_main.specs.Standing.{IsFed};
+ghost use Rattle.fib_main.specs.Seen.{answers_as, changes_as, entries_as, numbered, totals};
 
-use crate::table::{Routes, Table, entries, longest_match};
-use fib_prefix::{Addr, Entry, Hop};
-use fib_report::{Change, Run, write_run};
+use crate::feed::Counts;
+use crate::state::{State, number};
+use crate::table::{Routes, longest_match, routes_by_prefix};
+use fib_prefix::{Addr, Entry, Hop, HopTable, Prefix};
+use fib_report::{Change, Report, Run, write_run};
 use std::alloc::{AllocError, Global};
 
 /// The event of the load.
 const LOAD: u64 = 0;
 
+/// Routes as entries, with the numbers of their hops.
+fn entries(
+    alloc: Global,
+    hops: &HopTable,
+    routes: &[(Prefix, Addr)],
+) -> Result<Vec<Entry>, AllocError>
+    ensures { IfOk result (λ entries. map entry_as entries.items ≡ map (numbered hops.now.list) routes.now) }
+{
+    let mut entries = Vec::with_capacity(alloc, routes.len())?;
+    for (prefix, hop) in routes {
+        entries.push(Entry {
+            prefix: *prefix,
+            hop: number(hops, hop),
+        })?;
+    }
+    Ok(entries)
+}
+
 /// The changes that build these entries from nothing.
 fn additions(alloc: Global, entries: &[Entry]) -> Result<Vec<(u64, Change)>, AllocError>
-    ensures { IfOk result (λ changes. changes_as changes.items ≡ changes_at_load (map entry_as entries.now)) }
+    ensures { IfOk result (λ changes. changes_as changes.items ≡ at_event 0 (additions (map entry_as entries.now))) }
 {
     let mut changes = Vec::with_capacity(alloc, entries.len())?;
     for entry in entries {
@@ -38,29 +61,81 @@ fn answers(alloc: Global, routes: &Routes, asks: &[Addr]) -> Result<Vec<(Addr, H
     Ok(answers)
 }
 
-/// All that is told of these routes and asks.
-fn report(alloc: Global, routes: &Routes, asks: &[Addr]) -> Result<Run, AllocError>
-    ensures { IfOk result (λ run. run_as run ≡ run_of (entries_as routes.now.entries) (map addr_as asks.now)) }
+/// The changes of the load and those of the updates.
+fn changes(
+    alloc: Global,
+    loaded: &[Entry],
+    updates: &[(u64, Change)],
+) -> Result<Vec<(u64, Change)>, AllocError>
+    ensures { IfOk result (λ changes. changes_as changes.items ≡ at_event 0 (additions (map entry_as loaded.now)) ++ changes_as updates.now) }
 {
-    let table = entries(alloc, routes)?;
+    let mut changes = additions(alloc, loaded)?;
+    changes.extend_from_slice(updates)?;
+    Ok(changes)
+}
+
+/// The counts of both inputs and of the routes; an error where a sum is over 64 bits.
+fn totals(load: &Counts, updates: &Counts, routes: usize) -> Result<Report, AllocError>
+    ensures { IfOk result (λ report. report ≡ totals load.now updates.now routes) }
+{
+    let (Some(records), Some(skipped), Some(events)) = (
+        load.records.checked_add(updates.records),
+        load.skipped.checked_add(updates.skipped),
+        load.events.checked_add(updates.events),
+    ) else {
+        return Err(AllocError);
+    };
+    Ok(Report {
+        records,
+        skipped,
+        events,
+        routes: routes as u64,
+        entries: routes as u64,
+    })
+}
+
+/// What was loaded and what was updated.
+#[derive(Clone, Copy)]
+pub struct Fed<'a> {
+    /// The routes of the load.
+    pub loaded: &'a [(Prefix, Addr)],
+    /// What was counted of the load.
+    pub load: Counts,
+    /// What was counted of the updates.
+    pub updates: Counts,
+}
+
+/// All that is told.
+fn told(alloc: Global, state: &State, fed: &Fed<'_>, asks: &[Addr]) -> Result<Run, AllocError>
+    ensures { (load updates : Feed) → IsFed load updates fed.now state.now → IfOk result (λ run. run_as run ≡ (printed load updates (map addr_as asks.now)).told) }
+{
+    let routes = entries(alloc, &state.hops, &state.candidates.routes()?)?;
+    let loaded = entries(alloc, &state.hops, fed.loaded)?;
+    let by_prefix = routes_by_prefix(alloc, &routes)?;
     Ok(Run {
-        routes: entries(alloc, routes)?,
-        changes: additions(alloc, &table)?,
-        answers: answers(alloc, routes, asks)?,
-        table,
+        changes: changes(alloc, &loaded, &state.changes)?,
+        answers: answers(alloc, &by_prefix, asks)?,
+        report: totals(&fed.load, &fed.updates, routes.len())?,
+        table: Vec::from_slice(alloc, &routes)?,
+        routes,
     })
 }
 
 /// The text of the rows.
-pub fn write_text(alloc: Global, table: &Table, asks: &[Addr]) -> Result<Vec<u8>, AllocError>
-    ensures { IfOk result (λ text. text.items ≡ text_of (printed (table_as table.now) (map addr_as asks.now))) }
+pub fn write_text(
+    alloc: Global,
+    state: &State,
+    fed: &Fed<'_>,
+    asks: &[Addr],
+) -> Result<Vec<u8>, AllocError>
+    ensures { (load updates : Feed) → IsFed load updates fed.now state.now → IfOk result (λ text. text.items ≡ text_of (printed load updates (map addr_as asks.now))) }
 {
     let mut text = Vec::new(alloc);
     write_run(
         alloc,
         &mut text,
-        &report(alloc, &table.routes, asks)?,
-        &table.hops,
+        &told(alloc, state, fed, asks)?,
+        &state.hops,
     )?;
     Ok(text)
 }

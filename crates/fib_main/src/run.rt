@@ -39,7 +39,7 @@ fn tell<E: Sink>(outcome: Outcome, err: &mut E)
     ensures { TellsOf outcome (E.written err.old) (E.written err.new) (E.faults err.old) (E.faults err.new) }
 {
     if outcome != Outcome::Done {
-        let _ = write_all(err, outcome.line());
+        let _ = write_all(err, outcome.line().as_bytes());
     }
 }
 

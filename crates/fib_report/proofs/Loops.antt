@@ -38,12 +38,14 @@ known : (o : Option (List ℕ)) (rows : List ℕ) → Appends (Some []) o rows �
 known None rows h = absurd h
 known (Some text) rows h = ap Some h
 
--- the text of a writer that began with none, after four lists of rows
-pub text_written-rows : {W : Type 0} (contents : W → Option (List ℕ)) (u v w x y : Writer W) (a b c d : List ℕ) → text_written contents u ≡ Some []
-    → AddsRows contents u v a → AddsRows contents v w b → AddsRows contents w x c → AddsRows contents x y d → text_written contents y ≡ Some (a ++ b ++ c ++ d)
-text_written-rows contents u v w x y a b c d empty p q r s =
-    let all = AddsRows-more contents u x y _ d (AddsRows-more contents u w x _ c (AddsRows-more contents u v w a b p q) r) s in
-    known _ _ (subst (λ o. Appends o (text_written contents y) (a ++ b ++ c ++ d)) empty all.text)
+-- five lists of rows, one after the other
+pub AddsRows-five : {W : Type 0} (contents : W → Option (List ℕ)) (u v w x y z : Writer W) (a b c d e : List ℕ)
+    → AddsRows contents u v a → AddsRows contents v w b → AddsRows contents w x c → AddsRows contents x y d → AddsRows contents y z e → AddsRows contents u z (a ++ b ++ c ++ d ++ e)
+AddsRows-five contents u v w x y z a b c d e p q r s t = AddsRows-more contents u y z _ e (AddsRows-more contents u x y _ d (AddsRows-more contents u w x _ c (AddsRows-more contents u v w a b p q) r) s) t
+
+-- the text of a writer that began with none
+pub text_written-rows : {W : Type 0} (contents : W → Option (List ℕ)) (u v : Writer W) (rows : List ℕ) → text_written contents u ≡ Some [] → AddsRows contents u v rows → text_written contents v ≡ Some rows
+text_written-rows contents u v rows empty all = known _ _ (subst (λ o. Appends o (text_written contents v) rows) empty all.text)
 
 -- what `map_err` hands on of a text that `into_inner` gives
 pub IfOk-passed : {X E F : Type 0} (contents : X → Option (List ℕ)) (old : Option (List ℕ)) (rows : List ℕ) (r : Result X E) (s : Result X F) (Q : E → Type 0)

@@ -6,6 +6,7 @@ use Rattle.table_model.specs.Changes.{Change, Add, Replace, Remove}
 use Rattle.fib_prefix.specs.Hops.{hop_at}
 use Rattle.fib_prefix.specs.Text.{address_text, prefix_text}
 use Rattle.fib_report.specs.Seen.{Told}
+use Rattle.fib_report.specs.declared.run.Report.{Report}
 
 -- a row: its fields with commas between them, and a line feed
 abbrev pub row : List (List ℕ) → List ℕ
@@ -39,10 +40,23 @@ change_row hops c = row (codes "change" ∷ decimal c.0 ∷ change_fields hops c
 abbrev pub answer_row : List Address → Address × ℕ → List ℕ
 answer_row hops a = row (codes "answer" ∷ address_text a.0 ∷ hop_text hops (codes "none") a.1 ∷ [])
 
--- all rows: the routes, the changes, the answers and the table
+-- a count: its name and the number
+abbrev pub count_row : List ℕ → ℕ → List ℕ
+count_row name n = row (codes "report" ∷ name ∷ decimal n ∷ [])
+
+abbrev pub report_rows : Report → List ℕ
+report_rows r =
+    count_row (codes "records") r.records
+    ++ count_row (codes "skipped") r.skipped
+    ++ count_row (codes "events") r.events
+    ++ count_row (codes "routes") r.routes
+    ++ count_row (codes "entries") r.entries
+
+-- all rows: the routes, the changes, the answers, the table and the report
 abbrev pub run_text : List Address → Told → List ℕ
 run_text hops run =
     flat_map (route_row hops) run.routes
     ++ flat_map (change_row hops) run.changes
     ++ flat_map (answer_row hops) run.answers
     ++ flat_map (table_row hops) run.table
+    ++ report_rows run.report

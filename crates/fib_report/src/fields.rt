@@ -33,7 +33,7 @@ pub(crate) fn hop_field<'a>(
     hops: &HopTable,
     word: &'a [u8],
 ) -> &'a [u8]
-    ensures { result.now ≡ hop_text hops.now word.now hop.0 }
+    ensures { result.now ≡ hop_text hops.now.list word.now hop.0 }
 {
     match hops.addr(hop) {
         Some(addr) => addr_field(buffer, &addr),

@@ -1,7 +1,7 @@
 //! The report of a run as rows of text.
 //!
-//! A run is four lists: routes, changes with their events' numbers, answers to look-ups, and a table. Each item is a row,
-//! its fields joined by commas and ended by a line feed; the format is our own, and stands in `rows`. Contracts see the run
+//! A run is four lists, routes, changes with their events' numbers, answers to look-ups, and a table, and a few counts. Each
+//! item is a row, its fields joined by commas and ended by a line feed; the format is our own, and stands in `rows`. Contracts see the run
 //! as the model's lists, and its text as a definition over these.
 //!
 //! Rows are written by csv's writer, without quotes, since no field holds a comma, a quote or a line end. Writing is linear
@@ -15,4 +15,4 @@ mod run;
 mod tests;
 
 pub use rows::write_run;
-pub use run::{Change, Run};
+pub use run::{Change, Report, Run};

@@ -5,18 +5,19 @@
 //!     change,EVENT,-,PREFIX        for a Remove
 //!     answer,ADDRESS,HOP
 //!     table,PREFIX,HOP
+//!     report,NAME,COUNT            for records, skipped, events, routes and entries
 //!
 //! HOP is the hop's address. Where no hop has the number it is `none` in an answer and `drop` elsewhere. A run costs its
 //! rows' length, in one text of its own, which is then put behind the caller's.
 
 ghost use Rattle.std.specs.Prelude.{◌≡◌, ◌≤◌, ◌++◌, ◌∷◌, [], flat_map, length, map, IfOk, OnOk, OnErr};
 ghost use Rattle.fib_prefix.specs.Seen.{addr_as, entry_as};
-ghost use Rattle.fib_report.specs.Rows.{row, entry_row, change_row, answer_row, run_text};
+ghost use Rattle.fib_report.specs.Rows.{row, entry_row, change_row, answer_row, count_row, report_rows, run_text};
 ghost use Rattle.fib_report.specs.Seen.{change_as, run_as};
 ghost use Rattle.fib_report.specs.Writing.{AddsRows, IsAtRow};
 
 use crate::fields::{addr_field, hop_field, prefix_field};
-use crate::run::{Change, Run};
+use crate::run::{Change, Report, Run};
 use csv::{QuoteStyle, Writer, WriterBuilder};
 use fib_prefix::{Addr, Entry, Hop, HopTable, MOST_TEXT};
 use itoa::Buffer;
@@ -53,7 +54,7 @@ fn put_entry<W: Write + Drop>(
     hops: &HopTable,
 ) -> Result<(), AllocError>
     requires { IsAtRow out.old }
-    ensures { OnOk result (AddsRows W.contents out.old out.new (entry_row kind.now hops.now (entry_as entry.now))) }
+    ensures { OnOk result (AddsRows W.contents out.old out.new (entry_row kind.now hops.now.list (entry_as entry.now))) }
 {
     let mut prefix_text = [0; MOST_TEXT];
     let mut hop_text = [0; MOST_TEXT];
@@ -70,7 +71,7 @@ fn put_change<W: Write + Drop>(
     hops: &HopTable,
 ) -> Result<(), AllocError>
     requires { IsAtRow out.old }
-    ensures { OnOk result (AddsRows W.contents out.old out.new (change_row hops.now (event, change_as change.now))) }
+    ensures { OnOk result (AddsRows W.contents out.old out.new (change_row hops.now.list (event, change_as change.now))) }
 {
     let mut digits = Buffer::new();
     let event = digits.format(event).as_bytes();
@@ -102,7 +103,7 @@ fn put_answer<W: Write + Drop>(
     hops: &HopTable,
 ) -> Result<(), AllocError>
     requires { IsAtRow out.old }
-    ensures { OnOk result (AddsRows W.contents out.old out.new (answer_row hops.now (addr_as addr.now, hop.0))) }
+    ensures { OnOk result (AddsRows W.contents out.old out.new (answer_row hops.now.list (addr_as addr.now, hop.0))) }
 {
     let mut addr_text = [0; MOST_TEXT];
     let mut hop_text = [0; MOST_TEXT];
@@ -119,7 +120,7 @@ fn put_entries<W: Write + Drop>(
     hops: &HopTable,
 ) -> Result<(), AllocError>
     requires { IsAtRow out.old }
-    ensures { OnOk result (AddsRows W.contents out.old out.new (flat_map (entry_row kind.now hops.now) (map entry_as entries.now))) }
+    ensures { OnOk result (AddsRows W.contents out.old out.new (flat_map (entry_row kind.now hops.now.list) (map entry_as entries.now))) }
 {
     for entry in entries {
         put_entry(out, kind, entry, hops)?;
@@ -134,7 +135,7 @@ fn put_changes<W: Write + Drop>(
     hops: &HopTable,
 ) -> Result<(), AllocError>
     requires { IsAtRow out.old }
-    ensures { OnOk result (AddsRows W.contents out.old out.new (flat_map (change_row hops.now) (map (λ c. (c.0, change_as c.1)) changes.now))) }
+    ensures { OnOk result (AddsRows W.contents out.old out.new (flat_map (change_row hops.now.list) (map (λ c. (c.0, change_as c.1)) changes.now))) }
 {
     for (event, change) in changes {
         put_change(out, *event, change, hops)?;
@@ -149,7 +150,7 @@ fn put_answers<W: Write + Drop>(
     hops: &HopTable,
 ) -> Result<(), AllocError>
     requires { IsAtRow out.old }
-    ensures { OnOk result (AddsRows W.contents out.old out.new (flat_map (answer_row hops.now) (map (λ a. (addr_as a.0, a.1.0)) answers.now))) }
+    ensures { OnOk result (AddsRows W.contents out.old out.new (flat_map (answer_row hops.now.list) (map (λ a. (addr_as a.0, a.1.0)) answers.now))) }
 {
     for (addr, hop) in answers {
         put_answer(out, addr, *hop, hops)?;
@@ -157,9 +158,35 @@ fn put_answers<W: Write + Drop>(
     Ok(())
 }
 
+/// Writes a count under its name.
+fn put_count<W: Write + Drop>(
+    out: &mut Writer<W>,
+    name: &[u8],
+    count: u64,
+) -> Result<(), AllocError>
+    requires { IsAtRow out.old }
+    ensures { OnOk result (AddsRows W.contents out.old out.new (count_row name.now count)) }
+{
+    let mut digits = Buffer::new();
+    put_three(out, b"report", name, digits.format(count).as_bytes())
+}
+
+/// Writes the counts.
+fn put_report<W: Write + Drop>(out: &mut Writer<W>, report: &Report) -> Result<(), AllocError>
+    requires { IsAtRow out.old }
+    ensures { OnOk result (AddsRows W.contents out.old out.new (report_rows report.now)) }
+{
+    put_count(out, b"records", report.records)?;
+    put_count(out, b"skipped", report.skipped)?;
+    put_count(out, b"events", report.events)?;
+    put_count(out, b"routes", report.routes)?;
+    put_count(out, b"entries", report.entries)?;
+    Ok(())
+}
+
 /// The text of a run.
 fn text_of_run(alloc: Global, run: &Run, hops: &HopTable) -> Result<Vec<u8>, AllocError>
-    ensures { IfOk result (λ text. text.items ≡ run_text hops.now (run_as run.now)) }
+    ensures { IfOk result (λ text. text.items ≡ run_text hops.now.list (run_as run.now)) }
 {
     let mut out = WriterBuilder::new()
         .quote_style(QuoteStyle::Never)
@@ -169,11 +196,12 @@ fn text_of_run(alloc: Global, run: &Run, hops: &HopTable) -> Result<Vec<u8>, All
     put_changes(&mut out, &run.changes, hops)?;
     put_answers(&mut out, &run.answers, hops)?;
     put_entries(&mut out, b"table", &run.table, hops)?;
+    put_report(&mut out, &run.report)?;
     out.into_inner().map_err(|_| AllocError)
 }
 
-/// Appends the rows of a run to a text: first the routes, then the changes, the answers and the table. A hop number that
-/// the hop table does not hold is written `none` in an answer and `drop` elsewhere. An `Err` changes nothing and means that
+/// Appends the rows of a run to a text: first the routes, then the changes, the answers, the table and the report. A hop
+/// number that the hop table does not hold is written `none` in an answer and `drop` elsewhere. An `Err` changes nothing and means that
 /// memory ran out, as does each failure of csv's writer, which writes to memory here.
 pub fn write_run(
     alloc: Global,
@@ -181,7 +209,7 @@ pub fn write_run(
     run: &Run,
     hops: &HopTable,
 ) -> Result<(), AllocError>
-    ensures ok { OnOk result (out.new.items ≡ out.old.items ++ run_text hops.now (run_as run.now)) }
+    ensures ok { OnOk result (out.new.items ≡ out.old.items ++ run_text hops.now.list (run_as run.now)) }
     ensures err { OnErr result (out.new.items ≡ out.old.items) }
 {
     let text = text_of_run(alloc, run, hops)?;

@@ -16,6 +16,21 @@ pub enum Change {
     Remove(Prefix),
 }
 
+/// What a run counted.
+#[derive(Clone, Copy, Debug, PartialEq, Eq)]
+pub struct Report {
+    /// The records of the inputs, skipped ones too.
+    pub records: u64,
+    /// The records that were skipped.
+    pub skipped: u64,
+    /// The elementary events.
+    pub events: u64,
+    /// The routes.
+    pub routes: u64,
+    /// The entries of the table.
+    pub entries: u64,
+}
+
 /// A run: what it began with, what changed at which event, what it answered, and what it ended with.
 #[derive(Debug, Drop)]
 pub struct Run {
@@ -27,4 +42,6 @@ pub struct Run {
     pub answers: Vec<(Addr, Hop)>,
     /// The table at the end.
     pub table: Vec<Entry>,
+    /// What was counted.
+    pub report: Report,
 }

@@ -18,21 +18,65 @@ const TEN: &[u8] =
 const TEN_ONE: &[u8] =
     b"\x00\x00\x00\x00\x00\x0d\x00\x02\x00\x00\x00\x25\x00\x00\x00\x00\x10\x0a\x01\x00\x01\x00\x00\x00\x00\x00\x00\x00\x14\x40\x01\x01\x00\x40\x02\x06\x02\x01\x00\x00\xfb\xf4\x40\x03\x04\xc0\x00\x02\x02";
 
-/// 2001:db8::/32, which isn't in the form that is built.
+/// 2001:db8::/32 by 2001:db8::1.
 const SIX: &[u8] =
-    b"\x00\x00\x00\x00\x00\x0d\x00\x04\x00\x00\x00\x30\x00\x00\x00\x00\x20\x20\x01\x0d\xb8\x00\x01\x00\x00\x00\x00\x00\x00\x00\x1d\x40\x02\x06\x02\x01\x00\x00\xfb\xf4\x80\x0e\x11\x10\x20\x01\x0d\xb8\x00\x00\x00\x00\x00\x00\x00\x00\x00\x00\x00\x01";
+    b"\x00\x00\x00\x00\x00\x0d\x00\x04\x00\x00\x00\x39\x00\x00\x00\x00\x20\x20\x01\x0d\xb8\x00\x01\x00\x00\x00\x00\x00\x00\x00\x26\x40\x02\x06\x02\x01\x00\x00\xfb\xf4\x80\x0e\x1a\x00\x02\x01\x10\x20\x01\x0d\xb8\x00\x00\x00\x00\x00\x00\x00\x00\x00\x00\x00\x01\x00\x20\x20\x01\x0d\xb8";
+
+/// The peers 192.0.2.1 of AS 64500 and 192.0.2.2 of AS 64501.
+const TWO_PEERS: &[u8] =
+    b"\x00\x00\x00\x00\x00\x0d\x00\x01\x00\x00\x00\x22\x00\x00\x00\x00\x00\x00\x00\x02\x02\xc0\x00\x02\x01\xc0\x00\x02\x01\x00\x00\xfb\xf4\x02\xc0\x00\x02\x02\xc0\x00\x02\x02\x00\x00\xfb\xf5";
+
+/// 10.0.0.0/8 by 192.0.2.1 of the first peer and by 192.0.2.2 of the second, with paths of length 1.
+const TEN_TWICE: &[u8] =
+    b"\x00\x00\x00\x00\x00\x0d\x00\x02\x00\x00\x00\x40\x00\x00\x00\x00\x08\x0a\x00\x02\x00\x00\x00\x00\x00\x00\x00\x14\x40\x01\x01\x00\x40\x02\x06\x02\x01\x00\x00\xfb\xf4\x40\x03\x04\xc0\x00\x02\x01\x00\x01\x00\x00\x00\x00\x00\x14\x40\x01\x01\x00\x40\x02\x06\x02\x01\x00\x00\xfb\xf5\x40\x03\x04\xc0\x00\x02\x02";
+
+/// The first peer announces 10.0.0.0/8 by 192.0.2.1 with a path of length 2.
+const LONGER: &[u8] =
+    b"\x00\x00\x00\x00\x00\x10\x00\x04\x00\x00\x00\x45\x00\x00\xfb\xf4\x00\x00\xfb\xff\x00\x00\x00\x01\xc0\x00\x02\x01\xc0\x00\x02\xfe\xff\xff\xff\xff\xff\xff\xff\xff\xff\xff\xff\xff\xff\xff\xff\xff\x00\x31\x02\x00\x00\x00\x18\x40\x01\x01\x00\x40\x02\x0a\x02\x02\x00\x00\xfb\xf4\x00\x00\xfb\xf4\x40\x03\x04\xc0\x00\x02\x01\x08\x0a";
+
+/// The first peer withdraws 10.0.0.0/8 and announces it in one message.
+const GONE_AND_BACK: &[u8] =
+    b"\x00\x00\x00\x00\x00\x10\x00\x04\x00\x00\x00\x43\x00\x00\xfb\xf4\x00\x00\xfb\xff\x00\x00\x00\x01\xc0\x00\x02\x01\xc0\x00\x02\xfe\xff\xff\xff\xff\xff\xff\xff\xff\xff\xff\xff\xff\xff\xff\xff\xff\x00\x2f\x02\x00\x02\x08\x0a\x00\x14\x40\x01\x01\x00\x40\x02\x06\x02\x01\x00\x00\xfb\xf4\x40\x03\x04\xc0\x00\x02\x01\x08\x0a";
+
+/// The first peer's session is lost.
+const LOST: &[u8] =
+    b"\x00\x00\x00\x00\x00\x10\x00\x05\x00\x00\x00\x18\x00\x00\xfb\xf4\x00\x00\xfb\xff\x00\x00\x00\x01\xc0\x00\x02\x01\xc0\x00\x02\xfe\x00\x06\x00\x01";
+
+/// 10.0.0.0/8 in one octet more than it takes.
+const TOO_WIDE: &[u8] =
+    b"\x00\x00\x00\x00\x00\x0d\x00\x02\x00\x00\x00\x25\x00\x00\x00\x00\x08\x0a\xff\x00\x01\x00\x00\x00\x00\x00\x00\x00\x14\x40\x01\x01\x00\x40\x02\x06\x02\x01\x00\x00\xfb\xf4\x40\x03\x04\xc0\x00\x02\x01";
+
+/// The longer path in a message whose Length is one too many.
+const WRONG_LENGTH: &[u8] =
+    b"\x00\x00\x00\x00\x00\x10\x00\x04\x00\x00\x00\x45\x00\x00\xfb\xf4\x00\x00\xfb\xff\x00\x00\x00\x01\xc0\x00\x02\x01\xc0\x00\x02\xfe\xff\xff\xff\xff\xff\xff\xff\xff\xff\xff\xff\xff\xff\xff\xff\xff\x00\x32\x02\x00\x00\x00\x18\x40\x01\x01\x00\x40\x02\x0a\x02\x02\x00\x00\xfb\xf4\x00\x00\xfb\xf4\x40\x03\x04\xc0\x00\x02\x01\x08\x0a";
+
+/// A record of another type.
+const OTHER: &[u8] = b"\x00\x00\x00\x00\x00\x0c\x00\x01\x00\x00\x00\x00";
 
 const ROWS_OF_TEN: &[u8] =
-    b"route,10.0.0.0/8,192.0.2.1\nchange,0,+,10.0.0.0/8,192.0.2.1\nanswer,10.1.2.3,192.0.2.1\nanswer,11.0.0.1,none\ntable,10.0.0.0/8,192.0.2.1\n";
+    b"route,10.0.0.0/8,192.0.2.1\nchange,0,+,10.0.0.0/8,192.0.2.1\nanswer,10.1.2.3,192.0.2.1\nanswer,11.0.0.1,none\ntable,10.0.0.0/8,192.0.2.1\nreport,records,2\nreport,skipped,0\nreport,events,1\nreport,routes,1\nreport,entries,1\n";
 
 const ROWS_OF_BOTH: &[u8] =
-    b"route,10.0.0.0/8,192.0.2.1\nroute,10.1.0.0/16,192.0.2.2\nchange,0,+,10.0.0.0/8,192.0.2.1\nchange,0,+,10.1.0.0/16,192.0.2.2\nanswer,10.1.2.3,192.0.2.2\nanswer,10.2.0.1,192.0.2.1\ntable,10.0.0.0/8,192.0.2.1\ntable,10.1.0.0/16,192.0.2.2\n";
+    b"route,10.0.0.0/8,192.0.2.1\nroute,10.1.0.0/16,192.0.2.2\nchange,0,+,10.0.0.0/8,192.0.2.1\nchange,0,+,10.1.0.0/16,192.0.2.2\nanswer,10.1.2.3,192.0.2.2\nanswer,10.2.0.1,192.0.2.1\ntable,10.0.0.0/8,192.0.2.1\ntable,10.1.0.0/16,192.0.2.2\nreport,records,4\nreport,skipped,1\nreport,events,2\nreport,routes,2\nreport,entries,2\n";
+
+const ROWS_OF_SIX: &[u8] =
+    b"route,2001:db8::/32,2001:db8::1\nchange,0,+,2001:db8::/32,2001:db8::1\nanswer,2001:db8::5,2001:db8::1\nanswer,::,none\ntable,2001:db8::/32,2001:db8::1\nreport,records,2\nreport,skipped,0\nreport,events,1\nreport,routes,1\nreport,entries,1\n";
+
+const ROWS_OF_LONGER: &[u8] =
+    b"route,10.0.0.0/8,192.0.2.2\nchange,0,+,10.0.0.0/8,192.0.2.1\nchange,1,=,10.0.0.0/8,192.0.2.2\ntable,10.0.0.0/8,192.0.2.2\nreport,records,3\nreport,skipped,0\nreport,events,3\nreport,routes,1\nreport,entries,1\n";
+
+const ROWS_OF_GONE_AND_BACK: &[u8] =
+    b"route,10.0.0.0/8,192.0.2.1\nchange,0,+,10.0.0.0/8,192.0.2.1\nchange,1,-,10.0.0.0/8\nchange,2,+,10.0.0.0/8,192.0.2.1\ntable,10.0.0.0/8,192.0.2.1\nreport,records,3\nreport,skipped,0\nreport,events,3\nreport,routes,1\nreport,entries,1\n";
+
+const ROWS_OF_LOST: &[u8] =
+    b"change,0,+,10.0.0.0/8,192.0.2.1\nchange,0,+,10.1.0.0/16,192.0.2.2\nchange,1,-,10.0.0.0/8\nchange,2,-,10.1.0.0/16\nreport,records,5\nreport,skipped,0\nreport,events,4\nreport,routes,0\nreport,entries,0\n";
 
 /// What a run is given. Reads and writes are counted from 1, and 0 fails none.
 #[derive(Clone, Copy)]
 struct Given<'a> {
     words: &'a [&'a str],
     dump: &'a [&'a [u8]],
+    updates: &'a [&'a [u8]],
     asks: &'a [u8],
     failing_read: u64,
     failing_write: u64,
@@ -50,10 +94,13 @@ struct Expected<'a> {
 
 const WORDS: &[&str] = &["fib", "run", "dump", "--ask", "asks"];
 
+const WITH_UPDATES: &[&str] = &["fib", "run", "--updates=updates", "dump"];
+
 /// The first run.
 const FIRST: Given<'static> = Given {
     words: WORDS,
     dump: &[PEERS, TEN],
+    updates: &[],
     asks: b"10.1.2.3\n11.0.0.1\n",
     failing_read: 0,
     failing_write: 0,
@@ -75,13 +122,15 @@ const READ_FAULT: Expected<'static> = Expected {
 };
 
 /// Words that are no command.
-const NO_COMMANDS: [&[&str]; 6] = [
+const NO_COMMANDS: [&[&str]; 8] = [
     &[],
     &["fib", "run"],
     &["fib", "run", "dump", "--direct", "19"],
     &["fib", "make", "0", "--seed", "1"],
     &["fib", "run", "-dump", "--ask", "asks"],
     &["fib", "run", "dump", "--ask", "asks", "more"],
+    &["fib", "help"],
+    &["fib", "run", "--help"],
 ];
 
 /// The words, in memory.
@@ -93,16 +142,24 @@ fn words_of(alloc: Global, texts: &[&str]) -> Result<Vec<String>, Fail> {
     Ok(words)
 }
 
-/// The inputs `dump` and `asks`; the dump isn't held where it has no records.
-fn inputs_of(alloc: Global, given: &Given) -> Result<MemInputs, Fail> {
-    let mut dump = Vec::new(alloc);
-    for record in given.dump {
-        dump.extend_from_slice(record)?;
+/// Records, one after another.
+fn joined(alloc: Global, records: &[&[u8]]) -> Result<Vec<u8>, Fail> {
+    let mut octets = Vec::new(alloc);
+    for record in records {
+        octets.extend_from_slice(record)?;
     }
+    Ok(octets)
+}
+
+/// The inputs `dump`, `updates` and `asks`; the dump isn't held where it has no records.
+fn inputs_of(alloc: Global, given: &Given) -> Result<MemInputs, Fail> {
     let mut names = Vec::new(alloc);
     let asks = Vec::from_slice(alloc, given.asks)?;
     names.push((String::from_str(alloc, "asks")?, asks))?;
-    if !dump.is_empty() {
+    let updates = joined(alloc, given.updates)?;
+    names.push((String::from_str(alloc, "updates")?, updates))?;
+    if !given.dump.is_empty() {
+        let dump = joined(alloc, given.dump)?;
         names.push((String::from_str(alloc, "dump")?, dump))?;
     }
     let failing = Vec::from_slice(alloc, &[given.failing_read])?;
@@ -131,25 +188,68 @@ fn check<R: Abort + Alloc<A = Global>>(
 }
 
 #[test]
-fn rows_of_routes(rt: HostRuntime) -> Result<(), Fail> {
-    let done = |out| Expected {
-        outcome: Outcome::Done,
-        status: 0,
-        out,
-        err: b"",
-    };
-    check(&rt, "first run", &FIRST, &done(ROWS_OF_TEN))?;
-    let nested = Given {
-        dump: &[PEERS, TEN_ONE, TEN],
-        asks: b"10.1.2.3\r\n\n10.2.0.1",
+fn rows_of_routes_and_updates(rt: HostRuntime) -> Result<(), Fail> {
+    let updated = Given {
+        words: WITH_UPDATES,
         ..FIRST
     };
-    check(
-        &rt,
-        "nested prefixes, out of order",
-        &nested,
-        &done(ROWS_OF_BOTH),
-    )
+    let cases = [
+        ("first run", FIRST, ROWS_OF_TEN),
+        (
+            "nested prefixes, out of order",
+            Given {
+                dump: &[PEERS, TEN_ONE, OTHER, TEN],
+                asks: b"10.1.2.3\r\n\n10.2.0.1",
+                ..FIRST
+            },
+            ROWS_OF_BOTH,
+        ),
+        (
+            "IPv6",
+            Given {
+                dump: &[PEERS, SIX],
+                asks: b"2001:db8::5\n::\n",
+                ..FIRST
+            },
+            ROWS_OF_SIX,
+        ),
+        (
+            "a longer path",
+            Given {
+                dump: &[TWO_PEERS, TEN_TWICE],
+                updates: &[LONGER],
+                ..updated
+            },
+            ROWS_OF_LONGER,
+        ),
+        (
+            "withdrawn and announced",
+            Given {
+                updates: &[GONE_AND_BACK],
+                ..updated
+            },
+            ROWS_OF_GONE_AND_BACK,
+        ),
+        (
+            "a session is lost",
+            Given {
+                dump: &[PEERS, TEN_ONE, TEN],
+                updates: &[LOST, LOST],
+                ..updated
+            },
+            ROWS_OF_LOST,
+        ),
+    ];
+    for (name, given, out) in cases {
+        let done = Expected {
+            outcome: Outcome::Done,
+            status: 0,
+            out,
+            err: b"",
+        };
+        check(&rt, name, &given, &done)?;
+    }
+    Ok(())
 }
 
 #[test]
@@ -169,11 +269,14 @@ fn words_that_are_no_command(rt: HostRuntime) -> Result<(), Fail> {
 #[test]
 fn faults(rt: HostRuntime) -> Result<(), Fail> {
     for failing_read in [1, 2, 3, 4] {
-        let given = Given {
-            failing_read,
-            ..FIRST
-        };
-        check(&rt, "a read fails", &given, &READ_FAULT)?;
+        for words in [WORDS, WITH_UPDATES] {
+            let given = Given {
+                words,
+                failing_read,
+                ..FIRST
+            };
+            check(&rt, "a read fails", &given, &READ_FAULT)?;
+        }
     }
     let cases = [(1, 1000, 0), (0, 10, 10), (2, 10, 10), (0, 0, 0)];
     for (failing_write, room, written) in cases {
@@ -194,37 +297,53 @@ fn faults(rt: HostRuntime) -> Result<(), Fail> {
 }
 
 #[test]
-fn inputs_that_are_not_built(rt: HostRuntime) -> Result<(), Fail> {
-    let cases: [(Which, &[&[u8]], &[u8], &[u8]); 4] = [
-        (
-            Which::Dump,
-            &[PEERS, SIX],
-            b"10.1.2.3\n",
-            b"fib: not built dump\n",
-        ),
-        (
-            Which::Dump,
-            &[PEERS, TEN, TEN],
-            b"10.1.2.3\n",
-            b"fib: not built dump\n",
-        ),
-        (Which::Dump, &[TEN], b"10.1.2.3\n", b"fib: not built dump\n"),
-        // The dump isn't held, and isn't read.
-        (Which::Asks, &[], b"::1\n", b"fib: not built asks\n"),
-    ];
-    for (input, dump, asks, err) in cases {
-        let given = Given {
-            dump,
-            asks,
-            ..FIRST
-        };
-        let expected = Expected {
-            outcome: Outcome::NotBuilt { input },
-            status: 14,
-            out: b"",
-            err,
-        };
-        check(&rt, "not built", &given, &expected)?;
-    }
-    Ok(())
+fn refusals(rt: HostRuntime) -> Result<(), Fail> {
+    // The dump isn't held, and isn't read.
+    let bad_ask = Given {
+        dump: &[],
+        asks: b"10.1.2.3\n10.1.2\n",
+        ..FIRST
+    };
+    let expected = Expected {
+        outcome: Outcome::BadLine {
+            input: Which::Asks,
+            line: 2,
+            why: 1,
+        },
+        status: 8,
+        out: b"",
+        err: b"fib: bad line asks 2 why 1\n",
+    };
+    check(&rt, "a bad ask", &bad_ask, &expected)?;
+    let too_wide = Given {
+        dump: &[PEERS, TOO_WIDE],
+        ..FIRST
+    };
+    let expected = Expected {
+        outcome: Outcome::Malformed {
+            input: Which::Dump,
+            number: 1,
+            rule: 7,
+        },
+        status: 5,
+        out: b"",
+        err: b"fib: malformed dump record 1 rule 7\n",
+    };
+    check(&rt, "a malformed dump", &too_wide, &expected)?;
+    let wrong_length = Given {
+        words: WITH_UPDATES,
+        updates: &[WRONG_LENGTH],
+        ..FIRST
+    };
+    let expected = Expected {
+        outcome: Outcome::Malformed {
+            input: Which::Updates,
+            number: 0,
+            rule: 13,
+        },
+        status: 5,
+        out: b"",
+        err: b"fib: malformed updates record 0 rule 13\n",
+    };
+    check(&rt, "malformed updates", &wrong_length, &expected)
 }

@@ -1,8 +1,9 @@
 use Rattle.std.proofs.Common.{◌≡◌, take, map}
+use Rattle.table_model.specs.Changes.{additions}
+use Rattle.feed_model.specs.Feed.{at_event}
 use Rattle.fib_prefix.specs.Seen.{entry_as}
-use Rattle.fib_main.specs.Due.{changes_at_load}
 use Rattle.fib_main.specs.Seen.{changes_as}
 use Rattle.fib_main.proofs.report.additions.Given as goal
 
 abbrev pub invariant-loop-entry : goal.invariant-loop-entry
-invariant-loop-entry l = changes_as l.changes.items ≡ changes_at_load (map entry_as (take l.entry-index l.entries))
+invariant-loop-entry l = changes_as l.changes.items ≡ at_event 0 (additions (map entry_as (take l.entry-index l.entries)))

@@ -6,4 +6,4 @@ use Rattle.fib_report.proofs.rows.put_answers.Given as goal
 
 -- the rows of the answers so far are added
 abbrev pub invariant-loop-addr : goal.invariant-loop-addr
-invariant-loop-addr g l = AddsRows g.W.Write.contents l.fn.out l.out (flat_map (answer_row l.hops) (map (λ a. (addr_as a.0, a.1.0)) (take l.addr-index l.answers)))
+invariant-loop-addr g l = AddsRows g.W.Write.contents l.fn.out l.out (flat_map (answer_row l.hops.list) (map (λ a. (addr_as a.0, a.1.0)) (take l.addr-index l.answers)))

@@ -6,4 +6,4 @@ use Rattle.fib_report.proofs.rows.put_changes.Given as goal
 
 -- the rows of the changes so far are added
 abbrev pub invariant-loop-event : goal.invariant-loop-event
-invariant-loop-event g l = AddsRows g.W.Write.contents l.fn.out l.out (flat_map (change_row l.hops) (map (λ c. (c.0, change_as c.1)) (take l.event-index l.changes)))
+invariant-loop-event g l = AddsRows g.W.Write.contents l.fn.out l.out (flat_map (change_row l.hops.list) (map (λ c. (c.0, change_as c.1)) (take l.event-index l.changes)))

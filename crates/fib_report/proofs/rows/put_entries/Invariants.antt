@@ -6,4 +6,4 @@ use Rattle.fib_report.proofs.rows.put_entries.Given as goal
 
 -- the rows of the entries so far are added
 abbrev pub invariant-loop-entry : goal.invariant-loop-entry
-invariant-loop-entry g l = AddsRows g.W.Write.contents l.fn.out l.out (flat_map (entry_row l.kind l.hops) (map entry_as (take l.entry-index l.entries)))
+invariant-loop-entry g l = AddsRows g.W.Write.contents l.fn.out l.out (flat_map (entry_row l.kind l.hops.list) (map entry_as (take l.entry-index l.entries)))

@@ -1,0 +1,147 @@
+-- What is due, part by part.
+use Rattle.std.proofs.Common.{◌≡◌, ℕ, List, [], Option, Some, Result, Ok, Err, inr, map, refl, sym, ap, ◌∙◌, subst, append-nil, arith}
+use Rattle.std.specs.List.{AllByRecursion}
+use Rattle.address_model.specs.Address.{Address}
+use Rattle.route_model.specs.Events.{Elem}
+use Rattle.route_model.specs.Choice.{IsElem, after_elems, routes_of}
+use Rattle.feed_model.specs.Feed.{hops_after, full_at, changes_from}
+use Rattle.fib_words.specs.Commands.{Named}
+use Rattle.fib_main.specs.declared.outcome.Outcome.{Outcome}
+use Rattle.fib_main.specs.declared.outcome.Outcome.TheVariants.{Done, Usage, ReadFault, WriteFault, NoMemory, TooLarge, Malformed, HopsFull, BadLine}
+use Rattle.fib_main.specs.declared.outcome.Which.TheVariants.{Dump, Updates}
+use Rattle.fib_main.specs.declared.state.State.{State}
+use Rattle.fib_main.specs.Stops.{Stop, Untold, Refused, ◌>>=◌, Is, Fails}
+use Rattle.fib_main.specs.Due.{Feed, feed_at, printed, told_at, text_of, with_text}
+use Rattle.fib_main.specs.Ends.{OneRose, ReadsBy, after, feeds_named, one}
+use Rattle.fib_prefix.specs.declared.addr.Addr.{Addr}
+use Rattle.fib_prefix.specs.declared.prefix.Prefix.{Prefix}
+use Rattle.fib_main.specs.declared.report.Fed.{Fed}
+use Rattle.fib_main.specs.Seen.{changes_as, route_as}
+use Rattle.fib_main.specs.Standing.{Stands, Has, IsFed}
+
+refused_not_ok : {X : Type 0} (o : Outcome) (x : X) → Err (Refused o) ≡ Ok x → ⊥
+refused_not_ok o x e = cc
+
+ok_not_refused : {X : Type 0} (x : X) (o : Outcome) → Ok x ≡ Err (Refused o) → ⊥
+ok_not_refused x o e = cc
+
+abbrev fine : {X : Type 0} → X → Result X Stop
+fine x = Ok x
+
+same_ok : {X : Type 0} (x y : X) → fine x ≡ fine y → x ≡ y
+same_ok x y e = cc
+
+-- ---- one part after another
+
+is_then : {X Y : Type 0} (d : Result X Stop) (f : X → Result Y Stop) (x : X) (y : Y) → Is d (Ok x) → Is (f x) (Ok y) → Is (d >>= f) (Ok y)
+is_then (Err Untold) f x y i j = tt
+is_then (Err (Refused o)) f x y i j = absurd (refused_not_ok o x i)
+is_then {Y = Y} (Ok z) f x y i j = subst (λ w. Is (f w) (fine y)) (sym (same_ok z x i)) j
+
+fails_untold : {X : Type 0} (Y : Type 0) (o : Outcome) (d : Result X Stop) → Fails o d → Fails {Y = Y} o (Err Untold)
+fails_untold Y Done d f = f
+fails_untold Y WriteFault d f = f
+fails_untold Y NoMemory d f = tt
+fails_untold Y ReadFault d f = tt
+fails_untold Y Usage d f = tt
+fails_untold Y (TooLarge input) d f = tt
+fails_untold Y (Malformed input number rule) d f = tt
+fails_untold Y (HopsFull event) d f = tt
+fails_untold Y (BadLine input line why) d f = tt
+
+fails_then : {X Y : Type 0} (o : Outcome) (d : Result X Stop) (f : X → Result Y Stop) (x : X) → Is d (Ok x) → Fails o (f x) → Fails o (d >>= f)
+fails_then {Y = Y} o (Err Untold) f x i j = fails_untold Y o (f x) j
+fails_then o (Err (Refused p)) f x i j = absurd (refused_not_ok p x i)
+fails_then o (Ok z) f x i j = subst (λ w. Fails o (f w)) (sym (same_ok z x i)) j
+
+abbrev stopped : {X : Type 0} → Outcome → Result X Stop
+stopped o = Err (Refused o)
+
+is_first : {X Y : Type 0} (o : Outcome) (d : Result X Stop) (f : X → Result Y Stop) → Is d (Err (Refused o)) → Is (d >>= f) (Err (Refused o))
+is_first o (Err Untold) f i = tt
+is_first {Y = Y} o (Err (Refused p)) f i = let same : p ≡ o = refused_same p o i in ap (λ (q : Outcome). Err (Refused q)) same where
+  refused_same : {X : Type 0} (p o : Outcome) → stopped {X = X} p ≡ stopped o → p ≡ o
+  refused_same p o e = cc
+is_first o (Ok z) f i = absurd (ok_not_refused z o i)
+
+fails_first : {X Y : Type 0} (o : Outcome) (d : Result X Stop) (f : X → Result Y Stop) → Fails o d → Fails o (d >>= f)
+fails_first Done d f j = j
+fails_first WriteFault d f j = j
+fails_first NoMemory d f j = tt
+fails_first ReadFault d f j = tt
+fails_first Usage d f j = is_first Usage d f j
+fails_first (TooLarge input) d f j = is_first (TooLarge input) d f j
+fails_first (Malformed input number rule) d f j = is_first (Malformed input number rule) d f j
+fails_first (HopsFull event) d f j = is_first (HopsFull event) d f j
+fails_first (BadLine input line why) d f j = is_first (BadLine input line why) d f j
+
+-- ---- the dump, and then the updates
+
+abbrev Content : Type 0
+Content = List ℕ → Option (List ℕ)
+
+pub load_fails : (content : Content) (named : Named) (asks : List Address) (o : Outcome) → Fails o (feed_at content Dump [] (Some named.dump)) → Fails o (with_text (told_at content named asks))
+unfolding told_at
+load_fails content named asks o f =
+    fails_first o (told_at content named asks) (λ p. Ok (text_of p))
+    (fails_first o (feed_at content Dump [] (Some named.dump)) (λ load. feed_at content Updates load.elems named.updates >>= λ updates. Ok (printed load updates asks)) f)
+
+pub updates_fail : (content : Content) (named : Named) (asks : List Address) (o : Outcome) (load : Feed) → Is (feed_at content Dump [] (Some named.dump)) (Ok load) → Fails o (feed_at content Updates load.elems named.updates) → Fails o (with_text (told_at content named asks))
+unfolding told_at
+updates_fail content named asks o load i f =
+    fails_first o (told_at content named asks) (λ p. Ok (text_of p))
+    (fails_then o (feed_at content Dump [] (Some named.dump)) (λ load. feed_at content Updates load.elems named.updates >>= λ updates. Ok (printed load updates asks)) load i
+    (fails_first o (feed_at content Updates load.elems named.updates) (λ updates. Ok (printed load updates asks)) f))
+
+pub all_due : (content : Content) (named : Named) (asks : List Address) (load updates : Feed) (text : List ℕ) → Is (feed_at content Dump [] (Some named.dump)) (Ok load) → Is (feed_at content Updates load.elems named.updates) (Ok updates) → text ≡ text_of (printed load updates asks) → Is (with_text (told_at content named asks)) (Ok text)
+unfolding told_at
+all_due content named asks load updates text i j e =
+    is_then (told_at content named asks) (λ p. Ok (text_of p)) (printed load updates asks) text
+    (is_then (feed_at content Dump [] (Some named.dump)) (λ load. feed_at content Updates load.elems named.updates >>= λ updates. Ok (printed load updates asks)) load (printed load updates asks) i
+    (is_then (feed_at content Updates load.elems named.updates) (λ updates. Ok (printed load updates asks)) updates (printed load updates asks) j refl))
+    (ap fine (sym e))
+
+-- ---- the inputs that are read
+
+after_is : {X : Type 0} (d : Result X Stop) (x : X) (names : List (List ℕ)) → Is d (Ok x) → after d names ≡ names
+after_is (Err Untold) x names i = refl
+after_is (Err (Refused o)) x names i = absurd (refused_not_ok o x i)
+after_is (Ok y) x names i = refl
+
+reads_more : (cause more : Type 0) (before now : List ℕ → ℕ) (o : Outcome) → (cause → more) → ReadsBy cause before now o → ReadsBy more before now o
+reads_more cause more before now ReadFault f r = f r
+reads_more cause more before now Done f r = r
+reads_more cause more before now WriteFault f r = r
+reads_more cause more before now NoMemory f r = r
+reads_more cause more before now Usage f r = r
+reads_more cause more before now (TooLarge input) f r = r
+reads_more cause more before now (Malformed input number rule) f r = r
+reads_more cause more before now (HopsFull event) f r = r
+reads_more cause more before now (BadLine input line why) f r = r
+
+pub updates_read : (content : Content) (named : Named) (load : Feed) (before mid now : List ℕ → ℕ) (o : Outcome) → Is (feed_at content Dump [] (Some named.dump)) (Ok load) → mid ≡ before → ReadsBy (OneRose (one named.updates) mid now) mid now o
+    → ReadsBy (OneRose (feeds_named content named) before now) before now o
+updates_read content named load before mid now o i same r =
+    let at : ReadsBy (OneRose (one named.updates) before now) before now o = subst (λ b. ReadsBy (OneRose (one named.updates) b now) b now o) same r in
+    reads_more (OneRose (one named.updates) before now) (OneRose (feeds_named content named) before now) before now o
+    (λ rose. inr (subst (λ names. OneRose names before now) (sym (after_is (feed_at content Dump [] (Some named.dump)) load (one named.updates) i)) rose)) at
+
+-- ---- where the inputs begin
+
+pub stands_new : (state : State) → state.candidates.candidates ≡ [] → state.hops.list ≡ [] → state.changes.items ≡ [] → Stands Dump [] [] state
+unfolding full_at
+stands_new state c h n = record { candidates = c; hops = h; few = rw h (omega arith); fits = refl; proper = tt; changes = λ more. ap changes_as n }
+
+pub stands_updates : (elems : List Elem) (state : State) → Stands Dump [] elems state → Stands Updates elems [] state
+unfolding full_at changes_from
+stands_updates elems state s = record {
+  candidates = s.candidates ∙ ap (after_elems []) (sym (append-nil elems));
+  hops = s.hops ∙ ap (hops_after []) (sym (append-nil elems));
+  few = s.few;
+  fits = refl;
+  proper = subst (AllByRecursion IsElem) (sym (append-nil elems)) s.proper;
+  changes = λ more. s.changes more;
+}
+
+pub fed_all : (load updates : Feed) (chosen : List (Prefix × Addr)) (fed : Fed) (before state : State) → map route_as chosen ≡ routes_of before.candidates.candidates → fed.loaded.now ≡ chosen → Has Dump [] load fed.load before → Has Updates load.elems updates fed.updates state → IsFed load updates fed state
+fed_all load updates chosen fed before state r e h u = record { loaded = ap (map route_as) e ∙ (r ∙ ap routes_of h.stands.candidates); counted = h.counted; has = u }

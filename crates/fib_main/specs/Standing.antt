@@ -1,0 +1,103 @@
+-- What a state holds after elementary events.
+use Rattle.std.specs.Prelude.{◌≡◌, ℕ, ◌≤◌, List, [], ◌∷◌, ◌++◌, length, map, Option, Some, None, Result, Ok, Err}
+use Rattle.std.specs.List.{AllByRecursion}
+use Rattle.address_model.specs.Address.{Address}
+use Rattle.table_model.specs.Changes.{Change}
+use Rattle.route_model.specs.Events.{Elem, Event}
+use Rattle.route_model.specs.Choice.{Candidates, IsElem, after_elems, elems_after, routes_of}
+use Rattle.feed_model.specs.Feed.{hops_after, full_at, changes_from}
+use Rattle.fib_main.specs.declared.outcome.Which.{Which}
+use Rattle.fib_main.specs.declared.outcome.Which.TheVariants.{Asks, Dump, Updates}
+use Rattle.fib_main.specs.declared.outcome.Outcome.{Outcome}
+use Rattle.fib_main.specs.declared.outcome.Outcome.TheVariants as outcome
+use Rattle.fib_main.specs.declared.feed.Counts.{Counts}
+use Rattle.fib_main.specs.declared.state.State.{State}
+use Rattle.fib_main.specs.declared.state.FeedError.{FeedError}
+use Rattle.fib_main.specs.declared.state.FeedError.TheVariants.{Malformed, HopsFull, NoMemory}
+use Rattle.fib_main.specs.declared.report.Fed.{Fed}
+use Rattle.mrt_read.specs.declared.reader.ReadError.{ReadError}
+use Rattle.mrt_read.specs.declared.reader.ReadError.TheVariants as read
+use Rattle.fib_main.specs.Seen.{changes_as, route_as}
+use Rattle.fib_main.specs.Stops.{Stop, Refused, Is, Fails, event_in}
+use Rattle.fib_main.specs.Due.{Feed}
+
+-- the value as a list of one, or none
+abbrev pub list_of : {A : Type 0} → Option A → List A
+list_of None = []
+list_of (Some x) = x ∷ []
+
+-- the changes that are kept of an input's elementary events: those of updates
+abbrev pub kept : Which → List Address → Candidates → List Elem → List (ℕ × Change)
+kept Asks hops held elems = []
+kept Dump hops held elems = []
+kept Updates hops held elems = changes_from hops 1 held elems
+
+-- The state after these elementary events of an input, which came after earlier ones. Its hops are few enough, and the changes that it keeps are those of the input, whatever hops get numbers later.
+pub record Stands (which : Which) (before elems : List Elem) (state : State) : Type 0 where
+  pub candidates : state.candidates.candidates ≡ after_elems [] (before ++ elems)
+  pub hops : state.hops.list ≡ hops_after [] (before ++ elems)
+  pub few : length state.hops.list ≤ 65534
+  pub fits : full_at (hops_after [] before) elems ≡ None
+  pub proper : AllByRecursion IsElem (before ++ elems)
+  pub changes : (more : List Elem) → changes_as state.changes.items ≡ kept which (hops_after state.hops.list more) (after_elems [] before) elems
+
+-- one of these elementary events brings one hop too many
+abbrev pub IsFull : List Elem → List Elem → ℕ → Type 0
+IsFull before elems n = full_at (hops_after [] before) elems ≡ Some n
+
+-- what became of a state that took elementary events, the last of which has this number in its input
+abbrev pub Takes : {T : Type 0} → Which → ℕ → List Elem → State → Result T FeedError → State → Type 0
+Takes which event elems old (Ok x) new = (before done : List Elem) → event ≡ length (done ++ elems) → Stands which before done old → Stands which before (done ++ elems) new
+Takes which event elems old (Err (HopsFull n)) new = (before done : List Elem) → event ≡ length (done ++ elems) → Stands which before done old → IsFull before (done ++ elems) n
+Takes which event elems old (Err (Malformed malformed)) new = ⊥
+Takes which event elems old (Err NoMemory) new = Unit {0}
+
+-- the elementary events of events that come after others
+abbrev pub next_elems : List Elem → List Elem → List Event → List Elem
+next_elems before done events = elems_after (after_elems [] (before ++ done)) events
+
+-- the same of events, after so many elementary events of the input
+abbrev pub TakesAll : Which → ℕ → List Event → State → Result ℕ FeedError → State → Type 0
+TakesAll which count events old (Ok n) new = (before done : List Elem) → count ≡ length done → Stands which before done old → (n ≡ length (done ++ next_elems before done events)) × Stands which before (done ++ next_elems before done events) new
+TakesAll which count events old (Err (HopsFull n)) new = (before done : List Elem) → count ≡ length done → Stands which before done old → IsFull before (done ++ next_elems before done events) n
+TakesAll which count events old (Err (Malformed malformed)) new = ⊥
+TakesAll which count events old (Err NoMemory) new = Unit {0}
+
+-- the counts are those of what an input brings
+pub record IsCounted (feed : Feed) (counts : Counts) : Type 0 where
+  pub records : counts.records ≡ feed.records
+  pub skipped : counts.skipped ≡ feed.skipped
+  pub events : counts.events ≡ length feed.elems
+
+-- the state has what the input brings, and it was counted
+pub record Has (which : Which) (before : List Elem) (feed : Feed) (counts : Counts) (state : State) : Type 0 where
+  pub counted : IsCounted feed counts
+  pub stands : Stands which before feed.elems state
+
+-- a refusal of a reader, as one of an input
+abbrev pub of_read : ReadError → FeedError
+of_read (read.Malformed malformed) = Malformed malformed
+of_read read.NoMemory = NoMemory
+
+-- the outcome where an input brings nothing
+abbrev pub refusal_of : Which → FeedError → Outcome
+refusal_of which (HopsFull n) = outcome.HopsFull (event_in which n)
+refusal_of which (Malformed malformed) = outcome.Malformed which malformed.number malformed.rule
+refusal_of which NoMemory = outcome.NoMemory
+
+-- what was brought is what the definition gives, unless memory ran out
+abbrev pub Brings : Which → List Elem → Result Counts FeedError → State → Result Feed Stop → Type 0
+Brings which before (Ok counts) new due = (feed : Feed) × (due ≡ Ok feed) × Has which before feed counts new
+Brings which before (Err NoMemory) new due = Unit {0}
+Brings which before (Err error) new due = due ≡ Err (Refused (refusal_of which error))
+
+-- the same of a call that reads the input too
+abbrev pub Feeds : Which → List Elem → Result Counts Outcome → State → Result Feed Stop → Type 0
+Feeds which before (Ok counts) new due = (feed : Feed) × Has which before feed counts new × Is due (Ok feed)
+Feeds which before (Err o) new due = Fails o due
+
+-- what was loaded, and the state after the updates
+pub record IsFed (load updates : Feed) (fed : Fed) (state : State) : Type 0 where
+  pub loaded : map route_as fed.loaded.now ≡ routes_of (after_elems [] load.elems)
+  pub counted : IsCounted load fed.load
+  pub has : Has Updates load.elems updates fed.updates state

@@ -1,0 +1,45 @@
+//! What an input of records brings.
+
+ghost use Rattle.std.specs.Prelude.{List, []};
+ghost use Rattle.route_model.specs.Events.{Elem};
+ghost use Rattle.fib_main.specs.Due.{feed_of};
+ghost use Rattle.fib_main.specs.Standing.{Brings, Stands};
+
+use crate::outcome::Which;
+use crate::state::{FeedError, State, take_events};
+use mrt_read::Reader;
+use std::alloc::Global;
+
+/// What was counted of an input: its records, those of them that were skipped, and its elementary events.
+#[derive(Clone, Copy, Debug, PartialEq, Eq)]
+pub struct Counts {
+    /// The records.
+    pub records: u64,
+    /// The skipped ones.
+    pub skipped: u64,
+    /// The elementary events.
+    pub events: u64,
+}
+
+/// Takes all that an input brings, record by record.
+pub fn feed(
+    alloc: Global,
+    state: &mut State,
+    which: Which,
+    octets: &[u8],
+) -> Result<Counts, FeedError>
+    ensures { (before : List Elem) → Stands which before [] state.old → Brings which before result state.new (feed_of which before octets.now) }
+{
+    let mut reader = Reader::new(alloc);
+    reader.feed(octets)?;
+    let mut events = 0;
+    while let Some(more) = reader.take_events()? {
+        events = take_events(state, which, events, &more)?;
+    }
+    reader.finish()?;
+    Ok(Counts {
+        records: reader.records(),
+        skipped: reader.skipped(),
+        events,
+    })
+}

@@ -1,0 +1,194 @@
+//! What the inputs bring: candidates, the numbers of next hops, and the changes that updates make.
+
+ghost use Rattle.std.specs.Prelude.{◌≡◌, ◌≤◌, ◌<◌, ◌∷◌, [], length, map, option_map, IfOk, OnOk, IsErrOf};
+ghost use Rattle.fib_prefix.specs.Seen.{addr_as, elem_as, event_as, prefix_as};
+ghost use Rattle.route_model.specs.Choice.{after_elem};
+ghost use Rattle.route_choice.specs.Held.{IsChoice};
+ghost use Rattle.feed_model.specs.Feed.{change_of, hops_after, number_in};
+ghost use Rattle.fib_report.specs.Seen.{change_as};
+ghost use Rattle.fib_main.specs.Standing.{list_of, of_read, Takes, TakesAll};
+ghost use Rattle.fib_main.specs.declared.state.FeedError.TheVariants.{Malformed as IsMalformed, NoMemory as IsNoMemory};
+
+use crate::outcome::Which;
+use fib_prefix::{Addr, Elem, Event, Hop, HopError, HopTable};
+use fib_report::Change;
+use mrt_read::{Malformed, ReadError};
+use route_choice::{Candidates, Choice};
+use std::alloc::{AllocError, AllocFailed, Global};
+use thiserror::Error;
+
+/// Why an input brought nothing.
+#[derive(Clone, Copy, Debug, PartialEq, Eq, Error)]
+pub enum FeedError {
+    /// A record breaks a rule.
+    #[error("{0}")]
+    Malformed(Malformed),
+    /// The elementary event of this number brings one hop too many.
+    #[error("event {0} brings one hop too many")]
+    HopsFull(u64),
+    /// Memory ran out, or a count did.
+    #[error("no memory")]
+    NoMemory,
+}
+
+impl From<Malformed> for FeedError {
+    ghost from_gives = { λ malformed e. e ≡ IsMalformed malformed };
+
+    fn from(malformed: Malformed) -> FeedError {
+        FeedError::Malformed(malformed)
+    }
+}
+
+impl From<ReadError> for FeedError {
+    ghost from_gives = { λ error e. e ≡ of_read error };
+
+    fn from(error: ReadError) -> FeedError {
+        match error {
+            ReadError::Malformed(malformed) => FeedError::Malformed(malformed),
+            ReadError::NoMemory => FeedError::NoMemory,
+        }
+    }
+}
+
+impl From<AllocError> for FeedError {
+    ghost from_gives = { λ _ e. e ≡ IsNoMemory };
+
+    fn from(_e: AllocError) -> FeedError {
+        FeedError::NoMemory
+    }
+}
+
+impl<T: Drop> From<AllocFailed<T>> for FeedError {
+    ghost from_gives = { λ _ e. e ≡ IsNoMemory };
+
+    fn from(_e: AllocFailed<T>) -> FeedError {
+        FeedError::NoMemory
+    }
+}
+
+/// What was brought so far.
+#[derive(Drop)]
+pub struct State {
+    /// The candidates of all peers.
+    pub candidates: Candidates,
+    /// The hops with their numbers.
+    pub hops: HopTable,
+    /// The changes that updates made, each with its event's number.
+    pub changes: Vec<(u64, Change)>,
+}
+
+impl State {
+    /// Nothing was brought.
+    pub fn new(alloc: Global) -> State
+        ensures candidates { result.candidates.candidates ≡ [] }
+        ensures hops { result.hops.list ≡ [] }
+        ensures changes { result.changes.items ≡ [] }
+    {
+        State {
+            candidates: Candidates::new(alloc),
+            hops: HopTable::new(alloc),
+            changes: Vec::new(alloc),
+        }
+    }
+}
+
+/// The number of a hop, none's where it has no number.
+pub fn number(hops: &HopTable, hop: &Addr) -> Hop
+    ensures { result.0 ≡ number_in hops.now.list (addr_as hop.now) }
+{
+    hops.find(hop).unwrap_or(Hop::NONE)
+}
+
+/// The change that a choice makes, if it makes one.
+fn change_of(hops: &HopTable, choice: Choice) -> Option<Change>
+    ensures { list_of (option_map change_as result) ≡ change_of hops.now.list (prefix_as choice.prefix) (option_map addr_as choice.before) (option_map addr_as choice.after) }
+{
+    match (choice.before, choice.after) {
+        (None, None) => None,
+        (None, Some(hop)) => Some(Change::Add(choice.prefix, number(hops, &hop))),
+        (Some(_), None) => Some(Change::Remove(choice.prefix)),
+        (Some(old), Some(hop)) => {
+            if old == hop {
+                None
+            } else {
+                Some(Change::Replace(choice.prefix, number(hops, &hop)))
+            }
+        }
+    }
+}
+
+/// Takes an elementary event: its hop gets a number, and the candidates change.
+fn take_elem(
+    candidates: &mut Candidates,
+    hops: &mut HopTable,
+    elem: &Elem,
+) -> Result<Choice, HopError>
+    ensures candidates { OnOk result (candidates.new.candidates ≡ after_elem candidates.old.candidates (elem_as elem.now)) }
+    ensures hops { OnOk result (hops.new.list ≡ hops_after hops.old.list (elem_as elem.now ∷ [])) }
+    ensures few { OnOk result (length hops.old.list ≤ 65534 → length hops.new.list ≤ 65534) }
+    ensures choice { IfOk result (IsChoice candidates.old.candidates (elem_as elem.now)) }
+    ensures full { IsErrOf result HopError.HopsFull → 65534 < length (hops_after hops.old.list (elem_as elem.now ∷ [])) }
+{
+    if let Elem::Put(_, _, _, hop) = elem {
+        if let Err(error) = hops.number(hop) {
+            return Err(error);
+        }
+    }
+    match candidates.apply(elem) {
+        Ok(choice) => Ok(choice),
+        Err(_) => Err(HopError::NoMemory),
+    }
+}
+
+/// Takes the elementary event of this number, and of updates keeps the change that it makes.
+fn step(state: &mut State, which: Which, event: u64, elem: &Elem) -> Result<(), FeedError>
+    ensures { Takes which event (elem_as elem.now ∷ []) state.old result state.new }
+{
+    let choice = match take_elem(&mut state.candidates, &mut state.hops, elem) {
+        Ok(choice) => choice,
+        Err(HopError::HopsFull) => return Err(FeedError::HopsFull(event)),
+        Err(HopError::NoMemory) => return Err(FeedError::NoMemory),
+    };
+    match which {
+        Which::Asks => {}
+        Which::Dump => {}
+        Which::Updates => {
+            if let Some(change) = change_of(&state.hops, choice) {
+                state.changes.push((event, change))?;
+            }
+        }
+    }
+    Ok(())
+}
+
+/// Takes an event after so many elementary events, and gives how many there are then.
+fn take_event(state: &mut State, which: Which, before: u64, event: &Event) -> Result<u64, FeedError>
+    ensures { TakesAll which before (event_as event.now ∷ []) state.old result state.new }
+{
+    let elems = state.candidates.elementary(event)?;
+    let mut count = before;
+    for elem in &elems {
+        let Some(next) = count.checked_add(1) else {
+            return Err(FeedError::NoMemory);
+        };
+        step(state, which, next, elem)?;
+        count = next;
+    }
+    Ok(count)
+}
+
+/// Takes events after so many elementary events, and gives how many there are then.
+pub fn take_events(
+    state: &mut State,
+    which: Which,
+    before: u64,
+    events: &[Event],
+) -> Result<u64, FeedError>
+    ensures { TakesAll which before (map event_as events.now) state.old result state.new }
+{
+    let mut count = before;
+    for event in events {
+        count = take_event(state, which, count, event)?;
+    }
+    Ok(count)
+}
