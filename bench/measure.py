@@ -1,12 +1,12 @@
 #!/usr/bin/env python3
-"""Measures a program on dumps of several sizes in the plain form.
+"""Measures a program on inputs of several sizes.
 
 Usage:  measure.py PROGRAM
 
-Runs `PROGRAM run DUMP --ask ASKS` with its output to a file on inputs of make_plain.py,
-three times each, and prints the best time; then once more for its peak of memory.
-A run that doesn't end with 0 or hasn't the rows that are due ends it with status 1.
-No time and no memory is judged.
+Runs `PROGRAM run DUMP --updates UPDATES --ask ASKS` with its output to a file on inputs of
+make_inputs.py, and prints the best time of three; then once more for its peak of memory. The
+first line of each size is the dump alone. A run that doesn't end with 0 or hasn't the routes
+that are due ends it with status 1. No time and no memory is judged.
 """
 
 import argparse
@@ -19,18 +19,18 @@ import time
 from collections import Counter
 
 HERE = os.path.dirname(os.path.abspath(__file__))
-SIZES = ((8192, ()), (16384, ()), (32768, ()), (65534, ()), (65534, ("--shuffle",)))
+SIZES = (50_000, 100_000, 200_000)
 ASKS = 1000
 SEED = 1
 RUNS = 3
 MIB = 1024                          # KiB
 
 
-def make(n, options, folder):
+def make(n, folder):
     """Makes the inputs in a process of its own, so that this one stays small."""
-    subprocess.run([sys.executable, os.path.join(HERE, "make_plain.py"), str(n), str(ASKS), str(SEED),
-                    folder, *options], check=True)
-    return os.path.join(folder, "dump.mrt"), os.path.join(folder, "asks.txt")
+    subprocess.run([sys.executable, os.path.join(HERE, "make_inputs.py"), str(n), str(n), str(ASKS), str(SEED), folder],
+                   check=True)
+    return [os.path.join(folder, name) for name in ("dump.mrt", "updates.mrt", "asks.txt")]
 
 
 def start(words, out):
@@ -76,35 +76,37 @@ def count_rows(out):
         return Counter(line.split(b",", 1)[0].decode("latin-1") for line in f)
 
 
-def measured(program, n, options, folder):
-    """The columns of one size."""
-    dump, asks = make(n, options, folder)
-    words, out = [program, "run", dump, "--ask", asks], os.path.join(folder, "out")
-    due = {"route": n, "change": n, "answer": ASKS, "table": n, "report": 5}
+def measured(words, out, octets, routes):
+    """The columns of one run."""
     best = None
     for _ in range(RUNS):
         status, seconds = timed(words, out)
         if status != 0:
-            sys.exit("%d routes: ended with %d" % (n, status))
+            sys.exit("%s ended with %d" % (" ".join(words[1:]), status))
         rows = count_rows(out)
-        if rows != due:
-            sys.exit("%d routes: rows due %s, printed %s" % (n, due, dict(rows)))
+        if rows["route"] != routes or rows["table"] != routes:
+            sys.exit("%s: %d routes due, printed %s" % (" ".join(words[1:]), routes, dict(rows)))
         best = seconds if best is None else min(best, seconds)
-    return (n + 1, os.path.getsize(dump), best, 1e6 * best / n, peak(words, out) / MIB,
-            sum(rows.values()), " ".join(options).strip("-"))
+    return octets, best, octets / best / 1e6, peak(words, out) / MIB, sum(rows.values())
 
 
 def main():
-    ap = argparse.ArgumentParser(description="Measures a program on dumps in the plain form.")
+    ap = argparse.ArgumentParser(description="Measures a program on inputs of several sizes.")
     ap.add_argument("program", metavar="PROGRAM")
     name = ap.parse_args().program
     program = shutil.which(os.path.abspath(name)) or shutil.which(name)
     if program is None:
         sys.exit("no such program: " + name)
-    print("%8s %10s %9s %12s %10s %8s" % ("records", "octets", "seconds", "us a route", "peak MiB", "rows"))
+    print("%8s %8s %11s %9s %9s %9s %9s" % ("prefixes", "updates", "octets", "seconds", "MB/s", "peak MiB", "rows"))
+    line = "%8d %8d %11d %9.2f %9.1f %9.0f %9d"
     with tempfile.TemporaryDirectory() as folder:
-        for n, options in SIZES:
-            print("%8d %10d %9.3f %12.2f %10.1f %8d %s" % measured(program, n, options, folder), flush=True)
+        out = os.path.join(folder, "out")
+        for n in SIZES:
+            dump, updates, asks = make(n, folder)
+            octets = os.path.getsize(dump)
+            print(line % (n, 0, *measured([program, "run", dump, "--ask", asks], out, octets, n)), flush=True)
+            words = [program, "run", dump, "--updates", updates, "--ask", asks]
+            print(line % (n, n, *measured(words, out, octets + os.path.getsize(updates), n)), flush=True)
     print("cores: %s" % os.cpu_count())
 
 
