@@ -12,4 +12,4 @@ returns c = λ load updates f.
     let routes = c.in_ok-routes-2.ensures ∙ ap (map (numbered c.args.state.now.hops.list)) c.deref.ensures.value in
     let by_prefix = c.in_ok-by_prefix.ensures ∙ ap (λ es. in_order (map entry_as es)) c.deref-2.ensures.value in
     let changes = c.in_ok-changes.ensures ∙ (ap (λ es. at_event 0 (additions (map entry_as es)) ++ changes_as c.deref-4.result.now) c.deref-3.ensures.value ∙ ap (λ cs. at_event 0 (additions (map entry_as c.in_ok-loaded.loaded.items)) ++ changes_as cs) c.deref-4.ensures.value) in
-    told_is load updates c.args.fed.now c.args.state.now _ _ c.in_ok-loaded.loaded.items _ c.in_ok-routes.field-0.items c.in_ok-by_prefix.by_prefix.entries _ _ _ _ c.in_ok-routes.ensures routes c.in_ok-loaded.ensures by_prefix changes c.in_ok-answers.ensures (c.in_ok-from_slice.ensures.items ∙ c.deref-5.ensures.value) c.in_ok-totals.ensures (c.len.ensures ∙ c.in_ok-routes-2.routes.ok.0) f
+    told_is load updates c.args.fed.now c.args.state.now _ _ c.in_ok-loaded.loaded.items _ c.in_ok-routes.field-0.items c.in_ok-by_prefix.by_prefix.entries _ _ _ _ c.in_ok-routes.ensures.routes routes c.in_ok-loaded.ensures by_prefix changes c.in_ok-answers.ensures (c.in_ok-from_slice.ensures.items ∙ c.deref-5.ensures.value) c.in_ok-totals.ensures (c.len.ensures ∙ c.in_ok-routes-2.routes.ok.0) f
