@@ -55,7 +55,7 @@ half_step false t u go (false ∷ p) g L ih = ap (λ x. longest (cond x (entry (
 half_step true t u go (false ∷ p) g L ih = ap longest (drops t (false ∷ p) g L (go.at_other p)) ∙ ih
 half_step false t u go (true ∷ p) g L ih = ap longest (drops t (true ∷ p) g L (go.at_other p)) ∙ ih
 
-longest_half : (b : Bool) (t u : List Bool → Bool) (go : GoesOn b t u) (L : Table) → longest (passing t L) ≡ pushed b (longest (passing u (half b L))) (root L)
+pub longest_half : (b : Bool) (t u : List Bool → Bool) (go : GoesOn b t u) (L : Table) → longest (passing t L) ≡ pushed b (longest (passing u (half b L))) (root L)
 longest_half true t u go [] = refl
 longest_half false t u go [] = refl
 longest_half b t u go (e ∷ L) = half_step b t u go e.prefix e.hop L (longest_half b t u go L)
@@ -64,7 +64,7 @@ begins_on : (b : Bool) (a : List Bool) → GoesOn b (λ p. begins p (b ∷ a)) (
 begins_on true a = record { at_nil = refl; at_same = λ p. refl; at_other = λ p. refl }
 begins_on false a = record { at_nil = refl; at_same = λ p. refl; at_other = λ p. refl }
 
-hop_pushed : (b : Bool) (x : Option Entry) (o : Option ℕ) (h : ℕ) → hop_or h (pushed b x o) ≡ hop_or (inherit o h) x
+pub hop_pushed : (b : Bool) (x : Option Entry) (o : Option ℕ) (h : ℕ) → hop_or h (pushed b x o) ≡ hop_or (inherit o h) x
 hop_pushed b None None h = refl
 hop_pushed b None (Some g) h = refl
 hop_pushed b (Some e) o h = refl

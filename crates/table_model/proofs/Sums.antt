@@ -36,7 +36,7 @@ all_after p q (e ∷ L) h a = (prefix_total.trans p q e.0 h a.0, all_after p q L
 less_back : (p q : Prefix) → prefix_cmp p q ≡ Greater → prefix_cmp q p ≡ Less
 less_back p q e = prefix_total.antisymm q p ∙ ap ordering_reverse e
 
-sorted_placed : (L : Entries) (p : Prefix) (h : ℕ) → IsStrictlySortedBy prefix_cmp (keys_of L) → IsStrictlySortedBy prefix_cmp (keys_of (insert_entry prefix_cmp L p h))
+pub sorted_placed : (L : Entries) (p : Prefix) (h : ℕ) → IsStrictlySortedBy prefix_cmp (keys_of L) → IsStrictlySortedBy prefix_cmp (keys_of (insert_entry prefix_cmp L p h))
 unfolding IsStrictlySortedBy
 sorted_placed [] p h s = (tt, tt)
 sorted_placed (e ∷ L) p h s = by_order (prefix_cmp p e.0) refl (sorted_placed L p h s.1)

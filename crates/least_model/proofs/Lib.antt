@@ -1,0 +1,9 @@
+pub mod Above
+pub mod Join
+pub mod Sets
+pub mod Cost
+pub mod Region
+pub mod Laws
+pub mod Patch
+pub mod Same
+pub mod Order

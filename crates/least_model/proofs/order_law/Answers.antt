@@ -1,0 +1,5 @@
+use Rattle.least_model.proofs.Order.{aggregate_order, order_one}
+use Rattle.least_model.proofs.order_law.Goals as goal
+
+pub returns : goal.returns
+returns c = record { aggregate = aggregate_order; one = order_one }

@@ -1,0 +1,4 @@
+pub mod Regions
+pub mod Least
+pub mod Sets
+pub mod Kept

@@ -1,0 +1,218 @@
+-- One level of each walk down the tree.
+use Rattle.std.proofs.Common.{◌≡◌, ◌≢◌, ℕ, ◌-◌, ◌/◌, ◌^◌, List, [], ◌∷◌, ◌++◌, map, Bool, true, false, ◌||◌, refl, sym, ap, ◌∙◌, subst, Option, Some, None, Box}
+use Rattle.std.specs.Prelude.{bit_and}
+use Rattle.std.specs.Option.{unwrap_or}
+use Rattle.std.specs.declared.alloc.Global.{Global}
+use Rattle.address_model.specs.Bits.{bits_of, same_bits}
+use Rattle.table_model.specs.Table.{Table, lpm, inherit}
+use Rattle.table_model.proofs.Cut.{lpm_nil}
+use Rattle.least_model.specs.Regions.{join}
+use Rattle.least_model.proofs.Join.{root_join, lpm_join_low, lpm_join_high}
+use Rattle.orig_tree.specs.Walk.{Walks, behind, nothing, walks_of, rows_of, edited, Allowed, picked, has_node, Relabelled}
+use Rattle.orig_tree.specs.declared.node.Label.{Label}
+use Rattle.orig_tree.specs.declared.node.Label.TheVariants.{Route, Entry}
+use Rattle.orig_tree.proofs.Paths.{no_bits, first_one, first_zero}
+use Rattle.orig_tree.proofs.Lists.{edit_low, edit_high, edit_own}
+
+pub rows_level : (label : Label) (route entry : Option ℕ) (low high : Walks) → rows_of label (walks_of route entry low high) ≡ join (picked label route entry) (rows_of label low) (rows_of label high)
+rows_level Route route entry low high = refl
+rows_level Entry route entry low high = refl
+
+lpm_join_end : (o : Option ℕ) (L M : Table) (h : ℕ) → lpm (join o L M) [] h ≡ inherit o h
+lpm_join_end o L M h = lpm_nil (join o L M) h ∙ ap (λ x. inherit x h) (root_join o L M)
+
+pub given_is : (o : Option ℕ) (h : ℕ) → inherit o h ≡ unwrap_or o h
+given_is None h = refl
+given_is (Some g) h = refl
+
+pub answer_here : (label : Label) (route entry : Option ℕ) (low high node : Walks) (left q inherited hop : ℕ) →
+    walks_of route entry low high ≡ node → left ≡ 0 → hop ≡ unwrap_or (picked label route entry) inherited →
+    hop ≡ lpm (rows_of label node) (bits_of left q) inherited
+answer_here label route entry low high node left q inherited hop w e h =
+    h ∙ sym (given_is (picked label route entry) inherited)
+    ∙ sym (ap (λ n. lpm (rows_of label n) (bits_of left q) inherited) (sym w)
+    ∙ ap (λ p. lpm (rows_of label (walks_of route entry low high)) p inherited) (no_bits left q e)
+    ∙ ap (λ r. lpm r [] inherited) (rows_level label route entry low high)
+    ∙ lpm_join_end (picked label route entry) (rows_of label low) (rows_of label high) inherited)
+
+pub answer_high : (label : Label) (route entry : Option ℕ) (low high node : Walks) (left q inherited hop out : ℕ) →
+    walks_of route entry low high ≡ node → left ≢ 0 → bit_and (q / 2 ^ (left - 1)) 1 ≡ 1 → hop ≡ unwrap_or (picked label route entry) inherited →
+    out ≡ lpm (rows_of label high) (bits_of (left - 1) q) hop →
+    out ≡ lpm (rows_of label node) (bits_of left q) inherited
+answer_high label route entry low high node left q inherited hop out w e b h o =
+    o ∙ ap (lpm (rows_of label high) (bits_of (left - 1) q)) (h ∙ sym (given_is (picked label route entry) inherited))
+    ∙ sym (ap (λ n. lpm (rows_of label n) (bits_of left q) inherited) (sym w)
+    ∙ ap (λ p. lpm (rows_of label (walks_of route entry low high)) p inherited) (first_one left q e b)
+    ∙ ap (λ r. lpm r (true ∷ bits_of (left - 1) q) inherited) (rows_level label route entry low high)
+    ∙ lpm_join_high (picked label route entry) (rows_of label low) (rows_of label high) (bits_of (left - 1) q) inherited)
+
+pub answer_low : (label : Label) (route entry : Option ℕ) (low high node : Walks) (left q inherited hop out : ℕ) →
+    walks_of route entry low high ≡ node → left ≢ 0 → bit_and (q / 2 ^ (left - 1)) 1 ≢ 1 → hop ≡ unwrap_or (picked label route entry) inherited →
+    out ≡ lpm (rows_of label low) (bits_of (left - 1) q) hop →
+    out ≡ lpm (rows_of label node) (bits_of left q) inherited
+answer_low label route entry low high node left q inherited hop out w e b h o =
+    o ∙ ap (lpm (rows_of label low) (bits_of (left - 1) q)) (h ∙ sym (given_is (picked label route entry) inherited))
+    ∙ sym (ap (λ n. lpm (rows_of label n) (bits_of left q) inherited) (sym w)
+    ∙ ap (λ p. lpm (rows_of label (walks_of route entry low high)) p inherited) (first_zero left q e b)
+    ∙ ap (λ r. lpm r (false ∷ bits_of (left - 1) q) inherited) (rows_level label route entry low high)
+    ∙ lpm_join_low (picked label route entry) (rows_of label low) (rows_of label high) (bits_of (left - 1) q) inherited)
+
+-- edits
+edited_low : (label : Label) (p : List Bool) (h route entry : Option ℕ) (low high : Walks) → edited label (false ∷ p) h (walks_of route entry low high) ≡ walks_of route entry (edited label p h low) high
+edited_low Route p h route entry low high = ap (λ r. record { routes = r; entries = join entry low.entries high.entries; nodes = (walks_of route entry low high).nodes }) (edit_low p h route low.routes high.routes)
+edited_low Entry p h route entry low high = ap (λ r. record { routes = join route low.routes high.routes; entries = r; nodes = (walks_of route entry low high).nodes }) (edit_low p h entry low.entries high.entries)
+
+edited_high : (label : Label) (p : List Bool) (h route entry : Option ℕ) (low high : Walks) → edited label (true ∷ p) h (walks_of route entry low high) ≡ walks_of route entry low (edited label p h high)
+edited_high Route p h route entry low high = ap (λ r. record { routes = r; entries = join entry low.entries high.entries; nodes = (walks_of route entry low high).nodes }) (edit_high p h route low.routes high.routes)
+edited_high Entry p h route entry low high = ap (λ r. record { routes = join route low.routes high.routes; entries = r; nodes = (walks_of route entry low high).nodes }) (edit_high p h entry low.entries high.entries)
+
+-- nodes
+has_append : (p : List Bool) (a b : List (List Bool)) → has_node p (a ++ b) ≡ (has_node p a || has_node p b)
+has_append p [] b = refl
+has_append p (q ∷ a) b = elim (same_bits p q) as (λ t. (t || has_node p (a ++ b)) ≡ ((t || has_node p a) || has_node p b)) [ true ↦ refl | false ↦ has_append p a b ]
+
+has_map : (b : Bool) (p : List Bool) (a : List (List Bool)) → has_node (b ∷ p) (map (λ q. b ∷ q) a) ≡ has_node p a
+unfolding same_bits
+has_map b p [] = refl
+has_map true p (q ∷ a) = ap (λ t. same_bits p q || t) (has_map true p a)
+has_map false p (q ∷ a) = ap (λ t. same_bits p q || t) (has_map false p a)
+
+has_other : (b c : Bool) (p : List Bool) (a : List (List Bool)) → b ≢ c → has_node (b ∷ p) (map (λ q. c ∷ q) a) ≡ false
+unfolding same_bits
+has_other b c p [] n = refl
+has_other true true p (q ∷ a) n = absurd (n refl)
+has_other true false p (q ∷ a) n = has_other true false p a n
+has_other false true p (q ∷ a) n = has_other false true p a n
+has_other false false p (q ∷ a) n = absurd (n refl)
+
+or_false : (t : Bool) → (t || false) ≡ t
+or_false true = refl
+or_false false = refl
+
+pub has_low : (p : List Bool) (route entry : Option ℕ) (low high : Walks) → has_node (false ∷ p) (walks_of route entry low high).nodes ≡ has_node p low.nodes
+unfolding same_bits
+has_low p route entry low high =
+    has_append (false ∷ p) (map (λ q. false ∷ q) low.nodes) (map (λ q. true ∷ q) high.nodes)
+    ∙ ap (λ t. has_node (false ∷ p) (map (λ q. false ∷ q) low.nodes) || t) (has_other false true p high.nodes (λ e. cc))
+    ∙ or_false _ ∙ has_map false p low.nodes
+
+pub has_high : (p : List Bool) (route entry : Option ℕ) (low high : Walks) → has_node (true ∷ p) (walks_of route entry low high).nodes ≡ has_node p high.nodes
+unfolding same_bits
+has_high p route entry low high =
+    has_append (true ∷ p) (map (λ q. false ∷ q) low.nodes) (map (λ q. true ∷ q) high.nodes)
+    ∙ ap (λ t. t || has_node (true ∷ p) (map (λ q. true ∷ q) high.nodes)) (has_other true false p low.nodes (λ e. cc))
+    ∙ has_map true p high.nodes
+
+pub rows_nothing : (label : Label) → rows_of label nothing ≡ []
+rows_nothing Route = refl
+rows_nothing Entry = refl
+
+lpm_nothing : (label : Label) (low : Walks) (p : List Bool) (hop : ℕ) → low ≡ nothing → hop ≡ lpm (rows_of label low) p hop
+lpm_nothing label low p hop e = sym (ap (λ w. lpm (rows_of label w) p hop) e ∙ ap (λ r. lpm r p hop) (rows_nothing label))
+
+pub behind_none : (link : Option (Box Walks Global)) → link ≡ None → behind link ≡ nothing
+behind_none link e = ap behind e
+
+pub miss_high : (label : Label) (route entry : Option ℕ) (low : Walks) (high : Option (Box Walks Global)) (node : Walks) (left q inherited hop : ℕ) →
+    walks_of route entry low (behind high) ≡ node → left ≢ 0 → bit_and (q / 2 ^ (left - 1)) 1 ≡ 1 → hop ≡ unwrap_or (picked label route entry) inherited →
+    high ≡ None → hop ≡ lpm (rows_of label node) (bits_of left q) inherited
+miss_high label route entry low high node left q inherited hop w e b h o =
+    answer_high label route entry low (behind high) node left q inherited hop hop w e b h (lpm_nothing label (behind high) _ hop (behind_none high o))
+
+pub miss_low : (label : Label) (route entry : Option ℕ) (low : Option (Box Walks Global)) (high : Walks) (node : Walks) (left q inherited hop : ℕ) →
+    walks_of route entry (behind low) high ≡ node → left ≢ 0 → bit_and (q / 2 ^ (left - 1)) 1 ≢ 1 → hop ≡ unwrap_or (picked label route entry) inherited →
+    low ≡ None → hop ≡ lpm (rows_of label node) (bits_of left q) inherited
+miss_low label route entry low high node left q inherited hop w e b h o =
+    answer_low label route entry (behind low) high node left q inherited hop hop w e b h (lpm_nothing label (behind low) _ hop (behind_none low o))
+
+edited_own_route : (h route entry : Option ℕ) (low high : Walks) → edited Route [] h (walks_of route entry low high) ≡ walks_of h entry low high
+edited_own_route h route entry low high = ap (λ r. record { routes = r; entries = join entry low.entries high.entries; nodes = (walks_of route entry low high).nodes }) (edit_own h route low.routes high.routes)
+
+edited_own_entry : (h route entry : Option ℕ) (low high : Walks) → edited Entry [] h (walks_of route entry low high) ≡ walks_of route h low high
+edited_own_entry h route entry low high = ap (λ r. record { routes = join route low.routes high.routes; entries = r; nodes = (walks_of route entry low high).nodes }) (edit_own h entry low.entries high.entries)
+
+pub assign_route : (label : Label) (h route entry : Option ℕ) (low high node : Walks) (left q : ℕ) → left ≡ 0 → label ≡ Route → walks_of route entry low high ≡ node →
+    walks_of h entry low high ≡ edited label (bits_of left q) h node
+assign_route label h route entry low high node left q e l w =
+    sym (ap (λ n. edited label (bits_of left q) h n) (sym w) ∙ ap (λ p. edited label p h (walks_of route entry low high)) (no_bits left q e) ∙ ap (λ k. edited k [] h (walks_of route entry low high)) l ∙ edited_own_route h route entry low high)
+
+pub assign_entry : (label : Label) (h route entry : Option ℕ) (low high node : Walks) (left q : ℕ) → left ≡ 0 → label ≡ Entry → walks_of route entry low high ≡ node →
+    walks_of route h low high ≡ edited label (bits_of left q) h node
+assign_entry label h route entry low high node left q e l w =
+    sym (ap (λ n. edited label (bits_of left q) h n) (sym w) ∙ ap (λ p. edited label p h (walks_of route entry low high)) (no_bits left q e) ∙ ap (λ k. edited k [] h (walks_of route entry low high)) l ∙ edited_own_entry h route entry low high)
+
+pub assign_high : (label : Label) (h route entry : Option ℕ) (low high node after : Walks) (left q : ℕ) → left ≢ 0 → bit_and (q / 2 ^ (left - 1)) 1 ≡ 1 → walks_of route entry low high ≡ node →
+    after ≡ edited label (bits_of (left - 1) q) h high →
+    walks_of route entry low after ≡ edited label (bits_of left q) h node
+assign_high label h route entry low high node after left q e b w a =
+    ap (walks_of route entry low) a
+    ∙ sym (ap (λ n. edited label (bits_of left q) h n) (sym w) ∙ ap (λ p. edited label p h (walks_of route entry low high)) (first_one left q e b) ∙ edited_high label (bits_of (left - 1) q) h route entry low high)
+
+pub assign_low : (label : Label) (h route entry : Option ℕ) (low high node after : Walks) (left q : ℕ) → left ≢ 0 → bit_and (q / 2 ^ (left - 1)) 1 ≢ 1 → walks_of route entry low high ≡ node →
+    after ≡ edited label (bits_of (left - 1) q) h low →
+    walks_of route entry after high ≡ edited label (bits_of left q) h node
+assign_low label h route entry low high node after left q e b w a =
+    ap (λ n. walks_of route entry n high) a
+    ∙ sym (ap (λ n. edited label (bits_of left q) h n) (sym w) ∙ ap (λ p. edited label p h (walks_of route entry low high)) (first_zero left q e b) ∙ edited_low label (bits_of (left - 1) q) h route entry low high)
+
+pub allowed_high : (h route entry : Option ℕ) (low high node : Walks) (left q : ℕ) → left ≢ 0 → bit_and (q / 2 ^ (left - 1)) 1 ≡ 1 → walks_of route entry low high ≡ node →
+    Allowed (bits_of left q) h node.nodes → Allowed (bits_of (left - 1) q) h high.nodes
+allowed_high None route entry low high node left q e b w a = tt
+allowed_high (Some h) route entry low high node left q e b w a =
+    sym (has_high (bits_of (left - 1) q) route entry low high) ∙ ap (λ p. has_node p (walks_of route entry low high).nodes) (sym (first_one left q e b)) ∙ ap (λ n. has_node (bits_of left q) n.nodes) w ∙ a
+
+pub allowed_low : (h route entry : Option ℕ) (low high node : Walks) (left q : ℕ) → left ≢ 0 → bit_and (q / 2 ^ (left - 1)) 1 ≢ 1 → walks_of route entry low high ≡ node →
+    Allowed (bits_of left q) h node.nodes → Allowed (bits_of (left - 1) q) h low.nodes
+allowed_low None route entry low high node left q e b w a = tt
+allowed_low (Some h) route entry low high node left q e b w a =
+    sym (has_low (bits_of (left - 1) q) route entry low high) ∙ ap (λ p. has_node p (walks_of route entry low high).nodes) (sym (first_zero left q e b)) ∙ ap (λ n. has_node (bits_of left q) n.nodes) w ∙ a
+
+-- nothing is edited where nothing may be set
+pub edited_nothing : (label : Label) (h : Option ℕ) (p : List Bool) → Allowed p h [] → nothing ≡ edited label p h nothing
+edited_nothing Route None p a = refl
+edited_nothing Entry None p a = refl
+edited_nothing label (Some h) p a = cc
+
+pub assign_no_high : (label : Label) (h route entry : Option ℕ) (low : Walks) (high : Option (Box Walks Global)) (node : Walks) (left q : ℕ) → left ≢ 0 → bit_and (q / 2 ^ (left - 1)) 1 ≡ 1 → walks_of route entry low (behind high) ≡ node →
+    Allowed (bits_of left q) h node.nodes → high ≡ None → walks_of route entry low (behind high) ≡ edited label (bits_of left q) h node
+assign_no_high label h route entry low high node left q e b w a o =
+    assign_high label h route entry low (behind high) node (behind high) left q e b w
+    (behind_none high o ∙ edited_nothing label h (bits_of (left - 1) q) (subst (λ (n : Walks). Allowed (bits_of (left - 1) q) h n.nodes) (behind_none high o) (allowed_high h route entry low (behind high) node left q e b w a)) ∙ ap (λ n. edited label (bits_of (left - 1) q) h n) (sym (behind_none high o)))
+
+pub assign_no_low : (label : Label) (h route entry : Option ℕ) (low : Option (Box Walks Global)) (high : Walks) (node : Walks) (left q : ℕ) → left ≢ 0 → bit_and (q / 2 ^ (left - 1)) 1 ≢ 1 → walks_of route entry (behind low) high ≡ node →
+    Allowed (bits_of left q) h node.nodes → low ≡ None → walks_of route entry (behind low) high ≡ edited label (bits_of left q) h node
+assign_no_low label h route entry low high node left q e b w a o =
+    assign_low label h route entry (behind low) high node (behind low) left q e b w
+    (behind_none low o ∙ edited_nothing label h (bits_of (left - 1) q) (subst (λ (n : Walks). Allowed (bits_of (left - 1) q) h n.nodes) (behind_none low o) (allowed_low h route entry (behind low) high node left q e b w a)) ∙ ap (λ n. edited label (bits_of (left - 1) q) h n) (sym (behind_none low o)))
+
+-- rooms
+pub room_here : (node : Walks) (route entry : Option ℕ) (low high : Walks) (left q : ℕ) → left ≡ 0 → walks_of route entry low high ≡ node → has_node (bits_of left q) node.nodes ≡ true
+unfolding same_bits
+room_here node route entry low high left q e w = ap (λ n. has_node (bits_of left q) n.nodes) (sym w) ∙ ap (λ p. has_node p (walks_of route entry low high).nodes) (no_bits left q e)
+
+pub room_high : (route entry : Option ℕ) (low high : Walks) (left q : ℕ) → left ≢ 0 → bit_and (q / 2 ^ (left - 1)) 1 ≡ 1 → has_node (bits_of (left - 1) q) high.nodes ≡ has_node (bits_of left q) (walks_of route entry low high).nodes
+room_high route entry low high left q e b = sym (ap (λ p. has_node p (walks_of route entry low high).nodes) (first_one left q e b) ∙ has_high (bits_of (left - 1) q) route entry low high)
+
+pub room_low : (route entry : Option ℕ) (low high : Walks) (left q : ℕ) → left ≢ 0 → bit_and (q / 2 ^ (left - 1)) 1 ≢ 1 → has_node (bits_of (left - 1) q) low.nodes ≡ has_node (bits_of left q) (walks_of route entry low high).nodes
+room_low route entry low high left q e b = sym (ap (λ p. has_node p (walks_of route entry low high).nodes) (first_zero left q e b) ∙ has_low (bits_of (left - 1) q) route entry low high)
+
+pub kept_high : (route entry : Option ℕ) (low high after node : Walks) → walks_of route entry low high ≡ node → ((p : List Bool) → has_node p high.nodes ≡ true → has_node p after.nodes ≡ true) →
+    (p : List Bool) → has_node p node.nodes ≡ true → has_node p (walks_of route entry low after).nodes ≡ true
+unfolding same_bits
+kept_high route entry low high after node w k [] h = refl
+kept_high route entry low high after node w k (true ∷ p) h = has_high p route entry low after ∙ k p (sym (has_high p route entry low high) ∙ ap (λ n. has_node (true ∷ p) n.nodes) w ∙ h)
+kept_high route entry low high after node w k (false ∷ p) h = has_low p route entry low after ∙ sym (has_low p route entry low high) ∙ ap (λ n. has_node (false ∷ p) n.nodes) w ∙ h
+
+pub kept_low : (route entry : Option ℕ) (low high after node : Walks) → walks_of route entry low high ≡ node → ((p : List Bool) → has_node p low.nodes ≡ true → has_node p after.nodes ≡ true) →
+    (p : List Bool) → has_node p node.nodes ≡ true → has_node p (walks_of route entry after high).nodes ≡ true
+unfolding same_bits
+kept_low route entry low high after node w k [] h = refl
+kept_low route entry low high after node w k (false ∷ p) h = has_low p route entry after high ∙ k p (sym (has_low p route entry low high) ∙ ap (λ n. has_node (false ∷ p) n.nodes) w ∙ h)
+kept_low route entry low high after node w k (true ∷ p) h = has_high p route entry after high ∙ sym (has_high p route entry low high) ∙ ap (λ n. has_node (true ∷ p) n.nodes) w ∙ h
+
+pub told_here : (label : Label) (h route entry new_route new_entry : Option ℕ) (low high node : Walks) (left q : ℕ) → left ≡ 0 → walks_of route entry low high ≡ node →
+    Relabelled label h route entry new_route new_entry → walks_of new_route new_entry low high ≡ edited label (bits_of left q) h node
+told_here Route h route entry new_route new_entry low high node left q e w t =
+    ap (λ x. walks_of x new_entry low high) t.0 ∙ ap (λ s. walks_of h s low high) t.1 ∙ assign_route Route h route entry low high node left q e refl w
+told_here Entry h route entry new_route new_entry low high node left q e w t =
+    ap (λ x. walks_of new_route x low high) t.0 ∙ ap (λ s. walks_of s h low high) t.1 ∙ assign_entry Entry h route entry low high node left q e refl w

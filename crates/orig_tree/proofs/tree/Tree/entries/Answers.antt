@@ -1,0 +1,5 @@
+use Rattle.orig_tree.proofs.Telling.{fits_in_place}
+use Rattle.orig_tree.proofs.tree.Tree.entries.Goals as goal
+
+pub listed-requires : goal.listed-requires
+listed-requires c = fits_in_place c.self.inside.family c.self.inside.root.entries c.self.invariant.1.0

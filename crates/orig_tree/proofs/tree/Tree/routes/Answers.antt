@@ -1,0 +1,5 @@
+use Rattle.orig_tree.proofs.Telling.{fits_in_place}
+use Rattle.orig_tree.proofs.tree.Tree.routes.Goals as goal
+
+pub listed-requires : goal.listed-requires
+listed-requires c = fits_in_place c.self.inside.family c.self.inside.root.routes c.self.invariant.0.0

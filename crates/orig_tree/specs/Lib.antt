@@ -1,0 +1,4 @@
+pub mod Edits
+pub mod Walk
+pub mod Falls
+pub mod Seen

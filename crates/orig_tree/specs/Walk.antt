@@ -1,0 +1,62 @@
+-- What is seen of a node: the tables of its two labels, and where there are nodes.
+use Rattle.std.specs.Prelude.{◌≡◌, ℕ, List, [], ◌∷◌, ◌++◌, map, ◌||◌, Bool, true, false, Option, Some, None, Box}
+use Rattle.address_model.specs.Bits.{same_bits}
+use Rattle.table_model.specs.Table.{Table}
+use Rattle.least_model.specs.Regions.{join}
+use Rattle.orig_tree.specs.Edits.{edit}
+use Rattle.orig_tree.specs.declared.node.Label.{Label}
+use Rattle.orig_tree.specs.declared.node.Label.TheVariants.{Route, Entry}
+
+-- the routes and the entries, their prefixes told from the node, and the paths of the nodes from there
+pub record Walks : Type 0 where
+  pub routes : Table
+  pub entries : Table
+  pub nodes : List (List Bool)
+
+-- what is seen where there is no node
+abbrev pub nothing : Walks
+nothing = record { routes = []; entries = []; nodes = [] }
+
+module _ {Z : Type 0} where
+  -- what is behind a link
+  abbrev pub behind : Option (Box Walks Z) → Walks
+  behind None = nothing
+  behind (Some b) = b.value
+
+-- a node's tables, from its labels and what is behind its links
+abbrev pub walks_of : Option ℕ → Option ℕ → Walks → Walks → Walks
+walks_of route entry low high = record {
+  routes = join route low.routes high.routes;
+  entries = join entry low.entries high.entries;
+  nodes = [] ∷ (map (λ p. false ∷ p) low.nodes ++ map (λ p. true ∷ p) high.nodes);
+}
+
+-- the table of one label
+abbrev pub rows_of : Label → Walks → Table
+rows_of Route w = w.routes
+rows_of Entry w = w.entries
+
+-- one of two labels
+abbrev pub picked : Label → Option ℕ → Option ℕ → Option ℕ
+picked Route route entry = route
+picked Entry route entry = entry
+
+-- one label has become this, and the other is as it was
+abbrev pub Relabelled : Label → Option ℕ → Option ℕ → Option ℕ → Option ℕ → Option ℕ → Type 0
+Relabelled Route h route entry new_route new_entry = (new_route ≡ h) × (new_entry ≡ entry)
+Relabelled Entry h route entry new_route new_entry = (new_entry ≡ h) × (new_route ≡ route)
+
+-- the tables with one label's entry at a path set or taken away
+abbrev pub edited : Label → List Bool → Option ℕ → Walks → Walks
+edited Route p h w = record { routes = edit p h w.routes; entries = w.entries; nodes = w.nodes }
+edited Entry p h w = record { routes = w.routes; entries = edit p h w.entries; nodes = w.nodes }
+
+-- whether there is a node at the path
+abbrev pub has_node : List Bool → List (List Bool) → Bool
+has_node p [] = false
+has_node p (q ∷ qs) = same_bits p q || has_node p qs
+
+-- an entry can be set where there is a node, and taken away everywhere
+abbrev pub Allowed : List Bool → Option ℕ → List (List Bool) → Type 0
+Allowed p None nodes = Unit {0}
+Allowed p (Some h) nodes = has_node p nodes ≡ true

@@ -1,0 +1,348 @@
+//! Nodes of the tree.
+
+ghost use Rattle.std.specs.Prelude.{◌≡◌, ◌≤◌, ◌-◌, OnOk, OnErr, IsOk, List, Bool, true, [], map, ◌++◌};
+ghost use Rattle.address_model.specs.Bits.{bits_of};
+ghost use Rattle.address_model.specs.Width.{width};
+ghost use Rattle.table_model.specs.Table.{lpm, root, half, here};
+ghost use Rattle.least_model.specs.Regions.{above, lift};
+ghost use Rattle.fib_prefix.specs.Seen.{entry_as, prefix_as};
+ghost use Rattle.orig_tree.specs.Walk.{behind, nothing, walks_of, rows_of, edited, Allowed, picked, has_node, Relabelled};
+ghost use Rattle.orig_tree.specs.Seen.{of_table, Fits};
+
+use fib_prefix::{Entry, Hop, Prefix};
+use std::alloc::{AllocError, Global};
+use std::marker::Model;
+
+/// Which of a node's labels.
+#[derive(Clone, Copy, Debug, PartialEq, Eq)]
+pub enum Label {
+    /// The hop of its prefix's route.
+    Route,
+    /// The hop of its prefix's entry.
+    Entry,
+}
+
+/// A node of the tree. Contracts see the tables of both labels from the node on.
+#[derive(Drop)]
+pub struct Node {
+    route: Option<u16>,
+    entry: Option<u16>,
+    low: Option<Box<Node>>,
+    high: Option<Box<Node>>,
+}
+
+impl Model for Node {
+    ghost use Rattle.std.specs.Prelude.{length};
+    ghost use Rattle.orig_tree.specs.Walk.{Walks};
+
+    ghost Value = { Walks };
+
+    ghost use Rattle.orig_tree.specs.Walk.{behind, walks_of};
+
+    ghost view = { λ a. walks_of a.route a.entry (behind a.low) (behind a.high) };
+
+    ghost size = { λ d. length d.nodes };
+
+    ghost use Rattle.orig_tree.specs.Falls.{falls};
+
+    ghost size_decreases = { λ a h. falls a };
+}
+
+/// A node with no labels and nothing below it.
+pub(crate) fn leaf() -> Node
+    ensures { result ≡ walks_of None None nothing nothing }
+{
+    Node {
+        route: None,
+        entry: None,
+        low: None,
+        high: None,
+    }
+}
+
+fn pick(label: Label, route: Option<u16>, entry: Option<u16>) -> Option<u16>
+    ensures { result ≡ picked label route entry }
+{
+    match label {
+        Label::Route => route,
+        Label::Entry => entry,
+    }
+}
+
+/// Longest match below a node, for an address of which `left` bits are left.
+#[tactic(auto, using(crate::proofs::Steps::answer_here, crate::proofs::Steps::answer_high, crate::proofs::Steps::answer_low, crate::proofs::Steps::miss_high, crate::proofs::Steps::miss_low))]
+pub(crate) fn answer(node: &Node, label: Label, q: u128, left: u8, inherited: u16) -> u16
+    requires { left ≤ 128 }
+    ensures { result ≡ lpm (rows_of label node.now) (bits_of left q) inherited }
+{
+    let hop = pick(label, node.route, node.entry).unwrap_or(inherited);
+    if left == 0 {
+        return hop;
+    }
+    let at = left - 1;
+    if (q >> at) & 1 == 1 {
+        match &node.high {
+            None => hop,
+            Some(high) => answer(high, label, q, at, hop),
+        }
+    } else {
+        match &node.low {
+            None => hop,
+            Some(low) => answer(low, label, q, at, hop),
+        }
+    }
+}
+
+/// What a path inherits from the entries: the hop of the longest one that it is strictly within.
+#[tactic(auto, using(crate::proofs::Above::above_here, crate::proofs::Above::above_high, crate::proofs::Above::above_low, crate::proofs::Above::above_no_high, crate::proofs::Above::above_no_low))]
+pub(crate) fn inherited(node: &Node, q: u128, left: u8, hop: u16) -> u16
+    requires { left ≤ 128 }
+    ensures { result ≡ above (bits_of left q) node.now.entries hop }
+{
+    if left == 0 {
+        return hop;
+    }
+    let hop = node.entry.unwrap_or(hop);
+    let at = left - 1;
+    if (q >> at) & 1 == 1 {
+        match &node.high {
+            None => hop,
+            Some(high) => inherited(high, q, at, hop),
+        }
+    } else {
+        match &node.low {
+            None => hop,
+            Some(low) => inherited(low, q, at, hop),
+        }
+    }
+}
+
+/// Makes nodes down to a path. It changes no table.
+#[cycle(room)]
+pub(crate) fn room(alloc: Global, node: &mut Node, q: u128, left: u8) -> Result<(), AllocError>
+    requires { left ≤ 128 }
+    ensures routes { node.new.routes ≡ node.old.routes }
+    ensures entries { node.new.entries ≡ node.old.entries }
+    ensures kept { (p : List Bool) → has_node p node.old.nodes ≡ true → has_node p node.new.nodes ≡ true }
+    ensures ok { OnOk result (has_node (bits_of left q) node.new.nodes ≡ true) }
+    ensures err { OnErr result (node.new ≡ node.old) }
+    ensures held { has_node (bits_of left q) node.old.nodes ≡ true → IsOk result }
+{
+    let _route = &node.route;
+    if left == 0 {
+        return Ok(());
+    }
+    let at = left - 1;
+    if (q >> at) & 1 == 1 {
+        room_behind(alloc, &mut node.high, q, at)?;
+    } else {
+        room_behind(alloc, &mut node.low, q, at)?;
+    }
+    Ok(())
+}
+
+#[cycle(room)]
+fn room_behind(
+    alloc: Global,
+    link: &mut Option<Box<Node>>,
+    q: u128,
+    left: u8,
+) -> Result<(), AllocError>
+    requires { left ≤ 128 }
+    ensures routes { (behind link.new).routes ≡ (behind link.old).routes }
+    ensures entries { (behind link.new).entries ≡ (behind link.old).entries }
+    ensures kept { (p : List Bool) → has_node p (behind link.old).nodes ≡ true → has_node p (behind link.new).nodes ≡ true }
+    ensures ok { OnOk result (has_node (bits_of left q) (behind link.new).nodes ≡ true) }
+    ensures err { OnErr result (behind link.new ≡ behind link.old) }
+    ensures held { has_node (bits_of left q) (behind link.old).nodes ≡ true → IsOk result }
+{
+    match link {
+        Some(node) => room(alloc, node, q, left),
+        None => {
+            let mut node = Box::new(alloc, leaf())?;
+            room(alloc, &mut node, q, left)?;
+            *link = Some(node);
+            Ok(())
+        }
+    }
+}
+
+fn relabel(label: Label, hop: Option<u16>, route: &mut Option<u16>, entry: &mut Option<u16>)
+    ensures { Relabelled label hop route.old entry.old route.new entry.new }
+{
+    match label {
+        Label::Route => *route = hop,
+        Label::Entry => *entry = hop,
+    }
+}
+
+/// Sets the hop of a path that has a node, or takes the path's hop away.
+#[cycle(assign)]
+#[tactic(auto, using(crate::proofs::Steps::told_here, crate::proofs::Steps::assign_high, crate::proofs::Steps::assign_low, crate::proofs::Steps::allowed_high, crate::proofs::Steps::allowed_low, crate::proofs::Steps::edited_nothing))]
+pub(crate) fn assign(node: &mut Node, label: Label, q: u128, left: u8, hop: Option<u16>)
+    requires few { left ≤ 128 }
+    requires allowed { Allowed (bits_of left q) hop node.old.nodes }
+    ensures { node.new ≡ edited label (bits_of left q) hop node.old }
+{
+    if left == 0 {
+        relabel(label, hop, &mut node.route, &mut node.entry);
+        return;
+    }
+    let at = left - 1;
+    if (q >> at) & 1 == 1 {
+        assign_behind(&mut node.high, label, q, at, hop);
+    } else {
+        assign_behind(&mut node.low, label, q, at, hop);
+    }
+}
+
+#[cycle(assign)]
+#[tactic(auto, using(crate::proofs::Steps::edited_nothing))]
+fn assign_behind(link: &mut Option<Box<Node>>, label: Label, q: u128, left: u8, hop: Option<u16>)
+    requires few { left ≤ 128 }
+    requires allowed { Allowed (bits_of left q) hop (behind link.old).nodes }
+    ensures { behind link.new ≡ edited label (bits_of left q) hop (behind link.old) }
+{
+    if let Some(node) = link {
+        assign(node, label, q, left, hop);
+    }
+}
+
+/// Whether a node has no labels and nothing below it.
+fn is_bare(node: &Node) -> bool
+    ensures { result ≡ true → (node.now.routes ≡ []) × (node.now.entries ≡ []) }
+{
+    node.route.is_none() && node.entry.is_none() && node.low.is_none() && node.high.is_none()
+}
+
+/// Drops the nodes below a node that have no label at or below them. It changes no table.
+#[cycle(prune)]
+fn prune(node: &mut Node)
+    ensures routes { node.new.routes ≡ node.old.routes }
+    ensures entries { node.new.entries ≡ node.old.entries }
+{
+    prune_behind(&mut node.low);
+    prune_behind(&mut node.high);
+}
+
+#[cycle(prune)]
+fn prune_behind(link: &mut Option<Box<Node>>)
+    ensures routes { (behind link.new).routes ≡ (behind link.old).routes }
+    ensures entries { (behind link.new).entries ≡ (behind link.old).entries }
+{
+    match link.take() {
+        None => {}
+        Some(mut node) => {
+            prune(&mut node);
+            if !is_bare(&node) {
+                *link = Some(node);
+            }
+        }
+    }
+}
+
+/// Drops the nodes on a path and below it that have no label at or below them. It changes no table.
+#[cycle(trim)]
+pub(crate) fn trim(node: &mut Node, q: u128, left: u8)
+    requires { left ≤ 128 }
+    ensures routes { node.new.routes ≡ node.old.routes }
+    ensures entries { node.new.entries ≡ node.old.entries }
+{
+    if left == 0 {
+        prune(node);
+        return;
+    }
+    let at = left - 1;
+    if (q >> at) & 1 == 1 {
+        trim_behind(&mut node.high, q, at);
+    } else {
+        trim_behind(&mut node.low, q, at);
+    }
+}
+
+#[cycle(trim)]
+fn trim_behind(link: &mut Option<Box<Node>>, q: u128, left: u8)
+    requires { left ≤ 128 }
+    ensures routes { (behind link.new).routes ≡ (behind link.old).routes }
+    ensures entries { (behind link.new).entries ≡ (behind link.old).entries }
+{
+    match link.take() {
+        None => {}
+        Some(mut node) => {
+            trim(&mut node, q, left);
+            if !is_bare(&node) {
+                *link = Some(node);
+            }
+        }
+    }
+}
+
+#[tactic(auto, using(crate::proofs::Telling::told_here, crate::proofs::Telling::told_none))]
+fn tell_own(prefix: Prefix, hop: Option<u16>, out: &mut Vec<Entry>) -> Result<(), AllocError>
+    ensures { OnOk result (map entry_as out.new.items ≡ map entry_as out.old.items ++ of_table prefix.family (lift (prefix_as prefix).bits (here hop))) }
+{
+    match hop {
+        None => Ok(()),
+        Some(hop) => {
+            out.push(Entry {
+                prefix,
+                hop: Hop(hop),
+            })?;
+            Ok(())
+        }
+    }
+}
+
+/// Adds the table of one label from a node on, which stands for the prefix, in the order of prefixes.
+#[cycle(tell)]
+pub(crate) fn tell(
+    node: &Node,
+    label: Label,
+    prefix: Prefix,
+    out: &mut Vec<Entry>,
+) -> Result<(), AllocError>
+    requires { Fits (width prefix.family - prefix.len) (rows_of label node.now) }
+    ensures { OnOk result (map entry_as out.new.items ≡ map entry_as out.old.items ++ of_table prefix.family (lift (prefix_as prefix).bits (rows_of label node.now))) }
+{
+    tell_own(prefix, pick(label, node.route, node.entry), out)?;
+    if prefix.len == prefix.family.width() {
+        return Ok(());
+    }
+    tell_behind(&node.low, label, prefix.half(false), out)?;
+    tell_behind(&node.high, label, prefix.half(true), out)?;
+    Ok(())
+}
+
+#[cycle(tell)]
+#[tactic(auto, using(crate::proofs::Telling::told_nothing))]
+fn tell_behind(
+    link: &Option<Box<Node>>,
+    label: Label,
+    prefix: Prefix,
+    out: &mut Vec<Entry>,
+) -> Result<(), AllocError>
+    requires { Fits (width prefix.family - prefix.len) (rows_of label (behind link.now)) }
+    ensures { OnOk result (map entry_as out.new.items ≡ map entry_as out.old.items ++ of_table prefix.family (lift (prefix_as prefix).bits (rows_of label (behind link.now)))) }
+{
+    match link {
+        None => Ok(()),
+        Some(node) => tell(node, label, prefix, out),
+    }
+}
+
+impl Node {
+    /// The hop of the node's own route or entry.
+    pub fn hop(&self, label: Label) -> Option<u16>
+        ensures { result ≡ root (rows_of label self.now) }
+    {
+        pick(label, self.route, self.entry)
+    }
+
+    /// The node of one half, if there is one.
+    pub fn half(&self, bit: bool) -> &Option<Box<Node>>
+        ensures routes { (behind result.now).routes ≡ half bit self.now.routes }
+        ensures entries { (behind result.now).entries ≡ half bit self.now.entries }
+    {
+        if bit { &self.high } else { &self.low }
+    }
+}

@@ -1,0 +1,47 @@
+//! Routes and entries come and go.
+
+ghost use Rattle.std.specs.Prelude.{◌≡◌, ◌≤◌};
+ghost use Rattle.address_model.specs.declared.family.Family.TheVariants.{V4};
+
+use super::*;
+use fib_prefix::{Addr, Entry, Family, Hop, Prefix};
+use std::alloc::AllocError;
+
+fn prefix(bits: u32, len: u8) -> Prefix
+    requires { len ≤ 32 }
+    ensures { result.family ≡ V4 }
+{
+    Prefix::new(&Addr::v4(bits), len)
+}
+
+#[test]
+fn routes_and_entries_are_apart(rt: HostRuntime) -> Result<(), AllocError> {
+    let mut tree = Tree::new(rt.alloc(), Family::V4);
+    let wide = prefix(0x0a00_0000, 8);
+    let narrow = prefix(0x0a01_0000, 16);
+    tree.set_route(&narrow, Hop(2))?;
+    tree.set_route(&wide, Hop(1))?;
+    tree.set_entry(&wide, Hop(3))?;
+    tree.room(&prefix(0x0b00_0000, 8))?;
+    tree.trim(&prefix(0, 0));
+    let routes = [
+        Entry {
+            prefix: wide,
+            hop: Hop(1),
+        },
+        Entry {
+            prefix: narrow,
+            hop: Hop(2),
+        },
+    ];
+    assert_eq!(rt; tree.routes()?.as_slice(), routes.as_slice());
+    assert_eq!(rt; tree.answer_route(&Addr::v4(0x0a01_0001)), Hop(2));
+    assert_eq!(rt; tree.answer_entry(&Addr::v4(0x0a01_0001)), Hop(3));
+    assert_eq!(rt; tree.inherited(&narrow), Hop(3));
+    assert_eq!(rt; tree.inherited(&wide), Hop::NONE);
+    tree.clear_route(&narrow);
+    tree.clear_entry(&wide);
+    assert_eq!(rt; tree.answer_route(&Addr::v4(0x0a01_0001)), Hop(1));
+    assert_eq!(rt; tree.entries()?.len(), 0);
+    Ok(())
+}

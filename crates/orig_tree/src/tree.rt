@@ -1,0 +1,218 @@
+//! The tree of a family.
+
+ghost use Rattle.std.specs.Prelude.{◌≡◌, [], ◌∷◌, true, List, Bool, OnOk, OnErr, IsOk, IfOk, map};
+ghost use Rattle.std.specs.Map.{remove_entry};
+ghost use Rattle.address_model.specs.Address.{same_prefix};
+ghost use Rattle.table_model.specs.Entries.{with_entry, match_in, of_family};
+ghost use Rattle.least_model.specs.Regions.{above};
+ghost use Rattle.fib_prefix.specs.Seen.{addr_as, prefix_as, entry_as};
+ghost use Rattle.address_model.specs.Width.{width};
+ghost use Rattle.orig_tree.specs.Walk.{has_node, rows_of};
+ghost use Rattle.orig_tree.specs.Seen.{of_table, InPlace, Fits};
+
+use crate::node::{Label, Node, answer, assign, inherited, leaf, room, tell, trim};
+use crate::path::path_bits;
+use fib_prefix::{Addr, Entry, Family, Hop, Prefix};
+use std::alloc::{AllocError, Global};
+use std::marker::Model;
+
+/// The routes and the entries of one family. Contracts see both in the order of prefixes, each prefix once, and the
+/// prefixes that are nodes.
+#[derive(Drop)]
+pub struct Tree {
+    alloc: Global,
+    family: Family,
+    root: Node,
+}
+
+impl Model for Tree {
+    ghost use Rattle.orig_tree.specs.Seen.{Labels, of_table, InPlace};
+
+    ghost Value = { Labels };
+
+    ghost view = { λ t. record { family = t.family; routes = of_table t.family t.root.routes; entries = of_table t.family t.root.entries; nodes = t.root.nodes } };
+
+    ghost invariant = { λ t. InPlace (of_table t.family t.root.routes) × InPlace (of_table t.family t.root.entries) };
+}
+
+/// The table of one label from the root on, in the order of prefixes.
+#[tactic(auto, using(crate::proofs::Telling::whole_fits, crate::proofs::Telling::told_whole))]
+fn listed(
+    alloc: Global,
+    family: Family,
+    root: &Node,
+    label: Label,
+) -> Result<Vec<Entry>, AllocError>
+    requires { Fits (width family) (rows_of label root.now) }
+    ensures { IfOk result (λ v. map entry_as v.items ≡ of_table family (rows_of label root.now)) }
+{
+    let first = Addr { family, bits: 0 };
+    let mut list = Vec::new(alloc);
+    tell(root, label, Prefix::new(&first, 0), &mut list)?;
+    Ok(list)
+}
+
+impl Tree {
+    /// A tree with no routes and no entries.
+    pub fn new(alloc: Global, family: Family) -> Tree
+        ensures { result ≡ record { family = family; routes = []; entries = []; nodes = [] ∷ [] } }
+    {
+        Tree {
+            alloc,
+            family,
+            root: leaf(),
+        }
+    }
+
+    /// The routes.
+    pub fn routes(&self) -> Result<Vec<Entry>, AllocError>
+        ensures order { InPlace self.now.routes }
+        ensures routes { IfOk result (λ v. map entry_as v.items ≡ self.now.routes) }
+    {
+        listed(self.alloc, self.family, &self.root, Label::Route)
+    }
+
+    /// The entries.
+    pub fn entries(&self) -> Result<Vec<Entry>, AllocError>
+        ensures order { InPlace self.now.entries }
+        ensures entries { IfOk result (λ v. map entry_as v.items ≡ self.now.entries) }
+    {
+        listed(self.alloc, self.family, &self.root, Label::Entry)
+    }
+
+    /// The tree's family.
+    pub fn family(&self) -> Family
+        ensures { result ≡ self.now.family }
+    {
+        self.family
+    }
+
+    /// The node of the whole space, to walk down from.
+    #[tactic(auto, using(crate::proofs::Telling::fits_in_place))]
+    pub fn root(&self) -> &Node
+        ensures routes { of_table self.now.family result.now.routes ≡ self.now.routes }
+        ensures entries { of_table self.now.family result.now.entries ≡ self.now.entries }
+        ensures order { InPlace self.now.routes × InPlace self.now.entries }
+    {
+        &self.root
+    }
+
+    /// Makes the prefix a node, so that `set_route` and `set_entry` take no memory at it.
+    ///
+    /// # Errors
+    ///
+    /// No memory; then nothing has changed.
+    #[tactic(auto, using(crate::proofs::Places::same_rows))]
+    pub fn room(&mut self, prefix: &Prefix) -> Result<(), AllocError>
+        requires { prefix.now.family ≡ self.old.family }
+        ensures family { self.new.family ≡ self.old.family }
+        ensures routes { self.new.routes ≡ self.old.routes }
+        ensures entries { self.new.entries ≡ self.old.entries }
+        ensures kept { (p : List Bool) → has_node p self.old.nodes ≡ true → has_node p self.new.nodes ≡ true }
+        ensures ok { OnOk result (has_node (prefix_as prefix.now).bits self.new.nodes ≡ true) }
+        ensures err { OnErr result (self.new ≡ self.old) }
+        ensures held { has_node (prefix_as prefix.now).bits self.old.nodes ≡ true → IsOk result }
+    {
+        let q = path_bits(prefix);
+        room(self.alloc, &mut self.root, q, prefix.len)
+    }
+
+    /// Drops the nodes on the prefix's path and below it that have no route and no entry at or below them.
+    pub fn trim(&mut self, prefix: &Prefix)
+        requires { prefix.now.family ≡ self.old.family }
+        ensures family { self.new.family ≡ self.old.family }
+        ensures routes { self.new.routes ≡ self.old.routes }
+        ensures entries { self.new.entries ≡ self.old.entries }
+    {
+        let q = path_bits(prefix);
+        trim(&mut self.root, q, prefix.len)
+    }
+
+    /// Longest match among the routes: the hop of the longest route whose prefix the address begins with, or none.
+    #[tactic(auto, using(crate::proofs::Places::match_is))]
+    pub fn answer_route(&self, addr: &Addr) -> Hop
+        requires { addr.now.family ≡ self.now.family }
+        ensures { result.0 ≡ match_in self.now.routes (addr_as addr.now) }
+    {
+        Hop(answer(&self.root, Label::Route, addr.bits, self.family.width(), 0))
+    }
+
+    /// Longest match among the entries.
+    #[tactic(auto, using(crate::proofs::Places::match_is))]
+    pub fn answer_entry(&self, addr: &Addr) -> Hop
+        requires { addr.now.family ≡ self.now.family }
+        ensures { result.0 ≡ match_in self.now.entries (addr_as addr.now) }
+    {
+        Hop(answer(&self.root, Label::Entry, addr.bits, self.family.width(), 0))
+    }
+
+    /// The hop of the longest entry that the prefix is strictly within, or none.
+    #[tactic(auto, using(crate::proofs::Above::above_is))]
+    pub fn inherited(&self, prefix: &Prefix) -> Hop
+        requires { prefix.now.family ≡ self.now.family }
+        ensures { result.0 ≡ above (prefix_as prefix.now).bits (of_family self.now.family self.now.entries) 0 }
+    {
+        let q = path_bits(prefix);
+        Hop(inherited(&self.root, q, prefix.len, 0))
+    }
+
+    /// Takes the prefix's route away, if it has one.
+    pub fn clear_route(&mut self, prefix: &Prefix)
+        requires { prefix.now.family ≡ self.old.family }
+        ensures { self.new ≡ record { family = self.old.family; routes = remove_entry (same_prefix (prefix_as prefix.now)) self.old.routes; entries = self.old.entries; nodes = self.old.nodes } }
+    {
+        let q = path_bits(prefix);
+        assign(&mut self.root, Label::Route, q, prefix.len, None)
+    }
+
+    /// Takes the prefix's entry away, if it has one.
+    pub fn clear_entry(&mut self, prefix: &Prefix)
+        requires { prefix.now.family ≡ self.old.family }
+        ensures { self.new ≡ record { family = self.old.family; routes = self.old.routes; entries = remove_entry (same_prefix (prefix_as prefix.now)) self.old.entries; nodes = self.old.nodes } }
+    {
+        let q = path_bits(prefix);
+        assign(&mut self.root, Label::Entry, q, prefix.len, None)
+    }
+
+    /// Sets the hop of the prefix's route.
+    ///
+    /// # Errors
+    ///
+    /// No memory, which comes only where the prefix isn't a node; then nothing has changed.
+    pub fn set_route(&mut self, prefix: &Prefix, hop: Hop) -> Result<(), AllocError>
+        requires { prefix.now.family ≡ self.old.family }
+        ensures family { self.new.family ≡ self.old.family }
+        ensures routes { OnOk result (self.new.routes ≡ with_entry self.old.routes (prefix_as prefix.now, hop.0)) }
+        ensures entries { self.new.entries ≡ self.old.entries }
+        ensures kept { (p : List Bool) → has_node p self.old.nodes ≡ true → has_node p self.new.nodes ≡ true }
+        ensures ok { OnOk result (has_node (prefix_as prefix.now).bits self.new.nodes ≡ true) }
+        ensures err { OnErr result (self.new ≡ self.old) }
+        ensures held { has_node (prefix_as prefix.now).bits self.old.nodes ≡ true → IsOk result }
+    {
+        let q = path_bits(prefix);
+        room(self.alloc, &mut self.root, q, prefix.len)?;
+        assign(&mut self.root, Label::Route, q, prefix.len, Some(hop.0));
+        Ok(())
+    }
+
+    /// Sets the hop of the prefix's entry; `Hop::NONE` drops.
+    ///
+    /// # Errors
+    ///
+    /// No memory, which comes only where the prefix isn't a node; then nothing has changed.
+    pub fn set_entry(&mut self, prefix: &Prefix, hop: Hop) -> Result<(), AllocError>
+        requires { prefix.now.family ≡ self.old.family }
+        ensures family { self.new.family ≡ self.old.family }
+        ensures routes { self.new.routes ≡ self.old.routes }
+        ensures entries { OnOk result (self.new.entries ≡ with_entry self.old.entries (prefix_as prefix.now, hop.0)) }
+        ensures kept { (p : List Bool) → has_node p self.old.nodes ≡ true → has_node p self.new.nodes ≡ true }
+        ensures ok { OnOk result (has_node (prefix_as prefix.now).bits self.new.nodes ≡ true) }
+        ensures err { OnErr result (self.new ≡ self.old) }
+        ensures held { has_node (prefix_as prefix.now).bits self.old.nodes ≡ true → IsOk result }
+    {
+        let q = path_bits(prefix);
+        room(self.alloc, &mut self.root, q, prefix.len)?;
+        assign(&mut self.root, Label::Entry, q, prefix.len, Some(hop.0));
+        Ok(())
+    }
+}

@@ -1,0 +1,154 @@
+-- The downward pass.
+use Rattle.std.proofs.Common.{◌≡◌, ℕ, zero, suc, ◌-◌, List, [], ◌∷◌, ◌++◌, Bool, true, false, cond, Option, Some, None, length, map, nat_eq, refl, sym, ap, ◌∙◌, arith, subst, append_assoc, inl, inr, ◌||◌}
+use Rattle.std.proofs.lemmas.Bool.{ne_eqb, eqb-true, eq-eqb, cases_Bool}
+use Rattle.address_model.specs.Address.{Prefix}
+use Rattle.address_model.specs.Width.{width}
+use Rattle.address_model.specs.declared.family.Family.{Family}
+use Rattle.fib_prefix.specs.Seen.{entry_as, prefix_as}
+use Rattle.fib_prefix.specs.Regions.{half_of}
+use Rattle.fib_prefix.specs.declared.prefix.Prefix as code
+use Rattle.fib_prefix.specs.declared.entry.Entry as code_entry
+use Rattle.table_model.specs.Table.{Table, root, half, here, inherit, lpm}
+use Rattle.table_model.specs.Entries.{Entries, of_family}
+use Rattle.table_model.proofs.Cut.{entry}
+use Rattle.least_model.specs.Regions.{lift, join}
+use Rattle.least_model.specs.Sets.{side, set_of, own, pick, agg}
+use Rattle.least_model.specs.Least.{aggregate, Least}
+use Rattle.least_model.proofs.Sets.{in_first, in_single, in_pick}
+use Rattle.least_model.proofs.Cost.{set_uniform}
+use Rattle.least_model.proofs.Laws.{fresh_law}
+use Rattle.orig_tree.specs.Seen.{of_table}
+use Rattle.orig_tree.proofs.Places.{family_is}
+use Rattle.orig_tree.proofs.Telling as telling
+use Rattle.ortc.specs.declared.region.Region.{Region}
+use Rattle.ortc.specs.Stands.{Stands}
+
+pub told_own : (p : code.Prefix) (h : ℕ) (e : code_entry.Entry) (o : Option ℕ) (xs ys : List code_entry.Entry) → o ≡ Some h → e.prefix ≡ p → e.hop.0 ≡ h → ys ≡ xs ++ e ∷ [] →
+    map entry_as ys ≡ map entry_as xs ++ of_table p.family (lift (prefix_as p).bits (here o))
+told_own = telling.told_here
+
+pub told_none : (p : code.Prefix) (o : Option ℕ) (E : Entries) → o ≡ None → E ≡ E ++ of_table p.family (lift (prefix_as p).bits (here o))
+told_none = telling.told_none
+
+-- ---- a uniform region
+
+own_same : (x : ℕ) (o : Option ℕ) → own (x ∷ []) o x ≡ None
+own_same x o = ap (λ (b : Bool). cond b None (Some (pick (x ∷ []) o))) (in_first x x [] refl)
+
+absent : (b : Bool) → b ≡ false → (b || false) ≡ false
+absent true e = cc
+absent false e = refl
+
+own_other : (x h : ℕ) (o : Option ℕ) → (x ≡ h → ⊥) → own (x ∷ []) o h ≡ Some x
+own_other x h o n =
+    ap (λ (b : Bool). cond b None (Some (pick (x ∷ []) o))) (absent (nat_eq x h) (ne_eqb x h n))
+    ∙ ap Some (sym (in_single x (pick (x ∷ []) o) (in_pick (x ∷ []) o refl)))
+
+uniform_step : (o : Option ℕ) (A B : Table) → A ≡ [] → B ≡ [] → join o A B ≡ here o
+uniform_step None A B a b = ap (λ x. lift (false ∷ []) x ++ lift (true ∷ []) B) a ∙ ap (λ x. lift (true ∷ []) x) b
+uniform_step (Some g) A B a b = ap (λ x. entry [] g ∷ (lift (false ∷ []) x ++ lift (true ∷ []) B)) a ∙ ap (λ x. entry [] g ∷ lift (true ∷ []) x) b
+
+-- below a uniform region that inherits its hop there are no entries
+agg_same : (d : ℕ) (f : List Bool → ℕ) (L : Table) (x : ℕ) → ((a : List Bool) → length a ≡ d → f a ≡ x) → agg d f L x ≡ []
+unfolding agg set_of
+agg_same zero f L x u = ap (λ S. join (own S (root L) x) [] []) (set_uniform zero f x u) ∙ ap (λ o. join o [] []) (own_same x (root L))
+agg_same (suc d) f L x u =
+    let low : (a : List Bool) → length a ≡ d → f (false ∷ a) ≡ x = λ a l. u (false ∷ a) (ap suc l) in
+    let high : (a : List Bool) → length a ≡ d → f (true ∷ a) ≡ x = λ a l. u (true ∷ a) (ap suc l) in
+    let e : own (set_of (suc d) f) (root L) x ≡ None = ap (λ S. own S (root L) x) (set_uniform (suc d) f x u) ∙ own_same x (root L) in
+    ap (λ o. join o (agg d (side false f) (half false L) (inherit o x)) (agg d (side true f) (half true L) (inherit o x))) e
+    ∙ uniform_step None _ _ (agg_same d (side false f) (half false L) x low) (agg_same d (side true f) (half true L) x high)
+
+-- and where it inherits another there is its own
+agg_other : (d : ℕ) (f : List Bool → ℕ) (L : Table) (x h : ℕ) → ((a : List Bool) → length a ≡ d → f a ≡ x) → (x ≡ h → ⊥) → agg d f L h ≡ entry [] x ∷ []
+unfolding agg set_of
+agg_other zero f L x h u n = ap (λ S. join (own S (root L) h) [] []) (set_uniform zero f x u) ∙ ap (λ o. join o [] []) (own_other x h (root L) n)
+agg_other (suc d) f L x h u n =
+    let low : (a : List Bool) → length a ≡ d → f (false ∷ a) ≡ x = λ a l. u (false ∷ a) (ap suc l) in
+    let high : (a : List Bool) → length a ≡ d → f (true ∷ a) ≡ x = λ a l. u (true ∷ a) (ap suc l) in
+    let e : own (set_of (suc d) f) (root L) h ≡ Some x = ap (λ S. own S (root L) h) (set_uniform (suc d) f x u) ∙ own_other x h (root L) n in
+    ap (λ o. join o (agg d (side false f) (half false L) (inherit o h)) (agg d (side true f) (half true L) (inherit o h))) e
+    ∙ uniform_step (Some x) _ _ (agg_same d (side false f) (half false L) x low) (agg_same d (side true f) (half true L) x high)
+
+leaf_agg : (d : ℕ) (f : List Bool → ℕ) (L : Table) (x h : ℕ) → ((a : List Bool) → length a ≡ d → f a ≡ x) → here (cond (nat_eq x h) None (Some x)) ≡ agg d f L h
+leaf_agg d f L x h u =
+    elim (cases_Bool (nat_eq x h)) [
+      | inl e ↦ ap (λ (b : Bool). here (cond b None (Some x))) e ∙ sym (ap (agg d f L) (sym (eqb-true x h e)) ∙ agg_same d f L x u)
+      | inr e ↦ ap (λ (b : Bool). here (cond b None (Some x))) e ∙ sym (agg_other d f L x h u (λ q. let z : nat_eq x h ≡ true = eq-eqb x h q in cc))
+    ]
+
+pub told_leaf : (p : code.Prefix) (d : ℕ) (f : List Bool → ℕ) (L : Table) (x h : ℕ) (o : Option ℕ) (X Y : Entries) → ((a : List Bool) → length a ≡ d → f a ≡ x) → o ≡ cond (nat_eq x h) None (Some x)
+    → Y ≡ X ++ of_table p.family (lift (prefix_as p).bits (here o)) → Y ≡ X ++ of_table p.family (lift (prefix_as p).bits (agg d f L h))
+told_leaf p d f L x h o X Y u e y = y ∙ ap (λ z. X ++ of_table p.family (lift (prefix_as p).bits z)) (ap here e ∙ leaf_agg d f L x h u)
+
+-- ---- a region of two halves
+
+agg_suc : (e : ℕ) (f : List Bool → ℕ) (L : Table) (h hop : ℕ) (o : Option ℕ) → o ≡ own (set_of (suc e) f) (root L) h → hop ≡ inherit o h
+    → agg (suc e) f L h ≡ join o (agg e (side false f) (half false L) hop) (agg e (side true f) (half true L) hop)
+unfolding agg
+agg_suc e f L h hop o k i =
+    sym (ap (λ x. join o (agg e (side false f) (half false L) x) (agg e (side true f) (half true L) x)) i
+    ∙ ap (λ y. join y (agg e (side false f) (half false L) (inherit y h)) (agg e (side true f) (half true L) (inherit y h))) k)
+
+pub told_join : (p q r : code.Prefix) (f : List Bool → ℕ) (L : Table) (h hop : ℕ) (X Y Z W : Entries) (o old : Option ℕ) (S T : List ℕ) (low high l k : Region)
+    → (e : ℕ) × (width p.family - p.len ≡ suc e) × (root L ≡ old) × (S ≡ set_of (suc e) f) × Stands low e (side false f) (half false L) × Stands high e (side true f) (half true L)
+    → T ≡ S → l ≡ low → k ≡ high → o ≡ own T old h → hop ≡ inherit o h
+    → prefix_as q ≡ half_of (prefix_as p) false → prefix_as r ≡ half_of (prefix_as p) true
+    → Y ≡ X ++ of_table p.family (lift (prefix_as p).bits (here o))
+    → ((g : List Bool → ℕ) (M : Table) → Stands l (width q.family - q.len) g M → Z ≡ Y ++ of_table q.family (lift (prefix_as q).bits (agg (width q.family - q.len) g M hop)))
+    → ((g : List Bool → ℕ) (M : Table) → Stands k (width r.family - r.len) g M → W ≡ Z ++ of_table r.family (lift (prefix_as r).bits (agg (width r.family - r.len) g M hop)))
+    → W ≡ X ++ of_table p.family (lift (prefix_as p).bits (agg (width p.family - p.len) f L h))
+told_join p q r f L h hop X Y Z W o old S T low high l k s ts ll kk ow i eq er y z w =
+    let e = s.0 in
+    let P = (prefix_as p).bits in
+    let m = p.family in
+    let nq : e ≡ width q.family - q.len = omega (arith, s.1, telling.half_longer p q false eq, ap (λ (x : Prefix). width x.family) eq) in
+    let nr : e ≡ width r.family - r.len = omega (arith, s.1, telling.half_longer p r true er, ap (λ (x : Prefix). width x.family) er) in
+    let A = agg e (side false f) (half false L) hop in
+    let B = agg e (side true f) (half true L) hop in
+    let O = of_table m (lift P (here o)) in
+    let C = of_table m (lift (P ++ (false ∷ [])) A) in
+    let D = of_table m (lift (P ++ (true ∷ [])) B) in
+    let z' : Z ≡ Y ++ C =
+    z (side false f) (half false L) (subst (λ (x : Region). Stands x (width q.family - q.len) (side false f) (half false L)) (sym ll) (subst (λ (n : ℕ). Stands low n (side false f) (half false L)) nq s.4))
+    ∙ (ap (λ (x : Prefix). Y ++ of_table x.family (lift x.bits (agg (width q.family - q.len) (side false f) (half false L) hop))) eq
+    ∙ ap (λ n. Y ++ of_table m (lift (P ++ (false ∷ [])) (agg n (side false f) (half false L) hop))) (sym nq))
+    in
+    let w' : W ≡ Z ++ D =
+    w (side true f) (half true L) (subst (λ (x : Region). Stands x (width r.family - r.len) (side true f) (half true L)) (sym kk) (subst (λ (n : ℕ). Stands high n (side true f) (half true L)) nr s.5))
+    ∙ (ap (λ (x : Prefix). Z ++ of_table x.family (lift x.bits (agg (width r.family - r.len) (side true f) (half true L) hop))) er
+    ∙ ap (λ n. Z ++ of_table m (lift (P ++ (true ∷ [])) (agg n (side true f) (half true L) hop))) (sym nr))
+    in
+    let ow' : o ≡ own (set_of (suc e) f) (root L) h = ow ∙ (ap (λ x. own x old h) (ts ∙ s.3) ∙ ap (λ x. own (set_of (suc e) f) x h) (sym s.2)) in
+    let whole : of_table m (lift P (agg (width p.family - p.len) f L h)) ≡ O ++ (C ++ D) =
+    ap (λ n. of_table m (lift P (agg n f L h))) s.1
+    ∙ (ap (λ x. of_table m (lift P x)) (agg_suc e f L h hop o ow' i)
+    ∙ (ap (of_table m) (telling.lift_join P o A B) ∙ (telling.seen_append m (lift P (here o)) (lift (P ++ (false ∷ [])) A ++ lift (P ++ (true ∷ [])) B)
+    ∙ ap (λ x. O ++ x) (telling.seen_append m (lift (P ++ (false ∷ [])) A) (lift (P ++ (true ∷ [])) B)))))
+    in
+    w' ∙ (ap (λ x. x ++ D) (z' ∙ ap (λ x. x ++ C) y) ∙ (append_assoc (X ++ O) C D ∙ (append_assoc X O (C ++ D) ∙ ap (λ x. X ++ x) (sym whole))))
+
+-- a region of two halves has a bit left
+pub no_bits_left : (p : code.Prefix) (w e : ℕ) → w ≡ width p.family → p.len ≡ w → width p.family - p.len ≡ suc e → ⊥
+no_bits_left p w e a b c = omega arith
+
+-- ---- the whole space
+
+pub fresh_told : (f : Family) (p : code.Prefix) (R E : Table) (RS ES X W : Entries) (region : Region) (w : ℕ) → w ≡ width f → prefix_as p ≡ record { family = f; bits = [] } → of_table f R ≡ RS → of_table f E ≡ ES → X ≡ []
+    → Stands region w (λ a. lpm R a 0) E
+    → ((g : List Bool → ℕ) (L : Table) → Stands region (width p.family - p.len) g L → W ≡ X ++ of_table p.family (lift (prefix_as p).bits (agg (width p.family - p.len) g L 0)))
+    → W ≡ of_table f (aggregate (width f) (of_family f RS) [] 0 (of_family f ES))
+fresh_told f p R E RS ES X W region w ww e v k x s d =
+    let n : w ≡ width p.family - p.len = omega (arith, ww, telling.whole_len f p e, ap (λ (y : Prefix). width y.family) e) in
+    let m : width p.family - p.len ≡ width f - 0 = omega (arith, n, ww) in
+    let g : List Bool → ℕ = λ a. lpm R a 0 in
+    let a : W ≡ of_table f (agg (width p.family - p.len) g E 0) =
+    telling.told_whole f p (agg (width p.family - p.len) g E 0) X W e x (d g E (subst (λ (j : ℕ). Stands region j g E) n s))
+    in
+    a ∙ (ap (λ j. of_table f (agg j g E 0)) m ∙ (ap (of_table f) (sym (telling.lift_none (agg (width f - 0) g E 0)))
+    ∙ (ap (λ y. of_table f (aggregate (width f) y [] 0 E)) (sym (family_is f R) ∙ ap (of_family f) v)
+    ∙ ap (λ y. of_table f (aggregate (width f) (of_family f RS) [] 0 y)) (sym (family_is f E) ∙ ap (of_family f) k))))
+
+pub fresh_least : (f : Family) (R old : Table) (W : Entries) → W ≡ of_table f (aggregate (width f) R [] 0 old) → Least (width f) R (of_family f W)
+fresh_least f R old W e =
+    subst (λ (T : Table). Least (width f) R T) (sym (ap (of_family f) e ∙ family_is f (aggregate (width f) R [] 0 old))) (fresh_law (width f) R old).1

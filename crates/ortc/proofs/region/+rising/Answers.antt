@@ -1,0 +1,14 @@
+use Rattle.std.proofs.Common.{sym, ap, ◌∙◌}
+use Rattle.table_model.specs.Table.{inherit}
+use Rattle.ortc.proofs.Rising.{rise_none, rise_more}
+use Rattle.orig_tree.specs.Walk.{behind}
+use Rattle.ortc.proofs.region.+rising.Goals as goal
+
+pub rise-returns-then-depth-eq0 : goal.rise-returns-then-depth-eq0
+rise-returns-then-depth-eq0 t c = (sym c.hop-old.ensures, λ a n. rise_none c.args.node.now.routes c.args.node.now.entries c.args.inherited c.below-hop.result a (n ∙ c.if-depth-eq0.true) (c.below-hop.ensures ∙ ap (λ o. inherit o c.args.inherited) c.hop.ensures))
+
+pub rise-returns : goal.rise-returns
+rise-returns t c =
+    rise_more c.args.node.now.routes c.args.node.now.entries (behind c.half.result.now).routes (behind c.half-2.result.now).routes (behind c.half.result.now).entries (behind c.half-2.result.now).entries
+    c.args.depth c.args.inherited c.below-hop.result c.hop-old.result c.in_ok-low.low c.in_ok-high.high c.in_ok-region.region c.if-depth-eq0.false (c.below-hop.ensures ∙ ap (λ o. inherit o c.args.inherited) c.hop.ensures) c.hop-old.ensures
+    c.half.ensures.routes c.half-2.ensures.routes c.half.ensures.entries c.half-2.ensures.entries c.in_ok-low.ensures c.in_ok-high.ensures c.in_ok-region.ensures

@@ -1,0 +1,13 @@
+//! Least tables by three passes over a tree (Draves, King, Venkatachary and Zill, 'Constructing Optimal IP Routing Tables',
+//! INFOCOM 1999): the routes are pushed to the leaves, each region gets the set of its best hops from those of its halves,
+//! and from the root down a region gets an entry where what it inherits isn't in its set.
+#![tactic(auto)]
+
+mod down;
+mod region;
+mod sets;
+
+pub use down::fresh;
+
+#[cfg(test)]
+mod tests;

@@ -1,0 +1,115 @@
+//! Regions, and the upward pass.
+
+ghost use Rattle.std.specs.Prelude.{◌≡◌, ℕ, List, Bool, true, false, suc, Some, IfOk, IfSome};
+ghost use Rattle.table_model.specs.Table.{Table, lpm, root, half, inherit};
+ghost use Rattle.least_model.specs.Sets.{side};
+ghost use Rattle.orig_tree.specs.Walk.{behind};
+ghost use Rattle.ortc.specs.Stands.{Stands, hops_of, hop_in};
+
+use crate::sets::{common_hops, or_all};
+use orig_tree::{Label, Node};
+use std::alloc::{AllocError, Global};
+
+/// A region with the old entry's hop at its prefix: the one hop of its addresses, or its set and its halves.
+#[derive(Drop)]
+pub enum Region {
+    /// A region whose addresses all get this hop.
+    Leaf(Option<u16>, u16),
+    /// A region of two halves.
+    Join(Option<u16>, Vec<u16>, Box<Region>, Box<Region>),
+}
+
+fn set_of_region(alloc: Global, region: &Region) -> Result<Vec<u16>, AllocError>
+    ensures { IfOk result (λ v. v.items ≡ hops_of region.now) }
+{
+    let mut set = Vec::new(alloc);
+    match region {
+        Region::Leaf(_, hop) => set.push(*hop)?,
+        Region::Join(_, hops, _, _) => set.extend_from_slice(hops)?,
+    }
+    Ok(set)
+}
+
+/// The one hop of both regions, where there is one.
+fn one_hop(low: &Region, high: &Region) -> Option<u16>
+    ensures { IfSome result (λ h. (hop_in low.now ≡ Some h) × (hop_in high.now ≡ Some h)) }
+{
+    match low {
+        Region::Leaf(_, a) => match high {
+            Region::Leaf(_, b) => { if *a == *b { Some(*a) } else { None } }
+            Region::Join(_, _, _, _) => None,
+        },
+        Region::Join(_, _, _, _) => None,
+    }
+}
+
+/// The region of two halves by their sets.
+fn join_halves(
+    alloc: Global,
+    old: Option<u16>,
+    low: Region,
+    high: Region,
+) -> Result<Region, AllocError>
+    ensures { IfOk result (λ r. (d : ℕ) (f : List Bool → ℕ) (L : Table) → root L ≡ old → Stands low d (side false f) (half false L) → Stands high d (side true f) (half true L) → Stands r (suc d) f L) }
+{
+    let low_set = set_of_region(alloc, &low)?;
+    let high_set = set_of_region(alloc, &high)?;
+    let common = common_hops(alloc, &low_set, &high_set)?;
+    let set = or_all(common, &low_set, &high_set)?;
+    Ok(Region::Join(old, set, Box::new(alloc, low)?, Box::new(alloc, high)?))
+}
+
+/// The region of two halves: a leaf where both are leaves of one hop.
+fn joined(alloc: Global, old: Option<u16>, low: Region, high: Region) -> Result<Region, AllocError>
+    ensures { IfOk result (λ r. (d : ℕ) (f : List Bool → ℕ) (L : Table) → root L ≡ old → Stands low d (side false f) (half false L) → Stands high d (side true f) (half true L) → Stands r (suc d) f L) }
+{
+    if let Some(hop) = one_hop(&low, &high) {
+        return Ok(Region::Leaf(old, hop));
+    }
+    let region = join_halves(alloc, old, low, high)?;
+    Ok(region)
+}
+
+/// What is inherited from a label, or without one from above.
+pub fn below(label: Option<u16>, inherited: u16) -> u16
+    ensures { result ≡ inherit label inherited }
+{
+    match label {
+        Some(hop) => hop,
+        None => inherited,
+    }
+}
+
+/// The region of a node, whose prefix is `depth` bits shorter than addresses are.
+#[cycle(rising)]
+pub fn rise(alloc: Global, node: &Node, inherited: u16, depth: u8) -> Result<Region, AllocError>
+    ensures { IfOk result (λ r. Stands r depth (λ a. lpm node.now.routes a inherited) node.now.entries) }
+{
+    let hop = below(node.hop(Label::Route), inherited);
+    let old = node.hop(Label::Entry);
+    if depth == 0 {
+        return Ok(Region::Leaf(old, hop));
+    }
+    let low = rise_link(alloc, node.half(false), hop, depth - 1)?;
+    let high = rise_link(alloc, node.half(true), hop, depth - 1)?;
+    let region = joined(alloc, old, low, high)?;
+    Ok(region)
+}
+
+#[cycle(rising)]
+fn rise_link(
+    alloc: Global,
+    link: &Option<Box<Node>>,
+    inherited: u16,
+    depth: u8,
+) -> Result<Region, AllocError>
+    ensures { IfOk result (λ r. Stands r depth (λ a. lpm (behind link.now).routes a inherited) (behind link.now).entries) }
+{
+    match link {
+        Some(node) => {
+            let region = rise(alloc, node, inherited, depth)?;
+            Ok(region)
+        }
+        None => Ok(Region::Leaf(None, inherited)),
+    }
+}
