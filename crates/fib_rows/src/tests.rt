@@ -272,6 +272,7 @@ fn faults(rt: HostRuntime) -> Result<(), Fail> {
         for words in [WORDS, WITH_UPDATES] {
             let given = Given {
                 words,
+                updates: &[LONGER],
                 failing_read,
                 ..FIRST
             };
