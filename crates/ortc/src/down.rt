@@ -13,6 +13,7 @@ ghost use Rattle.ortc.specs.Stands.{Stands};
 
 use crate::region::{Region, below, rise};
 use crate::sets::own_hop;
+use crate::table::Fresh;
 use fib_prefix::{Addr, Entry, Hop, Prefix};
 use orig_tree::Tree;
 use std::alloc::{AllocError, Global};
@@ -68,20 +69,20 @@ pub fn descend(
     Ok(())
 }
 
-/// The least table with the answers of the tree's routes, in the order of prefixes: of all such tables the one that the
-/// best hops fix, with the tree's entries as the old table.
+/// The least table with the answers of the tree's routes: of all such tables the one that the best hops fix, with the
+/// tree's entries as the old table.
 ///
 /// # Errors
 ///
 /// No memory.
-pub fn fresh(alloc: Global, tree: &Tree) -> Result<Vec<Entry>, AllocError>
-    ensures aggregate { IfOk result (λ v. map entry_as v.items ≡ of_table tree.now.family (aggregate (width tree.now.family) (of_family tree.now.family tree.now.routes) [] 0 (of_family tree.now.family tree.now.entries))) }
-    ensures least { IfOk result (λ v. Least (width tree.now.family) (of_family tree.now.family tree.now.routes) (of_family tree.now.family (map entry_as v.items))) }
+pub fn fresh(alloc: Global, tree: &Tree) -> Result<Fresh, AllocError>
+    ensures aggregate { IfOk result (λ v. map entry_as v.table.items ≡ of_table tree.now.family (aggregate (width tree.now.family) (of_family tree.now.family tree.now.routes) [] 0 (of_family tree.now.family tree.now.entries))) }
+    ensures least { IfOk result (λ v. Least (width tree.now.family) (of_family tree.now.family tree.now.routes) (of_family tree.now.family (map entry_as v.table.items))) }
 {
     let family = tree.family();
     let region = rise(alloc, tree.root(), 0, family.width())?;
     let first = Addr { family, bits: 0 };
     let mut table = Vec::new(alloc);
     descend(&region, 0, Prefix::new(&first, 0), &mut table)?;
-    Ok(table)
+    Ok(Fresh { table })
 }

@@ -6,8 +6,10 @@
 mod down;
 mod region;
 mod sets;
+mod table;
 
 pub use down::fresh;
+pub use table::Fresh;
 
 #[cfg(test)]
 mod tests;

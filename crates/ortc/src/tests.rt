@@ -30,7 +30,7 @@ fn two_halves_become_one_entry(rt: HostRuntime) -> Result<(), AllocError> {
         hop: Hop(2),
     };
     assert_eq!(rt;
-        fresh(rt.alloc(), &tree)?.as_slice(),
+        fresh(rt.alloc(), &tree)?.table.as_slice(),
         [whole, part].as_slice()
     );
     Ok(())
