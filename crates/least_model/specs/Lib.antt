@@ -2,3 +2,4 @@ pub mod Regions
 pub mod Least
 pub mod Sets
 pub mod Kept
+pub mod Both

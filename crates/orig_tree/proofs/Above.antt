@@ -6,11 +6,10 @@ use Rattle.std.specs.declared.alloc.Global.{Global}
 use Rattle.address_model.specs.Bits.{bits_of}
 use Rattle.address_model.specs.declared.family.Family.{Family}
 use Rattle.table_model.specs.Table.{Table, hop_or, longest, root, inherit}
-use Rattle.table_model.specs.Entries.{Entries, of_family}
+use Rattle.table_model.specs.Entries.{Entries, of_family, of_table}
 use Rattle.least_model.specs.Regions.{above, strictly_containing, join}
 use Rattle.least_model.proofs.Above.{none_above, above_cut}
 use Rattle.least_model.proofs.Join.{root_join, low_join, high_join}
-use Rattle.orig_tree.specs.Seen.{of_table}
 use Rattle.orig_tree.specs.Walk.{Walks, behind, walks_of}
 use Rattle.orig_tree.proofs.Paths.{no_bits, first_one, first_zero}
 use Rattle.orig_tree.proofs.Steps.{given_is, behind_none}

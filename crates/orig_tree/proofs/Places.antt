@@ -18,10 +18,10 @@ use Rattle.address_model.specs.declared.family.Family.{Family}
 use Rattle.address_model.specs.declared.family.Family.TheVariants.{V4, V6}
 use Rattle.address_model.proofs.BitLaws.{value-zeros, value-lt}
 use Rattle.table_model.specs.Table.{Entry, Table, lpm}
-use Rattle.table_model.specs.Entries.{Entries, of_family, match_in, with_entry}
+use Rattle.table_model.specs.Entries.{Entries, of_family, match_in, with_entry, of_table}
 use Rattle.table_model.proofs.Sums.{all_placed, sorted_placed}
 use Rattle.orig_tree.specs.Edits.{path_cmp, put, without}
-use Rattle.orig_tree.specs.Seen.{of_table, InPlace, Labels}
+use Rattle.orig_tree.specs.Seen.{InPlace, Labels}
 
 -- a family's entries are its table
 pub family_is : (f : Family) (L : Table) → of_family f (of_table f L) ≡ L

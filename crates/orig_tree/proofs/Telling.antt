@@ -7,7 +7,7 @@ use Rattle.address_model.specs.declared.family.Family.TheVariants.{V4, V6}
 use Rattle.address_model.specs.Width.{width}
 use Rattle.address_model.specs.declared.family.Family.{Family}
 use Rattle.table_model.specs.Table.{Table, here}
-use Rattle.table_model.specs.Entries.{Entries}
+use Rattle.table_model.specs.Entries.{Entries, of_table}
 use Rattle.table_model.proofs.Cut.{entry}
 use Rattle.least_model.specs.Regions.{lift, join}
 use Rattle.fib_prefix.specs.Seen.{entry_as, prefix_as}
@@ -17,7 +17,7 @@ use Rattle.fib_prefix.proofs.Parts.{length_prefix}
 use Rattle.fib_prefix.specs.Regions.{half_of}
 use Rattle.orig_tree.specs.Walk.{Walks, nothing, walks_of, rows_of, picked}
 use Rattle.orig_tree.specs.declared.node.Label.{Label}
-use Rattle.orig_tree.specs.Seen.{of_table, Fits}
+use Rattle.orig_tree.specs.Seen.{Fits}
 use Rattle.orig_tree.proofs.Steps.{rows_level, rows_nothing}
 
 lift_append : (p : List Bool) (L M : Table) → lift p (L ++ M) ≡ lift p L ++ lift p M

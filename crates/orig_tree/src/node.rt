@@ -7,7 +7,8 @@ ghost use Rattle.table_model.specs.Table.{lpm, root, half, here};
 ghost use Rattle.least_model.specs.Regions.{above, lift};
 ghost use Rattle.fib_prefix.specs.Seen.{entry_as, prefix_as};
 ghost use Rattle.orig_tree.specs.Walk.{behind, nothing, walks_of, rows_of, edited, Allowed, picked, has_node, Relabelled};
-ghost use Rattle.orig_tree.specs.Seen.{of_table, Fits};
+ghost use Rattle.table_model.specs.Entries.{of_table};
+ghost use Rattle.orig_tree.specs.Seen.{Fits};
 
 use fib_prefix::{Entry, Hop, Prefix};
 use std::alloc::{AllocError, Global};

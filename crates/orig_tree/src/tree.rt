@@ -3,12 +3,12 @@
 ghost use Rattle.std.specs.Prelude.{◌≡◌, [], ◌∷◌, true, List, Bool, OnOk, OnErr, IsOk, IfOk, map};
 ghost use Rattle.std.specs.Map.{remove_entry};
 ghost use Rattle.address_model.specs.Address.{same_prefix};
-ghost use Rattle.table_model.specs.Entries.{with_entry, match_in, of_family};
+ghost use Rattle.table_model.specs.Entries.{with_entry, match_in, of_family, of_table};
 ghost use Rattle.least_model.specs.Regions.{above};
 ghost use Rattle.fib_prefix.specs.Seen.{addr_as, prefix_as, entry_as};
 ghost use Rattle.address_model.specs.Width.{width};
 ghost use Rattle.orig_tree.specs.Walk.{has_node, rows_of};
-ghost use Rattle.orig_tree.specs.Seen.{of_table, InPlace, Fits};
+ghost use Rattle.orig_tree.specs.Seen.{InPlace, Fits};
 
 use crate::node::{Label, Node, answer, assign, inherited, leaf, room, tell, trim};
 use crate::path::path_bits;
@@ -26,7 +26,8 @@ pub struct Tree {
 }
 
 impl Model for Tree {
-    ghost use Rattle.orig_tree.specs.Seen.{Labels, of_table, InPlace};
+    ghost use Rattle.table_model.specs.Entries.{of_table};
+    ghost use Rattle.orig_tree.specs.Seen.{Labels, InPlace};
 
     ghost Value = { Labels };
 

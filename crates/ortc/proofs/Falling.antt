@@ -9,7 +9,7 @@ use Rattle.fib_prefix.specs.Regions.{half_of}
 use Rattle.fib_prefix.specs.declared.prefix.Prefix as code
 use Rattle.fib_prefix.specs.declared.entry.Entry as code_entry
 use Rattle.table_model.specs.Table.{Table, root, half, here, inherit, lpm}
-use Rattle.table_model.specs.Entries.{Entries, of_family}
+use Rattle.table_model.specs.Entries.{Entries, of_family, of_table}
 use Rattle.table_model.proofs.Cut.{entry}
 use Rattle.least_model.specs.Regions.{lift, join}
 use Rattle.least_model.specs.Sets.{side, set_of, own, pick, agg}
@@ -17,7 +17,6 @@ use Rattle.least_model.specs.Least.{aggregate, Least}
 use Rattle.least_model.proofs.Sets.{in_first, in_single, in_pick}
 use Rattle.least_model.proofs.Cost.{set_uniform}
 use Rattle.least_model.proofs.Laws.{fresh_law}
-use Rattle.orig_tree.specs.Seen.{of_table}
 use Rattle.orig_tree.proofs.Places.{family_is}
 use Rattle.orig_tree.proofs.Telling as telling
 use Rattle.ortc.specs.declared.region.Region.{Region}

@@ -3,12 +3,12 @@
 ghost use Rattle.std.specs.Prelude.{◌≡◌, ℕ, ◌-◌, ◌++◌, List, Bool, [], map, cond, nat_eq, Some, None, IfOk, OnOk};
 ghost use Rattle.address_model.specs.Width.{width};
 ghost use Rattle.table_model.specs.Table.{Table, here};
-ghost use Rattle.table_model.specs.Entries.{of_family};
+ghost use Rattle.table_model.specs.Entries.{of_family, of_table};
 ghost use Rattle.least_model.specs.Regions.{lift};
 ghost use Rattle.least_model.specs.Sets.{agg};
-ghost use Rattle.least_model.specs.Least.{Least, aggregate};
+ghost use Rattle.least_model.specs.Least.{Least};
+ghost use Rattle.least_model.specs.Both.{aggregate_in};
 ghost use Rattle.fib_prefix.specs.Seen.{entry_as, prefix_as};
-ghost use Rattle.orig_tree.specs.Seen.{of_table};
 ghost use Rattle.ortc.specs.Stands.{Stands};
 
 use crate::region::{Region, below, rise};
@@ -76,7 +76,7 @@ pub fn descend(
 ///
 /// No memory.
 pub fn fresh(alloc: Global, tree: &Tree) -> Result<Fresh, AllocError>
-    ensures aggregate { IfOk result (λ v. map entry_as v.table.items ≡ of_table tree.now.family (aggregate (width tree.now.family) (of_family tree.now.family tree.now.routes) [] 0 (of_family tree.now.family tree.now.entries))) }
+    ensures aggregate { IfOk result (λ v. map entry_as v.table.items ≡ aggregate_in tree.now.family tree.now.routes tree.now.entries) }
     ensures least { IfOk result (λ v. Least (width tree.now.family) (of_family tree.now.family tree.now.routes) (of_family tree.now.family (map entry_as v.table.items))) }
 {
     let family = tree.family();

@@ -1,5 +1,5 @@
 -- Tables of both families: prefixes with the numbers of their next hops.
-use Rattle.std.specs.Prelude.{◌≡◌, ℕ, List, [], ◌∷◌, cond, fold}
+use Rattle.std.specs.Prelude.{◌≡◌, ℕ, List, [], ◌∷◌, cond, fold, map}
 use Rattle.std.specs.BTreeMap.{insert_entry}
 use Rattle.address_model.specs.Address.{Address, Prefix, IsAddress, same_family}
 use Rattle.address_model.specs.Order.{prefix_cmp}
@@ -14,6 +14,10 @@ Entries = List (Prefix × ℕ)
 abbrev pub of_family : Family → Entries → Table
 of_family f [] = []
 of_family f (e ∷ L) = cond (same_family f e.0.family) (record { prefix = e.0.bits; hop = e.1 } ∷ of_family f L) (of_family f L)
+
+-- the entries of a family's table
+abbrev pub of_table : Family → Table → Entries
+of_table f L = map (λ e. (record { family = f; bits = e.prefix }, e.hop)) L
 
 -- longest match: the number of the address's next hop, or 0 for none
 abbrev pub match_in : Entries → Address → ℕ
