@@ -50,6 +50,22 @@ const TOO_WIDE: &[u8] =
 const WRONG_LENGTH: &[u8] =
     b"\x00\x00\x00\x00\x00\x10\x00\x04\x00\x00\x00\x45\x00\x00\xfb\xf4\x00\x00\xfb\xff\x00\x00\x00\x01\xc0\x00\x02\x01\xc0\x00\x02\xfe\xff\xff\xff\xff\xff\xff\xff\xff\xff\xff\xff\xff\xff\xff\xff\xff\x00\x32\x02\x00\x00\x00\x18\x40\x01\x01\x00\x40\x02\x0a\x02\x02\x00\x00\xfb\xf4\x00\x00\xfb\xf4\x40\x03\x04\xc0\x00\x02\x01\x08\x0a";
 
+/// 10.0.0.0/8 by 192.0.2.1 of the first peer, whose path is a sequence of two and a set of three, and by 192.0.2.2 of the second
+/// with a sequence of three.
+const SET_OF_THREE: &[u8] =
+    b"\x00\x00\x00\x00\x00\x0d\x00\x02\x00\x00\x00\x5a\x00\x00\x00\x00\x08\x0a\x00\x02\x00\x00\x00\x00\x00\x00\x00\x26\x40\x01\x01\x00\x40\x02\x18\x02\x02\x00\x00\xfb\xf4\x00\x00\xfb\xf6\x01\x03\x00\x00\xfb\xf7\x00\x00\xfb\xf8\x00\x00\xfb\xf9\x40\x03\x04\xc0\x00\x02\x01\x00\x01\x00\x00\x00\x00\x00\x1c\x40\x01\x01\x00\x40\x02\x0e\x02\x03\x00\x00\xfb\xf5\x00\x00\xfb\xf6\x00\x00\xfb\xf7\x40\x03\x04\xc0\x00\x02\x02";
+
+/// A prefix of 33 bits.
+const PREFIX_OF_33: &[u8] =
+    b"\x00\x00\x00\x00\x00\x0d\x00\x02\x00\x00\x00\x24\x00\x00\x00\x00\x21\x0a\x00\x01\x00\x00\x00\x00\x00\x00\x00\x14\x40\x01\x01\x00\x40\x02\x06\x02\x01\x00\x00\xfb\xf4\x40\x03\x04\xc0\x00\x02\x01";
+
+/// A header whose Length is over the limit.
+const LONG_HEADER: &[u8] = b"\x00\x00\x00\x00\x00\x0d\x00\x01\x01\x00\x00\x01";
+
+/// Withdrawn routes of three octets, the third of which begins the attributes' length.
+const WIDE_WITHDRAWN: &[u8] =
+    b"\x00\x00\x00\x00\x00\x10\x00\x04\x00\x00\x00\x43\x00\x00\xfb\xf4\x00\x00\xfb\xff\x00\x00\x00\x01\xc0\x00\x02\x01\xc0\x00\x02\xfe\xff\xff\xff\xff\xff\xff\xff\xff\xff\xff\xff\xff\xff\xff\xff\xff\x00\x2f\x02\x00\x03\x08\x0a\x00\x14\x40\x01\x01\x00\x40\x02\x06\x02\x01\x00\x00\xfb\xf4\x40\x03\x04\xc0\x00\x02\x01\x08\x0a";
+
 /// A record of another type.
 const OTHER: &[u8] = b"\x00\x00\x00\x00\x00\x0c\x00\x01\x00\x00\x00\x00";
 
@@ -70,6 +86,9 @@ const ROWS_OF_GONE_AND_BACK: &[u8] =
 
 const ROWS_OF_LOST: &[u8] =
     b"change,0,+,10.0.0.0/8,192.0.2.1\nchange,0,+,10.1.0.0/16,192.0.2.2\nchange,1,-,10.0.0.0/8\nchange,2,-,10.1.0.0/16\nreport,records,5\nreport,skipped,0\nreport,events,4\nreport,routes,0\nreport,entries,0\n";
+
+const ROWS_OF_SET: &[u8] =
+    b"route,10.0.0.0/8,192.0.2.1\nchange,0,+,10.0.0.0/8,192.0.2.1\ntable,10.0.0.0/8,192.0.2.1\nreport,records,2\nreport,skipped,0\nreport,events,2\nreport,routes,1\nreport,entries,1\n";
 
 /// What a run is given. Reads and writes are counted from 1, and 0 fails none.
 #[derive(Clone, Copy)]
@@ -223,6 +242,15 @@ fn rows_of_routes_and_updates(rt: HostRuntime) -> Result<(), Fail> {
             ROWS_OF_LONGER,
         ),
         (
+            "a set counts as one",
+            Given {
+                dump: &[TWO_PEERS, SET_OF_THREE],
+                asks: b"",
+                ..FIRST
+            },
+            ROWS_OF_SET,
+        ),
+        (
             "withdrawn and announced",
             Given {
                 updates: &[GONE_AND_BACK],
@@ -297,10 +325,97 @@ fn faults(rt: HostRuntime) -> Result<(), Fail> {
     Ok(())
 }
 
+/// A record of this input is refused by this rule.
+const fn malformed(input: Which, number: u64, rule: u8) -> Outcome {
+    Outcome::Malformed {
+        input,
+        number,
+        rule,
+    }
+}
+
 #[test]
-fn refusals(rt: HostRuntime) -> Result<(), Fail> {
+fn malformed_records(rt: HostRuntime) -> Result<(), Fail> {
+    let cases: [(&str, &[&[u8]], &[&[u8]], Outcome, &[u8]); 8] = [
+        (
+            "a peer index that isn't there",
+            &[PEERS, TOO_WIDE],
+            &[],
+            malformed(Which::Dump, 1, 7),
+            b"fib: malformed dump record 1 rule 7\n",
+        ),
+        (
+            "a cut header",
+            &[&PEERS[..11]],
+            &[],
+            malformed(Which::Dump, 0, 1),
+            b"fib: malformed dump record 0 rule 1\n",
+        ),
+        (
+            "a cut body",
+            &[&PEERS[..20]],
+            &[],
+            malformed(Which::Dump, 0, 2),
+            b"fib: malformed dump record 0 rule 2\n",
+        ),
+        (
+            "a prefix of 33 bits",
+            &[PEERS, PREFIX_OF_33],
+            &[],
+            malformed(Which::Dump, 1, 6),
+            b"fib: malformed dump record 1 rule 6\n",
+        ),
+        (
+            "a Length over the limit",
+            &[LONG_HEADER],
+            &[],
+            malformed(Which::Dump, 0, 3),
+            b"fib: malformed dump record 0 rule 3\n",
+        ),
+        (
+            "no peer table",
+            &[TEN],
+            &[],
+            malformed(Which::Dump, 0, 5),
+            b"fib: malformed dump record 0 rule 5\n",
+        ),
+        (
+            "a message's Length",
+            &[PEERS, TEN],
+            &[WRONG_LENGTH],
+            malformed(Which::Updates, 0, 13),
+            b"fib: malformed updates record 0 rule 13\n",
+        ),
+        (
+            "withdrawn routes that take an octet more",
+            &[PEERS, TEN],
+            &[WIDE_WITHDRAWN],
+            malformed(Which::Updates, 0, 14),
+            b"fib: malformed updates record 0 rule 14\n",
+        ),
+    ];
+    for (name, dump, updates, outcome, err) in cases {
+        let given = Given {
+            words: WITH_UPDATES,
+            dump,
+            updates,
+            ..FIRST
+        };
+        let expected = Expected {
+            outcome,
+            status: 5,
+            out: b"",
+            err,
+        };
+        check(&rt, name, &given, &expected)?;
+    }
+    Ok(())
+}
+
+#[test]
+fn a_bad_ask(rt: HostRuntime) -> Result<(), Fail> {
     // The dump isn't held, and isn't read.
-    let bad_ask = Given {
+    let given = Given {
         dump: &[],
         asks: b"10.1.2.3\n10.1.2\n",
         ..FIRST
@@ -315,36 +430,5 @@ fn refusals(rt: HostRuntime) -> Result<(), Fail> {
         out: b"",
         err: b"fib: bad line asks 2 why 1\n",
     };
-    check(&rt, "a bad ask", &bad_ask, &expected)?;
-    let too_wide = Given {
-        dump: &[PEERS, TOO_WIDE],
-        ..FIRST
-    };
-    let expected = Expected {
-        outcome: Outcome::Malformed {
-            input: Which::Dump,
-            number: 1,
-            rule: 7,
-        },
-        status: 5,
-        out: b"",
-        err: b"fib: malformed dump record 1 rule 7\n",
-    };
-    check(&rt, "a malformed dump", &too_wide, &expected)?;
-    let wrong_length = Given {
-        words: WITH_UPDATES,
-        updates: &[WRONG_LENGTH],
-        ..FIRST
-    };
-    let expected = Expected {
-        outcome: Outcome::Malformed {
-            input: Which::Updates,
-            number: 0,
-            rule: 13,
-        },
-        status: 5,
-        out: b"",
-        err: b"fib: malformed updates record 0 rule 13\n",
-    };
-    check(&rt, "malformed updates", &wrong_length, &expected)
+    check(&rt, "a bad ask", &given, &expected)
 }

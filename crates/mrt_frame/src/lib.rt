@@ -44,7 +44,8 @@ pub struct Framed<'a> {
 pub struct Malformed {
     /// The record's number in its input, from 0.
     pub number: u64,
-    /// 1 where the input ends within a header, 2 where it ends within a body, and 3 where Length is over 16,777,216.
+    /// The rule's number. The framer tells 1 where the input ends within a header, 2 where it ends within a body, and 3 where
+    /// Length is over 16,777,216; the greater ones are about bodies (`wire_fields::rule`), whose readers tell them.
     pub rule: u8,
 }
 
