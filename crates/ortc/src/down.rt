@@ -6,13 +6,14 @@ ghost use Rattle.table_model.specs.Table.{Table, here};
 ghost use Rattle.table_model.specs.Entries.{of_family, of_table};
 ghost use Rattle.least_model.specs.Regions.{lift};
 ghost use Rattle.least_model.specs.Sets.{agg};
-ghost use Rattle.least_model.specs.Least.{Least};
+ghost use Rattle.least_model.specs.Least.{Least, aggregate};
 ghost use Rattle.least_model.specs.Both.{aggregate_in};
 ghost use Rattle.fib_prefix.specs.Seen.{entry_as, prefix_as};
 ghost use Rattle.ortc.specs.Stands.{Stands};
 
-use crate::region::{Region, below, rise};
-use crate::sets::own_hop;
+use crate::path::path_bits;
+use crate::region::{Region, below, rise_below};
+use crate::hop_set::own_hop;
 use crate::table::Fresh;
 use fib_prefix::{Addr, Entry, Hop, Prefix};
 use orig_tree::Tree;
@@ -69,8 +70,32 @@ pub fn descend(
     Ok(())
 }
 
+/// The least table of a prefix's region under a hop that is inherited from above: of the tables that, under it, give the
+/// region's addresses the answers of the tree's routes, the one that the best hops fix, with the tree's entries as the
+/// old table. It costs the prefix's length and the nodes within the prefix.
+///
+/// # Errors
+///
+/// No memory.
+pub fn within(
+    alloc: Global,
+    tree: &Tree,
+    prefix: &Prefix,
+    inherited: Hop,
+) -> Result<Vec<Entry>, AllocError>
+    requires { prefix.now.family ≡ tree.now.family }
+    ensures { IfOk result (λ v. map entry_as v.items ≡ of_table tree.now.family (aggregate (width tree.now.family) (of_family tree.now.family tree.now.routes) (prefix_as prefix.now).bits inherited.0 (of_family tree.now.family tree.now.entries))) }
+{
+    let depth = prefix.family.width() - prefix.len;
+    let path = path_bits(prefix);
+    let region = rise_below(alloc, tree.root(), path, prefix.len, 0, depth)?;
+    let mut table = Vec::new(alloc);
+    descend(&region, inherited.0, *prefix, &mut table)?;
+    Ok(table)
+}
+
 /// The least table with the answers of the tree's routes: of all such tables the one that the best hops fix, with the
-/// tree's entries as the old table.
+/// tree's entries as the old table. It costs the tree's nodes, and their sets of hops.
 ///
 /// # Errors
 ///
@@ -79,10 +104,10 @@ pub fn fresh(alloc: Global, tree: &Tree) -> Result<Fresh, AllocError>
     ensures aggregate { IfOk result (λ v. map entry_as v.table.items ≡ aggregate_in tree.now.family tree.now.routes tree.now.entries) }
     ensures least { IfOk result (λ v. Least (width tree.now.family) (of_family tree.now.family tree.now.routes) (of_family tree.now.family (map entry_as v.table.items))) }
 {
-    let family = tree.family();
-    let region = rise(alloc, tree.root(), 0, family.width())?;
-    let first = Addr { family, bits: 0 };
-    let mut table = Vec::new(alloc);
-    descend(&region, 0, Prefix::new(&first, 0), &mut table)?;
+    let first = Addr {
+        family: tree.family(),
+        bits: 0,
+    };
+    let table = within(alloc, tree, &Prefix::new(&first, 0), Hop::NONE)?;
     Ok(Fresh { table })
 }
