@@ -11,9 +11,9 @@ ghost use Rattle.least_model.specs.Both.{aggregate_in};
 ghost use Rattle.fib_prefix.specs.Seen.{entry_as, prefix_as};
 ghost use Rattle.ortc.specs.Stands.{Stands};
 
+use crate::hop_set::own_hop;
 use crate::path::path_bits;
 use crate::region::{Region, below, rise_below};
-use crate::hop_set::own_hop;
 use crate::table::Fresh;
 use fib_prefix::{Addr, Entry, Hop, Prefix};
 use orig_tree::Tree;
@@ -108,6 +108,7 @@ pub fn fresh(alloc: Global, tree: &Tree) -> Result<Fresh, AllocError>
         family: tree.family(),
         bits: 0,
     };
-    let table = within(alloc, tree, &Prefix::new(&first, 0), Hop::NONE)?;
+    let whole = Prefix::new(&first, 0);
+    let table = within(alloc, tree, &whole, Hop::NONE)?;
     Ok(Fresh { table })
 }

@@ -11,5 +11,5 @@ returns-clause-least c =
     let R = of_family f c.args.tree.now.routes in
     let E = of_family f c.args.tree.now.entries in
     let W = map entry_as c.in_ok-table.table.items in
-    let whole = c.new.ensures ∙ ap (λ k. let p : Prefix = record { family = k; bits = [] } in p) c.family.ensures in
-    fresh_least f R E W (fresh_told f c.new.result 0 R E W whole refl c.in_ok-table.ensures)
+    let whole = c.new-whole.ensures ∙ ap (λ k. let p : Prefix = record { family = k; bits = [] } in p) c.family.ensures in
+    fresh_least f R E W (fresh_told f c.new-whole.result 0 R E W whole refl c.in_ok-table.ensures)

@@ -15,12 +15,11 @@ loop-i-preserved-then-high-j c =
 
 pub loop-i-preserved : goal.loop-i-preserved
 loop-i-preserved c =
-    let v = c.loop-i.invariant in
-    (
+    let v = c.loop-i.invariant in (
       omega (arith, c.loop-i-test.true),
       omega (arith, c.if-j-high.true),
       subst (λ (z : List ℕ). CommonLeft z (c.loop-i.i + 1) (c.loop-i.j + 1) c.args.low.now c.args.high.now) (sym c.in_ok-push.ensures.ok)
-      (common_both c.loop-i.hops.items c.args.low.now c.args.high.now c.loop-i.i c.loop-i.j c.requires.low c.loop-i-test.true c.if-j-high.true (omega (arith, c.if-low-i.false, c.if-high-j.false)) v.2),
+          (common_both c.loop-i.hops.items c.args.low.now c.args.high.now c.loop-i.i c.loop-i.j c.requires.low c.loop-i-test.true c.if-j-high.true (omega (arith, c.if-low-i.false, c.if-high-j.false)) v.2),
     )
 
 pub returns : goal.returns
