@@ -17,7 +17,7 @@ use Rattle.ortc.specs.Stands.{Stands, hops_of, hop_in}
 -- a region's set
 pub hops_stand : (r : Region) (d : ℕ) (f : List Bool → ℕ) (L : Table) → Stands r d f L → SameHops (hops_of r) (set_of d f)
 hops_stand (Leaf old h) d f L s = λ k. ap (is_in k) (sym (set_uniform d f h s.1))
-hops_stand (Join' old S p l q r) d f L s = λ k. s.3 k ∙ ap (λ n. is_in k (set_of n f)) (sym s.1)
+hops_stand (Join' old S p l r) d f L s = λ k. s.3 k ∙ ap (λ n. is_in k (set_of n f)) (sym s.1)
 
 same_some : (g h : ℕ) → (let a : Option ℕ = Some g in a) ≡ Some h → g ≡ h
 same_some g h e = cc
@@ -25,7 +25,7 @@ same_some g h e = cc
 -- a leaf's hop is what its addresses get
 leaf_is : (r : Region) (d h : ℕ) (f : List Bool → ℕ) (L : Table) → hop_in r ≡ Some h → Stands r d f L → (a : List Bool) → length a ≡ d → f a ≡ h
 leaf_is (Leaf old g) d h f L e s a n = s.1 a n ∙ same_some g h e
-leaf_is (Join' old S p l q r) d h f L e s a n = cc
+leaf_is (Join' old S p l r) d h f L e s a n = cc
 
 -- two regions of one hop are one leaf
 pub one_leaf : (low high : Region) (d h : ℕ) (f : List Bool → ℕ) (L : Table) → hop_in low ≡ Some h → hop_in high ≡ Some h → Stands low d (side false f) (half false L) → Stands high d (side true f) (half true L) → (x : List Bool) → length x ≡ suc d → f x ≡ h
@@ -36,7 +36,7 @@ one_leaf low high d h f L e k s t (true ∷ a) n = leaf_is high d h (side true f
 -- answers alike and the same old entries
 pub stands_alike : (r : Region) (d : ℕ) (f g : List Bool → ℕ) (L M : Table) → ((a : List Bool) → length a ≡ d → f a ≡ g a) → L ≡ M → Stands r d f L → Stands r d g M
 stands_alike (Leaf old h) d f g L M e m s = (ap root (sym m) ∙ s.0, λ a n. sym (e a n) ∙ s.1 a n)
-stands_alike (Join' old S p l q r) d f g L M e m s =
+stands_alike (Join' old S p l r) d f g L M e m s =
     let up : (x : List Bool) → length x ≡ suc s.0 → f x ≡ g x = λ x n. e x (n ∙ sym s.1) in (
       s.0,
       s.1,

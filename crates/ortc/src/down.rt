@@ -1,4 +1,7 @@
-//! The downward pass.
+//! The downward pass, and the calls that make a table.
+//!
+//! A region gets an entry where what it inherits isn't in its set: of the old entry's hop where the set has it, else of the
+//! least hop. Entries are met in the order of prefixes.
 
 ghost use Rattle.std.specs.Prelude.{◌≡◌, ℕ, ◌-◌, ◌++◌, List, Bool, [], map, cond, nat_eq, Some, None, IfOk, OnOk};
 ghost use Rattle.address_model.specs.Width.{width};
@@ -56,15 +59,15 @@ pub fn descend(
         Region::Leaf(_, hop) => {
             push_own(prefix, leaf_hop(*hop, inherited), out)?;
         }
-        Region::Join(old, set, low, high) => {
+        Region::Join(old, set, halves) => {
             if prefix.len == prefix.family.width() {
                 return Ok(());
             }
             let own = own_hop(set, *old, inherited);
             let hop = below(own, inherited);
             push_own(prefix, own, out)?;
-            descend(low, hop, prefix.half(false), out)?;
-            descend(high, hop, prefix.half(true), out)?;
+            descend(&halves.low, hop, prefix.half(false), out)?;
+            descend(&halves.high, hop, prefix.half(true), out)?;
         }
     }
     Ok(())

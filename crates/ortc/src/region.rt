@@ -1,4 +1,9 @@
 //! Regions, and the upward pass.
+//!
+//! A region is a leaf where the routes give all its addresses one hop, else two halves with the set of its best hops, made
+//! from those of the halves: what both sets have, or where they have nothing in common, what either has (section 3 of the
+//! paper). Both halves lie in one allocation, and a leaf takes none of its own. Two leaves of one hop become one leaf, so
+//! there are never more regions than the tree has nodes and missing halves.
 
 ghost use Rattle.std.specs.Prelude.{◌≡◌, ◌≤◌, ◌++◌, ℕ, List, Bool, true, false, suc, Some, IfOk, IfSome};
 ghost use Rattle.address_model.specs.Bits.{bits_of};
@@ -13,13 +18,24 @@ use orig_tree::{Label, Node};
 use std::alloc::{AllocError, Global};
 use std::slice;
 
-/// A region with the old entry's hop at its prefix: the one hop of its addresses, or its set and its halves.
+/// A region, with the hop of the old entry at its prefix, if there is one.
 #[derive(Drop)]
+#[cycle(halving)]
 pub enum Region {
-    /// A region whose addresses all get this hop.
+    /// A region whose addresses all get one hop.
     Leaf(Option<u16>, u16),
-    /// A region of two halves.
-    Join(Option<u16>, HopSet, Box<Region>, Box<Region>),
+    /// A region of two halves, and its set.
+    Join(Option<u16>, HopSet, Box<Halves>),
+}
+
+/// The halves of a region, whose next bit is 0 and 1.
+#[derive(Drop)]
+#[cycle(halving)]
+pub struct Halves {
+    /// The half of bit 0.
+    pub low: Region,
+    /// The half of bit 1.
+    pub high: Region,
 }
 
 /// The hops of a region's set.
@@ -29,7 +45,7 @@ fn hops_of(region: &Region) -> &[u16]
 {
     match region {
         Region::Leaf(_, hop) => slice::from_ref(hop),
-        Region::Join(_, set, _, _) => set.as_slice(),
+        Region::Join(_, set, _) => set.as_slice(),
     }
 }
 
@@ -40,9 +56,9 @@ fn one_hop(low: &Region, high: &Region) -> Option<u16>
     match low {
         Region::Leaf(_, a) => match high {
             Region::Leaf(_, b) => { if *a == *b { Some(*a) } else { None } }
-            Region::Join(_, _, _, _) => None,
+            Region::Join(_, _, _) => None,
         },
-        Region::Join(_, _, _, _) => None,
+        Region::Join(_, _, _) => None,
     }
 }
 
@@ -56,7 +72,7 @@ fn join_halves(
     ensures { IfOk result (λ r. (d : ℕ) (f : List Bool → ℕ) (L : Table) → root L ≡ old → Stands low d (side false f) (half false L) → Stands high d (side true f) (half true L) → Stands r (suc d) f L) }
 {
     let set = HopSet::joint(alloc, hops_of(&low), hops_of(&high))?;
-    Ok(Region::Join(old, set, Box::new(alloc, low)?, Box::new(alloc, high)?))
+    Ok(Region::Join(old, set, Box::new(alloc, Halves { low, high })?))
 }
 
 /// The region of two halves: a leaf where both are leaves of one hop.
