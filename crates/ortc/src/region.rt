@@ -5,7 +5,7 @@
 //! paper). Both halves lie in one allocation, and a leaf takes none of its own. Two leaves of one hop become one leaf, so
 //! there are never more regions than the tree has nodes and missing halves.
 
-ghost use Rattle.std.specs.Prelude.{◌≡◌, ◌≤◌, ◌++◌, ℕ, List, Bool, true, false, suc, Some, IfOk, IfSome};
+ghost use Rattle.std.specs.Prelude.{◌≡◌, ◌≤◌, ◌++◌, ℕ, List, Bool, true, false, suc, Some, IfOk, IfSome, IsSome};
 ghost use Rattle.address_model.specs.Bits.{bits_of};
 ghost use Rattle.table_model.specs.Table.{Table, lpm, root, half, inherit, cut};
 ghost use Rattle.least_model.specs.Sets.{side};
@@ -51,7 +51,8 @@ fn hops_of(region: &Region) -> &[u16]
 
 /// The one hop of both regions, where there is one.
 fn one_hop(low: &Region, high: &Region) -> Option<u16>
-    ensures { IfSome result (λ h. (hop_in low.now ≡ Some h) × (hop_in high.now ≡ Some h)) }
+    ensures some { IfSome result (λ h. (hop_in low.now ≡ Some h) × (hop_in high.now ≡ Some h)) }
+    ensures none { (h : ℕ) → hop_in low.now ≡ Some h → hop_in high.now ≡ Some h → IsSome result }
 {
     match low {
         Region::Leaf(_, a) => match high {
@@ -77,7 +78,8 @@ fn join_halves(
 
 /// The region of two halves: a leaf where both are leaves of one hop.
 fn joined(alloc: Global, old: Option<u16>, low: Region, high: Region) -> Result<Region, AllocError>
-    ensures { IfOk result (λ r. (d : ℕ) (f : List Bool → ℕ) (L : Table) → root L ≡ old → Stands low d (side false f) (half false L) → Stands high d (side true f) (half true L) → Stands r (suc d) f L) }
+    ensures leaf { IfOk result (λ r. (h : ℕ) → hop_in low ≡ Some h → hop_in high ≡ Some h → hop_in r ≡ Some h) }
+    ensures stands { IfOk result (λ r. (d : ℕ) (f : List Bool → ℕ) (L : Table) → root L ≡ old → Stands low d (side false f) (half false L) → Stands high d (side true f) (half true L) → Stands r (suc d) f L) }
 {
     if let Some(hop) = one_hop(&low, &high) {
         return Ok(Region::Leaf(old, hop));
