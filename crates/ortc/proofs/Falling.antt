@@ -2,24 +2,27 @@
 use Rattle.std.proofs.Common.{◌≡◌, ℕ, zero, suc, ◌-◌, List, [], ◌∷◌, ◌++◌, Bool, true, false, cond, Option, Some, None, length, map, nat_eq, refl, sym, ap, ◌∙◌, arith, subst, append_assoc, inl, inr, ◌||◌}
 use Rattle.std.proofs.lemmas.Bool.{ne_eqb, eqb-true, eq-eqb, cases_Bool}
 use Rattle.address_model.specs.Address.{Prefix}
+use Rattle.address_model.specs.Bits.{bits_of}
 use Rattle.address_model.specs.Width.{width}
 use Rattle.address_model.specs.declared.family.Family.{Family}
 use Rattle.fib_prefix.specs.Seen.{entry_as, prefix_as}
+use Rattle.fib_prefix.proofs.Parts.{length_prefix}
 use Rattle.fib_prefix.specs.Regions.{half_of}
 use Rattle.fib_prefix.specs.declared.prefix.Prefix as code
 use Rattle.fib_prefix.specs.declared.entry.Entry as code_entry
-use Rattle.table_model.specs.Table.{Table, root, half, here, inherit, lpm}
+use Rattle.table_model.specs.Table.{Table, root, half, here, inherit, lpm, cut}
 use Rattle.table_model.specs.Entries.{Entries, of_family, of_table}
 use Rattle.table_model.proofs.Cut.{entry}
 use Rattle.least_model.specs.Regions.{lift, join}
 use Rattle.least_model.specs.Sets.{side, set_of, own, pick, agg}
 use Rattle.least_model.specs.Least.{aggregate, Least}
-use Rattle.least_model.proofs.Sets.{in_first, in_single, in_pick}
-use Rattle.least_model.proofs.Cost.{set_uniform}
+use Rattle.least_model.proofs.Sets.{filled, in_first, in_single, in_pick, same_own}
+use Rattle.least_model.proofs.Cost.{set_uniform, set_filled}
 use Rattle.least_model.proofs.Laws.{fresh_law}
 use Rattle.orig_tree.proofs.Places.{family_is}
 use Rattle.orig_tree.proofs.Telling as telling
 use Rattle.ortc.specs.declared.region.Region.{Region}
+use Rattle.ortc.specs.Hops.{SameHops}
 use Rattle.ortc.specs.Stands.{Stands}
 
 pub told_own : (p : code.Prefix) (h : ℕ) (e : code_entry.Entry) (o : Option ℕ) (xs ys : List code_entry.Entry) → o ≡ Some h → e.prefix ≡ p → e.hop.0 ≡ h → ys ≡ xs ++ e ∷ [] →
@@ -82,6 +85,11 @@ told_leaf p d f L x h o X Y u e y = y ∙ ap (λ z. X ++ of_table p.family (lift
 
 -- ---- a region of two halves
 
+same_filled : (S T : List ℕ) → SameHops S T → filled T ≡ true → filled S ≡ true
+same_filled [] [] s f = cc
+same_filled [] (g ∷ T) s f = let e : false ≡ true = s g ∙ in_first g g T refl in cc
+same_filled (x ∷ S) T s f = refl
+
 agg_suc : (e : ℕ) (f : List Bool → ℕ) (L : Table) (h hop : ℕ) (o : Option ℕ) → o ≡ own (set_of (suc e) f) (root L) h → hop ≡ inherit o h
     → agg (suc e) f L h ≡ join o (agg e (side false f) (half false L) hop) (agg e (side true f) (half true L) hop)
 unfolding agg
@@ -89,15 +97,15 @@ agg_suc e f L h hop o k i =
     sym (ap (λ x. join o (agg e (side false f) (half false L) x) (agg e (side true f) (half true L) x)) i
     ∙ ap (λ y. join y (agg e (side false f) (half false L) (inherit y h)) (agg e (side true f) (half true L) (inherit y h))) k)
 
-pub told_join : (p q r : code.Prefix) (f : List Bool → ℕ) (L : Table) (h hop : ℕ) (X Y Z W : Entries) (o old : Option ℕ) (S T : List ℕ) (low high l k : Region)
-    → (e : ℕ) × (width p.family - p.len ≡ suc e) × (root L ≡ old) × (S ≡ set_of (suc e) f) × Stands low e (side false f) (half false L) × Stands high e (side true f) (half true L)
-    → T ≡ S → l ≡ low → k ≡ high → o ≡ own T old h → hop ≡ inherit o h
+pub told_join : (p q r : code.Prefix) (f : List Bool → ℕ) (L : Table) (h hop : ℕ) (X Y Z W : Entries) (o old : Option ℕ) (S : List ℕ) (low high l k : Region)
+    → (e : ℕ) × (width p.family - p.len ≡ suc e) × (root L ≡ old) × SameHops S (set_of (suc e) f) × Stands low e (side false f) (half false L) × Stands high e (side true f) (half true L)
+    → l ≡ low → k ≡ high → o ≡ own S old h → hop ≡ inherit o h
     → prefix_as q ≡ half_of (prefix_as p) false → prefix_as r ≡ half_of (prefix_as p) true
     → Y ≡ X ++ of_table p.family (lift (prefix_as p).bits (here o))
     → ((g : List Bool → ℕ) (M : Table) → Stands l (width q.family - q.len) g M → Z ≡ Y ++ of_table q.family (lift (prefix_as q).bits (agg (width q.family - q.len) g M hop)))
     → ((g : List Bool → ℕ) (M : Table) → Stands k (width r.family - r.len) g M → W ≡ Z ++ of_table r.family (lift (prefix_as r).bits (agg (width r.family - r.len) g M hop)))
     → W ≡ X ++ of_table p.family (lift (prefix_as p).bits (agg (width p.family - p.len) f L h))
-told_join p q r f L h hop X Y Z W o old S T low high l k s ts ll kk ow i eq er y z w =
+told_join p q r f L h hop X Y Z W o old S low high l k s ll kk ow i eq er y z w =
     let e = s.0 in
     let P = (prefix_as p).bits in
     let m = p.family in
@@ -118,7 +126,7 @@ told_join p q r f L h hop X Y Z W o old S T low high l k s ts ll kk ow i eq er y
     ∙ (ap (λ (x : Prefix). Z ++ of_table x.family (lift x.bits (agg (width r.family - r.len) (side true f) (half true L) hop))) er
     ∙ ap (λ n. Z ++ of_table m (lift (P ++ (true ∷ [])) (agg n (side true f) (half true L) hop))) (sym nr))
     in
-    let ow' : o ≡ own (set_of (suc e) f) (root L) h = ow ∙ (ap (λ x. own x old h) (ts ∙ s.3) ∙ ap (λ x. own (set_of (suc e) f) x h) (sym s.2)) in
+    let ow' : o ≡ own (set_of (suc e) f) (root L) h = ow ∙ (same_own S (set_of (suc e) f) old h (same_filled S (set_of (suc e) f) s.3 (set_filled (suc e) f)) (set_filled (suc e) f) s.3 ∙ ap (λ x. own (set_of (suc e) f) x h) (sym s.2)) in
     let whole : of_table m (lift P (agg (width p.family - p.len) f L h)) ≡ O ++ (C ++ D) =
     ap (λ n. of_table m (lift P (agg n f L h))) s.1
     ∙ (ap (λ x. of_table m (lift P x)) (agg_suc e f L h hop o ow' i)
@@ -131,22 +139,31 @@ told_join p q r f L h hop X Y Z W o old S T low high l k s ts ll kk ow i eq er y
 pub no_bits_left : (p : code.Prefix) (w e : ℕ) → w ≡ width p.family → p.len ≡ w → width p.family - p.len ≡ suc e → ⊥
 no_bits_left p w e a b c = omega arith
 
+-- ---- the region of a prefix
+
+pub within_told : (p : code.Prefix) (f : Family) (h q d : ℕ) (R E : Table) (RS ES X W : Entries) (region : Region) → p.family ≡ f → d ≡ width p.family - p.len → bits_of p.len q ≡ (prefix_as p).bits
+    → of_table f R ≡ RS → of_table f E ≡ ES → X ≡ []
+    → Stands region d (λ a. lpm R (bits_of p.len q ++ a) 0) (cut (bits_of p.len q) E)
+    → ((g : List Bool → ℕ) (L : Table) → Stands region (width p.family - p.len) g L → W ≡ X ++ of_table p.family (lift (prefix_as p).bits (agg (width p.family - p.len) g L h)))
+    → W ≡ of_table f (aggregate (width f) (of_family f RS) (prefix_as p).bits h (of_family f ES))
+within_told p f h q d R E RS ES X W region m n b v k x s t =
+    let P = (prefix_as p).bits in
+    let r : R ≡ of_family f RS = sym (family_is f R) ∙ ap (of_family f) v in
+    let e : E ≡ of_family f ES = sym (family_is f E) ∙ ap (of_family f) k in
+    let l : width p.family - p.len ≡ width f - length P = omega (arith, ap width m, length_prefix (width p.family) p.len p.bits p.fits) in
+    let s' : Stands region (width p.family - p.len) (λ a. lpm R (P ++ a) 0) (cut P E) =
+    subst (λ (z : ℕ). Stands region z (λ a. lpm R (P ++ a) 0) (cut P E)) n (subst (λ (z : List Bool). Stands region d (λ a. lpm R (z ++ a) 0) (cut z E)) b s)
+    in
+    t (λ a. lpm R (P ++ a) 0) (cut P E) s'
+    ∙ (ap (λ z. z ++ of_table p.family (lift P (agg (width p.family - p.len) (λ a. lpm R (P ++ a) 0) (cut P E) h))) x
+    ∙ (ap (λ z. of_table z (lift P (agg (width p.family - p.len) (λ a. lpm R (P ++ a) 0) (cut P E) h))) m
+    ∙ (ap (λ z. of_table f (lift P (agg z (λ a. lpm R (P ++ a) 0) (cut P E) h))) l
+    ∙ (ap (λ z. of_table f (aggregate (width f) z P h E)) r ∙ ap (λ z. of_table f (aggregate (width f) (of_family f RS) P h z)) e))))
+
 -- ---- the whole space
 
-pub fresh_told : (f : Family) (p : code.Prefix) (R E : Table) (RS ES X W : Entries) (region : Region) (w : ℕ) → w ≡ width f → prefix_as p ≡ record { family = f; bits = [] } → of_table f R ≡ RS → of_table f E ≡ ES → X ≡ []
-    → Stands region w (λ a. lpm R a 0) E
-    → ((g : List Bool → ℕ) (L : Table) → Stands region (width p.family - p.len) g L → W ≡ X ++ of_table p.family (lift (prefix_as p).bits (agg (width p.family - p.len) g L 0)))
-    → W ≡ of_table f (aggregate (width f) (of_family f RS) [] 0 (of_family f ES))
-fresh_told f p R E RS ES X W region w ww e v k x s d =
-    let n : w ≡ width p.family - p.len = omega (arith, ww, telling.whole_len f p e, ap (λ (y : Prefix). width y.family) e) in
-    let m : width p.family - p.len ≡ width f - 0 = omega (arith, n, ww) in
-    let g : List Bool → ℕ = λ a. lpm R a 0 in
-    let a : W ≡ of_table f (agg (width p.family - p.len) g E 0) =
-    telling.told_whole f p (agg (width p.family - p.len) g E 0) X W e x (d g E (subst (λ (j : ℕ). Stands region j g E) n s))
-    in
-    a ∙ (ap (λ j. of_table f (agg j g E 0)) m ∙ (ap (of_table f) (sym (telling.lift_none (agg (width f - 0) g E 0)))
-    ∙ (ap (λ y. of_table f (aggregate (width f) y [] 0 E)) (sym (family_is f R) ∙ ap (of_family f) v)
-    ∙ ap (λ y. of_table f (aggregate (width f) (of_family f RS) [] 0 y)) (sym (family_is f E) ∙ ap (of_family f) k))))
+pub fresh_told : (f : Family) (p : code.Prefix) (h : ℕ) (R E : Table) (W : Entries) → prefix_as p ≡ record { family = f; bits = [] } → h ≡ 0 → W ≡ of_table f (aggregate (width f) R (prefix_as p).bits h E) → W ≡ of_table f (aggregate (width f) R [] 0 E)
+fresh_told f p h R E W e n w = w ∙ (ap (λ (x : Prefix). of_table f (aggregate (width f) R x.bits h E)) e ∙ ap (λ z. of_table f (aggregate (width f) R [] z E)) n)
 
 pub fresh_least : (f : Family) (R old : Table) (W : Entries) → W ≡ of_table f (aggregate (width f) R [] 0 old) → Least (width f) R (of_family f W)
 fresh_least f R old W e =

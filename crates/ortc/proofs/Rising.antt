@@ -1,17 +1,23 @@
 -- The upward pass: regions that stand for answers.
-use Rattle.std.proofs.Common.{◌≡◌, ◌≢◌, ℕ, suc, ◌-◌, List, [], ◌∷◌, ◌++◌, Bool, true, false, Option, Some, length, sym, ap, ◌∙◌, arith, subst}
-use Rattle.table_model.specs.Table.{Table, root, half, inherit, lpm}
+use Rattle.std.proofs.Common.{◌≡◌, ◌≢◌, ℕ, suc, ◌-◌, ◌/◌, ◌^◌, List, [], ◌∷◌, ◌++◌, Bool, true, false, Option, Some, None, length, nat_eq, refl, sym, ap, ◌∙◌, arith, subst, inl, inr}
+use Rattle.std.specs.Prelude.{bit_and}
+use Rattle.std.proofs.lemmas.Bool.{eqb-true, eq-eqb, cases_Bool}
+use Rattle.address_model.specs.Bits.{bits_of}
+use Rattle.table_model.specs.Table.{Table, root, half, inherit, lpm, cut}
 use Rattle.table_model.proofs.Cut.{lpm_nil, lpm_cut}
-use Rattle.least_model.specs.Sets.{side, set_of, common, or_else}
+use Rattle.least_model.specs.Sets.{side, set_of, is_in, joint}
+use Rattle.least_model.proofs.Sets.{same_joint}
 use Rattle.least_model.proofs.Cost.{set_uniform, set_more, set_alike}
+use Rattle.orig_tree.proofs.Paths.{no_bits, first_one, first_zero}
+use Rattle.ortc.specs.Hops.{SameHops}
 use Rattle.ortc.specs.declared.region.Region.{Region}
 use Rattle.ortc.specs.declared.region.Region.TheVariants.{Leaf, Join'}
 use Rattle.ortc.specs.Stands.{Stands, hops_of, hop_in}
 
 -- a region's set
-pub hops_stand : (r : Region) (d : ℕ) (f : List Bool → ℕ) (L : Table) → Stands r d f L → hops_of r ≡ set_of d f
-hops_stand (Leaf old h) d f L s = sym (set_uniform d f h s.1)
-hops_stand (Join' old S p l q r) d f L s = s.3 ∙ ap (λ n. set_of n f) (sym s.1)
+pub hops_stand : (r : Region) (d : ℕ) (f : List Bool → ℕ) (L : Table) → Stands r d f L → SameHops (hops_of r) (set_of d f)
+hops_stand (Leaf old h) d f L s = λ k. ap (is_in k) (sym (set_uniform d f h s.1))
+hops_stand (Join' old S p l r) d f L s = λ k. s.3 k ∙ ap (λ n. is_in k (set_of n f)) (sym s.1)
 
 same_some : (g h : ℕ) → (let a : Option ℕ = Some g in a) ≡ Some h → g ≡ h
 same_some g h e = cc
@@ -19,7 +25,7 @@ same_some g h e = cc
 -- a leaf's hop is what its addresses get
 leaf_is : (r : Region) (d h : ℕ) (f : List Bool → ℕ) (L : Table) → hop_in r ≡ Some h → Stands r d f L → (a : List Bool) → length a ≡ d → f a ≡ h
 leaf_is (Leaf old g) d h f L e s a n = s.1 a n ∙ same_some g h e
-leaf_is (Join' old S p l q r) d h f L e s a n = cc
+leaf_is (Join' old S p l r) d h f L e s a n = cc
 
 -- two regions of one hop are one leaf
 pub one_leaf : (low high : Region) (d h : ℕ) (f : List Bool → ℕ) (L : Table) → hop_in low ≡ Some h → hop_in high ≡ Some h → Stands low d (side false f) (half false L) → Stands high d (side true f) (half true L) → (x : List Bool) → length x ≡ suc d → f x ≡ h
@@ -30,12 +36,12 @@ one_leaf low high d h f L e k s t (true ∷ a) n = leaf_is high d h (side true f
 -- answers alike and the same old entries
 pub stands_alike : (r : Region) (d : ℕ) (f g : List Bool → ℕ) (L M : Table) → ((a : List Bool) → length a ≡ d → f a ≡ g a) → L ≡ M → Stands r d f L → Stands r d g M
 stands_alike (Leaf old h) d f g L M e m s = (ap root (sym m) ∙ s.0, λ a n. sym (e a n) ∙ s.1 a n)
-stands_alike (Join' old S p l q r) d f g L M e m s =
+stands_alike (Join' old S p l r) d f g L M e m s =
     let up : (x : List Bool) → length x ≡ suc s.0 → f x ≡ g x = λ x n. e x (n ∙ sym s.1) in (
       s.0,
       s.1,
       ap root (sym m) ∙ s.2,
-      s.3 ∙ set_alike (suc s.0) f g up,
+      λ k. s.3 k ∙ ap (is_in k) (set_alike (suc s.0) f g up),
       stands_alike l s.0 (side false f) (side false g) (half false L) (half false M) (λ a n. up (false ∷ a) (ap suc n)) (ap (half false) m) s.4,
       stands_alike r s.0 (side true f) (side true g) (half true L) (half true M) (λ a n. up (true ∷ a) (ap suc n)) (ap (half true) m) s.5,
     )
@@ -58,12 +64,48 @@ rise_more R E A B C D d h hop old low high r ne e o a b c k s t j =
     (stands_alike low (d - 1) (λ x. lpm A x hop) (λ x. lpm R (false ∷ x) h) C (half false E) (λ x l. ap (λ z. lpm A x z) e ∙ (ap (λ z. lpm z x (inherit (root R) h)) a ∙ sym (lpm_cut R false x h))) c s)
     (stands_alike high (d - 1) (λ x. lpm B x hop) (λ x. lpm R (true ∷ x) h) D (half true E) (λ x l. ap (λ z. lpm B x z) e ∙ (ap (λ z. lpm z x (inherit (root R) h)) b ∙ sym (lpm_cut R true x h))) k t))
 
--- what the code computes of two halves
-pub set_joined : (low high : Region) (d : ℕ) (f : List Bool → ℕ) (L : Table) (A B C D E A' B' : List ℕ) → A ≡ hops_of low → B ≡ hops_of high → A' ≡ A → B' ≡ B → C ≡ common A' B' → D ≡ A → E ≡ B
-    → Stands low d (side false f) (half false L) → Stands high d (side true f) (half true L) → or_else C (D ++ E) ≡ set_of (suc d) f
-set_joined low high d f L A B C D E A' B' a b a' b' c x y s t =
-    let p : A ≡ set_of d (side false f) = a ∙ hops_stand low d (side false f) (half false L) s in
-    let q : B ≡ set_of d (side true f) = b ∙ hops_stand high d (side true f) (half true L) t in
-    ap (λ z. or_else z (D ++ E)) (c ∙ (ap (λ z. common z B') (a' ∙ p) ∙ ap (common (set_of d (side false f))) (b' ∙ q)))
-    ∙ (ap (λ z. or_else (common (set_of d (side false f)) (set_of d (side true f))) (z ++ E)) (x ∙ p)
-    ∙ (ap (λ z. or_else (common (set_of d (side false f)) (set_of d (side true f))) (set_of d (side false f) ++ z)) (y ∙ q) ∙ sym (set_more d f)))
+-- the joint set of two halves
+pub set_joined : (low high : Region) (d : ℕ) (f : List Bool → ℕ) (L : Table) (A B J : List ℕ) → A ≡ hops_of low → B ≡ hops_of high → SameHops J (joint A B)
+    → Stands low d (side false f) (half false L) → Stands high d (side true f) (half true L) → SameHops J (set_of (suc d) f)
+set_joined low high d f L A B J a b j s t =
+    let u = hops_stand low d (side false f) (half false L) s in
+    let v = hops_stand high d (side true f) (half true L) t in
+    λ k. j k ∙ (ap (λ z. is_in k (joint z B)) a ∙ (ap (λ z. is_in k (joint (hops_of low) z)) b
+    ∙ ((same_joint (hops_of low) (hops_of high) (set_of d (side false f)) (set_of d (side true f)) u v).0 k ∙ ap (is_in k) (sym (set_more d f)))))
+
+-- ---- the way down to a prefix
+
+next_bit : (left q : ℕ) → left ≢ 0 → bits_of left q ≡ nat_eq (bit_and (q / 2 ^ (left - 1)) 1) 1 ∷ bits_of (left - 1) q
+next_bit left q h =
+    let x = bit_and (q / 2 ^ (left - 1)) 1 in
+    elim (cases_Bool (nat_eq x 1)) [
+      | inl e ↦ first_one left q h (eqb-true x 1 e) ∙ ap (λ b. b ∷ bits_of (left - 1) q) (sym e)
+      | inr e ↦ first_zero left q h (λ k. let z : nat_eq x 1 ≡ true = eq-eqb x 1 k in cc) ∙ ap (λ b. b ∷ bits_of (left - 1) q) (sym e)
+    ]
+
+-- what stands for the region p of the routes R and the entries E under h
+abbrev StandsAt : Region → ℕ → Table → ℕ → Table → List Bool → Type 0
+StandsAt r d R h E p = Stands r d (λ a. lpm R (p ++ a) h) (cut p E)
+
+pub at_prefix : (r : Region) (d left q h : ℕ) (R E : Table) → left ≡ 0 → Stands r d (λ a. lpm R a h) E → Stands r d (λ a. lpm R (bits_of left q ++ a) h) (cut (bits_of left q) E)
+at_prefix r d left q h R E e s = subst (λ (p : List Bool). StandsAt r d R h E p) (sym (no_bits left q e)) s
+
+pub down_half : (r : Region) (d left q h hop : ℕ) (b : Bool) (R E A C : Table) → left ≢ 0 → b ≡ nat_eq (bit_and (q / 2 ^ (left - 1)) 1) 1 → A ≡ half b R → C ≡ half b E → hop ≡ inherit (root R) h
+    → Stands r d (λ a. lpm A (bits_of (left - 1) q ++ a) hop) (cut (bits_of (left - 1) q) C) → Stands r d (λ a. lpm R (bits_of left q ++ a) h) (cut (bits_of left q) E)
+down_half r d left q h hop b R E A C n t m k e s =
+    let p = bits_of (left - 1) q in
+    subst (λ (x : List Bool). StandsAt r d R h E x) (ap (λ z. z ∷ p) t ∙ sym (next_bit left q n))
+    (stands_alike r d (λ a. lpm A (p ++ a) hop) (λ a. lpm R ((b ∷ p) ++ a) h) (cut p C) (cut (b ∷ p) E)
+    (λ a l. ap (λ z. lpm z (p ++ a) hop) m ∙ (ap (lpm (half b R) (p ++ a)) e ∙ sym (lpm_cut R b (p ++ a) h))) (ap (cut p) k) s)
+
+cut_nil : (p : List Bool) → cut p [] ≡ []
+cut_nil [] = refl
+cut_nil (b ∷ p) = cut_nil p
+
+-- where there is no node, there are no routes and no entries
+pub no_half : (d left q h hop : ℕ) (b : Bool) (R E A C : Table) → left ≢ 0 → b ≡ nat_eq (bit_and (q / 2 ^ (left - 1)) 1) 1 → A ≡ half b R → C ≡ half b E → hop ≡ inherit (root R) h
+    → A ≡ [] → C ≡ [] → Stands (Leaf None hop) d (λ a. lpm R (bits_of left q ++ a) h) (cut (bits_of left q) E)
+no_half d left q h hop b R E A C n t m k e x y =
+    let p = bits_of (left - 1) q in
+    down_half (Leaf None hop) d left q h hop b R E A C n t m k e
+    (ap root (ap (cut p) y ∙ cut_nil p), λ a l. ap (λ z. lpm z (p ++ a) hop) x)

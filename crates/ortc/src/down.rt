@@ -1,4 +1,7 @@
-//! The downward pass.
+//! The downward pass, and the calls that make a table.
+//!
+//! A region gets an entry where what it inherits isn't in its set: of the old entry's hop where the set has it, else of the
+//! least hop. Entries are met in the order of prefixes.
 
 ghost use Rattle.std.specs.Prelude.{◌≡◌, ℕ, ◌-◌, ◌++◌, List, Bool, [], map, cond, nat_eq, Some, None, IfOk, OnOk};
 ghost use Rattle.address_model.specs.Width.{width};
@@ -6,13 +9,14 @@ ghost use Rattle.table_model.specs.Table.{Table, here};
 ghost use Rattle.table_model.specs.Entries.{of_family, of_table};
 ghost use Rattle.least_model.specs.Regions.{lift};
 ghost use Rattle.least_model.specs.Sets.{agg};
-ghost use Rattle.least_model.specs.Least.{Least};
+ghost use Rattle.least_model.specs.Least.{Least, aggregate};
 ghost use Rattle.least_model.specs.Both.{aggregate_in};
 ghost use Rattle.fib_prefix.specs.Seen.{entry_as, prefix_as};
 ghost use Rattle.ortc.specs.Stands.{Stands};
 
-use crate::region::{Region, below, rise};
-use crate::sets::own_hop;
+use crate::hop_set::own_hop;
+use crate::path::path_bits;
+use crate::region::{Region, below, rise_below};
 use crate::table::Fresh;
 use fib_prefix::{Addr, Entry, Hop, Prefix};
 use orig_tree::Tree;
@@ -55,22 +59,46 @@ pub fn descend(
         Region::Leaf(_, hop) => {
             push_own(prefix, leaf_hop(*hop, inherited), out)?;
         }
-        Region::Join(old, set, low, high) => {
+        Region::Join(old, set, halves) => {
             if prefix.len == prefix.family.width() {
                 return Ok(());
             }
             let own = own_hop(set, *old, inherited);
             let hop = below(own, inherited);
             push_own(prefix, own, out)?;
-            descend(low, hop, prefix.half(false), out)?;
-            descend(high, hop, prefix.half(true), out)?;
+            descend(&halves.low, hop, prefix.half(false), out)?;
+            descend(&halves.high, hop, prefix.half(true), out)?;
         }
     }
     Ok(())
 }
 
+/// The least table of a prefix's region under a hop that is inherited from above: of the tables that, under it, give the
+/// region's addresses the answers of the tree's routes, the one that the best hops fix, with the tree's entries as the
+/// old table. It costs the prefix's length and the nodes within the prefix.
+///
+/// # Errors
+///
+/// No memory.
+pub fn within(
+    alloc: Global,
+    tree: &Tree,
+    prefix: &Prefix,
+    inherited: Hop,
+) -> Result<Vec<Entry>, AllocError>
+    requires { prefix.now.family ≡ tree.now.family }
+    ensures { IfOk result (λ v. map entry_as v.items ≡ of_table tree.now.family (aggregate (width tree.now.family) (of_family tree.now.family tree.now.routes) (prefix_as prefix.now).bits inherited.0 (of_family tree.now.family tree.now.entries))) }
+{
+    let depth = prefix.family.width() - prefix.len;
+    let path = path_bits(prefix);
+    let region = rise_below(alloc, tree.root(), path, prefix.len, 0, depth)?;
+    let mut table = Vec::new(alloc);
+    descend(&region, inherited.0, *prefix, &mut table)?;
+    Ok(table)
+}
+
 /// The least table with the answers of the tree's routes: of all such tables the one that the best hops fix, with the
-/// tree's entries as the old table.
+/// tree's entries as the old table. It costs the tree's nodes, and their sets of hops.
 ///
 /// # Errors
 ///
@@ -79,10 +107,11 @@ pub fn fresh(alloc: Global, tree: &Tree) -> Result<Fresh, AllocError>
     ensures aggregate { IfOk result (λ v. map entry_as v.table.items ≡ aggregate_in tree.now.family tree.now.routes tree.now.entries) }
     ensures least { IfOk result (λ v. Least (width tree.now.family) (of_family tree.now.family tree.now.routes) (of_family tree.now.family (map entry_as v.table.items))) }
 {
-    let family = tree.family();
-    let region = rise(alloc, tree.root(), 0, family.width())?;
-    let first = Addr { family, bits: 0 };
-    let mut table = Vec::new(alloc);
-    descend(&region, 0, Prefix::new(&first, 0), &mut table)?;
+    let first = Addr {
+        family: tree.family(),
+        bits: 0,
+    };
+    let whole = Prefix::new(&first, 0);
+    let table = within(alloc, tree, &whole, Hop::NONE)?;
     Ok(Fresh { table })
 }

@@ -4,11 +4,13 @@
 #![tactic(auto)]
 
 mod down;
+mod hop_set;
+mod path;
 mod region;
-mod sets;
 mod table;
 
-pub use down::fresh;
+pub use down::{fresh, within};
+pub use hop_set::HopSet;
 pub use table::Fresh;
 
 #[cfg(test)]

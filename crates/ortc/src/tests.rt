@@ -1,37 +1,257 @@
-//! A tree's least table.
+//! Least tables of whole trees and of regions. The expected tables come from another program, written from the
+//! definitions.
 
-ghost use Rattle.std.specs.Prelude.{◌≡◌, ◌≤◌};
+ghost use Rattle.std.specs.Prelude.{◌≡◌, IfOk};
 ghost use Rattle.address_model.specs.declared.family.Family.TheVariants.{V4};
 
 use super::*;
 use fib_prefix::{Addr, Entry, Family, Hop, Prefix};
 use orig_tree::Tree;
-use std::alloc::AllocError;
+use std::alloc::{AllocError, Global};
+
+/// A prefix's bits and length, and a hop.
+type Row = (u32, u8, u16);
+
+/// Routes, old entries, a region, what it inherits, and its least table.
+struct Case<'a> {
+    routes: &'a [Row],
+    entries: &'a [Row],
+    region: (u32, u8),
+    inherited: u16,
+    table: &'a [Row],
+}
 
 fn prefix(bits: u32, len: u8) -> Prefix
-    requires { len ≤ 32 }
     ensures { result.family ≡ V4 }
 {
-    Prefix::new(&Addr::v4(bits), len)
+    Prefix::new(&Addr::v4(bits), len.min(32))
+}
+
+fn tree_of(alloc: Global, case: &Case<'_>) -> Result<Tree, AllocError>
+    ensures { IfOk result (λ t. t.family ≡ V4) }
+{
+    let mut tree = Tree::new(alloc, Family::V4);
+    for (bits, len, hop) in case.routes {
+        tree.set_route(&prefix(*bits, *len), Hop(*hop))?;
+    }
+    for (bits, len, hop) in case.entries {
+        tree.set_entry(&prefix(*bits, *len), Hop(*hop))?;
+    }
+    Ok(tree)
+}
+
+fn listed(alloc: Global, rows: &[Row]) -> Result<Vec<Entry>, AllocError> {
+    let mut list = Vec::new(alloc);
+    for (bits, len, hop) in rows {
+        list.push(Entry {
+            prefix: prefix(*bits, *len),
+            hop: Hop(*hop),
+        })?;
+    }
+    Ok(list)
+}
+
+const CASES: [Case<'static>; 15] = [
+    // no routes
+    Case {
+        routes: &[],
+        entries: &[(0x0a00_0000, 8, 1)],
+        region: (0x0000_0000, 0),
+        inherited: 0,
+        table: &[],
+    },
+    // an old entry decides a tie
+    Case {
+        routes: &[(0x0a00_0000, 9, 1), (0x0a80_0000, 9, 2)],
+        entries: &[(0x0a00_0000, 8, 2)],
+        region: (0x0000_0000, 0),
+        inherited: 0,
+        table: &[(0x0a00_0000, 8, 2), (0x0a00_0000, 9, 1)],
+    },
+    // without it the least hop
+    Case {
+        routes: &[(0x0a00_0000, 9, 2), (0x0a80_0000, 9, 1)],
+        entries: &[],
+        region: (0x0000_0000, 0),
+        inherited: 0,
+        table: &[(0x0a00_0000, 8, 1), (0x0a00_0000, 9, 2)],
+    },
+    // an old hop that isn't best
+    Case {
+        routes: &[(0x0a00_0000, 9, 2), (0x0a80_0000, 9, 1)],
+        entries: &[(0x0a00_0000, 8, 7)],
+        region: (0x0000_0000, 0),
+        inherited: 0,
+        table: &[(0x0a00_0000, 8, 1), (0x0a00_0000, 9, 2)],
+    },
+    // halves that share a hop
+    Case {
+        routes: &[
+            (0x0a00_0000, 10, 1),
+            (0x0a40_0000, 10, 2),
+            (0x0a80_0000, 10, 2),
+            (0x0ac0_0000, 10, 3),
+        ],
+        entries: &[(0x0a00_0000, 8, 1)],
+        region: (0x0000_0000, 0),
+        inherited: 0,
+        table: &[
+            (0x0a00_0000, 8, 2),
+            (0x0a00_0000, 10, 1),
+            (0x0ac0_0000, 10, 3),
+        ],
+    },
+    // a hole gets a drop entry
+    Case {
+        routes: &[
+            (0x0000_0000, 1, 1),
+            (0x8000_0000, 2, 1),
+            (0xc000_0000, 3, 1),
+        ],
+        entries: &[],
+        region: (0x0000_0000, 0),
+        inherited: 0,
+        table: &[(0x0000_0000, 0, 1), (0xe000_0000, 3, 0)],
+    },
+    // none as good as a hop
+    Case {
+        routes: &[(0x0000_0000, 1, 3)],
+        entries: &[],
+        region: (0x0000_0000, 0),
+        inherited: 0,
+        table: &[(0x0000_0000, 1, 3)],
+    },
+    // more hops than are kept in place
+    Case {
+        routes: &[
+            (0x0a00_0000, 12, 20),
+            (0x0a10_0000, 12, 19),
+            (0x0a20_0000, 12, 18),
+            (0x0a30_0000, 12, 17),
+            (0x0a40_0000, 12, 16),
+            (0x0a50_0000, 12, 15),
+            (0x0a60_0000, 12, 14),
+            (0x0a70_0000, 12, 13),
+            (0x0a80_0000, 12, 12),
+            (0x0a90_0000, 12, 11),
+            (0x0aa0_0000, 12, 10),
+            (0x0ab0_0000, 12, 9),
+            (0x0ac0_0000, 12, 8),
+            (0x0ad0_0000, 12, 7),
+            (0x0ae0_0000, 12, 6),
+            (0x0af0_0000, 12, 5),
+        ],
+        entries: &[(0x0a00_0000, 8, 9), (0x0a00_0000, 9, 9)],
+        region: (0x0000_0000, 0),
+        inherited: 0,
+        table: &[
+            (0x0a00_0000, 8, 9),
+            (0x0a00_0000, 9, 13),
+            (0x0a00_0000, 10, 17),
+            (0x0a00_0000, 11, 19),
+            (0x0a00_0000, 12, 20),
+            (0x0a20_0000, 12, 18),
+            (0x0a40_0000, 11, 15),
+            (0x0a40_0000, 12, 16),
+            (0x0a60_0000, 12, 14),
+            (0x0a80_0000, 11, 11),
+            (0x0a80_0000, 12, 12),
+            (0x0aa0_0000, 12, 10),
+            (0x0ac0_0000, 10, 5),
+            (0x0ac0_0000, 11, 7),
+            (0x0ac0_0000, 12, 8),
+            (0x0ae0_0000, 12, 6),
+        ],
+    },
+    // the route above holds in the region
+    Case {
+        routes: &[(0x0a00_0000, 8, 1), (0x0a00_0000, 16, 2)],
+        entries: &[],
+        region: (0x0a00_0000, 12),
+        inherited: 0,
+        table: &[(0x0a00_0000, 12, 1), (0x0a00_0000, 16, 2)],
+    },
+    // what it inherits is best
+    Case {
+        routes: &[(0x0a00_0000, 8, 1), (0x0a00_0000, 16, 2)],
+        entries: &[],
+        region: (0x0a00_0000, 12),
+        inherited: 1,
+        table: &[(0x0a00_0000, 16, 2)],
+    },
+    // a region without a node
+    Case {
+        routes: &[(0x0a00_0000, 8, 1)],
+        entries: &[],
+        region: (0x0a01_0000, 16),
+        inherited: 0,
+        table: &[(0x0a01_0000, 16, 1)],
+    },
+    // which needs no entry
+    Case {
+        routes: &[(0x0a00_0000, 8, 1)],
+        entries: &[],
+        region: (0x0a01_0000, 16),
+        inherited: 1,
+        table: &[],
+    },
+    // no route below what it inherits
+    Case {
+        routes: &[(0x0b00_0000, 8, 1)],
+        entries: &[],
+        region: (0x0a00_0000, 8),
+        inherited: 5,
+        table: &[(0x0a00_0000, 8, 0)],
+    },
+    // old entries within the region
+    Case {
+        routes: &[
+            (0x0a00_0000, 9, 1),
+            (0x0a80_0000, 9, 2),
+            (0x0b00_0000, 8, 1),
+        ],
+        entries: &[(0x0a00_0000, 8, 2), (0x0b00_0000, 8, 3)],
+        region: (0x0a00_0000, 7),
+        inherited: 0,
+        table: &[(0x0a00_0000, 7, 1), (0x0a80_0000, 9, 2)],
+    },
+    // an address
+    Case {
+        routes: &[(0x0a00_0001, 32, 4)],
+        entries: &[],
+        region: (0x0a00_0001, 32),
+        inherited: 3,
+        table: &[(0x0a00_0001, 32, 4)],
+    },
+];
+
+#[test]
+fn the_tables_are_least(rt: HostRuntime) -> Result<(), AllocError> {
+    for case in &CASES {
+        let tree = tree_of(rt.alloc(), case)?;
+        let table = listed(rt.alloc(), case.table)?;
+        let (bits, len) = case.region;
+        let part = within(rt.alloc(), &tree, &prefix(bits, len), Hop(case.inherited))?;
+        assert_eq!(rt; part.as_slice(), table.as_slice());
+        if len == 0 {
+            assert_eq!(rt;
+                fresh(rt.alloc(), &tree)?.table.as_slice(),
+                table.as_slice()
+            );
+        }
+    }
+    Ok(())
 }
 
 #[test]
-fn two_halves_become_one_entry(rt: HostRuntime) -> Result<(), AllocError> {
-    let mut tree = Tree::new(rt.alloc(), Family::V4);
-    tree.set_route(&prefix(0x0a00_0000, 9), Hop(1))?;
-    tree.set_route(&prefix(0x0a80_0000, 9), Hop(1))?;
-    tree.set_route(&prefix(0x0a01_0000, 16), Hop(2))?;
-    let whole = Entry {
-        prefix: prefix(0x0a00_0000, 8),
-        hop: Hop(1),
-    };
-    let part = Entry {
-        prefix: prefix(0x0a01_0000, 16),
-        hop: Hop(2),
-    };
+fn sets_are_merged(rt: HostRuntime) -> Result<(), AllocError> {
+    let both = HopSet::joint(rt.alloc(), &[1, 3, 5], &[2, 3, 5, 6])?;
+    assert_eq!(rt; both.as_slice(), [3, 5].as_slice());
+    let all = HopSet::joint(rt.alloc(), &[1, 4], &[2, 3, 5])?;
+    assert_eq!(rt; all.as_slice(), [1, 2, 3, 4, 5].as_slice());
     assert_eq!(rt;
-        fresh(rt.alloc(), &tree)?.table.as_slice(),
-        [whole, part].as_slice()
+        (all.least(), all.contains(5), all.contains(6)),
+        (1, true, false)
     );
     Ok(())
 }

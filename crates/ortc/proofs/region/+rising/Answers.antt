@@ -11,4 +11,4 @@ pub rise-returns : goal.rise-returns
 rise-returns t c =
     rise_more c.args.node.now.routes c.args.node.now.entries (behind c.half.result.now).routes (behind c.half-2.result.now).routes (behind c.half.result.now).entries (behind c.half-2.result.now).entries
     c.args.depth c.args.inherited c.below-hop.result c.hop-old.result c.in_ok-low.low c.in_ok-high.high c.in_ok-region.region c.if-depth-eq0.false (c.below-hop.ensures ∙ ap (λ o. inherit o c.args.inherited) c.hop.ensures) c.hop-old.ensures
-    c.half.ensures.routes c.half-2.ensures.routes c.half.ensures.entries c.half-2.ensures.entries c.in_ok-low.ensures c.in_ok-high.ensures c.in_ok-region.ensures
+    c.half.ensures.routes c.half-2.ensures.routes c.half.ensures.entries c.half-2.ensures.entries c.in_ok-low.ensures c.in_ok-high.ensures c.in_ok-region.ensures.stands
