@@ -13,3 +13,4 @@ pub mod PrefixLaws
 pub mod Ordering
 pub mod Fronts
 pub mod Peers
+pub mod UniformLemmas

@@ -4,3 +4,4 @@ pub mod Text
 pub mod Hops
 pub mod Order
 pub mod Regions
+pub mod Uniform

@@ -5,6 +5,7 @@
 #![tactic(auto)]
 
 mod addr;
+mod answers;
 mod entry;
 mod event;
 mod hops;
@@ -15,10 +16,11 @@ mod text;
 
 pub use addr::Addr;
 pub use address_model::Family;
+pub use answers::Answers;
 pub use entry::{Entry, Hop};
 pub use event::{Elem, Event, Peer};
 pub use hops::{HopError, HopTable, HopsFull, MOST_HOPS};
-pub use laws::{order_law, prefix_text_law, text_law};
+pub use laws::{order_law, prefix_text_law, text_law, uniform_law};
 pub use prefix::Prefix;
 pub use text::{MOST_TEXT, read_addr, read_ipv4, read_prefix, write_addr, write_prefix};
 

@@ -1,6 +1,9 @@
 pub mod Paths
 pub mod Lists
 pub mod Steps
+pub mod Covers
+pub mod Kept
 pub mod Places
 pub mod Telling
 pub mod Above
+pub mod Asked

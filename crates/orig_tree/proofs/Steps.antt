@@ -8,7 +8,7 @@ use Rattle.table_model.specs.Table.{Table, lpm, inherit}
 use Rattle.table_model.proofs.Cut.{lpm_nil}
 use Rattle.least_model.specs.Regions.{join}
 use Rattle.least_model.proofs.Join.{root_join, lpm_join_low, lpm_join_high}
-use Rattle.orig_tree.specs.Walk.{Walks, behind, nothing, walks_of, rows_of, edited, Allowed, picked, has_node, Relabelled}
+use Rattle.orig_tree.specs.Walk.{Walks, behind, nothing, walks_of, rows_of, edited, Allowed, picked, has_node}
 use Rattle.orig_tree.specs.declared.node.Label.{Label}
 use Rattle.orig_tree.specs.declared.node.Label.TheVariants.{Route, Entry}
 use Rattle.orig_tree.proofs.Paths.{no_bits, first_one, first_zero}
@@ -18,7 +18,7 @@ pub rows_level : (label : Label) (route entry : Option ℕ) (low high : Walks) �
 rows_level Route route entry low high = refl
 rows_level Entry route entry low high = refl
 
-lpm_join_end : (o : Option ℕ) (L M : Table) (h : ℕ) → lpm (join o L M) [] h ≡ inherit o h
+pub lpm_join_end : (o : Option ℕ) (L M : Table) (h : ℕ) → lpm (join o L M) [] h ≡ inherit o h
 lpm_join_end o L M h = lpm_nil (join o L M) h ∙ ap (λ x. inherit x h) (root_join o L M)
 
 pub given_is : (o : Option ℕ) (h : ℕ) → inherit o h ≡ unwrap_or o h
@@ -209,10 +209,3 @@ unfolding same_bits
 kept_low route entry low high after node w k [] h = refl
 kept_low route entry low high after node w k (false ∷ p) h = has_low p route entry after high ∙ k p (sym (has_low p route entry low high) ∙ ap (λ n. has_node (false ∷ p) n.nodes) w ∙ h)
 kept_low route entry low high after node w k (true ∷ p) h = has_high p route entry after high ∙ sym (has_high p route entry low high) ∙ ap (λ n. has_node (true ∷ p) n.nodes) w ∙ h
-
-pub told_here : (label : Label) (h route entry new_route new_entry : Option ℕ) (low high node : Walks) (left q : ℕ) → left ≡ 0 → walks_of route entry low high ≡ node →
-    Relabelled label h route entry new_route new_entry → walks_of new_route new_entry low high ≡ edited label (bits_of left q) h node
-told_here Route h route entry new_route new_entry low high node left q e w t =
-    ap (λ x. walks_of x new_entry low high) t.0 ∙ ap (λ s. walks_of h s low high) t.1 ∙ assign_route Route h route entry low high node left q e refl w
-told_here Entry h route entry new_route new_entry low high node left q e w t =
-    ap (λ x. walks_of new_route x low high) t.0 ∙ ap (λ s. walks_of s h low high) t.1 ∙ assign_entry Entry h route entry low high node left q e refl w

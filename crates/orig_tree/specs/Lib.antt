@@ -2,3 +2,6 @@ pub mod Edits
 pub mod Walk
 pub mod Falls
 pub mod Seen
+pub mod Cover
+pub mod Slots
+pub mod Uniform

@@ -41,11 +41,6 @@ abbrev pub picked : Label → Option ℕ → Option ℕ → Option ℕ
 picked Route route entry = route
 picked Entry route entry = entry
 
--- one label has become this, and the other is as it was
-abbrev pub Relabelled : Label → Option ℕ → Option ℕ → Option ℕ → Option ℕ → Option ℕ → Type 0
-Relabelled Route h route entry new_route new_entry = (new_route ≡ h) × (new_entry ≡ entry)
-Relabelled Entry h route entry new_route new_entry = (new_entry ≡ h) × (new_route ≡ route)
-
 -- the tables with one label's entry at a path set or taken away
 abbrev pub edited : Label → List Bool → Option ℕ → Walks → Walks
 edited Route p h w = record { routes = edit p h w.routes; entries = w.entries; nodes = w.nodes }

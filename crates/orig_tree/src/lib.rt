@@ -5,10 +5,13 @@
 //! entries in the order of prefixes.
 #![tactic(auto)]
 
+mod answers;
+mod cover;
 mod node;
 mod path;
 mod tree;
 
+pub use answers::{EntriesOf, RoutesOf};
 pub use node::{Label, Node};
 pub use tree::Tree;
 

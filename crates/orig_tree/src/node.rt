@@ -1,15 +1,19 @@
 //! Nodes of the tree.
 
-ghost use Rattle.std.specs.Prelude.{◌≡◌, ◌≤◌, ◌-◌, OnOk, OnErr, IsOk, List, Bool, true, [], map, ◌++◌};
+ghost use Rattle.std.specs.Prelude.{◌≡◌, ◌≤◌, ◌-◌, ℕ, OnOk, OnErr, IsOk, List, Bool, true, [], map, ◌++◌};
 ghost use Rattle.address_model.specs.Bits.{bits_of};
 ghost use Rattle.address_model.specs.Width.{width};
 ghost use Rattle.table_model.specs.Table.{lpm, root, half, here};
 ghost use Rattle.least_model.specs.Regions.{above, lift};
 ghost use Rattle.fib_prefix.specs.Seen.{entry_as, prefix_as};
-ghost use Rattle.orig_tree.specs.Walk.{behind, nothing, walks_of, rows_of, edited, Allowed, picked, has_node, Relabelled};
+ghost use Rattle.orig_tree.specs.Walk.{behind, nothing, walks_of, rows_of, edited, Allowed, picked, has_node};
 ghost use Rattle.table_model.specs.Entries.{of_table};
 ghost use Rattle.orig_tree.specs.Seen.{Fits};
+ghost use Rattle.orig_tree.specs.Cover.{IsCover};
+ghost use Rattle.orig_tree.specs.Slots.{Retold};
+ghost use Rattle.orig_tree.specs.Uniform.{IsUniform};
 
+use crate::cover::{Cover, Slot};
 use fib_prefix::{Entry, Hop, Prefix};
 use std::alloc::{AllocError, Global};
 use std::marker::Model;
@@ -26,8 +30,8 @@ pub enum Label {
 /// A node of the tree. Contracts see the tables of both labels from the node on.
 #[derive(Drop)]
 pub struct Node {
-    route: Option<u16>,
-    entry: Option<u16>,
+    route: Slot,
+    entry: Slot,
     low: Option<Box<Node>>,
     high: Option<Box<Node>>,
 }
@@ -39,8 +43,11 @@ impl Model for Node {
     ghost Value = { Walks };
 
     ghost use Rattle.orig_tree.specs.Walk.{behind, walks_of};
+    ghost use Rattle.orig_tree.specs.Slots.{AreCovers};
 
-    ghost view = { λ a. walks_of a.route a.entry (behind a.low) (behind a.high) };
+    ghost view = { λ a. walks_of a.route.hop a.entry.hop (behind a.low) (behind a.high) };
+
+    ghost invariant = { λ a. AreCovers a.route a.entry (behind a.low) (behind a.high) };
 
     ghost size = { λ d. length d.nodes };
 
@@ -50,12 +57,13 @@ impl Model for Node {
 }
 
 /// A node with no labels and nothing below it.
+#[tactic(auto, using(crate::proofs::Covers::bare_cover))]
 pub(crate) fn leaf() -> Node
     ensures { result ≡ walks_of None None nothing nothing }
 {
     Node {
-        route: None,
-        entry: None,
+        route: Slot::bare(),
+        entry: Slot::bare(),
         low: None,
         high: None,
     }
@@ -76,7 +84,7 @@ pub(crate) fn answer(node: &Node, label: Label, q: u128, left: u8, inherited: u1
     requires { left ≤ 128 }
     ensures { result ≡ lpm (rows_of label node.now) (bits_of left q) inherited }
 {
-    let hop = pick(label, node.route, node.entry).unwrap_or(inherited);
+    let hop = pick(label, node.route.hop, node.entry.hop).unwrap_or(inherited);
     if left == 0 {
         return hop;
     }
@@ -103,7 +111,7 @@ pub(crate) fn inherited(node: &Node, q: u128, left: u8, hop: u16) -> u16
     if left == 0 {
         return hop;
     }
-    let hop = node.entry.unwrap_or(hop);
+    let hop = node.entry.hop.unwrap_or(hop);
     let at = left - 1;
     if (q >> at) & 1 == 1 {
         match &node.high {
@@ -168,32 +176,86 @@ fn room_behind(
     }
 }
 
-fn relabel(label: Label, hop: Option<u16>, route: &mut Option<u16>, entry: &mut Option<u16>)
-    ensures { Relabelled label hop route.old entry.old route.new entry.new }
+/// What the addresses behind a link get.
+#[tactic(auto, using(crate::proofs::Covers::bare_cover))]
+fn cover_behind(label: Label, link: &Option<Box<Node>>) -> Cover
+    ensures { IsCover (rows_of label (behind link.now)) result }
+{
+    match link {
+        None => Slot::bare().cover,
+        Some(node) => cover_of(node, label),
+    }
+}
+
+fn cover_of(node: &Node, label: Label) -> Cover
+    ensures { IsCover (rows_of label node.now) result }
 {
     match label {
-        Label::Route => *route = hop,
-        Label::Entry => *entry = hop,
+        Label::Route => node.route.cover,
+        Label::Entry => node.entry.cover,
+    }
+}
+
+/// Sets one of a node's labels, and its cover.
+#[tactic(auto, using(crate::proofs::Covers::cover_level))]
+fn retell(
+    label: Label,
+    hop: Option<u16>,
+    route: &mut Slot,
+    entry: &mut Slot,
+    low: &Option<Box<Node>>,
+    high: &Option<Box<Node>>,
+)
+    ensures { Retold label hop route.old entry.old route.new entry.new (behind low.now) (behind high.now) }
+{
+    let cover = Cover::over(hop, cover_behind(label, low), cover_behind(label, high));
+    match label {
+        Label::Route => *route = Slot { hop, cover },
+        Label::Entry => *entry = Slot { hop, cover },
     }
 }
 
 /// Sets the hop of a path that has a node, or takes the path's hop away.
 #[cycle(assign)]
-#[tactic(auto, using(crate::proofs::Steps::told_here, crate::proofs::Steps::assign_high, crate::proofs::Steps::assign_low, crate::proofs::Steps::allowed_high, crate::proofs::Steps::allowed_low, crate::proofs::Steps::edited_nothing))]
+#[tactic(auto, using(crate::proofs::Kept::told_here, crate::proofs::Kept::told_high, crate::proofs::Kept::told_low, crate::proofs::Kept::told_covers, crate::proofs::Kept::told_covers_high, crate::proofs::Kept::told_covers_here, crate::proofs::Steps::allowed_high, crate::proofs::Steps::allowed_low))]
 pub(crate) fn assign(node: &mut Node, label: Label, q: u128, left: u8, hop: Option<u16>)
     requires few { left ≤ 128 }
     requires allowed { Allowed (bits_of left q) hop node.old.nodes }
     ensures { node.new ≡ edited label (bits_of left q) hop node.old }
 {
     if left == 0 {
-        relabel(label, hop, &mut node.route, &mut node.entry);
+        retell(
+            label,
+            hop,
+            &mut node.route,
+            &mut node.entry,
+            &node.low,
+            &node.high,
+        );
         return;
     }
     let at = left - 1;
+    let own = pick(label, node.route.hop, node.entry.hop);
     if (q >> at) & 1 == 1 {
         assign_behind(&mut node.high, label, q, at, hop);
+        retell(
+            label,
+            own,
+            &mut node.route,
+            &mut node.entry,
+            &node.low,
+            &node.high,
+        );
     } else {
         assign_behind(&mut node.low, label, q, at, hop);
+        retell(
+            label,
+            own,
+            &mut node.route,
+            &mut node.entry,
+            &node.low,
+            &node.high,
+        );
     }
 }
 
@@ -209,11 +271,44 @@ fn assign_behind(link: &mut Option<Box<Node>>, label: Label, q: u128, left: u8, 
     }
 }
 
+/// The hop that all of a path's addresses get, or none where two get different ones.
+#[tactic(auto, using(crate::proofs::Kept::uniform_no_high, crate::proofs::Kept::uniform_no_low))]
+pub(crate) fn uniform(
+    node: &Node,
+    label: Label,
+    q: u128,
+    left: u8,
+    inherited: u16,
+) -> Option<u16>
+    requires { left ≤ 128 }
+    ensures { (n : ℕ) → left ≤ n → Fits n (rows_of label node.now) → IsUniform n (rows_of label node.now) inherited (bits_of left q) result }
+{
+    if left == 0 {
+        return cover_of(node, label).only(inherited);
+    }
+    let hop = pick(label, node.route.hop, node.entry.hop).unwrap_or(inherited);
+    let at = left - 1;
+    if (q >> at) & 1 == 1 {
+        match &node.high {
+            None => Some(hop),
+            Some(high) => uniform(high, label, q, at, hop),
+        }
+    } else {
+        match &node.low {
+            None => Some(hop),
+            Some(low) => uniform(low, label, q, at, hop),
+        }
+    }
+}
+
 /// Whether a node has no labels and nothing below it.
 fn is_bare(node: &Node) -> bool
     ensures { result ≡ true → (node.now.routes ≡ []) × (node.now.entries ≡ []) }
 {
-    node.route.is_none() && node.entry.is_none() && node.low.is_none() && node.high.is_none()
+    node.route.hop.is_none()
+        && node.entry.hop.is_none()
+        && node.low.is_none()
+        && node.high.is_none()
 }
 
 /// Drops the nodes below a node that have no label at or below them. It changes no table.
@@ -305,7 +400,7 @@ pub(crate) fn tell(
     requires { Fits (width prefix.family - prefix.len) (rows_of label node.now) }
     ensures { OnOk result (map entry_as out.new.items ≡ map entry_as out.old.items ++ of_table prefix.family (lift (prefix_as prefix).bits (rows_of label node.now))) }
 {
-    tell_own(prefix, pick(label, node.route, node.entry), out)?;
+    tell_own(prefix, pick(label, node.route.hop, node.entry.hop), out)?;
     if prefix.len == prefix.family.width() {
         return Ok(());
     }
@@ -336,7 +431,7 @@ impl Node {
     pub fn hop(&self, label: Label) -> Option<u16>
         ensures { result ≡ root (rows_of label self.now) }
     {
-        pick(label, self.route, self.entry)
+        pick(label, self.route.hop, self.entry.hop)
     }
 
     /// The node of one half, if there is one.

@@ -4,7 +4,7 @@ ghost use Rattle.std.specs.Prelude.{◌≡◌, ◌≤◌};
 ghost use Rattle.address_model.specs.declared.family.Family.TheVariants.{V4};
 
 use super::*;
-use fib_prefix::{Addr, Entry, Family, Hop, Prefix};
+use fib_prefix::{Addr, Answers, Entry, Family, Hop, Prefix};
 use std::alloc::AllocError;
 
 fn prefix(bits: u32, len: u8) -> Prefix
@@ -12,6 +12,13 @@ fn prefix(bits: u32, len: u8) -> Prefix
     ensures { result.family ≡ V4 }
 {
     Prefix::new(&Addr::v4(bits), len)
+}
+
+/// What a table answers about a whole prefix, asked as any such table is.
+fn uniform<A: Answers>(table: &A, prefix: &Prefix) -> Option<Hop>
+    requires { prefix.now.family ≡ A.of table.now }
+{
+    table.uniform(prefix)
 }
 
 #[test]
@@ -22,8 +29,8 @@ fn routes_and_entries_are_apart(rt: HostRuntime) -> Result<(), AllocError> {
     tree.set_route(&narrow, Hop(2))?;
     tree.set_route(&wide, Hop(1))?;
     tree.set_entry(&wide, Hop(3))?;
-    tree.room(&prefix(0x0b00_0000, 8))?;
-    tree.trim(&prefix(0, 0));
+    let beside = prefix(0x0a02_0000, 16);
+    assert!(rt; tree.room(&beside).is_ok());
     let routes = [
         Entry {
             prefix: wide,
@@ -35,6 +42,16 @@ fn routes_and_entries_are_apart(rt: HostRuntime) -> Result<(), AllocError> {
         },
     ];
     assert_eq!(rt; tree.routes()?.as_slice(), routes.as_slice());
+    tree.trim(&prefix(0, 0));
+    assert_eq!(rt; tree.routes()?.as_slice(), routes.as_slice());
+    assert_eq!(rt; RoutesOf(&tree).family(), Family::V4);
+    assert_eq!(rt; EntriesOf(&tree).family(), Family::V4);
+    assert_eq!(rt; uniform(&RoutesOf(&tree), &narrow), Some(Hop(2)));
+    assert_eq!(rt; uniform(&RoutesOf(&tree), &wide), None);
+    assert_eq!(rt; uniform(&RoutesOf(&tree), &beside), Some(Hop(1)));
+    assert_eq!(rt; uniform(&EntriesOf(&tree), &wide), Some(Hop(3)));
+    assert_eq!(rt; uniform(&EntriesOf(&tree), &prefix(0, 0)), None);
+    assert_eq!(rt; uniform(&EntriesOf(&tree), &prefix(0x0b00_0000, 8)), Some(Hop::NONE));
     assert_eq!(rt; tree.answer_route(&Addr::v4(0x0a01_0001)), Hop(2));
     assert_eq!(rt; tree.answer_entry(&Addr::v4(0x0a01_0001)), Hop(3));
     assert_eq!(rt; tree.inherited(&narrow), Hop(3));
@@ -43,5 +60,7 @@ fn routes_and_entries_are_apart(rt: HostRuntime) -> Result<(), AllocError> {
     tree.clear_entry(&wide);
     assert_eq!(rt; tree.answer_route(&Addr::v4(0x0a01_0001)), Hop(1));
     assert_eq!(rt; tree.entries()?.len(), 0);
+    assert_eq!(rt; tree.uniform_route(&wide), Some(Hop(1)));
+    assert_eq!(rt; tree.uniform_entry(&prefix(0, 0)), Some(Hop::NONE));
     Ok(())
 }

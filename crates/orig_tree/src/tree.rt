@@ -1,16 +1,17 @@
 //! The tree of a family.
 
-ghost use Rattle.std.specs.Prelude.{◌≡◌, [], ◌∷◌, true, List, Bool, OnOk, OnErr, IsOk, IfOk, map};
+ghost use Rattle.std.specs.Prelude.{◌≡◌, [], ◌∷◌, true, List, Bool, OnOk, OnErr, IsOk, IfOk, IfSome, IfNone, map};
 ghost use Rattle.std.specs.Map.{remove_entry};
 ghost use Rattle.address_model.specs.Address.{same_prefix};
 ghost use Rattle.table_model.specs.Entries.{with_entry, match_in, of_family, of_table};
 ghost use Rattle.least_model.specs.Regions.{above};
 ghost use Rattle.fib_prefix.specs.Seen.{addr_as, prefix_as, entry_as};
+ghost use Rattle.fib_prefix.specs.Uniform.{AllGet, TwoDiffer};
 ghost use Rattle.address_model.specs.Width.{width};
 ghost use Rattle.orig_tree.specs.Walk.{has_node, rows_of};
 ghost use Rattle.orig_tree.specs.Seen.{InPlace, Fits};
 
-use crate::node::{Label, Node, answer, assign, inherited, leaf, room, tell, trim};
+use crate::node::{Label, Node, answer, assign, inherited, leaf, room, tell, trim, uniform};
 use crate::path::path_bits;
 use fib_prefix::{Addr, Entry, Family, Hop, Prefix};
 use std::alloc::{AllocError, Global};
@@ -145,6 +146,30 @@ impl Tree {
         ensures { result.0 ≡ match_in self.now.entries (addr_as addr.now) }
     {
         Hop(answer(&self.root, Label::Entry, addr.bits, self.family.width(), 0))
+    }
+
+    /// The hop that every address of the prefix gets by longest match among the routes, or `None` where two get different
+    /// ones.
+    pub fn uniform_route(&self, prefix: &Prefix) -> Option<Hop>
+        requires { prefix.now.family ≡ self.now.family }
+        ensures one { IfSome result (λ hop. AllGet self.now.routes (prefix_as prefix.now) hop.0) }
+        ensures differ { IfNone result (TwoDiffer self.now.routes (prefix_as prefix.now)) }
+    {
+        let q = path_bits(prefix);
+        let hop = uniform(&self.root, Label::Route, q, prefix.len, 0)?;
+        Some(Hop(hop))
+    }
+
+    /// The hop that every address of the prefix gets by longest match among the entries, or `None` where two get different
+    /// ones.
+    pub fn uniform_entry(&self, prefix: &Prefix) -> Option<Hop>
+        requires { prefix.now.family ≡ self.now.family }
+        ensures one { IfSome result (λ hop. AllGet self.now.entries (prefix_as prefix.now) hop.0) }
+        ensures differ { IfNone result (TwoDiffer self.now.entries (prefix_as prefix.now)) }
+    {
+        let q = path_bits(prefix);
+        let hop = uniform(&self.root, Label::Entry, q, prefix.len, 0)?;
+        Some(Hop(hop))
     }
 
     /// The hop of the longest entry that the prefix is strictly within, or none.

@@ -11,4 +11,4 @@ returns c =
     let low = rows_of c.args.label (behind n.low) in
     let high = rows_of c.args.label (behind n.high) in
     c.pick.ensures
-    ∙ sym (ap (λ (w : Walks). root (rows_of c.args.label w)) (sym c.self.view_is) ∙ (ap root (rows_level c.args.label n.route n.entry (behind n.low) (behind n.high)) ∙ root_join (picked c.args.label n.route n.entry) low high))
+    ∙ sym (ap (λ (w : Walks). root (rows_of c.args.label w)) (sym c.self.view_is) ∙ (ap root (rows_level c.args.label n.route.hop n.entry.hop (behind n.low) (behind n.high)) ∙ root_join (picked c.args.label n.route.hop n.entry.hop) low high))
