@@ -109,7 +109,7 @@ struct Looked {
     least: Vec<Entry>,
 }
 
-/// The answers and the least table of these routes. Their trees are gone then.
+/// The answers and the least table of these routes; their trees take memory no longer than this.
 fn look_up(alloc: Global, routes: &[Entry], asks: &[Addr]) -> Result<Looked, AllocError>
     ensures { IsStrictlySortedBy prefix_cmp (keys_of (map entry_as routes.now)) → IfOk result (IsLooked (map entry_as routes.now) (map addr_as asks.now)) }
 {
@@ -136,8 +136,8 @@ fn told(alloc: Global, state: &State, fed: &Fed<'_>, asks: &[Addr]) -> Result<Ru
     ensures { (load updates : Feed) → IsFed load updates fed.now state.now → IfOk result (λ run. run_as run ≡ (printed load updates (map addr_as asks.now)).told) }
 {
     let routes = entries(alloc, &state.hops, &state.candidates.routes()?)?;
-    let loaded = entries(alloc, &state.hops, fed.loaded)?;
     let looked = look_up(alloc, &routes, asks)?;
+    let loaded = entries(alloc, &state.hops, fed.loaded)?;
     Ok(Run {
         changes: changes(alloc, &loaded, &state.changes)?,
         answers: looked.answers,

@@ -68,7 +68,8 @@ fn ended<I: Inputs, O: Sink, E: Sink>(
 /// reading or want of memory may come before it, and a fault of writing in place of Done. Nothing is written to `out` before
 /// all is accepted. Every outcome but Done is told by one line to `err`, and a fault of `err` changes nothing.
 ///
-/// It costs n log n in the octets read and the rows written, and keeps both in memory.
+/// It costs n log n in the octets read and the rows written, and the routes' number times the lengths of their prefixes. The
+/// octets, the routes' trees and the rows are kept in memory.
 #[tactic(auto, using(crate::proofs::Completing::completes, crate::proofs::Running::sums_up, crate::proofs::Running::forwards, crate::proofs::Running::answers, crate::proofs::Running::least))]
 pub fn run_fib<I: Inputs, O: Sink, E: Sink>(
     alloc: Global,

@@ -291,6 +291,7 @@ fn rows_of_routes_and_updates(rt: HostRuntime) -> Result<(), Fail> {
 }
 
 /// What is loaded, the updates, and the rows that are due.
+#[derive(Clone, Copy)]
 struct Least<'a> {
     name: &'a str,
     record: &'a [u8],
