@@ -3,8 +3,7 @@ pub mod Completing
 pub mod Due
 pub mod Feeding
 pub mod Fronts
-pub mod Maps
-pub mod Probing
+pub mod Looking
 pub mod Reporting
 pub mod Running
 pub mod Steps

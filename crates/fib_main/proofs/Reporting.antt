@@ -2,9 +2,8 @@
 use Rattle.std.proofs.Common.{◌≡◌, ℕ, zero, ◌+◌, ◌<◌, List, [], ◌∷◌, ◌++◌, take, map, length, refl, sym, ap, ◌∙◌}
 use Rattle.std.specs.Prelude.{get_or}
 use Rattle.std.proofs.lemmas.List.{map_push}
-use Rattle.std.proofs.lemmas.List.Sums.{fold-append}
 use Rattle.address_model.specs.Address.{Address}
-use Rattle.table_model.specs.Entries.{Entries, match_in, with_entry, in_order}
+use Rattle.table_model.specs.Entries.{Entries, match_in}
 use Rattle.table_model.specs.Changes.{additions, Add as ModelAdd}
 use Rattle.feed_model.specs.Feed.{at_event, number_in}
 use Rattle.fib_prefix.specs.declared.addr.Addr.{Addr}
@@ -41,7 +40,3 @@ one_answer routes asks i a h answers more lt is matched so_far grown =
     all_push : (xs : List Address) → answers_to routes (xs ++ addr_as a ∷ []) ≡ answers_to routes xs ++ (addr_as a, match_in routes (addr_as a)) ∷ []
     all_push [] = refl
     all_push (x ∷ xs) = ap (λ cs. (x, match_in routes x) ∷ cs) (all_push xs)
-
-pub one_place_more : (entries : List Entry) (i : ℕ) (e : Entry) (old new : Entries) → i < length entries → e ≡ get_or entries i e → old ≡ in_order (map entry_as (take i entries)) → new ≡ with_entry old (entry_as e) → new ≡ in_order (map entry_as (take (i + 1) entries))
-one_place_more entries i e old new lt is so_far grown =
-    grown ∙ (ap (λ L. with_entry L (entry_as e)) so_far ∙ sym (ap in_order (take_next entry_as entries i e lt is) ∙ fold-append with_entry [] (map entry_as (take i entries)) (entry_as e ∷ [])))

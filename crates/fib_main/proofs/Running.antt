@@ -18,7 +18,8 @@ use Rattle.fib_main.specs.declared.outcome.Which.{Which}
 use Rattle.fib_main.specs.declared.outcome.Which.TheVariants.{Dump, Updates}
 use Rattle.fib_main.specs.Stops.{Stop, ◌>>=◌, few_hops, whole}
 use Rattle.fib_main.specs.Due.{Feed, printed, input_at, asks_at, feed_at, feed_of, feed_in, elems_in, read_part, told_at, due, usage, answers_to}
-use Rattle.fib_main.specs.Runs.{IfDue, SumsUp, Forwards, Answers}
+use Rattle.fib_main.specs.Runs.{IfDue, SumsUp, Forwards, Answers, HasLeast}
+use Rattle.fib_main.proofs.Looking.{least_in_both}
 
 -- ---- what an input brings is of prefixes and peers that there are
 
@@ -93,3 +94,8 @@ all_answer routes (a ∷ asks) = (refl, all_answer routes asks)
 
 pub answers : (words : List (List ℕ)) (content : List ℕ → Option (List ℕ)) → IfDue (due words content) Answers
 answers = each_due Answers (λ load updates asks p q. all_answer (entries_of (hops_after [] (load.elems ++ updates.elems)) (after_elems [] (load.elems ++ updates.elems))) asks)
+
+pub least : (words : List (List ℕ)) (content : List ℕ → Option (List ℕ)) → IfDue (due words content) HasLeast
+least = each_due HasLeast (λ load updates asks p q.
+    let routes : Entries = entries_of (hops_after [] (load.elems ++ updates.elems)) (after_elems [] (load.elems ++ updates.elems)) in
+    least_in_both routes routes)

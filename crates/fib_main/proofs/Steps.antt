@@ -13,7 +13,8 @@ use Rattle.address_model.specs.Address.{IsAddress}
 use Rattle.address_model.specs.Width.{width}
 use Rattle.address_model.proofs.BitLaws.{length-bits_of}
 use Rattle.std.proofs.lemmas.List.Sums.{fold-append}
-use Rattle.address_model.specs.Address.{Address, Prefix, same_address}
+use Rattle.address_model.specs.Address.{Address, IsPrefix, Prefix, same_address}
+use Rattle.fib_prefix.proofs.Parts.{length_prefix}
 use Rattle.table_model.specs.Changes.{Change, Replace}
 use Rattle.route_model.specs.Events.{Elem, Event}
 use Rattle.route_model.specs.Choice.{Candidates, IsElem, after_elem, after_elems, elems_of, elems_after}
@@ -33,12 +34,14 @@ use Rattle.fib_prefix.specs.declared.event.Peer as code_peer
 use Rattle.fib_prefix.specs.declared.prefix.Prefix as code_prefix
 use Rattle.fib_prefix.specs.declared.event.Elem as code_elem
 use Rattle.fib_prefix.specs.declared.event.Elem.TheVariants as code_variant
-use Rattle.fib_main.proofs.Maps.{is_prefix}
 use Rattle.fib_main.specs.declared.outcome.Which.{Which}
 use Rattle.fib_main.specs.declared.outcome.Which.TheVariants.{Asks, Dump, Updates}
 use Rattle.fib_main.specs.declared.state.State.{State}
 use Rattle.fib_main.specs.Seen.{changes_as}
 use Rattle.fib_main.specs.Standing.{kept, Stands, IsFull, Takes, TakesAll, next_elems}
+
+is_prefix : (p : code_prefix.Prefix) → IsPrefix (prefix_as p)
+is_prefix p = let P : ℕ → Type 0 = λ n. n ≤ width p.family in subst P (sym (length_prefix (width p.family) p.len p.bits p.fits)) p.fits
 
 -- ---- the change of a choice
 

@@ -5,9 +5,9 @@ use Rattle.std.specs.Map.{keys_of}
 use Rattle.std.proofs.lemmas.List.{length-map}
 use Rattle.address_model.specs.Address.{Address, Prefix as Model}
 use Rattle.address_model.specs.Order.{prefix_cmp}
-use Rattle.table_model.specs.Entries.{Entries, in_order}
+use Rattle.table_model.specs.Entries.{Entries}
 use Rattle.table_model.specs.Changes.{additions}
-use Rattle.table_model.proofs.Sums.{in_order_again}
+use Rattle.least_model.specs.Both.{aggregate_in_both}
 use Rattle.route_model.specs.Events.{Elem}
 use Rattle.route_model.specs.Choice.{Candidates, AreCandidates, after_elems, routes_of}
 use Rattle.route_model.proofs.Choices.{routes_sorted}
@@ -17,7 +17,6 @@ use Rattle.feed_model.specs.Feed.{hops_after, entries_of, load_changes, changes_
 use Rattle.fib_prefix.specs.declared.addr.Addr.{Addr}
 use Rattle.fib_prefix.specs.declared.prefix.Prefix.{Prefix}
 use Rattle.fib_prefix.specs.declared.entry.Entry.{Entry}
-use Rattle.fib_prefix.specs.declared.entry.Hop.{Hop}
 use Rattle.fib_prefix.specs.Seen.{addr_as, entry_as}
 use Rattle.fib_report.specs.declared.run.Change.{Change}
 use Rattle.fib_report.specs.declared.run.Report.{Report}
@@ -26,7 +25,9 @@ use Rattle.fib_report.specs.Rows.{run_text}
 use Rattle.fib_main.specs.declared.report.Fed.{Fed}
 use Rattle.fib_main.specs.declared.state.State.{State}
 use Rattle.fib_main.specs.Due.{Feed, answers_to, counts, changes_of, printed, text_of}
-use Rattle.fib_main.specs.Seen.{answers_as, changes_as, entries_as, numbered, route_as, totals}
+use Rattle.fib_main.specs.Seen.{answers_as, changes_as, numbered, route_as, totals}
+use Rattle.fib_main.specs.Held.{IsLooked}
+use Rattle.fib_main.specs.declared.report.Looked.{Looked}
 use Rattle.fib_main.specs.Standing.{IsFed, IsCounted}
 
 -- numbered routes are the entries of the routes
@@ -50,11 +51,11 @@ counted load updates fed routes entries n l u e len =
     let long : n ≡ length routes = len ∙ (sym (length-map entries entry_as) ∙ ap length e) in
     rw (l.records, l.skipped, l.events, u.records, u.skipped, u.events, long) refl
 
-pub told_is : (load updates : Feed) (fed : Fed) (state : State) (asks : List Addr) (routes loaded table : List Entry) (chosen : List (Prefix × Addr)) (by_prefix : List (Prefix × Hop)) (changes : List (ℕ × Change)) (answers : List (Addr × Hop)) (report : Report) (n : ℕ)
-    → map route_as chosen ≡ routes_of state.candidates.candidates → map entry_as routes ≡ map (numbered state.hops.list) chosen → map entry_as loaded ≡ map (numbered state.hops.list) fed.loaded.now → entries_as by_prefix ≡ in_order (map entry_as routes)
-    → changes_as changes ≡ at_event 0 (additions (map entry_as loaded)) ++ changes_as state.changes.items → answers_as answers ≡ answers_to (entries_as by_prefix) (map addr_as asks) → table ≡ routes → report ≡ totals fed.load fed.updates n → n ≡ length routes → IsFed load updates fed state
-    → record { routes = map entry_as routes; changes = changes_as changes; answers = answers_as answers; table = map entry_as table; report = report } ≡ (printed load updates (map addr_as asks)).told
-told_is load updates fed state asks routes loaded table chosen by_prefix changes answers report n r e l p c a t m len f =
+pub told_is : (load updates : Feed) (fed : Fed) (state : State) (asks : List Addr) (routes loaded table : List Entry) (chosen : List (Prefix × Addr)) (looked : Looked) (changes : List (ℕ × Change)) (report : Report) (n : ℕ)
+    → map route_as chosen ≡ routes_of state.candidates.candidates → map entry_as routes ≡ map (numbered state.hops.list) chosen → map entry_as loaded ≡ map (numbered state.hops.list) fed.loaded.now → (IsStrictlySortedBy prefix_cmp (keys_of (map entry_as routes)) → IsLooked (map entry_as routes) (map addr_as asks) looked)
+    → changes_as changes ≡ at_event 0 (additions (map entry_as loaded)) ++ changes_as state.changes.items → table ≡ routes → report ≡ totals fed.load fed.updates n → n ≡ length routes → IsFed load updates fed state
+    → record { routes = map entry_as routes; changes = changes_as changes; answers = answers_as looked.answers.items; table = map entry_as table; least = map entry_as looked.least.items; report = report } ≡ (printed load updates (map addr_as asks)).told
+told_is load updates fed state asks routes loaded table chosen looked changes report n r e l p c t m len f =
     let elems : List Elem = load.elems ++ updates.elems in
     let hops : List Address = hops_after [] elems in
     let held : Candidates = after_elems [] elems in
@@ -64,11 +65,12 @@ told_is load updates fed state asks routes loaded table chosen by_prefix changes
     let later : changes_as state.changes.items ≡ changes_from hops 1 (after_elems [] load.elems) updates.elems = s.changes [] ∙ ap (λ h. changes_from h 1 (after_elems [] load.elems) updates.elems) s.hops in
     let all : changes_as changes ≡ changes_of hops load updates = c ∙ (ap (λ es. at_event 0 (additions es) ++ changes_as state.changes.items) first ∙ ap (λ cs. load_changes hops (after_elems [] load.elems) ++ cs) later) in
     let sorted = entries_sorted hops held (candidates_stay [] elems none_yet s.proper) in
-    let ordered : entries_as by_prefix ≡ entries_of hops held = p ∙ (ap in_order entries ∙ in_order_again (entries_of hops held) sorted) in
-    let answered : answers_as answers ≡ answers_to (entries_of hops held) (map addr_as asks) = a ∙ ap (λ es. answers_to es (map addr_as asks)) ordered in
+    let found : IsLooked (map entry_as routes) (map addr_as asks) looked = p (subst (λ L. IsStrictlySortedBy prefix_cmp (keys_of L)) (sym entries) sorted) in
+    let answered : answers_as looked.answers.items ≡ answers_to (entries_of hops held) (map addr_as asks) = found.answers ∙ ap (λ es. answers_to es (map addr_as asks)) entries in
+    let least : map entry_as looked.least.items ≡ aggregate_in_both (entries_of hops held) (entries_of hops held) = found.least ∙ ap (λ es. aggregate_in_both es es) entries in
     let again : map entry_as table ≡ entries_of hops held = ap (map entry_as) t ∙ entries in
     let report_is : report ≡ counts load updates (entries_of hops held) = m ∙ counted load updates fed (entries_of hops held) routes n f.counted f.has.counted entries len in
-    rw (entries, all, answered, again, report_is) refl
+    rw (entries, all, answered, again, least, report_is) refl
 
 pub text_is : (load updates : Feed) (fed : Fed) (state : State) (asks : List Address) (run : Told) (old new : List ℕ) → IsFed load updates fed state → run ≡ (printed load updates asks).told → new ≡ old ++ run_text state.hops.list run → old ≡ [] → new ≡ text_of (printed load updates asks)
 text_is load updates fed state asks run old new f r grown empty =

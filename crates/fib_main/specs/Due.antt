@@ -3,6 +3,7 @@ use Rattle.std.specs.Prelude.{ℕ, ◌+◌, List, [], ◌++◌, length, Option, 
 use Rattle.address_model.specs.Address.{Address}
 use Rattle.table_model.specs.Entries.{Entries, match_in}
 use Rattle.table_model.specs.Changes.{Change}
+use Rattle.least_model.specs.Both.{aggregate_in_both}
 use Rattle.route_model.specs.Events.{Elem}
 use Rattle.route_model.specs.Choice.{after_elems, elems_after}
 use Rattle.reading_model.specs.Input.{Progress, Stopped, input}
@@ -85,9 +86,9 @@ counts load updates routes = record {
   entries = length routes;
 }
 
--- of these routes: themselves, the changes that led to them, each address with its answer, the table, and the counts
+-- of these routes: themselves, the changes that led to them, each address with its answer, the table, the aggregate with the routes as the old table, and the counts
 abbrev pub run_of : Entries → List (ℕ × Change) → List Address → Feed → Feed → Told
-run_of routes changes asks load updates = record { routes = routes; changes = changes; answers = answers_to routes asks; table = routes; report = counts load updates routes }
+run_of routes changes asks load updates = record { routes = routes; changes = changes; answers = answers_to routes asks; table = routes; least = aggregate_in_both routes routes; report = counts load updates routes }
 
 -- the changes of the load and those of the updates, with these numbers of hops
 abbrev pub changes_of : List Address → Feed → Feed → List (ℕ × Change)

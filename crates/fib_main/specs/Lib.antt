@@ -2,6 +2,7 @@ pub mod Asks
 pub mod Stops
 pub mod Due
 pub mod Seen
+pub mod Held
 pub mod Standing
 pub mod Ends
 pub mod Reads

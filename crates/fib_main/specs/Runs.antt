@@ -4,6 +4,7 @@ use Rattle.std.specs.List.{AllByRecursion}
 use Rattle.address_model.specs.Address.{Address}
 use Rattle.table_model.specs.Entries.{match_in, AlikeInBoth}
 use Rattle.table_model.specs.Changes.{sum_of}
+use Rattle.least_model.specs.Both.{LeastInBoth}
 use Rattle.fib_report.specs.Seen.{Told}
 use Rattle.fib_main.specs.Stops.{Stop}
 use Rattle.fib_main.specs.Due.{Printed}
@@ -24,3 +25,7 @@ Forwards told = AlikeInBoth told.table told.routes
 -- each answer is the longest match among the routes
 abbrev pub Answers : Told → Type 0
 Answers told = AllByRecursion (λ (a : Address × ℕ). a.1 ≡ match_in told.routes a.0) told.answers
+
+-- The least table sends every address where the routes send it, and in either family no table that does so has fewer entries, drop entries counted.
+abbrev pub HasLeast : Told → Type 0
+HasLeast told = LeastInBoth told.routes told.least

@@ -1,7 +1,6 @@
 -- What a clause sees of this crate's values.
 use Rattle.std.specs.Prelude.{ℕ, ◌+◌, List, map}
 use Rattle.address_model.specs.Address.{Address, Prefix}
-use Rattle.table_model.specs.Entries.{Entries}
 use Rattle.table_model.specs.Changes.{Change}
 use Rattle.feed_model.specs.Feed.{number_in}
 use Rattle.fib_prefix.specs.declared.addr.Addr as code_addr
@@ -12,10 +11,6 @@ use Rattle.fib_report.specs.declared.run.Change as code_change
 use Rattle.fib_report.specs.declared.run.Report.{Report}
 use Rattle.fib_report.specs.Seen.{change_as}
 use Rattle.fib_main.specs.declared.feed.Counts.{Counts}
-
--- the entries of an ordered map
-abbrev pub entries_as : List (code_prefix.Prefix × code_hop.Hop) → Entries
-entries_as entries = map (λ e. (prefix_as e.0, e.1.0)) entries
 
 -- changes with their events' numbers
 abbrev pub changes_as : List (ℕ × code_change.Change) → List (ℕ × Change)

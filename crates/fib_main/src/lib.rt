@@ -13,7 +13,7 @@ mod reading;
 mod report;
 mod run;
 mod state;
-mod table;
+mod trees;
 
 pub use outcome::{MOST_LINE, Outcome, Which};
 pub use run::run_fib;

@@ -1,19 +1,24 @@
-//! What is told of a run: its routes, the changes that led to them, the answers, the table and the counts.
+//! What is told of a run: its routes, the changes that led to them, the answers, the table, the least table and the counts.
 //!
-//! Until tables are aggregated the printed table is that of the routes.
+//! The printed table is that of the routes, which is the least table's old table too.
 
 ghost use Rattle.std.specs.Prelude.{◌≡◌, ◌++◌, IfOk, map};
+ghost use Rattle.std.specs.List.Sorted.{IsStrictlySortedBy};
+ghost use Rattle.std.specs.Map.{keys_of};
+ghost use Rattle.address_model.specs.Order.{prefix_cmp};
+ghost use Rattle.table_model.specs.Entries.{Entries};
 ghost use Rattle.table_model.specs.Changes.{additions};
 ghost use Rattle.feed_model.specs.Feed.{at_event};
 ghost use Rattle.fib_prefix.specs.Seen.{addr_as, entry_as};
 ghost use Rattle.fib_main.specs.Due.{answers_to, Feed, printed, text_of};
 ghost use Rattle.fib_report.specs.Seen.{run_as};
 ghost use Rattle.fib_main.specs.Standing.{IsFed};
-ghost use Rattle.fib_main.specs.Seen.{answers_as, changes_as, entries_as, numbered, totals};
+ghost use Rattle.fib_main.specs.Held.{AreBoth, Hold, IsLooked};
+ghost use Rattle.fib_main.specs.Seen.{answers_as, changes_as, numbered, totals};
 
 use crate::feed::Counts;
 use crate::state::{State, number};
-use crate::table::{Routes, longest_match, routes_by_prefix};
+use crate::trees::Trees;
 use fib_prefix::{Addr, Entry, Hop, HopTable, Prefix};
 use fib_report::{Change, Report, Run, write_run};
 use std::alloc::{AllocError, Global};
@@ -51,12 +56,13 @@ fn additions(alloc: Global, entries: &[Entry]) -> Result<Vec<(u64, Change)>, All
 }
 
 /// Each address with its answer.
-fn answers(alloc: Global, routes: &Routes, asks: &[Addr]) -> Result<Vec<(Addr, Hop)>, AllocError>
-    ensures { IfOk result (λ answers. answers_as answers.items ≡ answers_to (entries_as routes.now.entries) (map addr_as asks.now)) }
+fn answers(alloc: Global, trees: &Trees, asks: &[Addr]) -> Result<Vec<(Addr, Hop)>, AllocError>
+    requires { AreBoth trees.now }
+    ensures { (routes : Entries) → Hold routes trees.now → IfOk result (λ answers. answers_as answers.items ≡ answers_to routes (map addr_as asks.now)) }
 {
     let mut answers = Vec::with_capacity(alloc, asks.len())?;
     for ask in asks {
-        answers.push((*ask, longest_match(routes, ask)))?;
+        answers.push((*ask, trees.answer(ask)))?;
     }
     Ok(answers)
 }
@@ -94,6 +100,26 @@ fn totals(load: &Counts, updates: &Counts, routes: usize) -> Result<Report, Allo
     })
 }
 
+/// What the trees of the routes give.
+#[derive(Drop)]
+struct Looked {
+    /// Each address with its answer.
+    answers: Vec<(Addr, Hop)>,
+    /// The least table.
+    least: Vec<Entry>,
+}
+
+/// The answers and the least table of these routes; their trees take memory no longer than this.
+fn look_up(alloc: Global, routes: &[Entry], asks: &[Addr]) -> Result<Looked, AllocError>
+    ensures { IsStrictlySortedBy prefix_cmp (keys_of (map entry_as routes.now)) → IfOk result (IsLooked (map entry_as routes.now) (map addr_as asks.now)) }
+{
+    let trees = Trees::new(alloc, routes)?;
+    Ok(Looked {
+        answers: answers(alloc, &trees, asks)?,
+        least: trees.least(alloc)?,
+    })
+}
+
 /// What was loaded and what was updated.
 #[derive(Clone, Copy)]
 pub struct Fed<'a> {
@@ -110,13 +136,14 @@ fn told(alloc: Global, state: &State, fed: &Fed<'_>, asks: &[Addr]) -> Result<Ru
     ensures { (load updates : Feed) → IsFed load updates fed.now state.now → IfOk result (λ run. run_as run ≡ (printed load updates (map addr_as asks.now)).told) }
 {
     let routes = entries(alloc, &state.hops, &state.candidates.routes()?)?;
+    let looked = look_up(alloc, &routes, asks)?;
     let loaded = entries(alloc, &state.hops, fed.loaded)?;
-    let by_prefix = routes_by_prefix(alloc, &routes)?;
     Ok(Run {
         changes: changes(alloc, &loaded, &state.changes)?,
-        answers: answers(alloc, &by_prefix, asks)?,
+        answers: looked.answers,
         report: totals(&fed.load, &fed.updates, routes.len())?,
         table: Vec::from_slice(alloc, &routes)?,
+        least: looked.least,
         routes,
     })
 }

@@ -5,7 +5,7 @@ ghost use Rattle.std.specs.String.{string_bytes};
 ghost use Rattle.fib_io.specs.Causes.{Rose};
 ghost use Rattle.fib_main.specs.Due.{due};
 ghost use Rattle.fib_main.specs.Ends.{Completes, line_of, Meets, OneRose, reads, ReadsBy, Tells, TellsOf, text_due, Writes, WritesBy};
-ghost use Rattle.fib_main.specs.Runs.{Answers, Forwards, IfDue, SumsUp};
+ghost use Rattle.fib_main.specs.Runs.{Answers, Forwards, HasLeast, IfDue, SumsUp};
 
 use crate::outcome::Outcome;
 use crate::reading::text_for;
@@ -68,8 +68,9 @@ fn ended<I: Inputs, O: Sink, E: Sink>(
 /// reading or want of memory may come before it, and a fault of writing in place of Done. Nothing is written to `out` before
 /// all is accepted. Every outcome but Done is told by one line to `err`, and a fault of `err` changes nothing.
 ///
-/// It costs n log n in the octets read and the rows written, and keeps both in memory.
-#[tactic(auto, using(crate::proofs::Completing::completes, crate::proofs::Running::sums_up, crate::proofs::Running::forwards, crate::proofs::Running::answers))]
+/// It costs n log n in the octets read and the rows written, and the routes' number times the lengths of their prefixes. The
+/// octets, the routes' trees and the rows are kept in memory.
+#[tactic(auto, using(crate::proofs::Completing::completes, crate::proofs::Running::sums_up, crate::proofs::Running::forwards, crate::proofs::Running::answers, crate::proofs::Running::least))]
 pub fn run_fib<I: Inputs, O: Sink, E: Sink>(
     alloc: Global,
     words: &[String],
@@ -100,10 +101,12 @@ pub fn run_fib<I: Inputs, O: Sink, E: Sink>(
     ensures complete { Completes (due (map string_bytes words.now) (I.content inputs.old)) (OneRose (reads (map string_bytes words.now) (I.content inputs.old)) (I.faults inputs.old) (I.faults inputs.new)) (Rose (O.faults out.old) (O.faults out.new)) result }
 
     // What is due to be printed: the changes add up to the table, the table sends every address where the routes send it,
-    // and each answer is the longest match among the routes.
+    // each answer is the longest match among the routes, and the least table sends every address where the routes send it
+    // and has no more entries in either family than any table that does.
     ensures sum { IfDue (due (map string_bytes words.now) (I.content inputs.old)) SumsUp }
     ensures forwards { IfDue (due (map string_bytes words.now) (I.content inputs.old)) Forwards }
     ensures answers { IfDue (due (map string_bytes words.now) (I.content inputs.old)) Answers }
+    ensures least { IfDue (due (map string_bytes words.now) (I.content inputs.old)) HasLeast }
 {
     ended(alloc, words, inputs, out, err)
 }

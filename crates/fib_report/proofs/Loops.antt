@@ -43,6 +43,11 @@ pub AddsRows-five : {W : Type 0} (contents : W → Option (List ℕ)) (u v w x y
     → AddsRows contents u v a → AddsRows contents v w b → AddsRows contents w x c → AddsRows contents x y d → AddsRows contents y z e → AddsRows contents u z (a ++ b ++ c ++ d ++ e)
 AddsRows-five contents u v w x y z a b c d e p q r s t = AddsRows-more contents u y z _ e (AddsRows-more contents u x y _ d (AddsRows-more contents u w x _ c (AddsRows-more contents u v w a b p q) r) s) t
 
+-- six lists of rows
+pub AddsRows-six : {W : Type 0} (contents : W → Option (List ℕ)) (t u v w x y z : Writer W) (a b c d e f : List ℕ)
+    → AddsRows contents t u a → AddsRows contents u v b → AddsRows contents v w c → AddsRows contents w x d → AddsRows contents x y e → AddsRows contents y z f → AddsRows contents t z (a ++ b ++ c ++ d ++ e ++ f)
+AddsRows-six contents t u v w x y z a b c d e f p q r s n m = AddsRows-more contents t y z _ f (AddsRows-five contents t u v w x y a b c d e p q r s n) m
+
 -- the text of a writer that began with none
 pub text_written-rows : {W : Type 0} (contents : W → Option (List ℕ)) (u v : Writer W) (rows : List ℕ) → text_written contents u ≡ Some [] → AddsRows contents u v rows → text_written contents v ≡ Some rows
 text_written-rows contents u v rows empty all = known _ _ (subst (λ o. Appends o (text_written contents v) rows) empty all.text)

@@ -26,6 +26,9 @@ route_row hops e = entry_row (codes "route") hops e
 abbrev pub table_row : List Address → Prefix × ℕ → List ℕ
 table_row hops e = entry_row (codes "table") hops e
 
+abbrev pub least_row : List Address → Prefix × ℕ → List ℕ
+least_row hops e = entry_row (codes "least") hops e
+
 -- a change: its sign, the prefix and, but for a Remove, the hop or `drop`
 abbrev pub change_fields : List Address → Change → List (List ℕ)
 change_fields hops (Add p h) = codes "+" ∷ prefix_text p ∷ hop_text hops (codes "drop") h ∷ []
@@ -52,11 +55,12 @@ report_rows r =
     ++ count_row (codes "routes") r.routes
     ++ count_row (codes "entries") r.entries
 
--- all rows: the routes, the changes, the answers, the table and the report
+-- all rows: the routes, the changes, the answers, the table, the least table and the report
 abbrev pub run_text : List Address → Told → List ℕ
 run_text hops run =
     flat_map (route_row hops) run.routes
     ++ flat_map (change_row hops) run.changes
     ++ flat_map (answer_row hops) run.answers
     ++ flat_map (table_row hops) run.table
+    ++ flat_map (least_row hops) run.least
     ++ report_rows run.report

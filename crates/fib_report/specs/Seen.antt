@@ -9,12 +9,13 @@ use Rattle.fib_report.specs.declared.run.Change.TheVariants as code
 use Rattle.fib_report.specs.declared.run.Report.{Report}
 use Rattle.fib_report.specs.declared.run.Run as code_run
 
--- What a run tells: the routes, the changes with their events' numbers, the answers with their hops' numbers, the table, and what was counted.
+-- What a run tells: the routes, the changes with their events' numbers, the answers with their hops' numbers, the table, the least table, and what was counted.
 pub record Told : Type 0 where
   pub routes : Entries
   pub changes : List (ℕ × Change)
   pub answers : List (Address × ℕ)
   pub table : Entries
+  pub least : Entries
   pub report : Report
 
 -- the change, with its prefix's bits and its hop's number
@@ -30,5 +31,6 @@ run_as run = record {
   changes = map (λ c. (c.0, change_as c.1)) run.changes.items;
   answers = map (λ a. (addr_as a.0, a.1.0)) run.answers.items;
   table = map entry_as run.table.items;
+  least = map entry_as run.least.items;
   report = run.report;
 }

@@ -1,6 +1,6 @@
 //! The report of a run as rows of text.
 //!
-//! A run is four lists, routes, changes with their events' numbers, answers to look-ups, and a table, and a few counts. Each
+//! A run is five lists, routes, changes with their events' numbers, answers to look-ups, a table and a least table, and a few counts. Each
 //! item is a row, its fields joined by commas and ended by a line feed; the format is our own, and stands in `rows`. Contracts see the run
 //! as the model's lists, and its text as a definition over these.
 //!

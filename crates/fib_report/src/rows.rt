@@ -5,6 +5,7 @@
 //!     change,EVENT,-,PREFIX        for a Remove
 //!     answer,ADDRESS,HOP
 //!     table,PREFIX,HOP
+//!     least,PREFIX,HOP
 //!     report,NAME,COUNT            for records, skipped, events, routes and entries
 //!
 //! HOP is the hop's address. Where no hop has the number it is `none` in an answer and `drop` elsewhere. A run costs its
@@ -196,11 +197,12 @@ fn text_of_run(alloc: Global, run: &Run, hops: &HopTable) -> Result<Vec<u8>, All
     put_changes(&mut out, &run.changes, hops)?;
     put_answers(&mut out, &run.answers, hops)?;
     put_entries(&mut out, b"table", &run.table, hops)?;
+    put_entries(&mut out, b"least", &run.least, hops)?;
     put_report(&mut out, &run.report)?;
     out.into_inner().map_err(|_| AllocError)
 }
 
-/// Appends the rows of a run to a text: first the routes, then the changes, the answers, the table and the report. A hop
+/// Appends the rows of a run to a text: first the routes, then the changes, the answers, the table, the least table and the report. A hop
 /// number that the hop table does not hold is written `none` in an answer and `drop` elsewhere. An `Err` changes nothing and means that
 /// memory ran out, as does each failure of csv's writer, which writes to memory here.
 pub fn write_run(

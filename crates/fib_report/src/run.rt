@@ -42,6 +42,8 @@ pub struct Run {
     pub answers: Vec<(Addr, Hop)>,
     /// The table at the end.
     pub table: Vec<Entry>,
+    /// The least table; `Hop::NONE` drops.
+    pub least: Vec<Entry>,
     /// What was counted.
     pub report: Report,
 }

@@ -17,6 +17,7 @@ fn one_route(rt: HostRuntime) -> Result<(), Fail> {
             (Addr::v4(0x0b00_0001), Hop::NONE),
         ]?,
         table: vec![in rt.alloc(); Entry { prefix: ten, hop }]?,
+        least: vec![in rt.alloc(); Entry { prefix: ten, hop }]?,
         report: Report {
             records: 2,
             skipped: 0,
@@ -33,6 +34,7 @@ change,0,+,10.0.0.0/8,192.0.2.1
 answer,10.1.2.3,192.0.2.1
 answer,11.0.0.1,none
 table,10.0.0.0/8,192.0.2.1
+least,10.0.0.0/8,192.0.2.1
 report,records,2
 report,skipped,0
 report,events,1

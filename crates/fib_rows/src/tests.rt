@@ -66,29 +66,52 @@ const LONG_HEADER: &[u8] = b"\x00\x00\x00\x00\x00\x0d\x00\x01\x01\x00\x00\x01";
 const WIDE_WITHDRAWN: &[u8] =
     b"\x00\x00\x00\x00\x00\x10\x00\x04\x00\x00\x00\x43\x00\x00\xfb\xf4\x00\x00\xfb\xff\x00\x00\x00\x01\xc0\x00\x02\x01\xc0\x00\x02\xfe\xff\xff\xff\xff\xff\xff\xff\xff\xff\xff\xff\xff\xff\xff\xff\xff\x00\x2f\x02\x00\x03\x08\x0a\x00\x14\x40\x01\x01\x00\x40\x02\x06\x02\x01\x00\x00\xfb\xf4\x40\x03\x04\xc0\x00\x02\x01\x08\x0a";
 
+/// 0.0.0.0/0 by 192.0.2.1 of the second peer with a path of length 2, and then by 192.0.2.2 of the first, of length 1.
+const ALL_TWICE: &[u8] =
+    b"\x00\x00\x00\x00\x00\x0d\x00\x02\x00\x00\x00\x43\x00\x00\x00\x00\x00\x00\x02\x00\x01\x00\x00\x00\x00\x00\x18\x40\x01\x01\x00\x40\x02\x0a\x02\x02\x00\x00\xfb\xf5\x00\x00\xfb\xf5\x40\x03\x04\xc0\x00\x02\x01\x00\x00\x00\x00\x00\x00\x00\x14\x40\x01\x01\x00\x40\x02\x06\x02\x01\x00\x00\xfb\xf4\x40\x03\x04\xc0\x00\x02\x02";
+
+/// The first peer announces 128.0.0.0/1 by 192.0.2.1 with a path of length 1.
+const UPPER_HALF: &[u8] =
+    b"\x00\x00\x00\x00\x00\x10\x00\x04\x00\x00\x00\x41\x00\x00\xfb\xf4\x00\x00\xfb\xff\x00\x00\x00\x01\xc0\x00\x02\x01\xc0\x00\x02\xfe\xff\xff\xff\xff\xff\xff\xff\xff\xff\xff\xff\xff\xff\xff\xff\xff\x00\x2d\x02\x00\x00\x00\x14\x40\x01\x01\x00\x40\x02\x06\x02\x01\x00\x00\xfb\xf4\x40\x03\x04\xc0\x00\x02\x01\x01\x80";
+
 /// A record of another type.
 const OTHER: &[u8] = b"\x00\x00\x00\x00\x00\x0c\x00\x01\x00\x00\x00\x00";
 
 const ROWS_OF_TEN: &[u8] =
-    b"route,10.0.0.0/8,192.0.2.1\nchange,0,+,10.0.0.0/8,192.0.2.1\nanswer,10.1.2.3,192.0.2.1\nanswer,11.0.0.1,none\ntable,10.0.0.0/8,192.0.2.1\nreport,records,2\nreport,skipped,0\nreport,events,1\nreport,routes,1\nreport,entries,1\n";
+    b"route,10.0.0.0/8,192.0.2.1\nchange,0,+,10.0.0.0/8,192.0.2.1\nanswer,10.1.2.3,192.0.2.1\nanswer,11.0.0.1,none\ntable,10.0.0.0/8,192.0.2.1\nleast,10.0.0.0/8,192.0.2.1\nreport,records,2\nreport,skipped,0\nreport,events,1\nreport,routes,1\nreport,entries,1\n";
 
 const ROWS_OF_BOTH: &[u8] =
-    b"route,10.0.0.0/8,192.0.2.1\nroute,10.1.0.0/16,192.0.2.2\nchange,0,+,10.0.0.0/8,192.0.2.1\nchange,0,+,10.1.0.0/16,192.0.2.2\nanswer,10.1.2.3,192.0.2.2\nanswer,10.2.0.1,192.0.2.1\ntable,10.0.0.0/8,192.0.2.1\ntable,10.1.0.0/16,192.0.2.2\nreport,records,4\nreport,skipped,1\nreport,events,2\nreport,routes,2\nreport,entries,2\n";
+    b"route,10.0.0.0/8,192.0.2.1\nroute,10.1.0.0/16,192.0.2.2\nchange,0,+,10.0.0.0/8,192.0.2.1\nchange,0,+,10.1.0.0/16,192.0.2.2\nanswer,10.1.2.3,192.0.2.2\nanswer,10.2.0.1,192.0.2.1\ntable,10.0.0.0/8,192.0.2.1\ntable,10.1.0.0/16,192.0.2.2\nleast,10.0.0.0/8,192.0.2.1\nleast,10.1.0.0/16,192.0.2.2\nreport,records,4\nreport,skipped,1\nreport,events,2\nreport,routes,2\nreport,entries,2\n";
 
 const ROWS_OF_SIX: &[u8] =
-    b"route,2001:db8::/32,2001:db8::1\nchange,0,+,2001:db8::/32,2001:db8::1\nanswer,2001:db8::5,2001:db8::1\nanswer,::,none\ntable,2001:db8::/32,2001:db8::1\nreport,records,2\nreport,skipped,0\nreport,events,1\nreport,routes,1\nreport,entries,1\n";
+    b"route,2001:db8::/32,2001:db8::1\nchange,0,+,2001:db8::/32,2001:db8::1\nanswer,2001:db8::5,2001:db8::1\nanswer,::,none\ntable,2001:db8::/32,2001:db8::1\nleast,2001:db8::/32,2001:db8::1\nreport,records,2\nreport,skipped,0\nreport,events,1\nreport,routes,1\nreport,entries,1\n";
 
 const ROWS_OF_LONGER: &[u8] =
-    b"route,10.0.0.0/8,192.0.2.2\nchange,0,+,10.0.0.0/8,192.0.2.1\nchange,1,=,10.0.0.0/8,192.0.2.2\ntable,10.0.0.0/8,192.0.2.2\nreport,records,3\nreport,skipped,0\nreport,events,3\nreport,routes,1\nreport,entries,1\n";
+    b"route,10.0.0.0/8,192.0.2.2\nchange,0,+,10.0.0.0/8,192.0.2.1\nchange,1,=,10.0.0.0/8,192.0.2.2\ntable,10.0.0.0/8,192.0.2.2\nleast,10.0.0.0/8,192.0.2.2\nreport,records,3\nreport,skipped,0\nreport,events,3\nreport,routes,1\nreport,entries,1\n";
 
 const ROWS_OF_GONE_AND_BACK: &[u8] =
-    b"route,10.0.0.0/8,192.0.2.1\nchange,0,+,10.0.0.0/8,192.0.2.1\nchange,1,-,10.0.0.0/8\nchange,2,+,10.0.0.0/8,192.0.2.1\ntable,10.0.0.0/8,192.0.2.1\nreport,records,3\nreport,skipped,0\nreport,events,3\nreport,routes,1\nreport,entries,1\n";
+    b"route,10.0.0.0/8,192.0.2.1\nchange,0,+,10.0.0.0/8,192.0.2.1\nchange,1,-,10.0.0.0/8\nchange,2,+,10.0.0.0/8,192.0.2.1\ntable,10.0.0.0/8,192.0.2.1\nleast,10.0.0.0/8,192.0.2.1\nreport,records,3\nreport,skipped,0\nreport,events,3\nreport,routes,1\nreport,entries,1\n";
 
 const ROWS_OF_LOST: &[u8] =
     b"change,0,+,10.0.0.0/8,192.0.2.1\nchange,0,+,10.1.0.0/16,192.0.2.2\nchange,1,-,10.0.0.0/8\nchange,2,-,10.1.0.0/16\nreport,records,5\nreport,skipped,0\nreport,events,4\nreport,routes,0\nreport,entries,0\n";
 
 const ROWS_OF_SET: &[u8] =
-    b"route,10.0.0.0/8,192.0.2.1\nchange,0,+,10.0.0.0/8,192.0.2.1\ntable,10.0.0.0/8,192.0.2.1\nreport,records,2\nreport,skipped,0\nreport,events,2\nreport,routes,1\nreport,entries,1\n";
+    b"route,10.0.0.0/8,192.0.2.1\nchange,0,+,10.0.0.0/8,192.0.2.1\ntable,10.0.0.0/8,192.0.2.1\nleast,10.0.0.0/8,192.0.2.1\nreport,records,2\nreport,skipped,0\nreport,events,2\nreport,routes,1\nreport,entries,1\n";
+
+const ROWS_OF_TIE: &[u8] =
+    b"route,0.0.0.0/2,192.0.2.1\nroute,64.0.0.0/2,192.0.2.2\nroute,128.0.0.0/2,192.0.2.1\nroute,192.0.0.0/2,192.0.2.2\nchange,0,+,0.0.0.0/2,192.0.2.1\nchange,0,+,64.0.0.0/2,192.0.2.2\nchange,0,+,128.0.0.0/2,192.0.2.1\nchange,0,+,192.0.0.0/2,192.0.2.2\ntable,0.0.0.0/2,192.0.2.1\ntable,64.0.0.0/2,192.0.2.2\ntable,128.0.0.0/2,192.0.2.1\ntable,192.0.0.0/2,192.0.2.2\nleast,0.0.0.0/0,192.0.2.1\nleast,64.0.0.0/2,192.0.2.2\nleast,192.0.0.0/2,192.0.2.2\nreport,records,5\nreport,skipped,0\nreport,events,4\nreport,routes,4\nreport,entries,4\n";
+
+const ROWS_OF_DROP: &[u8] =
+    b"route,0.0.0.0/3,192.0.2.1\nroute,32.0.0.0/3,192.0.2.1\nroute,64.0.0.0/3,192.0.2.1\nroute,96.0.0.0/3,192.0.2.1\nroute,128.0.0.0/3,192.0.2.1\nroute,160.0.0.0/3,192.0.2.1\nroute,192.0.0.0/3,192.0.2.1\nchange,0,+,0.0.0.0/3,192.0.2.1\nchange,0,+,32.0.0.0/3,192.0.2.1\nchange,0,+,64.0.0.0/3,192.0.2.1\nchange,0,+,96.0.0.0/3,192.0.2.1\nchange,0,+,128.0.0.0/3,192.0.2.1\nchange,0,+,160.0.0.0/3,192.0.2.1\nchange,0,+,192.0.0.0/3,192.0.2.1\ntable,0.0.0.0/3,192.0.2.1\ntable,32.0.0.0/3,192.0.2.1\ntable,64.0.0.0/3,192.0.2.1\ntable,96.0.0.0/3,192.0.2.1\ntable,128.0.0.0/3,192.0.2.1\ntable,160.0.0.0/3,192.0.2.1\ntable,192.0.0.0/3,192.0.2.1\nleast,0.0.0.0/0,192.0.2.1\nleast,224.0.0.0/3,drop\nreport,records,8\nreport,skipped,0\nreport,events,7\nreport,routes,7\nreport,entries,7\n";
+
+const ROWS_OF_MEET: &[u8] =
+    b"route,0.0.0.0/1,192.0.2.1\nroute,128.0.0.0/1,192.0.2.1\nchange,0,+,0.0.0.0/1,192.0.2.1\nchange,0,+,128.0.0.0/1,192.0.2.1\ntable,0.0.0.0/1,192.0.2.1\ntable,128.0.0.0/1,192.0.2.1\nleast,0.0.0.0/0,192.0.2.1\nreport,records,3\nreport,skipped,0\nreport,events,2\nreport,routes,2\nreport,entries,2\n";
+
+const ROWS_OF_KEPT_HOP: &[u8] =
+    b"route,0.0.0.0/0,192.0.2.2\nroute,128.0.0.0/1,192.0.2.1\nchange,0,+,0.0.0.0/0,192.0.2.2\nchange,1,+,128.0.0.0/1,192.0.2.1\ntable,0.0.0.0/0,192.0.2.2\ntable,128.0.0.0/1,192.0.2.1\nleast,0.0.0.0/0,192.0.2.2\nleast,128.0.0.0/1,192.0.2.1\nreport,records,3\nreport,skipped,0\nreport,events,3\nreport,routes,2\nreport,entries,2\n";
+
+const ROWS_OF_DROP_BEFORE_HOP: &[u8] =
+    b"route,0.0.0.0/1,192.0.2.1\nroute,128.0.0.0/2,192.0.2.1\nroute,224.0.0.0/3,192.0.2.2\nchange,0,+,0.0.0.0/1,192.0.2.1\nchange,0,+,128.0.0.0/2,192.0.2.1\nchange,0,+,224.0.0.0/3,192.0.2.2\ntable,0.0.0.0/1,192.0.2.1\ntable,128.0.0.0/2,192.0.2.1\ntable,224.0.0.0/3,192.0.2.2\nleast,0.0.0.0/0,192.0.2.1\nleast,192.0.0.0/2,drop\nleast,224.0.0.0/3,192.0.2.2\nreport,records,4\nreport,skipped,0\nreport,events,3\nreport,routes,3\nreport,entries,3\n";
 
 /// What a run is given. Reads and writes are counted from 1, and 0 fails none.
 #[derive(Clone, Copy)]
@@ -166,6 +189,21 @@ fn joined(alloc: Global, records: &[&[u8]]) -> Result<Vec<u8>, Fail> {
     let mut octets = Vec::new(alloc);
     for record in records {
         octets.extend_from_slice(record)?;
+    }
+    Ok(octets)
+}
+
+/// A route by the first octet of its prefix, the prefix's length and the last octet of its hop 192.0.2.x.
+type Route = (u8, u8, u8);
+
+/// Their records, each by the first peer with a path of length 1.
+fn records_of(alloc: Global, routes: &[Route]) -> Result<Vec<u8>, Fail> {
+    let mut octets = Vec::new(alloc);
+    for (front, len, hop) in routes {
+        octets.extend_from_slice(&TEN[..16])?;
+        octets.extend_from_slice(&[*len, *front])?;
+        octets.extend_from_slice(&TEN[18..47])?;
+        octets.push(*hop)?;
     }
     Ok(octets)
 }
@@ -276,6 +314,83 @@ fn rows_of_routes_and_updates(rt: HostRuntime) -> Result<(), Fail> {
             err: b"",
         };
         check(&rt, name, &given, &done)?;
+    }
+    Ok(())
+}
+
+/// What is loaded, the updates, and the rows that are due.
+#[derive(Clone, Copy)]
+struct Least<'a> {
+    name: &'a str,
+    record: &'a [u8],
+    routes: &'a [Route],
+    updates: &'a [&'a [u8]],
+    out: &'a [u8],
+}
+
+const LEAST: [Least<'static>; 5] = [
+    Least {
+        name: "a tie of hops",
+        record: b"",
+        routes: &[(0, 2, 1), (64, 2, 2), (128, 2, 1), (192, 2, 2)],
+        updates: &[],
+        out: ROWS_OF_TIE,
+    },
+    Least {
+        name: "a drop entry",
+        record: b"",
+        routes: &[
+            (0, 3, 1),
+            (32, 3, 1),
+            (64, 3, 1),
+            (96, 3, 1),
+            (128, 3, 1),
+            (160, 3, 1),
+            (192, 3, 1),
+        ],
+        updates: &[],
+        out: ROWS_OF_DROP,
+    },
+    Least {
+        name: "two halves meet",
+        record: b"",
+        routes: &[(0, 1, 1), (128, 1, 1)],
+        updates: &[],
+        out: ROWS_OF_MEET,
+    },
+    Least {
+        name: "the old hop is kept",
+        record: ALL_TWICE,
+        routes: &[],
+        updates: &[UPPER_HALF],
+        out: ROWS_OF_KEPT_HOP,
+    },
+    Least {
+        name: "none comes before a hop",
+        record: b"",
+        routes: &[(0, 1, 1), (128, 2, 1), (224, 3, 2)],
+        updates: &[],
+        out: ROWS_OF_DROP_BEFORE_HOP,
+    },
+];
+
+#[test]
+fn rows_of_least_tables(rt: HostRuntime) -> Result<(), Fail> {
+    for least in LEAST {
+        let routes = records_of(rt.alloc(), least.routes)?;
+        let given = Given {
+            words: WITH_UPDATES,
+            dump: &[TWO_PEERS, least.record, &routes],
+            updates: least.updates,
+            ..FIRST
+        };
+        let done = Expected {
+            outcome: Outcome::Done,
+            status: 0,
+            out: least.out,
+            err: b"",
+        };
+        check(&rt, least.name, &given, &done)?;
     }
     Ok(())
 }

@@ -1,0 +1,10 @@
+use Rattle.std.proofs.Common.{map}
+use Rattle.fib_prefix.specs.Seen.{entry_as}
+use Rattle.fib_main.proofs.Looking.{given_hold}
+use Rattle.fib_main.proofs.report.look_up.Goals as goal
+
+pub returns : goal.returns
+returns c = λ sorted.
+    let routes = map entry_as c.args.routes.now in
+    let hold = given_hold routes c.in_ok-trees.trees sorted c.in_ok-trees.ensures.given in
+    record { answers = c.in_ok-answers.ensures routes hold; least = c.in_ok-least.ensures routes hold }
