@@ -1,12 +1,13 @@
 #!/usr/bin/env python3
 """Measures a program on inputs of several sizes.
 
-Usage:  measure.py PROGRAM
+Usage:  measure.py PROGRAM [--table]
 
 Runs `PROGRAM run DUMP --updates UPDATES --ask ASKS` with its output to a file on inputs of
 make_inputs.py, and prints the best time of three; then once more for its peak of memory. The
-first line of each size is the dump alone. A run that doesn't end with 0 or hasn't the routes
-that are due ends it with status 1. No time and no memory is judged.
+first line of each size is the dump alone. With --table it runs `PROGRAM run DUMP` on whole
+tables of make_table.py. A run that doesn't end with 0 or hasn't the routes that are due ends it
+with status 1. No time and no memory is judged.
 """
 
 import argparse
@@ -20,17 +21,27 @@ from collections import Counter
 
 HERE = os.path.dirname(os.path.abspath(__file__))
 SIZES = (50_000, 100_000, 200_000)
+TABLES = ((250_000, 50_000), (500_000, 100_000), (1_000_000, 200_000))
 ASKS = 1000
 SEED = 1
 RUNS = 3
 MIB = 1024                          # KiB
 
 
-def make(n, folder):
-    """Makes the inputs in a process of its own, so that this one stays small."""
-    subprocess.run([sys.executable, os.path.join(HERE, "make_inputs.py"), str(n), str(n), str(ASKS), str(SEED), folder],
-                   check=True)
+def make(script, *words):
+    """Makes inputs in a process of its own, so that this one stays small."""
+    subprocess.run([sys.executable, os.path.join(HERE, script), *map(str, words)], check=True)
+
+
+def make_inputs(n, folder):
+    make("make_inputs.py", n, n, ASKS, SEED, folder)
     return [os.path.join(folder, name) for name in ("dump.mrt", "updates.mrt", "asks.txt")]
+
+
+def make_table(counts, folder):
+    dump = os.path.join(folder, "table.mrt")
+    make("make_table.py", *counts, SEED, dump)
+    return dump
 
 
 def start(words, out):
@@ -87,26 +98,43 @@ def measured(words, out, octets, routes):
         if rows["route"] != routes or rows["table"] != routes:
             sys.exit("%s: %d routes due, printed %s" % (" ".join(words[1:]), routes, dict(rows)))
         best = seconds if best is None else min(best, seconds)
-    return octets, best, octets / best / 1e6, peak(words, out) / MIB, sum(rows.values())
+    return octets, best, octets / best / 1e6, peak(words, out) / MIB, rows
+
+
+def peers(program, folder, out):
+    """All peers' routes with updates, at several sizes."""
+    print("%8s %8s %11s %9s %9s %9s %9s" % ("prefixes", "updates", "octets", "seconds", "MB/s", "peak MiB", "rows"))
+
+    def row(updates, *run):
+        *columns, rows = measured(*run)
+        print("%8d %8d %11d %9.2f %9.1f %9.0f %9d" % (n, updates, *columns, sum(rows.values())), flush=True)
+
+    for n in SIZES:
+        dump, updates, asks = make_inputs(n, folder)
+        octets = os.path.getsize(dump)
+        row(0, [program, "run", dump, "--ask", asks], out, octets, n)
+        row(n, [program, "run", dump, "--updates", updates, "--ask", asks], out, octets + os.path.getsize(updates), n)
+
+
+def tables(program, folder, out):
+    """Whole tables of one peer, at several sizes."""
+    print("%8s %8s %11s %9s %9s %9s %9s" % ("IPv4", "IPv6", "octets", "seconds", "MB/s", "peak MiB", "least"))
+    for counts in TABLES:
+        dump = make_table(counts, folder)
+        *columns, rows = measured([program, "run", dump], out, os.path.getsize(dump), sum(counts))
+        print("%8d %8d %11d %9.2f %9.1f %9.0f %9d" % (*counts, *columns, rows["least"]), flush=True)
 
 
 def main():
     ap = argparse.ArgumentParser(description="Measures a program on inputs of several sizes.")
     ap.add_argument("program", metavar="PROGRAM")
-    name = ap.parse_args().program
-    program = shutil.which(os.path.abspath(name)) or shutil.which(name)
+    ap.add_argument("--table", action="store_true", help="on whole tables of one peer")
+    args = ap.parse_args()
+    program = shutil.which(os.path.abspath(args.program)) or shutil.which(args.program)
     if program is None:
-        sys.exit("no such program: " + name)
-    print("%8s %8s %11s %9s %9s %9s %9s" % ("prefixes", "updates", "octets", "seconds", "MB/s", "peak MiB", "rows"))
-    line = "%8d %8d %11d %9.2f %9.1f %9.0f %9d"
+        sys.exit("no such program: " + args.program)
     with tempfile.TemporaryDirectory() as folder:
-        out = os.path.join(folder, "out")
-        for n in SIZES:
-            dump, updates, asks = make(n, folder)
-            octets = os.path.getsize(dump)
-            print(line % (n, 0, *measured([program, "run", dump, "--ask", asks], out, octets, n)), flush=True)
-            words = [program, "run", dump, "--updates", updates, "--ask", asks]
-            print(line % (n, n, *measured(words, out, octets + os.path.getsize(updates), n)), flush=True)
+        (tables if args.table else peers)(program, folder, os.path.join(folder, "out"))
     print("cores: %s" % os.cpu_count())
 
 
