@@ -1,11 +1,9 @@
 -- What is asked about a prefix, of a family's table.
-use Rattle.std.proofs.Common.{◌≡◌, ◌≢◌, ℕ, ◌≤◌, List, [], ◌∷◌, Bool, true, false, length, refl, sym, ap, ◌∙◌, subst, Option, Some, None}
+use Rattle.std.proofs.Common.{◌≡◌, ℕ, ◌≤◌, List, Bool, true, refl, sym, ap, ◌∙◌, subst, Option, Some, None}
 use Rattle.std.specs.Prelude.{◌&&◌}
-use Rattle.std.specs.List.{AllByRecursion}
-use Rattle.std.specs.Map.{keys_of}
 use Rattle.address_model.specs.Bits.{begins}
 use Rattle.address_model.specs.Width.{width}
-use Rattle.address_model.specs.Address.{Address, Prefix, IsAddress, IsPrefix, contains, same_family}
+use Rattle.address_model.specs.Address.{same_family}
 use Rattle.address_model.specs.declared.family.Family.{Family}
 use Rattle.address_model.specs.declared.family.Family.TheVariants.{V4, V6}
 use Rattle.table_model.specs.Table.{Table, lpm}

@@ -4,7 +4,7 @@ use Rattle.std.specs.Prelude.{bit_and}
 use Rattle.std.specs.Option.{unwrap_or}
 use Rattle.std.specs.declared.alloc.Global.{Global}
 use Rattle.std.proofs.lemmas.Bool.{eqb-true, eqb-false}
-use Rattle.address_model.specs.Bits.{bits_of, begins}
+use Rattle.address_model.specs.Bits.{bits_of}
 use Rattle.table_model.specs.Table.{Table, lpm, inherit}
 use Rattle.least_model.specs.Regions.{join}
 use Rattle.least_model.proofs.Join.{lpm_join_low, lpm_join_high}

@@ -60,7 +60,11 @@ impl Cover {
         match hop {
             Some(hop) => Cover {
                 passes: false,
-                hops: if passes { hops.and(Hops::One(hop)) } else { hops },
+                hops: if passes {
+                    hops.and(Hops::One(hop))
+                } else {
+                    hops
+                },
             },
             None => Cover { passes, hops },
         }

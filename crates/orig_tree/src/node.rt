@@ -1,4 +1,4 @@
-//! Nodes of the tree.
+//! Nodes of the tree, with a cover beside each label, which each change on a path tells again on its way up.
 
 ghost use Rattle.std.specs.Prelude.{◌≡◌, ◌≤◌, ◌-◌, ℕ, OnOk, OnErr, IsOk, List, Bool, true, [], map, ◌++◌};
 ghost use Rattle.address_model.specs.Bits.{bits_of};
@@ -176,7 +176,7 @@ fn room_behind(
     }
 }
 
-/// What the addresses behind a link get.
+/// What the addresses of the region behind a link get from a label's table there.
 #[tactic(auto, using(crate::proofs::Covers::bare_cover))]
 fn cover_behind(label: Label, link: &Option<Box<Node>>) -> Cover
     ensures { IsCover (rows_of label (behind link.now)) result }
@@ -187,6 +187,7 @@ fn cover_behind(label: Label, link: &Option<Box<Node>>) -> Cover
     }
 }
 
+/// What the addresses of a node's region get from a label's table there.
 fn cover_of(node: &Node, label: Label) -> Cover
     ensures { IsCover (rows_of label node.now) result }
 {
@@ -196,7 +197,7 @@ fn cover_of(node: &Node, label: Label) -> Cover
     }
 }
 
-/// Sets one of a node's labels, and its cover.
+/// Sets one of a node's labels, and its cover from those of the halves.
 #[tactic(auto, using(crate::proofs::Covers::cover_level))]
 fn retell(
     label: Label,
@@ -273,13 +274,7 @@ fn assign_behind(link: &mut Option<Box<Node>>, label: Label, q: u128, left: u8, 
 
 /// The hop that all of a path's addresses get, or none where two get different ones.
 #[tactic(auto, using(crate::proofs::Kept::uniform_no_high, crate::proofs::Kept::uniform_no_low))]
-pub(crate) fn uniform(
-    node: &Node,
-    label: Label,
-    q: u128,
-    left: u8,
-    inherited: u16,
-) -> Option<u16>
+pub(crate) fn uniform(node: &Node, label: Label, q: u128, left: u8, inherited: u16) -> Option<u16>
     requires { left ≤ 128 }
     ensures { (n : ℕ) → left ≤ n → Fits n (rows_of label node.now) → IsUniform n (rows_of label node.now) inherited (bits_of left q) result }
 {

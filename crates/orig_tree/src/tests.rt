@@ -51,7 +51,10 @@ fn routes_and_entries_are_apart(rt: HostRuntime) -> Result<(), AllocError> {
     assert_eq!(rt; uniform(&RoutesOf(&tree), &beside), Some(Hop(1)));
     assert_eq!(rt; uniform(&EntriesOf(&tree), &wide), Some(Hop(3)));
     assert_eq!(rt; uniform(&EntriesOf(&tree), &prefix(0, 0)), None);
-    assert_eq!(rt; uniform(&EntriesOf(&tree), &prefix(0x0b00_0000, 8)), Some(Hop::NONE));
+    assert_eq!(rt;
+        uniform(&EntriesOf(&tree), &prefix(0x0b00_0000, 8)),
+        Some(Hop::NONE)
+    );
     assert_eq!(rt; tree.answer_route(&Addr::v4(0x0a01_0001)), Hop(2));
     assert_eq!(rt; tree.answer_entry(&Addr::v4(0x0a01_0001)), Hop(3));
     assert_eq!(rt; tree.inherited(&narrow), Hop(3));
