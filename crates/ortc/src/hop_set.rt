@@ -136,13 +136,7 @@ pub fn own_hop(set: &HopSet, old: Option<u16>, inherited: u16) -> Option<u16>
         return None;
     }
     match old {
-        Some(hop) => {
-            if set.contains(hop) {
-                Some(hop)
-            } else {
-                Some(set.least())
-            }
-        }
-        None => Some(set.least()),
+        Some(hop) if set.contains(hop) => Some(hop),
+        _ => Some(set.least()),
     }
 }
