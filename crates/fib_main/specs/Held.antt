@@ -1,7 +1,7 @@
 -- What the trees of both families hold.
-use Rattle.std.specs.Prelude.{◌≡◌, ℕ, List, map}
+use Rattle.std.specs.Prelude.{◌≡◌, List, map}
 use Rattle.std.specs.List.{filter}
-use Rattle.address_model.specs.Address.{Address, Prefix, same_family}
+use Rattle.address_model.specs.Address.{Address, same_family}
 use Rattle.address_model.specs.declared.family.Family.{Family}
 use Rattle.address_model.specs.declared.family.Family.TheVariants.{V4, V6}
 use Rattle.table_model.specs.Entries.{Entries, of_family, in_order}
