@@ -1,0 +1,125 @@
+-- Entries are dealt out to the halves of a region.
+use Rattle.std.proofs.Common.{◌≡◌, ◌≢◌, ℕ, zero, suc, ◌+◌, ◌-◌, ◌/◌, ◌^◌, ◌<◌, List, [], ◌∷◌, ◌++◌, Bool, true, false, cond, Option, Some, None, length, map, take, get_or, nat_eq, refl, sym, ap, ◌∙◌, arith, append-nil, eq-eqb}
+use Rattle.std.specs.Prelude.{bit_and}
+use Rattle.std.proofs.lemmas.Bool.{ne_eqb, cond-true, cond-false}
+use Rattle.std.proofs.lemmas.Nat.Bits.{shr_and_one}
+use Rattle.address_model.specs.Bits.{bits_of}
+use Rattle.address_model.specs.Width.{width}
+use Rattle.address_model.specs.Address.{same_family}
+use Rattle.address_model.specs.declared.family.Family.{Family}
+use Rattle.address_model.proofs.Same.{same_family_is}
+use Rattle.table_model.specs.Table.{Table, root, root_of, half, half_of}
+use Rattle.table_model.specs.Table.{Entry as ModelEntry}
+use Rattle.table_model.specs.Entries.{Entries, of_family}
+use Rattle.least_model.proofs.Join.{half_append}
+use Rattle.fib_prefix.specs.Seen.{entry_as}
+use Rattle.fib_prefix.specs.declared.entry.Entry as code
+use Rattle.cert_check.specs.declared.runs.Part.{Part}
+use Rattle.cert_check.specs.Runs.{part_as, table_of, first_own}
+
+-- ---- the bits of a part
+
+first_of_taken : (d l n : ℕ) (b : Bool) → l ≢ 0 → nat_eq (bit_and (n / 2 ^ d) 1) 1 ≡ b → take l (bits_of (d + 1) n) ≡ b ∷ take (l - 1) (bits_of d n)
+unfolding bits_of
+first_of_taken d zero n b h e = absurd (h refl)
+first_of_taken d (suc l) n b h e =
+    let f : suc l - 1 ≡ l = omega arith in
+    let g : d + 1 ≡ suc d = omega arith in
+    ap (λ j. take (suc l) (bits_of j n)) g ∙ (ap (λ x. x ∷ take l (bits_of d n)) (sym (ap (λ x. nat_eq x 1) (shr_and_one n d)) ∙ e) ∙ ap (λ j. b ∷ take j (bits_of d n)) (sym f))
+
+pub taken_one : (d l n : ℕ) → l ≢ 0 → bit_and (n / 2 ^ d) 1 ≡ 1 → take l (bits_of (d + 1) n) ≡ true ∷ take (l - 1) (bits_of d n)
+taken_one d l n h e = first_of_taken d l n true h (eq-eqb _ _ e)
+
+pub taken_zero : (d l n : ℕ) → l ≢ 0 → bit_and (n / 2 ^ d) 1 ≢ 1 → take l (bits_of (d + 1) n) ≡ false ∷ take (l - 1) (bits_of d n)
+taken_zero d l n h e = first_of_taken d l n false h (ne_eqb _ _ e)
+
+-- ---- one part
+
+module _ {X Y : Type 0} (f : X → Y) where
+  pub map_push : (xs : List X) (x : X) → map f (xs ++ x ∷ []) ≡ map f xs ++ f x ∷ []
+  map_push [] x = refl
+  map_push (y ∷ xs) x = ap (λ ys. f y ∷ ys) (map_push xs x)
+
+  pub take_next : (xs : List X) (i : ℕ) (x z : X) → i < length xs → x ≡ get_or xs i z → map f (take (i + 1) xs) ≡ map f (take i xs) ++ f x ∷ []
+  take_next [] i x z h e = absurd (omega arith)
+  take_next (y ∷ xs) zero x z h e = ap (λ a. f a ∷ []) (sym e)
+  take_next (y ∷ xs) (suc i) x z h e = let g : suc i + 1 ≡ suc (i + 1) = omega arith in ap (λ j. map f (take j (y ∷ xs))) g ∙ ap (λ ys. f y ∷ ys) (take_next xs i x z (omega arith) e)
+
+no_more : (d : ℕ) (parts : List Part) → table_of d parts ≡ table_of d parts ++ []
+no_more d parts = sym (append-nil (table_of d parts))
+
+own_kept : (own : Option ℕ) → own ≡ first_own own None
+own_kept None = refl
+own_kept (Some h) = refl
+
+pub own_stays : (own : Option ℕ) (b : Bool) (p q : List Bool) (hop : ℕ) → p ≡ b ∷ q → own ≡ first_own own (root_of p hop None)
+own_stays own b p q hop e = own_kept own ∙ ap (λ x. first_own own (root_of x hop None)) (sym e)
+
+pub half_stays_low : (d : ℕ) (parts : List Part) (p q : List Bool) (hop : ℕ) → p ≡ true ∷ q → table_of d parts ≡ table_of d parts ++ half_of false p hop []
+half_stays_low d parts p q hop e = no_more d parts ∙ ap (λ x. table_of d parts ++ half_of false x hop []) (sym e)
+
+pub half_stays_high : (d : ℕ) (parts : List Part) (p q : List Bool) (hop : ℕ) → p ≡ false ∷ q → table_of d parts ≡ table_of d parts ++ half_of true p hop []
+half_stays_high d parts p q hop e = no_more d parts ∙ ap (λ x. table_of d parts ++ half_of true x hop []) (sym e)
+
+pub half_grows_high : (d : ℕ) (old new : List Part) (p : List Bool) (bits len hop : ℕ) → new ≡ old ++ record { bits = bits; len = len; hop = hop } ∷ [] → p ≡ true ∷ take len (bits_of d bits)
+    → table_of d new ≡ table_of d old ++ half_of true p hop []
+half_grows_high d old new p bits len hop e f =
+    ap (table_of d) e ∙ (map_push (part_as d) old (record { bits = bits; len = len; hop = hop }) ∙ ap (λ x. table_of d old ++ half_of true x hop []) (sym f))
+
+pub half_grows_low : (d : ℕ) (old new : List Part) (p : List Bool) (bits len hop : ℕ) → new ≡ old ++ record { bits = bits; len = len; hop = hop } ∷ [] → p ≡ false ∷ take len (bits_of d bits)
+    → table_of d new ≡ table_of d old ++ half_of false p hop []
+half_grows_low d old new p bits len hop e f =
+    ap (table_of d) e ∙ (map_push (part_as d) old (record { bits = bits; len = len; hop = hop }) ∙ ap (λ x. table_of d old ++ half_of false x hop []) (sym f))
+
+-- ---- parts one after another
+
+root_push : (L : Table) (e : ModelEntry) → root (L ++ e ∷ []) ≡ first_own (root L) (root (e ∷ []))
+root_push [] e = refl
+root_push (x ∷ L) e = by_prefix x.prefix (root_push L e)
+  where
+    by_prefix : (p : List Bool) → root (L ++ e ∷ []) ≡ first_own (root L) (root (e ∷ [])) → root_of p x.hop (root (L ++ e ∷ [])) ≡ first_own (root_of p x.hop (root L)) (root (e ∷ []))
+    by_prefix [] ih = refl
+    by_prefix (b ∷ p) ih = ih
+
+pub own_next : (d i : ℕ) (parts : List Part) (part z : Part) (own new : Option ℕ) → i < length parts → part ≡ get_or parts i z → own ≡ root (table_of d (take i parts))
+    → new ≡ first_own own (root (part_as d part ∷ [])) → new ≡ root (table_of d (take (i + 1) parts))
+own_next d i parts part z own new lt is e f =
+    f ∙ (ap (λ x. first_own x (root (part_as d part ∷ []))) e ∙ (sym (root_push (table_of d (take i parts)) (part_as d part)) ∙ ap root (sym (take_next (part_as d) parts i part z lt is))))
+
+pub half_next : (b : Bool) (d i : ℕ) (parts : List Part) (part z : Part) (old new : Table) → i < length parts → part ≡ get_or parts i z → old ≡ half b (table_of d (take i parts))
+    → new ≡ old ++ half b (part_as d part ∷ []) → new ≡ half b (table_of d (take (i + 1) parts))
+half_next b d i parts part z old new lt is e f =
+    f ∙ (ap (λ x. x ++ half b (part_as d part ∷ [])) e ∙ (sym (half_append b (table_of d (take i parts)) (part_as d part ∷ [])) ∙ ap (half b) (sym (take_next (part_as d) parts i part z lt is))))
+
+-- ---- the entries of a family
+
+family_push : (f : Family) (L : Entries) (M : Entries) → of_family f (L ++ M) ≡ of_family f L ++ of_family f M
+family_push f [] M = refl
+family_push f (e ∷ L) M = by_test (same_family f e.0.family) (family_push f L M)
+  where
+    by_test : (b : Bool) → of_family f (L ++ M) ≡ of_family f L ++ of_family f M
+        → cond b (record { prefix = e.0.bits; hop = e.1 } ∷ of_family f (L ++ M)) (of_family f (L ++ M)) ≡ cond b (record { prefix = e.0.bits; hop = e.1 } ∷ of_family f L) (of_family f L) ++ of_family f M
+    by_test true ih = ap (λ xs. record { prefix = e.0.bits; hop = e.1 } ∷ xs) ih
+    by_test false ih = ih
+
+pub family_next : (f : Family) (entries : List code.Entry) (i : ℕ) (e : code.Entry) → i < length entries → e ≡ get_or entries i e
+    → of_family f (map entry_as (take (i + 1) entries)) ≡ of_family f (map entry_as (take i entries)) ++ of_family f (entry_as e ∷ [])
+family_next f entries i e lt is = ap (of_family f) (take_next entry_as entries i e e lt is) ∙ family_push f (map entry_as (take i entries)) (entry_as e ∷ [])
+
+pub other_family : (f : Family) (entries : List code.Entry) (i : ℕ) (e : code.Entry) (old new : List Part) → i < length entries → e ≡ get_or entries i e → same_family f e.prefix.family ≡ false
+    → table_of (width f) old ≡ of_family f (map entry_as (take i entries)) → new ≡ old → table_of (width f) new ≡ of_family f (map entry_as (take (i + 1) entries))
+other_family f entries i e old new lt is apart so_far same =
+    ap (table_of (width f)) same ∙ (so_far ∙ (sym (append-nil (of_family f (map entry_as (take i entries))))
+    ∙ (ap (λ x. of_family f (map entry_as (take i entries)) ++ x) (sym (cond-false (same_family f e.prefix.family) _ _ apart)) ∙ sym (family_next f entries i e lt is))))
+
+pub this_family : (f : Family) (entries : List code.Entry) (i : ℕ) (e : code.Entry) (old new : List Part) → i < length entries → e ≡ get_or entries i e → same_family f e.prefix.family ≡ true
+    → table_of (width f) old ≡ of_family f (map entry_as (take i entries)) → new ≡ old ++ record { bits = e.prefix.bits; len = e.prefix.len; hop = e.hop.0 } ∷ []
+    → table_of (width f) new ≡ of_family f (map entry_as (take (i + 1) entries))
+this_family f entries i e old new lt is one_family so_far grown =
+    let part : Part = record { bits = e.prefix.bits; len = e.prefix.len; hop = e.hop.0 } in
+    let one : of_family f (entry_as e ∷ []) ≡ part_as (width f) part ∷ [] =
+    cond-true (same_family f e.prefix.family) _ _ one_family
+    ∙ ap (λ g. let x : ModelEntry = record { prefix = take e.prefix.len (bits_of (width g) e.prefix.bits); hop = e.hop.0 } in x ∷ []) (sym (same_family_is f e.prefix.family one_family))
+    in
+    ap (table_of (width f)) grown ∙ (map_push (part_as (width f)) old part
+    ∙ (ap (λ x. x ++ part_as (width f) part ∷ []) so_far ∙ (ap (λ x. of_family f (map entry_as (take i entries)) ++ x) (sym one) ∙ sym (family_next f entries i e lt is))))

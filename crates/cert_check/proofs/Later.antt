@@ -1,0 +1,76 @@
+-- Prefixes that stand again later.
+use Rattle.std.proofs.Common.{◌≡◌, ℕ, suc, ◌-◌, ◌<◌, ◌≤◌, List, ◌∷◌, Bool, true, false, cond, Option, Some, length, map, drop, get_or, refl, sym, ap, ◌∙◌, arith}
+use Rattle.std.specs.Prelude.{◌||◌}
+use Rattle.std.specs.Ordering.{is_eq}
+use Rattle.std.specs.declared.cmp.Ordering.{Ordering}
+use Rattle.std.specs.declared.cmp.Ordering.TheVariants.{Less, Equal, Greater}
+use Rattle.std.specs.List.{list_any}
+use Rattle.std.specs.Map.{keys_of}
+use Rattle.std.proofs.lemmas.Bool.{cond-true, cond-false}
+use Rattle.address_model.specs.Address.{Prefix, same_prefix}
+use Rattle.address_model.specs.Order.{prefix_cmp}
+use Rattle.address_model.proofs.Same.{same_prefix_is, same_prefix_itself}
+use Rattle.address_model.proofs.Ordered.{equal_are_same, prefix_total}
+use Rattle.cert_model.specs.Verdict.{twice}
+use Rattle.fib_prefix.specs.declared.prefix.Prefix as code
+use Rattle.fib_prefix.specs.declared.entry.Entry.{Entry}
+use Rattle.fib_prefix.specs.Seen.{prefix_as, entry_as}
+use Rattle.fib_prefix.specs.Order.{code_cmp}
+use Rattle.fib_prefix.proofs.Ordering.{cmp_is}
+use Rattle.std.proofs.Common.{drop-cons}
+use Rattle.cert_check.proofs.Holding.{prefix_short, same_tests}
+
+is_equal : (o : Ordering) → is_eq o ≡ true → o ≡ Equal
+is_equal Less e = cc
+is_equal Equal e = refl
+is_equal Greater e = cc
+
+itself : (p : Prefix) → is_eq (prefix_cmp p p) ≡ true
+itself p = by_order (prefix_cmp p p) refl
+  where
+    by_order : (o : Ordering) → prefix_cmp p p ≡ o → is_eq (prefix_cmp p p) ≡ true
+    by_order Equal e = ap is_eq e
+    by_order Less e = let x : prefix_cmp p p ≡ Less = e in absurd (let r = prefix_total.antisymm p p in cc)
+    by_order Greater e = absurd (let r = prefix_total.antisymm p p in cc)
+
+pub prefix_same : (p q : code.Prefix) → is_eq (code_cmp p q) ≡ same_prefix (prefix_as p) (prefix_as q)
+prefix_same p q =
+    ap is_eq (cmp_is p q)
+    ∙ same_tests (is_eq (prefix_cmp (prefix_as p) (prefix_as q))) (same_prefix (prefix_as p) (prefix_as q))
+    (λ e. let s : prefix_as p ≡ prefix_as q = equal_are_same (prefix_as p) (prefix_as q) (prefix_short p) (prefix_short q) (is_equal _ e) in ap (same_prefix (prefix_as p)) (sym s) ∙ same_prefix_itself (prefix_as p))
+    (λ e. let s : prefix_as p ≡ prefix_as q = same_prefix_is (prefix_as p) (prefix_as q) e in ap (λ x. is_eq (prefix_cmp (prefix_as p) x)) (sym s) ∙ itself (prefix_as p))
+
+same_back : (p q : Prefix) → same_prefix p q ≡ same_prefix q p
+same_back p q = same_tests (same_prefix p q) (same_prefix q p)
+    (λ e. let s = same_prefix_is p q e in ap (λ x. same_prefix x p) (sym s) ∙ same_prefix_itself p)
+    (λ e. let s = same_prefix_is q p e in ap (λ x. same_prefix x q) (sym s) ∙ same_prefix_itself q)
+
+abbrev keys_from : List Entry → ℕ → List Prefix
+keys_from entries i = keys_of (map entry_as (drop i entries))
+
+one_back : (entries : List Entry) (i : ℕ) (e z : Entry) → 0 < i → i ≤ length entries → e ≡ get_or entries (i - 1) z → drop (i - 1) entries ≡ e ∷ drop i entries
+one_back entries i e z some le is =
+    let s : suc (i - 1) ≡ i = omega arith in
+    drop-cons entries (i - 1) z (omega arith) ∙ (ap (λ x. x ∷ drop (suc (i - 1)) entries) (sym is) ∙ ap (λ (j : ℕ). e ∷ drop j entries) s)
+
+or_cond : (b c : Bool) → cond b true c ≡ (b || c)
+or_cond true c = refl
+or_cond false c = refl
+
+pub later_keys : (entries : List Entry) (i : ℕ) (e z : Entry) (q : code.Prefix) (old new : Bool) → 0 < i → i ≤ length entries → e ≡ get_or entries (i - 1) z
+    → old ≡ list_any (same_prefix (prefix_as q)) (keys_from entries i) → new ≡ cond (is_eq (code_cmp e.prefix q)) true old → new ≡ list_any (same_prefix (prefix_as q)) (keys_from entries (i - 1))
+later_keys entries i e z q old new some le is so_far step =
+    step ∙ (or_cond (is_eq (code_cmp e.prefix q)) old
+    ∙ (ap (λ b. b || old) (prefix_same e.prefix q ∙ same_back (prefix_as e.prefix) (prefix_as q))
+    ∙ (ap (λ b. same_prefix (prefix_as q) (prefix_as e.prefix) || b) so_far
+    ∙ ap (λ xs. list_any (same_prefix (prefix_as q)) (keys_of (map entry_as xs))) (sym (one_back entries i e z some le is)))))
+
+pub stands_again : (entries : List Entry) (i : ℕ) (e z : Entry) (held : Bool) → 0 < i → i ≤ length entries → e ≡ get_or entries (i - 1) z
+    → held ≡ list_any (same_prefix (prefix_as e.prefix)) (keys_from entries i) → held ≡ true → Some (prefix_as e.prefix) ≡ twice (map entry_as (drop (i - 1) entries))
+stands_again entries i e z held some le is h t =
+    sym (ap (λ xs. twice (map entry_as xs)) (one_back entries i e z some le is) ∙ cond-true _ _ _ (sym h ∙ t))
+
+pub stands_once : (entries : List Entry) (i : ℕ) (e z : Entry) (held : Bool) (first : Option Prefix) → 0 < i → i ≤ length entries → e ≡ get_or entries (i - 1) z
+    → held ≡ list_any (same_prefix (prefix_as e.prefix)) (keys_from entries i) → held ≡ false → first ≡ twice (map entry_as (drop i entries)) → first ≡ twice (map entry_as (drop (i - 1) entries))
+stands_once entries i e z held first some le is h f so_far =
+    so_far ∙ sym (ap (λ xs. twice (map entry_as xs)) (one_back entries i e z some le is) ∙ cond-false _ _ _ (sym h ∙ f))

@@ -1,0 +1,9 @@
+use Rattle.std.proofs.Common.{◌≡◌, map, take}
+use Rattle.address_model.specs.Width.{width}
+use Rattle.table_model.specs.Entries.{of_family}
+use Rattle.fib_prefix.specs.Seen.{entry_as}
+use Rattle.cert_check.specs.Runs.{table_of}
+use Rattle.cert_check.proofs.runs.parts_of.Given as goal
+
+abbrev pub invariant-loop-entry : goal.invariant-loop-entry
+invariant-loop-entry l = table_of (width l.family) l.parts.items ≡ of_family l.family (map entry_as (take l.entry-index l.entries))

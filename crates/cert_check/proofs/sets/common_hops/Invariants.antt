@@ -1,0 +1,6 @@
+use Rattle.std.proofs.Common.{◌≡◌, take}
+use Rattle.least_model.specs.Sets.{common}
+use Rattle.cert_check.proofs.sets.common_hops.Given as goal
+
+abbrev pub invariant-loop-hop : goal.invariant-loop-hop
+invariant-loop-hop l = l.both.items ≡ common (take l.hop-index l.low) l.high

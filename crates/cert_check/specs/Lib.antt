@@ -1,0 +1,5 @@
+pub mod Runs
+pub mod Apart
+pub mod Marks
+pub mod Stack
+pub mod Seen

@@ -1,0 +1,325 @@
+//! The rows of a certificate, read with a stack.
+//!
+//! A leaf is put on the stack. A join takes its halves from the stack and puts itself there. A bound takes the family's whole
+//! region. Each region stands there with its set of hops and its k, the entries that it costs under a hop of its set.
+
+ghost use Rattle.std.specs.Prelude.{◌≡◌, ◌+◌, ◌^◌, ◌<◌, ◌≤◌, ◌&&◌, IfOk, map, option_map, Some, None, [], ◌∷◌, false, true};
+ghost use Rattle.address_model.specs.Address.{same_prefix};
+ghost use Rattle.address_model.specs.declared.family.Family.TheVariants.{V4, V6};
+ghost use Rattle.table_model.specs.Entries.{Entries};
+ghost use Rattle.cert_model.specs.Rows.{bound_row, half_at, whole};
+ghost use Rattle.cert_model.specs.Right.{bound_by};
+ghost use Rattle.cert_model.specs.Verdict.{wrong_row};
+ghost use Rattle.fib_prefix.specs.Seen.{prefix_as};
+ghost use Rattle.cost_cert.specs.Seen.{row_as};
+ghost use Rattle.cert_check.specs.Marks.{AreMarks};
+ghost use Rattle.cert_check.specs.Runs.{Tells};
+ghost use Rattle.cert_check.specs.Seen.{no_as};
+ghost use Rattle.cert_check.specs.Stack.{item_as, stack_as, weight, TellsBoth, AllRight, Told, RowRead, LeafRead, JoinDone, JoinRead, WholeTaken, next_due, bound_in, Popped};
+
+use crate::refusal::No;
+use crate::runs::{Run, holds};
+use crate::sets::{common_hops, one_if_none, or_all};
+use cost_cert::Row;
+use fib_prefix::{Addr, Family, Hop, Prefix};
+use std::alloc::{AllocError, Global};
+
+/// What the addresses of both families get from the routes.
+#[derive(Drop)]
+pub struct Runs {
+    /// IPv4.
+    pub v4: Vec<Run>,
+    /// IPv6.
+    pub v6: Vec<Run>,
+}
+
+/// A region on the stack.
+#[derive(Drop)]
+pub struct Item {
+    prefix: Prefix,
+    hops: Vec<u16>,
+    k: u64,
+}
+
+/// How far the rows are read.
+#[derive(Drop)]
+pub struct Reading {
+    /// The family whose bound comes next.
+    pub due: Option<Family>,
+    /// The stack, its top last.
+    pub stack: Vec<Item>,
+    /// Marks for sets.
+    pub marks: Vec<u64>,
+    /// The bound of IPv4.
+    pub v4: u64,
+    /// The bound of IPv6.
+    pub v6: u64,
+}
+
+/// The runs of a family.
+fn runs_in(runs: &Runs, family: Family) -> &[Run]
+    ensures { (R : Entries) → TellsBoth R runs.now → Tells family R result.now }
+{
+    match family {
+        Family::V4 => &runs.v4,
+        Family::V6 => &runs.v6,
+    }
+}
+
+fn read_leaf(
+    alloc: Global,
+    runs: &Runs,
+    prefix: &Prefix,
+    hop: Hop,
+    row: u64,
+    stack: &mut Vec<Item>,
+) -> Result<Option<No>, AllocError>
+    ensures weight { IfOk result (λ no. no ≡ None → weight (stack_as stack.new.items) ≤ weight (stack_as stack.old.items) + 1) }
+    ensures read { IfOk result (λ no. (R : Entries) → TellsBoth R runs.now → LeafRead R (prefix_as prefix.now) hop.0 row (stack_as stack.old.items) (stack_as stack.new.items) (option_map no_as no)) }
+{
+    if !holds(runs_in(runs, prefix.family), prefix, hop.0) {
+        return Ok(Some(No::LeafWrong { row }));
+    }
+    let mut hops = Vec::new(alloc);
+    hops.push(hop.0)?;
+    stack.push(Item {
+        prefix: *prefix,
+        hops,
+        k: 0,
+    })?;
+    Ok(None)
+}
+
+/// Whether two prefixes are one.
+#[tactic(auto, using(crate::proofs::Later::prefix_same))]
+fn is_same(p: &Prefix, q: &Prefix) -> bool
+    ensures { result ≡ same_prefix (prefix_as p.now) (prefix_as q.now) }
+{
+    p.cmp(q).is_eq()
+}
+
+/// Whether the prefix is that of all addresses of the family.
+fn is_whole(prefix: &Prefix, family: Family) -> bool
+    ensures { result ≡ same_prefix (prefix_as prefix.now) (whole family) }
+{
+    let first = Addr { family, bits: 0 };
+    is_same(prefix, &Prefix::new(&first, 0))
+}
+
+/// Whether these are the halves of the prefix's region.
+fn are_halves(prefix: &Prefix, low: &Prefix, high: &Prefix) -> bool
+    ensures { result ≡ (same_prefix (prefix_as low.now) (half_at false (prefix_as prefix.now)) && same_prefix (prefix_as high.now) (half_at true (prefix_as prefix.now))) }
+{
+    if prefix.len == prefix.family.width() {
+        return false;
+    }
+    is_same(low, &prefix.half(false)) && is_same(high, &prefix.half(true))
+}
+
+/// Puts the region of two halves on the stack.
+fn join_items(
+    alloc: Global,
+    prefix: &Prefix,
+    said: u64,
+    row: u64,
+    low: Item,
+    high: Item,
+    stack: &mut Vec<Item>,
+    marks: &mut Vec<u64>,
+) -> Result<Option<No>, AllocError>
+    requires marks { AreMarks row marks.old.items }
+    requires more { row + 1 < 2 ^ 64 }
+    requires fits { low.k + high.k + 1 < 2 ^ 64 }
+    ensures marks { AreMarks (row + 1) marks.new.items }
+    ensures done { IfOk result (λ no. JoinDone (prefix_as prefix.now) said row (item_as low) (item_as high) (stack_as stack.old.items) (stack_as stack.new.items) (option_map no_as no)) }
+{
+    let common = common_hops(alloc, &low.hops, &high.hops, row, marks)?;
+    let due = low.k + high.k + one_if_none(&common);
+    if said != due {
+        return Ok(Some(No::JoinWrong { row, said, due }));
+    }
+    let hops = or_all(common, low.hops, &high.hops)?;
+    stack.push(Item {
+        prefix: *prefix,
+        hops,
+        k: due,
+    })?;
+    Ok(None)
+}
+
+/// Takes the top of the stack.
+fn pop_item(stack: &mut Vec<Item>) -> Option<Item>
+    ensures { Popped (stack_as stack.old.items) (stack_as stack.new.items) (option_map item_as result) }
+{
+    match stack.pop() {
+        None => None,
+        Some(item) => Some(item),
+    }
+}
+
+fn read_join(
+    alloc: Global,
+    prefix: &Prefix,
+    said: u64,
+    row: u64,
+    stack: &mut Vec<Item>,
+    marks: &mut Vec<u64>,
+) -> Result<Option<No>, AllocError>
+    requires marks { AreMarks row marks.old.items }
+    requires more { row + 1 < 2 ^ 64 }
+    requires weight { weight (stack_as stack.old.items) < row }
+    ensures marks { AreMarks (row + 1) marks.new.items }
+    ensures read { IfOk result (λ no. JoinRead (prefix_as prefix.now) said row (stack_as stack.old.items) (stack_as stack.new.items) (option_map no_as no)) }
+{
+    let shape = Some(No::Shape { row });
+    match pop_item(stack) {
+        None => Ok(shape),
+        Some(high) => match pop_item(stack) {
+            None => Ok(shape),
+            Some(low) => {
+                if are_halves(prefix, &low.prefix, &high.prefix) {
+                    join_items(alloc, prefix, said, row, low, high, stack, marks)
+                } else {
+                    Ok(shape)
+                }
+            }
+        },
+    }
+}
+
+/// The bound of a family whose whole region this is.
+fn bound_of(item: &Item) -> u64
+    requires { item.now.k + 1 < 2 ^ 64 }
+    ensures { result ≡ bound_by item.now.hops.items item.now.k }
+{
+    if item.hops.contains(&0) {
+        item.k
+    } else {
+        item.k + 1
+    }
+}
+
+/// The only item of the stack, if it is the whole region of the family.
+fn whole_of(family: Family, stack: &mut Vec<Item>) -> Option<Item>
+    ensures { WholeTaken family (stack_as stack.old.items) (stack_as stack.new.items) (option_map item_as result) }
+{
+    match pop_item(stack) {
+        None => None,
+        Some(item) => match pop_item(stack) {
+            Some(_) => None,
+            None => {
+                if is_whole(&item.prefix, family) {
+                    Some(item)
+                } else {
+                    None
+                }
+            }
+        },
+    }
+}
+
+/// Keeps a family's bound, and goes on to the next family.
+fn end_family(family: Family, bound: u64, reading: &mut Reading)
+    ensures due { reading.new.due ≡ next_due family }
+    ensures marks { reading.new.marks ≡ reading.old.marks }
+    ensures stack { reading.new.stack ≡ reading.old.stack }
+    ensures told { (R : Entries) → bound_in family R ≡ bound → Told R (Some family) reading.old.v4 reading.old.v6 → Told R (next_due family) reading.new.v4 reading.new.v6 }
+{
+    match family {
+        Family::V4 => {
+            reading.v4 = bound;
+            reading.due = Some(Family::V6);
+        }
+        Family::V6 => {
+            reading.v6 = bound;
+            reading.due = None;
+        }
+    }
+}
+
+fn read_bound(family: Family, said: u64, row: u64, reading: &mut Reading) -> Option<No>
+    requires due { reading.old.due ≡ Some family }
+    requires weight { weight (stack_as reading.old.stack.items) < row }
+    ensures marks { reading.new.marks ≡ reading.old.marks }
+    ensures read { (R : Entries) → RowRead R (bound_row family said) row reading.old.due (stack_as reading.old.stack.items) reading.new.due (stack_as reading.new.stack.items) (option_map no_as result) }
+    ensures told { result ≡ None → (R : Entries) → AllRight R (stack_as reading.old.stack.items) → Told R reading.old.due reading.old.v4 reading.old.v6 → Told R reading.new.due reading.new.v4 reading.new.v6 }
+{
+    match whole_of(family, &mut reading.stack) {
+        None => Some(No::Shape { row }),
+        Some(item) => {
+            let due = bound_of(&item);
+            if said != due {
+                return Some(No::JoinWrong { row, said, due });
+            }
+            end_family(family, due, reading);
+            None
+        }
+    }
+}
+
+/// Reads a row: what is wrong with it, if anything is.
+fn read_row(
+    alloc: Global,
+    runs: &Runs,
+    row: &Row,
+    number: u64,
+    reading: &mut Reading,
+) -> Result<Option<No>, AllocError>
+    requires marks { AreMarks number reading.old.marks.items }
+    requires more { number + 1 < 2 ^ 64 }
+    requires weight { weight (stack_as reading.old.stack.items) < number }
+    ensures marks { AreMarks (number + 1) reading.new.marks.items }
+    ensures weight { IfOk result (λ no. no ≡ None → weight (stack_as reading.new.stack.items) ≤ weight (stack_as reading.old.stack.items) + 1) }
+    ensures read { IfOk result (λ no. (R : Entries) → TellsBoth R runs.now → RowRead R (row_as row.now) number reading.old.due (stack_as reading.old.stack.items) reading.new.due (stack_as reading.new.stack.items) (option_map no_as no)) }
+    ensures told { IfOk result (λ no. no ≡ None → (R : Entries) → AllRight R (stack_as reading.old.stack.items) → Told R reading.old.due reading.old.v4 reading.old.v6 → Told R reading.new.due reading.new.v4 reading.new.v6) }
+{
+    match reading.due {
+        None => Ok(Some(No::Shape { row: number })),
+        Some(family) => match row {
+            Row::Leaf(prefix, hop) => {
+                read_leaf(alloc, runs, prefix, *hop, number, &mut reading.stack)
+            }
+            Row::Join(prefix, k) => read_join(
+                alloc,
+                prefix,
+                *k,
+                number,
+                &mut reading.stack,
+                &mut reading.marks,
+            ),
+            Row::Bound(of, bound) => {
+                if *of == family {
+                    Ok(read_bound(family, *bound, number, reading))
+                } else {
+                    Ok(Some(No::Shape { row: number }))
+                }
+            }
+        },
+    }
+}
+
+/// Reads the rows to the first wrong one.
+pub(crate) fn read_rows(
+    alloc: Global,
+    runs: &Runs,
+    rows: &[Row],
+    reading: &mut Reading,
+) -> Result<Option<No>, AllocError>
+    requires due { reading.old.due ≡ Some V4 }
+    requires empty { stack_as reading.old.stack.items ≡ [] }
+    requires marks { AreMarks 1 reading.old.marks.items }
+    ensures read { IfOk result (λ no. (R : Entries) → TellsBoth R runs.now → option_map no_as no ≡ wrong_row R (map row_as rows.now) (V4 ∷ V6 ∷ []) [] 1) }
+    ensures told { IfOk result (λ no. no ≡ None → (R : Entries) → TellsBoth R runs.now → Told R None reading.new.v4 reading.new.v6) }
+{
+    for i in 0..rows.len() {
+        if let Some(no) = read_row(alloc, runs, &rows[i], i as u64 + 1, reading)? {
+            return Ok(Some(no));
+        }
+    }
+    match reading.due {
+        None => Ok(None),
+        Some(_) => Ok(Some(No::Shape {
+            row: rows.len() as u64 + 1,
+        })),
+    }
+}

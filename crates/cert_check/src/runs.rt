@@ -1,0 +1,193 @@
+//! What the addresses of a family get from a table, as runs of addresses with one hop.
+//!
+//! A run is a first address and the hop of all addresses from there to the next run; before the first run addresses get no
+//! hop. Neighbours have different hops, so equal answers are equal lists. The runs are told by going down the binary tree of
+//! prefixes, as a radix sort does: at each prefix the entries within it are dealt out to its halves. That takes a step for
+//! each bit of each entry, and goes 128 levels down at most.
+
+ghost use Rattle.std.specs.Prelude.{◌≡◌, ◌↔◌, ◌+◌, ◌-◌, ◌<◌, ◌≤◌, ◌^◌, [], ◌∷◌, ◌++◌, false, true, length, map, take, IfOk, OnOk};
+ghost use Rattle.address_model.specs.Width.{width};
+ghost use Rattle.table_model.specs.Table.{root, half};
+ghost use Rattle.table_model.specs.Entries.{Entries, of_family};
+ghost use Rattle.cert_model.specs.Verdict.{all_get};
+ghost use Rattle.fib_prefix.specs.Seen.{entry_as, prefix_as};
+ghost use Rattle.cert_check.specs.Runs.{part_as, table_of, first_own, Noted, Swept, AreRuns, Tells, IsBegun, last_hop};
+
+use fib_prefix::{Entry, Family, Prefix};
+use std::alloc::{AllocError, Global};
+
+/// A first address, and the hop of the addresses from there to the next run.
+#[derive(Clone, Copy, Debug, PartialEq, Eq)]
+pub struct Run {
+    /// The first address's bits as a number.
+    pub start: u128,
+    /// The hop's number.
+    pub hop: u16,
+}
+
+/// An entry within a region: its lowest bits as a number, and how many of those that the region's addresses have it fixes.
+#[derive(Clone, Copy, Debug, PartialEq, Eq)]
+pub struct Part {
+    /// The entry's bits.
+    bits: u128,
+    /// How many more bits than the region's prefix the entry has.
+    len: u8,
+    /// The hop's number.
+    hop: u16,
+}
+
+/// A region's entries: the hop of the one at its prefix, if there is one, and those within its halves.
+#[derive(Drop)]
+struct Halves {
+    own: Option<u16>,
+    low: Vec<Part>,
+    high: Vec<Part>,
+}
+
+/// A table's entries of a family.
+fn parts_of(alloc: Global, entries: &[Entry], family: Family) -> Result<Vec<Part>, AllocError>
+    ensures { IfOk result (λ v. table_of (width family) v.items ≡ of_family family (map entry_as entries.now)) }
+{
+    let mut parts = Vec::new(alloc);
+    for entry in entries {
+        if entry.prefix.family == family {
+            parts.push(Part {
+                bits: entry.prefix.bits,
+                len: entry.prefix.len,
+                hop: entry.hop.0,
+            })?;
+        }
+    }
+    Ok(parts)
+}
+
+impl Halves {
+    /// Puts an entry where it belongs, after those that are there; the halves' addresses have `left` bits.
+    fn put(&mut self, part: &Part, left: u8) -> Result<(), AllocError>
+        requires { left < 128 }
+        ensures own { OnOk result (self.new.own ≡ first_own self.old.own (root (part_as (left + 1) part.now ∷ []))) }
+        ensures low { OnOk result (table_of left self.new.low.items ≡ table_of left self.old.low.items ++ half false (part_as (left + 1) part.now ∷ [])) }
+        ensures high { OnOk result (table_of left self.new.high.items ≡ table_of left self.old.high.items ++ half true (part_as (left + 1) part.now ∷ [])) }
+    {
+        if part.len == 0 {
+            self.own = self.own.or(Some(part.hop));
+            return Ok(());
+        }
+        let rest = Part {
+            bits: part.bits,
+            len: part.len - 1,
+            hop: part.hop,
+        };
+        if (part.bits >> left) & 1 == 1 {
+            self.high.push(rest)?;
+        } else {
+            self.low.push(rest)?;
+        }
+        Ok(())
+    }
+}
+
+/// Deals the entries of a region out to its halves, whose addresses have `left` bits.
+fn deal(alloc: Global, parts: Vec<Part>, left: u8) -> Result<Halves, AllocError>
+    requires { left < 128 }
+    ensures own { IfOk result (λ h. h.own ≡ root (table_of (left + 1) parts.items)) }
+    ensures low { IfOk result (λ h. table_of left h.low.items ≡ half false (table_of (left + 1) parts.items)) }
+    ensures high { IfOk result (λ h. table_of left h.high.items ≡ half true (table_of (left + 1) parts.items)) }
+{
+    let mut halves = Halves {
+        own: None,
+        low: Vec::new(alloc),
+        high: Vec::new(alloc),
+    };
+    for part in &parts {
+        halves.put(part, left)?;
+    }
+    Ok(halves)
+}
+
+/// Adds a run where the hop isn't the last run's.
+fn note(runs: &mut Vec<Run>, start: u128, hop: u16) -> Result<(), AllocError>
+    ensures { OnOk result (Noted start hop runs.old.items runs.new.items) }
+{
+    let last = match runs.last() {
+        Some(run) => run.hop,
+        None => 0,
+    };
+    if last != hop {
+        runs.push(Run { start, hop })?;
+    }
+    Ok(())
+}
+
+/// Adds the runs of a region whose addresses are `2 ^ left` from `start` on, and which inherits a hop.
+fn sweep(
+    alloc: Global,
+    parts: Vec<Part>,
+    inherited: u16,
+    start: u128,
+    left: u8,
+    runs: &mut Vec<Run>,
+) -> Result<(), AllocError>
+    requires left { left ≤ 128 }
+    requires fits { start + 2 ^ left ≤ 2 ^ 128 }
+    ensures { OnOk result (Swept left (table_of left parts.items) inherited start runs.old.items runs.new.items) }
+{
+    if parts.is_empty() {
+        return note(runs, start, inherited);
+    }
+    if left == 0 {
+        return note(runs, start, parts[0].hop);
+    }
+    let at = left - 1;
+    let halves = deal(alloc, parts, at)?;
+    let hop = halves.own.unwrap_or(inherited);
+    sweep(alloc, halves.low, hop, start, at, runs)?;
+    sweep(alloc, halves.high, hop, start + (1 << at), at, runs)?;
+    Ok(())
+}
+
+/// The runs of a family's addresses.
+pub(crate) fn runs_of(
+    alloc: Global,
+    entries: &[Entry],
+    family: Family,
+) -> Result<Vec<Run>, AllocError>
+    ensures { IfOk result (λ v. Tells family (map entry_as entries.now) v.items) }
+{
+    let parts = parts_of(alloc, entries, family)?;
+    let mut runs = Vec::new(alloc);
+    sweep(alloc, parts, 0, 0, family.width(), &mut runs)?;
+    Ok(runs)
+}
+
+/// How many runs begin at the number or before it.
+fn begun(runs: &[Run], number: u128) -> usize
+    ensures bound { result ≤ length runs.now }
+    ensures begun { AreRuns 0 runs.now → IsBegun number runs.now result }
+{
+    runs.partition_point(|run| run.start <= number)
+}
+
+/// The hop of the last of the first so many runs.
+fn hop_before(runs: &[Run], place: usize) -> u16
+    requires { place ≤ length runs.now }
+    ensures { result ≡ last_hop (take place runs.now) }
+{
+    if place == 0 { 0 } else { runs[place - 1].hop }
+}
+
+/// Whether a number past the first address of the prefix is past all of them.
+fn is_past(number: u128, prefix: &Prefix) -> bool
+    ensures { prefix.now.bits < number → (result ≡ true) ↔ (prefix.now.bits + 2 ^ (width prefix.now.family - prefix.now.len) ≤ number) }
+{
+    let unused = prefix.family.width() - prefix.len;
+    unused < 128 && number >> unused != prefix.bits >> unused
+}
+
+/// Whether all addresses of the prefix get the hop.
+pub(crate) fn holds(runs: &[Run], prefix: &Prefix, hop: u16) -> bool
+    ensures { (L : Entries) → Tells prefix.now.family L runs.now → result ≡ all_get L (prefix_as prefix.now) hop }
+{
+    let place = begun(runs, prefix.bits);
+    hop_before(runs, place) == hop && (place == runs.len() || is_past(runs[place].start, prefix))
+}

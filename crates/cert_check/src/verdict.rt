@@ -1,0 +1,166 @@
+//! The verdict on a certificate.
+
+ghost use Rattle.std.specs.Prelude.{◌≡◌, ◌∷◌, [], IfOk, IfErr, OnOk, Some, length, map, option_map};
+ghost use Rattle.address_model.specs.declared.family.Family.TheVariants.{V4, V6};
+ghost use Rattle.table_model.specs.Entries.{Entries, of_family};
+ghost use Rattle.least_model.specs.Both.{LeastInBoth};
+ghost use Rattle.cert_model.specs.Right.{IsCertificate};
+ghost use Rattle.cert_model.specs.Verdict.{Twice, first_of, twice, wrong_row, too_many_in, verdict};
+ghost use Rattle.cert_model.specs.Verdict.{not_same as model_not_same};
+ghost use Rattle.fib_prefix.specs.Seen.{prefix_as, entry_as};
+ghost use Rattle.cost_cert.specs.Seen.{row_as};
+ghost use Rattle.cert_check.specs.Seen.{differ_as, no_as, IfNo};
+ghost use Rattle.cert_check.specs.Stack.{TellsBoth, AreOfBoth, bound_in};
+
+use crate::alike::{Differ, differ_in};
+use crate::refusal::{CheckError, No};
+use crate::repeats::first_twice;
+use crate::rows::{Reading, Runs, read_rows};
+use crate::runs::runs_of;
+use crate::sets::no_marks;
+use cost_cert::Row;
+use fib_prefix::{Entry, Family};
+use std::alloc::{AllocError, Global};
+
+fn runs_in_both(alloc: Global, entries: &[Entry]) -> Result<Runs, AllocError>
+    ensures tells { IfOk result (λ r. TellsBoth (map entry_as entries.now) r) }
+    ensures runs { IfOk result (λ r. AreOfBoth r) }
+{
+    Ok(Runs {
+        v4: runs_of(alloc, entries, Family::V4)?,
+        v6: runs_of(alloc, entries, Family::V6)?,
+    })
+}
+
+/// A prefix that stands twice in the routes, or else in the table.
+fn repeated(alloc: Global, routes: &[Entry], table: &[Entry]) -> Result<Option<No>, AllocError>
+    ensures { IfOk result (λ no. option_map no_as no ≡ first_of (option_map Twice (twice (map entry_as routes.now))) (option_map Twice (twice (map entry_as table.now)))) }
+{
+    if let Some(prefix) = first_twice(alloc, routes)? {
+        return Ok(Some(No::Twice { prefix }));
+    }
+    if let Some(prefix) = first_twice(alloc, table)? {
+        return Ok(Some(No::Twice { prefix }));
+    }
+    Ok(None)
+}
+
+fn not_same_no(differ: Differ) -> No
+    ensures { no_as result ≡ differ_as differ }
+{
+    No::NotSame {
+        addr: differ.addr,
+        want: differ.first,
+        has: differ.second,
+    }
+}
+
+/// The least address that gets different hops.
+fn not_same(alloc: Global, runs: &Runs, table: &[Entry]) -> Result<Option<No>, AllocError>
+    requires { AreOfBoth runs.now }
+    ensures { IfOk result (λ no. (R : Entries) → TellsBoth R runs.now → option_map no_as no ≡ model_not_same R (map entry_as table.now)) }
+{
+    let has = runs_of(alloc, table, Family::V4)?;
+    if let Some(differ) = differ_in(&runs.v4, &has, Family::V4) {
+        return Ok(Some(not_same_no(differ)));
+    }
+    let has = runs_of(alloc, table, Family::V6)?;
+    if let Some(differ) = differ_in(&runs.v6, &has, Family::V6) {
+        return Ok(Some(not_same_no(differ)));
+    }
+    Ok(None)
+}
+
+/// How many entries are of the family.
+fn count_of(entries: &[Entry], family: Family) -> u64
+    ensures { result ≡ length (of_family family (map entry_as entries.now)) }
+{
+    let mut count = 0;
+    for entry in entries {
+        if entry.prefix.family == family {
+            count += 1;
+        }
+    }
+    count
+}
+
+fn too_many(table: &[Entry], family: Family, bound: u64) -> Option<No>
+    ensures { (R : Entries) → bound_in family R ≡ bound → option_map no_as result ≡ too_many_in R (map entry_as table.now) family }
+{
+    let entries = count_of(table, family);
+    if bound < entries {
+        Some(No::NotLeast {
+            family,
+            entries,
+            bound,
+        })
+    } else {
+        None
+    }
+}
+
+/// A row that is wrong, or else a family with too many entries.
+fn wrong_in(
+    alloc: Global,
+    runs: &Runs,
+    table: &[Entry],
+    rows: &[Row],
+) -> Result<Option<No>, AllocError>
+    ensures { IfOk result (λ no. (R : Entries) → TellsBoth R runs.now → option_map no_as no ≡ first_of (wrong_row R (map row_as rows.now) (V4 ∷ V6 ∷ []) [] 1) (first_of (too_many_in R (map entry_as table.now) V4) (too_many_in R (map entry_as table.now) V6))) }
+{
+    let mut reading = Reading {
+        due: Some(Family::V4),
+        stack: Vec::new(alloc),
+        marks: no_marks(alloc)?,
+        v4: 0,
+        v6: 0,
+    };
+    if let Some(no) = read_rows(alloc, runs, rows, &mut reading)? {
+        return Ok(Some(no));
+    }
+    if let Some(no) = too_many(table, Family::V4, reading.v4) {
+        return Ok(Some(no));
+    }
+    Ok(too_many(table, Family::V6, reading.v6))
+}
+
+fn first_wrong(
+    alloc: Global,
+    routes: &[Entry],
+    table: &[Entry],
+    rows: &[Row],
+) -> Result<Option<No>, AllocError>
+    ensures { IfOk result (λ no. option_map no_as no ≡ verdict (map entry_as routes.now) (map entry_as table.now) (map row_as rows.now)) }
+{
+    if let Some(no) = repeated(alloc, routes, table)? {
+        return Ok(Some(no));
+    }
+    let runs = runs_in_both(alloc, routes)?;
+    if let Some(no) = not_same(alloc, &runs, table)? {
+        return Ok(Some(no));
+    }
+    wrong_in(alloc, &runs, table, rows)
+}
+
+/// Checks that the rows prove the table least for the routes. Nobody's word is taken for it.
+///
+/// # Errors
+///
+/// What is wrong, the first in this order: a prefix that stands twice in the routes, then in the table; the least address
+/// that the table answers otherwise; the first wrong row; too many entries, of IPv4, then of IPv6. Or no memory.
+pub fn check(
+    alloc: Global,
+    routes: &[Entry],
+    table: &[Entry],
+    rows: &[Row],
+) -> Result<(), CheckError>
+    ensures right { OnOk result (IsCertificate (map entry_as routes.now) (map entry_as table.now) (map row_as rows.now)) }
+    ensures least { OnOk result (LeastInBoth (map entry_as routes.now) (map entry_as table.now)) }
+    ensures wrong { IfErr result (λ e. IfNo e (λ x. IsCertificate (map entry_as routes.now) (map entry_as table.now) (map row_as rows.now) → ⊥)) }
+    ensures no { IfErr result (λ e. IfNo e (λ x. verdict (map entry_as routes.now) (map entry_as table.now) (map row_as rows.now) ≡ Some (no_as x))) }
+{
+    match first_wrong(alloc, routes, table, rows)? {
+        None => Ok(()),
+        Some(no) => Err(CheckError::No(no)),
+    }
+}

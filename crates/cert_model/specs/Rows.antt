@@ -1,0 +1,54 @@
+-- The rows of a certificate, and those that a table of routes has.
+use Rattle.std.specs.Prelude.{ℕ, zero, suc, List, [], ◌∷◌, ◌++◌, Bool, true, false, cond, Option, Some, None, nat_eq}
+use Rattle.address_model.specs.Width.{width}
+use Rattle.address_model.specs.Address.{Prefix}
+use Rattle.address_model.specs.declared.family.Family.{Family}
+use Rattle.address_model.specs.declared.family.Family.TheVariants.{V4, V6}
+use Rattle.table_model.specs.Entries.{Entries, of_family}
+use Rattle.least_model.specs.Sets.{side, k_of, answers}
+use Rattle.least_model.specs.Least.{bound}
+
+-- A leaf row says that every address of the prefix gets the hop. A join row puts a region together from its halves, and
+-- says its k. A bound row says how many entries a least table of the family has.
+pub data CertRow : Type 0 where
+  leaf_row : Prefix → ℕ → CertRow
+  join_row : Prefix → ℕ → CertRow
+  bound_row : Family → ℕ → CertRow
+
+-- the half of the prefix's region whose addresses have this bit next
+abbrev pub half_at : Bool → Prefix → Prefix
+half_at b p = record { family = p.family; bits = p.bits ++ b ∷ [] }
+
+-- the prefix of all addresses of the family
+abbrev pub whole : Family → Prefix
+whole f = record { family = f; bits = [] }
+
+-- the one hop of both, if there is one
+abbrev pub same_hop : Option ℕ → Option ℕ → Option ℕ
+same_hop (Some g) (Some h) = cond (nat_eq g h) (Some g) None
+same_hop (Some g) None = None
+same_hop None o = None
+
+-- the one answer of a region of d more bits with the answers f, if there is one
+unfoldable pub one_answer : ℕ → (List Bool → ℕ) → Option ℕ
+one_answer zero f = Some (f [])
+one_answer (suc d) f = same_hop (one_answer d (side false f)) (one_answer d (side true f))
+
+-- a leaf row where there is one answer, else these rows
+abbrev pub leaf_or : Option ℕ → Prefix → List CertRow → List CertRow
+leaf_or (Some h) p rows = leaf_row p h ∷ []
+leaf_or None p rows = rows
+
+-- the rows of the region p of d more bits: a leaf where there is one answer, else the lower half's, the upper half's, and a join
+unfoldable pub region_rows : ℕ → (List Bool → ℕ) → Prefix → List CertRow
+region_rows zero f p = leaf_row p (f []) ∷ []
+region_rows (suc d) f p =
+    leaf_or (one_answer (suc d) f) p (region_rows d (side false f) (half_at false p) ++ (region_rows d (side true f) (half_at true p) ++ (join_row p (k_of (suc d) f) ∷ [])))
+
+-- the rows of all addresses of a family, and its bound
+abbrev pub family_rows : Family → Entries → List CertRow
+family_rows f R = region_rows (width f) (answers (of_family f R) []) (whole f) ++ (bound_row f (bound (width f) (of_family f R)) ∷ [])
+
+-- the certificate that routes have
+abbrev pub certificate_of : Entries → List CertRow
+certificate_of R = family_rows V4 R ++ family_rows V6 R

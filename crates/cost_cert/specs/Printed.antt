@@ -1,0 +1,52 @@
+-- What a clause sees of printed rows, and of what is kept of them.
+use Rattle.std.specs.Prelude.{◌≡◌, Result, Ok, Err, map, option_map}
+use Rattle.fib_prefix.specs.Seen.{addr_as, prefix_as, entry_as}
+use Rattle.printed_model.specs.Rows.{Count, Records, Skipped, Events, Routes, Entries, Nodes, Leaves, PrintedRow, route_row, add_row, replace_row, remove_row, answer_row, visits_row, table_row, least_row, cert_leaf_row, cert_join_row, cert_bound_row, report_row}
+use Rattle.printed_model.specs.Texts.{BadLine}
+use Rattle.printed_model.specs.Used.{Used}
+use Rattle.cost_cert.specs.Seen.{row_as}
+use Rattle.cost_cert.specs.declared.printed_row.Count as code_count
+use Rattle.cost_cert.specs.declared.printed_row.Count.TheVariants as count
+use Rattle.cost_cert.specs.declared.printed_row.PrintedRow as code_printed
+use Rattle.cost_cert.specs.declared.printed_row.PrintedRow.TheVariants as printed
+use Rattle.cost_cert.specs.declared.error.BadRow as code_bad
+use Rattle.cost_cert.specs.declared.error.PrintedError as code_error
+use Rattle.cost_cert.specs.declared.error.PrintedError.TheVariants as error
+use Rattle.cost_cert.specs.declared.printed.Printed as code_text
+
+abbrev pub count_as : code_count.Count → Count
+count_as count.Records = Records
+count_as count.Skipped = Skipped
+count_as count.Events = Events
+count_as count.Routes = Routes
+count_as count.Entries = Entries
+count_as count.Nodes = Nodes
+count_as count.Leaves = Leaves
+
+-- the row, with its addresses' and prefixes' bits
+abbrev pub printed_row_as : code_printed.PrintedRow → PrintedRow
+printed_row_as (printed.Route p a) = route_row (prefix_as p) (addr_as a)
+printed_row_as (printed.Add n p hop) = add_row n (prefix_as p) (option_map addr_as hop)
+printed_row_as (printed.Replace n p hop) = replace_row n (prefix_as p) (option_map addr_as hop)
+printed_row_as (printed.Remove n p) = remove_row n (prefix_as p)
+printed_row_as (printed.Answer a hop) = answer_row (addr_as a) (option_map addr_as hop)
+printed_row_as (printed.Visits a n) = visits_row (addr_as a) n
+printed_row_as (printed.Table p hop) = table_row (prefix_as p) (option_map addr_as hop)
+printed_row_as (printed.Least p hop) = least_row (prefix_as p) (option_map addr_as hop)
+printed_row_as (printed.Leaf p hop) = cert_leaf_row (prefix_as p) (option_map addr_as hop)
+printed_row_as (printed.Join p k) = cert_join_row (prefix_as p) k
+printed_row_as (printed.Bound f n) = cert_bound_row f n
+printed_row_as (printed.Report c n) = report_row (count_as c) n
+
+-- what was read of a text
+abbrev pub printed_as : code_text.Printed → Used
+printed_as p = record { routes = map entry_as p.routes.items; least = map entry_as p.least.items; cert = map row_as p.rows.items; hops = p.hops.list }
+
+abbrev pub bad_as : code_bad.BadRow → BadLine
+bad_as bad = record { line = bad.line; why = bad.why }
+
+-- what a reader of a text returned is what the definition gives, unless memory ran out
+abbrev pub IsRead : Result code_text.Printed code_error.PrintedError → Result Used BadLine → Type 0
+IsRead (Ok p) due = due ≡ Ok (printed_as p)
+IsRead (Err (error.BadRow bad)) due = due ≡ Err (bad_as bad)
+IsRead (Err error.NoMemory) due = Unit {0}

@@ -1,0 +1,135 @@
+//! The fields of a line: each is a slice of the line, and none takes memory.
+
+ghost use Rattle.std.specs.Prelude.{◌≡◌, ◌^◌, bytes_eq, option_map};
+ghost use Rattle.octet_fields.specs.Gives.{Gives};
+ghost use Rattle.fib_prefix.specs.Seen.{addr_as, prefix_as};
+ghost use Rattle.fib_prefix.specs.Text.{number_in};
+ghost use Rattle.printed_model.specs.Reading.{address_field, count_field, family_field, hop_field, next_field, number_field, one_field, prefix_field, two_fields};
+ghost use Rattle.cost_cert.specs.Printed.{count_as};
+
+use crate::printed_row::Count;
+use crate::why;
+use bstr::Split;
+use fib_prefix::{Addr, Family, Prefix, read_addr, read_prefix};
+use itoa::Buffer;
+use std::str;
+
+/// Reads a number: plain decimal below 2^64, without a sign or leading zeros.
+fn read_number(text: &[u8]) -> Option<u64>
+    ensures { result ≡ number_in (2 ^ 64) text.now }
+{
+    let number = str::from_utf8(text).ok()?.parse::<u64>().ok()?;
+    let mut digits = Buffer::new();
+    if digits.format(number).as_bytes() != text {
+        return None;
+    }
+    Some(number)
+}
+
+/// A number.
+pub(crate) fn number_field(text: &[u8]) -> Result<u64, u8>
+    ensures { Gives (λ n. n) result (number_field text.now) }
+{
+    read_number(text).ok_or(why::NUMBER)
+}
+
+/// An address.
+pub(crate) fn address_field(text: &[u8]) -> Result<Addr, u8>
+    ensures { Gives addr_as result (address_field text.now) }
+{
+    read_addr(text).ok_or(why::HOP)
+}
+
+/// A prefix.
+pub(crate) fn prefix_field(text: &[u8]) -> Result<Prefix, u8>
+    ensures { Gives prefix_as result (prefix_field text.now) }
+{
+    read_prefix(text).ok_or(why::PREFIX)
+}
+
+/// Whether the field is the word.
+pub(crate) fn is(text: &[u8], word: &[u8]) -> bool
+    ensures { result ≡ bytes_eq text.now word.now }
+{
+    text == word
+}
+
+/// An address, or no hop where the field is the word.
+#[tactic(auto, unfolding(printed_model::specs::Reading::hop_field))]
+pub(crate) fn hop_field(word: &[u8], text: &[u8]) -> Result<Option<Addr>, u8>
+    ensures { Gives (option_map addr_as) result (hop_field word.now text.now) }
+{
+    if is(text, word) {
+        return Ok(None);
+    }
+    let addr = address_field(text)?;
+    Ok(Some(addr))
+}
+
+/// The name of a count.
+#[tactic(auto, unfolding(printed_model::specs::Reading::count_field))]
+pub(crate) fn count_field(text: &[u8]) -> Result<Count, u8>
+    ensures { Gives count_as result (count_field text.now) }
+{
+    if is(text, b"records") {
+        Ok(Count::Records)
+    } else if is(text, b"skipped") {
+        Ok(Count::Skipped)
+    } else if is(text, b"events") {
+        Ok(Count::Events)
+    } else if is(text, b"routes") {
+        Ok(Count::Routes)
+    } else if is(text, b"entries") {
+        Ok(Count::Entries)
+    } else if is(text, b"nodes") {
+        Ok(Count::Nodes)
+    } else if is(text, b"leaves") {
+        Ok(Count::Leaves)
+    } else {
+        Err(why::WORD)
+    }
+}
+
+/// A family: 4 or 6.
+#[tactic(auto, unfolding(printed_model::specs::Reading::family_field))]
+pub(crate) fn family_field(text: &[u8]) -> Result<Family, u8>
+    ensures { Gives (λ f. f) result (family_field text.now) }
+{
+    if is(text, b"4") {
+        Ok(Family::V4)
+    } else if is(text, b"6") {
+        Ok(Family::V6)
+    } else {
+        Err(why::WORD)
+    }
+}
+
+/// The one field that is left.
+pub(crate) fn one_field<'a>(mut fields: Split<'a, '_>) -> Result<&'a [u8], u8>
+    ensures { Gives (λ f. f.now) result (one_field fields.entry) }
+{
+    match (fields.next(), fields.next()) {
+        (Some(field), None) => Ok(field),
+        _ => Err(why::FIELDS),
+    }
+}
+
+/// The two fields that are left.
+pub(crate) fn two_fields<'a>(mut fields: Split<'a, '_>) -> Result<(&'a [u8], &'a [u8]), u8>
+    ensures { Gives (λ f. (f.0.now, f.1.now)) result (two_fields fields.entry) }
+{
+    match (fields.next(), fields.next(), fields.next()) {
+        (Some(first), Some(second), None) => Ok((first, second)),
+        _ => Err(why::FIELDS),
+    }
+}
+
+/// The next field, and those after it.
+pub(crate) fn next_field<'a, 's>(mut fields: Split<'a, 's>) -> Result<(&'a [u8], Split<'a, 's>), u8>
+    ensures { Gives (λ f. (f.0.now, f.1)) result (next_field fields.entry) }
+{
+    match fields.next() {
+        Some(field) => Ok((field, fields)),
+        None => Err(why::FIELDS),
+    }
+}

@@ -1,0 +1,23 @@
+//! Printed text, read: the rows of a run and of its certificate, or the first line that is none and why.
+//!
+//! A line is fields with commas between them; its first field names the row. The fields are judged from left to right, and
+//! the first that fails says why (`why`). Rows may stand in any order, and those of one kind keep theirs. Lines end with a
+//! line feed, which the last may lack; one carriage return before it is dropped; an empty line is no row, but is counted.
+//!
+//! Reading is linear in the text. Fields are slices of it, and only what is kept takes memory: the routes, the least
+//! table, the rows of the certificate, and the numbers of their hops.
+#![tactic(auto)]
+
+mod error;
+mod fields;
+mod printed;
+mod printed_row;
+mod row;
+#[cfg(test)]
+mod tests;
+pub mod why;
+
+pub use error::{BadRow, PrintedError};
+pub use printed::{Printed, read_printed};
+pub use printed_row::{Count, PrintedRow, read_row};
+pub use row::Row;

@@ -1,0 +1,122 @@
+//! Whole printed texts.
+
+ghost use Rattle.std.specs.Prelude.{◌≡◌, ◌≤◌, [], length, option_map};
+ghost use Rattle.fib_prefix.specs.Seen.{addr_as};
+ghost use Rattle.printed_model.specs.Reading.{line_in};
+ghost use Rattle.printed_model.specs.Texts.{most_hops};
+ghost use Rattle.printed_model.specs.Used.{hop_number, printed_in, used_of};
+ghost use Rattle.cost_cert.specs.Printed.{IsRead, printed_as, printed_row_as};
+ghost use Rattle.cost_cert.specs.declared.error.PrintedError.TheVariants as printed_error;
+ghost use Rattle.cost_cert.specs.Steps.{Numbers, TakesLine, hops_after, hops_with, used_after};
+
+use crate::error::{BadRow, PrintedError};
+use crate::printed_row::{PrintedRow, read_row};
+use crate::row::Row;
+use crate::why;
+use bstr::ByteSlice;
+use fib_prefix::{Addr, Entry, Hop, HopError, HopTable, Prefix};
+use std::alloc::Global;
+
+/// What a checker uses of a printed text. Each list keeps the order of its rows, and hops are numbered in the order of their
+/// first use in these rows.
+#[derive(Drop)]
+pub struct Printed {
+    /// The routes.
+    pub routes: Vec<Entry>,
+    /// The entries of the least table; a dropping one has `Hop::NONE`.
+    pub least: Vec<Entry>,
+    /// The rows of the certificate; a leaf without a hop has `Hop::NONE`.
+    pub rows: Vec<Row>,
+    /// The hops.
+    pub hops: HopTable,
+}
+
+/// The line of this number is bad.
+fn bad_row(line: u64, why: u8) -> PrintedError
+    ensures { result ≡ printed_error.BadRow (record { line = line; why = why }) }
+{
+    PrintedError::BadRow(BadRow { line, why })
+}
+
+/// The number of a hop, and `Hop::NONE` for none.
+fn numbered(hops: &mut HopTable, hop: Option<Addr>) -> Result<Hop, HopError>
+    requires { length hops.old.list ≤ most_hops }
+    ensures { Numbers result (hops_with hops.old.list (option_map addr_as hop)) (λ h. (hops.new.list ≡ hops_with hops.old.list (option_map addr_as hop)) × (h.0 ≡ hop_number hops.new.list (option_map addr_as hop))) }
+{
+    match hop {
+        Some(addr) => hops.number(&addr),
+        None => Ok(Hop::NONE),
+    }
+}
+
+impl Printed {
+    /// Nothing yet.
+    fn new(alloc: Global) -> Printed
+        ensures { printed_as result ≡ used_of [] }
+    {
+        Printed {
+            routes: Vec::new(alloc),
+            least: Vec::new(alloc),
+            rows: Vec::new(alloc),
+            hops: HopTable::new(alloc),
+        }
+    }
+
+    /// Keeps what a checker uses of one more row.
+    fn take(&mut self, row: &PrintedRow) -> Result<(), HopError>
+        requires { length self.old.hops.list ≤ most_hops }
+        ensures { Numbers result (hops_after self.old.hops.list (printed_row_as row.now)) (λ _. printed_as self.new ≡ used_after (printed_as self.old) (printed_row_as row.now)) }
+    {
+        match *row {
+            PrintedRow::Route(prefix, addr) => {
+                let hop = numbered(&mut self.hops, Some(addr))?;
+                self.routes.push(Entry { prefix, hop })?;
+            }
+            PrintedRow::Least(prefix, hop) => {
+                let hop = numbered(&mut self.hops, hop)?;
+                self.least.push(Entry { prefix, hop })?;
+            }
+            PrintedRow::Leaf(prefix, hop) => {
+                let hop = numbered(&mut self.hops, hop)?;
+                self.rows.push(Row::Leaf(prefix, hop))?;
+            }
+            PrintedRow::Join(prefix, k) => self.rows.push(Row::Join(prefix, k))?,
+            PrintedRow::Bound(family, entries) => self.rows.push(Row::Bound(family, entries))?,
+            _ => {}
+        }
+        Ok(())
+    }
+
+    /// Takes the row of a line that isn't empty.
+    fn take_line(&mut self, number: u64, line: &[u8]) -> Result<(), PrintedError>
+        requires { length self.old.hops.list ≤ most_hops }
+        ensures { TakesLine result (printed_as self.old) (printed_as self.new) number (line_in line.now) }
+    {
+        let row = match read_row(line) {
+            Ok(row) => row,
+            Err(why) => return Err(bad_row(number, why)),
+        };
+        match self.take(&row) {
+            Ok(()) => Ok(()),
+            Err(HopError::HopsFull) => Err(bad_row(number, why::TOO_MANY_HOPS)),
+            Err(HopError::NoMemory) => Err(PrintedError::NoMemory),
+        }
+    }
+}
+
+/// Reads a printed text. `BadRow` names the first line that is no row, or whose hop is one too many. Costs the text's
+/// length.
+#[tactic(auto, using(crate::proofs::Lines::starts))]
+pub fn read_printed(alloc: Global, text: &[u8]) -> Result<Printed, PrintedError>
+    ensures { IsRead result (printed_in text.now) }
+{
+    let mut printed = Printed::new(alloc);
+    let mut number = 0;
+    for line in text.lines() {
+        number += 1;
+        if !line.is_empty() {
+            printed.take_line(number, line)?;
+        }
+    }
+    Ok(printed)
+}

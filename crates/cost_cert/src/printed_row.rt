@@ -1,0 +1,255 @@
+//! The rows of printed text, each read from the fields of its line.
+//!
+//!     route,PREFIX,ADDRESS
+//!     change,EVENT,+,PREFIX,HOP     with = for a replaced entry
+//!     change,EVENT,-,PREFIX
+//!     answer,ADDRESS,HOP
+//!     visits,ADDRESS,NUMBER
+//!     table,PREFIX,HOP
+//!     least,PREFIX,HOP
+//!     cert,leaf,PREFIX,HOP
+//!     cert,join,PREFIX,NUMBER
+//!     cert,bound,FAMILY,NUMBER      with 4 or 6 for the family
+//!     report,NAME,NUMBER
+//!
+//! HOP is an address, or for no hop `none` in answer and leaf rows and `drop` in change, table and least rows.
+
+ghost use Rattle.std.specs.Prelude.{◌≡◌, codes, option_map};
+ghost use Rattle.octet_fields.specs.Gives.{Gives};
+ghost use Rattle.fib_prefix.specs.Seen.{prefix_as, addr_as};
+ghost use Rattle.printed_model.specs.Reading.{answer_in, bound_in, cert_in, change_in, entry_in, join_in, line_in, named_in, part_in, report_in, route_in, row_in, signed_in, visits_in};
+ghost use Rattle.cost_cert.specs.Printed.{printed_row_as};
+
+use crate::fields::{
+    address_field, count_field, family_field, hop_field, is, next_field, number_field, one_field,
+    prefix_field, two_fields,
+};
+use crate::why;
+use bstr::{ByteSlice, Split};
+use fib_prefix::{Addr, Family, Prefix};
+
+/// What a run counts.
+#[derive(Clone, Copy, Debug, PartialEq, Eq)]
+pub enum Count {
+    /// The records of the inputs, skipped ones too.
+    Records,
+    /// The records that were skipped.
+    Skipped,
+    /// The elementary events.
+    Events,
+    /// The routes.
+    Routes,
+    /// The entries of the kept table.
+    Entries,
+    /// The nodes that look-ups need.
+    Nodes,
+    /// The leaves that look-ups need.
+    Leaves,
+}
+
+/// A printed row. A hop is an address, or `None` for none.
+#[derive(Clone, Copy, Debug, PartialEq, Eq)]
+pub enum PrintedRow {
+    /// The route chosen at a prefix.
+    Route(Prefix, Addr),
+    /// The event of this number adds an entry.
+    Add(u64, Prefix, Option<Addr>),
+    /// The event of this number gives an entry another hop.
+    Replace(u64, Prefix, Option<Addr>),
+    /// The event of this number removes an entry.
+    Remove(u64, Prefix),
+    /// The hop of an address.
+    Answer(Addr, Option<Addr>),
+    /// How many nodes the look-up of an address visits.
+    Visits(Addr, u64),
+    /// An entry of the kept table.
+    Table(Prefix, Option<Addr>),
+    /// An entry of the least table.
+    Least(Prefix, Option<Addr>),
+    /// Of a certificate: every address of the prefix gets the hop.
+    Leaf(Prefix, Option<Addr>),
+    /// Of a certificate: the prefix's region is put together from its halves, and has this k.
+    Join(Prefix, u64),
+    /// Of a certificate: a least table of the family has so many entries.
+    Bound(Family, u64),
+    /// A count.
+    Report(Count, u64),
+}
+
+/// A prefix and a hop, with the word that stands for none.
+#[tactic(auto, unfolding(printed_model::specs::Reading::entry_in))]
+fn entry_in(word: &[u8], fields: Split<'_, '_>) -> Result<(Prefix, Option<Addr>), u8>
+    ensures { Gives (λ e. (prefix_as e.0, option_map addr_as e.1)) result (entry_in word.now fields.entry) }
+{
+    let (prefix, hop) = two_fields(fields)?;
+    let prefix = prefix_field(prefix)?;
+    let hop = hop_field(word, hop)?;
+    Ok((prefix, hop))
+}
+
+/// A chosen route.
+#[tactic(auto, unfolding(printed_model::specs::Reading::route_in))]
+fn route_in(fields: Split<'_, '_>) -> Result<PrintedRow, u8>
+    ensures { Gives printed_row_as result (route_in fields.entry) }
+{
+    let (prefix, addr) = two_fields(fields)?;
+    let prefix = prefix_field(prefix)?;
+    let addr = address_field(addr)?;
+    Ok(PrintedRow::Route(prefix, addr))
+}
+
+/// An answer.
+#[tactic(auto, unfolding(printed_model::specs::Reading::answer_in))]
+fn answer_in(fields: Split<'_, '_>) -> Result<PrintedRow, u8>
+    ensures { Gives printed_row_as result (answer_in fields.entry) }
+{
+    let (addr, hop) = two_fields(fields)?;
+    let addr = address_field(addr)?;
+    let hop = hop_field(b"none", hop)?;
+    Ok(PrintedRow::Answer(addr, hop))
+}
+
+/// The visits of a look-up.
+#[tactic(auto, unfolding(printed_model::specs::Reading::visits_in))]
+fn visits_in(fields: Split<'_, '_>) -> Result<PrintedRow, u8>
+    ensures { Gives printed_row_as result (visits_in fields.entry) }
+{
+    let (addr, number) = two_fields(fields)?;
+    let addr = address_field(addr)?;
+    let number = number_field(number)?;
+    Ok(PrintedRow::Visits(addr, number))
+}
+
+/// A change, by its sign.
+#[tactic(auto, unfolding(printed_model::specs::Reading::signed_in))]
+fn signed_in(event: u64, sign: &[u8], fields: Split<'_, '_>) -> Result<PrintedRow, u8>
+    ensures { Gives printed_row_as result (signed_in event sign.now fields.entry) }
+{
+    if is(sign, b"+") {
+        let (prefix, hop) = entry_in(b"drop", fields)?;
+        Ok(PrintedRow::Add(event, prefix, hop))
+    } else if is(sign, b"=") {
+        let (prefix, hop) = entry_in(b"drop", fields)?;
+        Ok(PrintedRow::Replace(event, prefix, hop))
+    } else if is(sign, b"-") {
+        let prefix = one_field(fields)?;
+        let prefix = prefix_field(prefix)?;
+        Ok(PrintedRow::Remove(event, prefix))
+    } else {
+        Err(why::WORD)
+    }
+}
+
+/// A change.
+#[tactic(auto, unfolding(printed_model::specs::Reading::change_in))]
+fn change_in(fields: Split<'_, '_>) -> Result<PrintedRow, u8>
+    ensures { Gives printed_row_as result (change_in fields.entry) }
+{
+    let (event, fields) = next_field(fields)?;
+    let event = number_field(event)?;
+    let (sign, fields) = next_field(fields)?;
+    signed_in(event, sign, fields)
+}
+
+/// A region that a certificate puts together.
+#[tactic(auto, unfolding(printed_model::specs::Reading::join_in))]
+fn join_in(fields: Split<'_, '_>) -> Result<PrintedRow, u8>
+    ensures { Gives printed_row_as result (join_in fields.entry) }
+{
+    let (prefix, number) = two_fields(fields)?;
+    let prefix = prefix_field(prefix)?;
+    let number = number_field(number)?;
+    Ok(PrintedRow::Join(prefix, number))
+}
+
+/// A family's bound.
+#[tactic(auto, unfolding(printed_model::specs::Reading::bound_in))]
+fn bound_in(fields: Split<'_, '_>) -> Result<PrintedRow, u8>
+    ensures { Gives printed_row_as result (bound_in fields.entry) }
+{
+    let (family, number) = two_fields(fields)?;
+    let family = family_field(family)?;
+    let number = number_field(number)?;
+    Ok(PrintedRow::Bound(family, number))
+}
+
+/// A row of a certificate, by its second word.
+#[tactic(auto, unfolding(printed_model::specs::Reading::part_in))]
+fn part_in(word: &[u8], fields: Split<'_, '_>) -> Result<PrintedRow, u8>
+    ensures { Gives printed_row_as result (part_in word.now fields.entry) }
+{
+    if is(word, b"leaf") {
+        let (prefix, hop) = entry_in(b"none", fields)?;
+        Ok(PrintedRow::Leaf(prefix, hop))
+    } else if is(word, b"join") {
+        join_in(fields)
+    } else if is(word, b"bound") {
+        bound_in(fields)
+    } else {
+        Err(why::WORD)
+    }
+}
+
+/// A row of a certificate.
+#[tactic(auto, unfolding(printed_model::specs::Reading::cert_in))]
+fn cert_in(fields: Split<'_, '_>) -> Result<PrintedRow, u8>
+    ensures { Gives printed_row_as result (cert_in fields.entry) }
+{
+    let (word, fields) = next_field(fields)?;
+    part_in(word, fields)
+}
+
+/// A count.
+#[tactic(auto, unfolding(printed_model::specs::Reading::report_in))]
+fn report_in(fields: Split<'_, '_>) -> Result<PrintedRow, u8>
+    ensures { Gives printed_row_as result (report_in fields.entry) }
+{
+    let (count, number) = two_fields(fields)?;
+    let count = count_field(count)?;
+    let number = number_field(number)?;
+    Ok(PrintedRow::Report(count, number))
+}
+
+/// A row, by its name.
+#[tactic(auto, unfolding(printed_model::specs::Reading::named_in))]
+fn named_in(name: &[u8], fields: Split<'_, '_>) -> Result<PrintedRow, u8>
+    ensures { Gives printed_row_as result (named_in name.now fields.entry) }
+{
+    if is(name, b"route") {
+        route_in(fields)
+    } else if is(name, b"change") {
+        change_in(fields)
+    } else if is(name, b"answer") {
+        answer_in(fields)
+    } else if is(name, b"visits") {
+        visits_in(fields)
+    } else if is(name, b"table") {
+        let (prefix, hop) = entry_in(b"drop", fields)?;
+        Ok(PrintedRow::Table(prefix, hop))
+    } else if is(name, b"least") {
+        let (prefix, hop) = entry_in(b"drop", fields)?;
+        Ok(PrintedRow::Least(prefix, hop))
+    } else if is(name, b"cert") {
+        cert_in(fields)
+    } else if is(name, b"report") {
+        report_in(fields)
+    } else {
+        Err(why::WORD)
+    }
+}
+
+/// A row of the fields of its line.
+#[tactic(auto, unfolding(printed_model::specs::Reading::row_in))]
+fn row_in(fields: Split<'_, '_>) -> Result<PrintedRow, u8>
+    ensures { Gives printed_row_as result (row_in fields.entry) }
+{
+    let (name, fields) = next_field(fields)?;
+    named_in(name, fields)
+}
+
+/// Reads a row from a line without its end, or says why it is none (`why`). Takes no memory, and costs the line's length.
+pub fn read_row(line: &[u8]) -> Result<PrintedRow, u8>
+    ensures { Gives printed_row_as result (line_in line.now) }
+{
+    row_in(line.split_str(b","))
+}

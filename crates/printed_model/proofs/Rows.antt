@@ -1,0 +1,35 @@
+-- What is written of a row is read again.
+use Rattle.std.proofs.Common.{◌≡◌, ℕ, List, [], ◌∷◌, Option, Result, Ok, decimal, codes, ap, ◌∙◌}
+use Rattle.octet_fields.specs.Field.{◌>>=◌}
+use Rattle.address_model.specs.Address.{Address, Prefix, IsPrefix}
+use Rattle.fib_prefix.specs.Text.{address_text, prefix_text}
+use Rattle.printed_model.specs.Rows.{PrintedRow, route_row, add_row, replace_row, remove_row, answer_row, visits_row, table_row, least_row, cert_leaf_row, cert_join_row, cert_bound_row, report_row, IsRow, fields_of, count_name, family_name, hop_text}
+use Rattle.printed_model.specs.Reading.{address_field, prefix_field, number_field, hop_field, count_field, family_field, entry_in, route_in, answer_in, visits_in, signed_in, change_in, join_in, bound_in, part_in, cert_in, report_in, named_in, row_in}
+use Rattle.printed_model.proofs.Fields.{address_again, prefix_again, number_again, none_again, drop_again, count_again, family_again}
+
+-- two fields, one read after the other
+both : {A B C : Type 0} (r : Result A ℕ) (s : Result B ℕ) (f : A → B → C) (x : A) (y : B) → r ≡ Ok x → s ≡ Ok y → (r >>= λ u. s >>= λ v. Ok (f u v)) ≡ Ok (f x y)
+both r s f x y e g = ap (λ q. q >>= λ u. s >>= λ v. Ok (f u v)) e ∙ ap (λ q. q >>= λ v. Ok (f x v)) g
+
+entry_again : (word text : List ℕ) (p : Prefix) (hop : Option Address) → IsPrefix p → hop_field word text ≡ Ok hop → entry_in word (prefix_text p ∷ text ∷ []) ≡ Ok (p, hop)
+unfolding entry_in
+entry_again word text p hop h e = both (prefix_field (prefix_text p)) (hop_field word text) (λ u v. (u, v)) p hop (prefix_again p h) e
+
+pub row_again : (row : PrintedRow) → IsRow row → row_in (fields_of row) ≡ Ok row
+unfolding row_in named_in route_in answer_in visits_in signed_in change_in join_in bound_in part_in cert_in report_in
+row_again (route_row p a) h = both (prefix_field (prefix_text p)) (address_field (address_text a)) route_row p a (prefix_again p h.0) (address_again a h.1)
+row_again (add_row event p hop) h =
+    ap (λ (r : Result ℕ ℕ). r >>= λ n. entry_in (codes "drop") (prefix_text p ∷ hop_text (codes "drop") hop ∷ []) >>= λ e. Ok (add_row n e.0 e.1)) (number_again event h.0)
+    ∙ ap (λ r. r >>= λ e. Ok (add_row event e.0 e.1)) (entry_again (codes "drop") (hop_text (codes "drop") hop) p hop h.1 (drop_again hop h.2))
+row_again (replace_row event p hop) h =
+    ap (λ (r : Result ℕ ℕ). r >>= λ n. entry_in (codes "drop") (prefix_text p ∷ hop_text (codes "drop") hop ∷ []) >>= λ e. Ok (replace_row n e.0 e.1)) (number_again event h.0)
+    ∙ ap (λ r. r >>= λ e. Ok (replace_row event e.0 e.1)) (entry_again (codes "drop") (hop_text (codes "drop") hop) p hop h.1 (drop_again hop h.2))
+row_again (remove_row event p) h = both (number_field (decimal event)) (prefix_field (prefix_text p)) remove_row event p (number_again event h.0) (prefix_again p h.1)
+row_again (answer_row a hop) h = both (address_field (address_text a)) (hop_field (codes "none") (hop_text (codes "none") hop)) answer_row a hop (address_again a h.0) (none_again hop h.1)
+row_again (visits_row a n) h = both (address_field (address_text a)) (number_field (decimal n)) visits_row a n (address_again a h.0) (number_again n h.1)
+row_again (table_row p hop) h = ap (λ r. r >>= λ e. Ok (table_row e.0 e.1)) (entry_again (codes "drop") (hop_text (codes "drop") hop) p hop h.0 (drop_again hop h.1))
+row_again (least_row p hop) h = ap (λ r. r >>= λ e. Ok (least_row e.0 e.1)) (entry_again (codes "drop") (hop_text (codes "drop") hop) p hop h.0 (drop_again hop h.1))
+row_again (cert_leaf_row p hop) h = ap (λ r. r >>= λ e. Ok (cert_leaf_row e.0 e.1)) (entry_again (codes "none") (hop_text (codes "none") hop) p hop h.0 (none_again hop h.1))
+row_again (cert_join_row p k) h = both (prefix_field (prefix_text p)) (number_field (decimal k)) cert_join_row p k (prefix_again p h.0) (number_again k h.1)
+row_again (cert_bound_row f n) h = both (family_field (family_name f)) (number_field (decimal n)) cert_bound_row f n (family_again f) (number_again n h)
+row_again (report_row count n) h = both (count_field (count_name count)) (number_field (decimal n)) report_row count n (count_again count) (number_again n h)

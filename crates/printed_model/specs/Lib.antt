@@ -1,0 +1,5 @@
+pub mod Rows
+pub mod Reading
+pub mod Texts
+pub mod Whole
+pub mod Used

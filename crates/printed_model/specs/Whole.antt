@@ -1,0 +1,32 @@
+-- What a printed text is, as a whole: rows on the lines that aren't empty, or a first bad line.
+use Rattle.std.specs.Prelude.{◌≡◌, ℕ, ◌+◌, ◌<◌, ◌≤◌, List, [], ◌∷◌, ◌++◌, Bool, true, false, Result, Ok, Err, map, length}
+use Rattle.std.specs.List.{filter}
+use Rattle.printed_model.specs.Rows.{PrintedRow}
+use Rattle.printed_model.specs.Reading.{too_many_hops, line_in}
+use Rattle.printed_model.specs.Texts.{BadLine, hops_in, most_hops}
+
+abbrev pub is_filled : List ℕ → Bool
+is_filled [] = false
+is_filled (b ∷ line) = true
+
+-- each line that isn't empty has a row, and these are the rows; their hops have numbers
+pub record HaveRows (lines : List (List ℕ)) (rows : List PrintedRow) : Type 0 where
+  pub said : map line_in (filter is_filled lines) ≡ map Ok rows
+  pub few : length (hops_in rows) ≤ most_hops
+
+-- a line that reads so after these rows is bad for this reason: the field's, or that its hop is one too many
+abbrev pub IsWhy : List PrintedRow → Result PrintedRow ℕ → ℕ → Type 0
+IsWhy rows (Err why) reason = reason ≡ why
+IsWhy rows (Ok row) reason = (reason ≡ too_many_hops) × (most_hops < length (hops_in (rows ++ row ∷ [])))
+
+-- the line of this number, from 1, is bad, and those before it have rows
+pub record IsFirstBad (lines : List (List ℕ)) (bad : BadLine) : Type 0 where
+  pub before : List (List ℕ)
+  pub line : List ℕ
+  pub after : List (List ℕ)
+  pub parts : lines ≡ before ++ line ∷ after
+  pub number : bad.line ≡ length before + 1
+  pub rows : List PrintedRow
+  pub have : HaveRows before rows
+  pub filled : is_filled line ≡ true
+  pub reason : IsWhy rows (line_in line) bad.why
