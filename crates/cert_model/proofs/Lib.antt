@@ -5,3 +5,4 @@ pub mod Postorder
 pub mod Differing
 pub mod Reading
 pub mod Verdicts
+pub mod Renamed

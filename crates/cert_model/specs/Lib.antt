@@ -1,3 +1,4 @@
 pub mod Rows
 pub mod Right
 pub mod Verdict
+pub mod Renamed

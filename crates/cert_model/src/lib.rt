@@ -15,6 +15,7 @@ ghost use Rattle.least_model.specs.Least.{Least};
 ghost use Rattle.least_model.specs.Both.{LeastInBoth};
 ghost use Rattle.cert_model.specs.Rows.{CertRow, whole, one_answer, certificate_of};
 ghost use Rattle.cert_model.specs.Right.{IsRight, bound_by, IsCertificate};
+ghost use Rattle.cert_model.specs.Renamed.{renamed, renamed_rows, hops_of_entries, KeepsApart};
 ghost use Rattle.cert_model.specs.Verdict.{No, NotSame, IsLeastDiffering, RowFits, twice, not_same, too_many_in, verdict};
 
 /// The one answer of a region is found where there is one.
@@ -60,4 +61,11 @@ pub fn not_least_law()
 /// Nothing is wrong exactly where the rows are a certificate.
 pub fn verdict_law()
     ensures { (R T : Entries) (rows : List CertRow) → AllByRecursion RowFits rows → (verdict R T rows ≡ None) ↔ IsCertificate R T rows }
+{}
+
+/// The numbers of hops don't matter: other numbers make a certificate of a certificate, where no hop stays 0 and different hops
+/// of the routes stay different, and other than none.
+pub fn renaming_law()
+    ensures { (to : ℕ → ℕ) (R T : Entries) (rows : List CertRow) → to 0 ≡ 0 → KeepsApart to (hops_of_entries R) →
+        IsCertificate R T rows → IsCertificate (renamed to R) (renamed to T) (renamed_rows to rows) }
 {}

@@ -56,7 +56,7 @@ folded_stays hops (b ∷ more) a n e = folded_stays (with_hop hops b) more a n (
 IsHeld : List Address → Address → Type 0
 IsHeld hops a = (n : ℕ) × (number_of hops a ≡ Some n)
 
-passes_within : {X : Type 0} (p : X → Bool) (xs : List X) → list_any p xs ≡ true → position_or_len p xs < length xs
+pub passes_within : {X : Type 0} (p : X → Bool) (xs : List X) → list_any p xs ≡ true → position_or_len p xs < length xs
 passes_within p [] h = absurd cc
 passes_within p (x ∷ xs) h = by_test (p x) h (passes_within p xs)
   where
@@ -111,7 +111,7 @@ cert_stays : (hops more : List Address) (row : PrintedRow) → AllByRecursion (I
 cert_stays hops more (cert_leaf_row p hop) h = ap (λ n. leaf_row p n ∷ []) (same_hop hops more hop h)
 cert_stays hops more row h = refl
 
-parts : {A : Type 0} (P : A → Type 0) (xs ys : List A) → AllByRecursion P (xs ++ ys) → AllByRecursion P xs × AllByRecursion P ys
+pub parts : {A : Type 0} (P : A → Type 0) (xs ys : List A) → AllByRecursion P (xs ++ ys) → AllByRecursion P xs × AllByRecursion P ys
 parts P [] ys h = (tt, h)
 parts P (x ∷ xs) ys h = let r = parts P xs ys h.1 in ((h.0, r.0), r.1)
 
@@ -154,7 +154,7 @@ cert_more rows row = said_more cert_part cert_stays rows row
 
 -- ---- a number is that of its hop
 
-place_holds : (hops : List Address) (a : Address) → position_or_len (same_address a) hops < length hops → slice_get hops (position_or_len (same_address a) hops) ≡ Some a
+pub place_holds : (hops : List Address) (a : Address) → position_or_len (same_address a) hops < length hops → slice_get hops (position_or_len (same_address a) hops) ≡ Some a
 place_holds [] a l = absurd (omega arith)
 place_holds (b ∷ hops) a l = by_test (same_address a b) refl l (place_holds hops a)
   where

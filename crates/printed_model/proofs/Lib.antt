@@ -6,3 +6,6 @@ pub mod Rows
 pub mod Plain
 pub mod Texts
 pub mod Whole
+pub mod Renamed
+pub mod Few
+pub mod Proper

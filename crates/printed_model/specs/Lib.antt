@@ -3,3 +3,4 @@ pub mod Reading
 pub mod Texts
 pub mod Whole
 pub mod Used
+pub mod Numbered

@@ -3,13 +3,19 @@
 //! The definitions stand in `specs/`. Each function here is a law: it does nothing, and its clauses hold for all values.
 #![tactic(auto)]
 
-ghost use Rattle.std.specs.Prelude.{◌≡◌, ◌↔◌, ◌≤◌, List, ℕ, Ok, Err, Some, length, flat_map};
-ghost use Rattle.std.specs.List.{AllByRecursion};
-ghost use Rattle.fib_prefix.specs.Hops.{hop_at};
+ghost use Rattle.std.specs.Prelude.{◌≡◌, ◌↔◌, ◌≤◌, List, ℕ, Ok, Err, Some, length, flat_map, fold};
+ghost use Rattle.std.specs.List.{AllByRecursion, IsDistinct};
+ghost use Rattle.std.specs.Map.{keys_of};
+ghost use Rattle.address_model.specs.Address.{Address, IsAddress, IsPrefix, same_address};
+ghost use Rattle.table_model.specs.Entries.{Entries};
+ghost use Rattle.cert_model.specs.Rows.{CertRow};
+ghost use Rattle.cert_model.specs.Right.{IsCertificate};
+ghost use Rattle.fib_prefix.specs.Hops.{hop_at, with_hop};
 ghost use Rattle.printed_model.specs.Rows.{PrintedRow, IsRow, fields_of, text_of};
 ghost use Rattle.printed_model.specs.Reading.{row_in};
 ghost use Rattle.printed_model.specs.Texts.{BadLine, hops_in, line_texts, most_hops, numbered_hop, rows_in};
-ghost use Rattle.printed_model.specs.Used.{hop_number};
+ghost use Rattle.printed_model.specs.Numbered.{IsCertRow, IsOther, HaveHops, Proves, rows_with};
+ghost use Rattle.printed_model.specs.Used.{hop_number, printed_in, used_of};
 ghost use Rattle.printed_model.specs.Whole.{HaveRows, IsFirstBad};
 
 /// What is written of a row is read as it. The text of rows is read as these rows, where their hops have numbers.
@@ -28,4 +34,19 @@ pub fn reading_law()
 /// The hop of each row that numbers it has a number, which is that hop's.
 pub fn numbers_law()
     ensures { (rows : List PrintedRow) → AllByRecursion (λ a. hop_at (hops_in rows) (hop_number (hops_in rows) (Some a)) ≡ Some a) (flat_map numbered_hop rows) }
+{}
+
+/// The numbers of hops don't matter to a certificate: the printed rows of routes that have hops, of a table, and of a certificate
+/// that proves it least, prove a least table with the numbers that a reader gives the hops. The text of the rows is read as them
+/// where the hops aren't too many. Rows of proper entries are proper, and different hops stay different as more get numbers.
+pub fn printed_law()
+    ensures proves { (hops : List Address) (R T : Entries) (C : List CertRow) (between after : List PrintedRow) → IsDistinct same_address hops → HaveHops hops R →
+        AllByRecursion IsOther between → AllByRecursion IsOther after → IsCertificate R T C → Proves (used_of (rows_with hops R T C between after)) }
+    ensures text { (hops : List Address) (R T : Entries) (C : List CertRow) (between after : List PrintedRow) → length hops ≤ most_hops →
+        AllByRecursion IsOther between → AllByRecursion IsOther after → AllByRecursion IsRow (rows_with hops R T C between after) →
+        printed_in (text_of (rows_with hops R T C between after)) ≡ Ok (used_of (rows_with hops R T C between after)) }
+    ensures proper { (hops : List Address) (R T : Entries) (C : List CertRow) (between after : List PrintedRow) → AllByRecursion IsAddress hops →
+        AllByRecursion IsPrefix (keys_of R) → AllByRecursion IsPrefix (keys_of T) → AllByRecursion IsCertRow C → AllByRecursion IsRow between → AllByRecursion IsRow after →
+        AllByRecursion IsRow (rows_with hops R T C between after) }
+    ensures distinct { (hops used : List Address) → IsDistinct same_address hops → IsDistinct same_address (fold with_hop hops used) }
 {}
