@@ -92,13 +92,13 @@ region_pushes R (suc d) f p s e =
 abbrev rows_in : Entries → Family → List CertRow
 rows_in R f = region_rows (width f) (answers (of_family f R) []) (whole f)
 
-have_bound : (R : Entries) (f : Family) → HaveBound R f (rows_in R f) (bound (width f) (of_family f R))
+pub have_bound : (R : Entries) (f : Family) → HaveBound R f (rows_in R f) (bound (width f) (of_family f R))
 have_bound R f =
     let end : List Item = item_at R (whole f) ∷ [] in
     let r : Reads R (rows_in R f ++ []) [] end = region_pushes R (width f) (answers (of_family f R) []) (whole f) (omega arith) (λ a l. refl) [] [] end refl in
     ((item_at R (whole f)).hops, (item_at R (whole f)).k, subst (λ (rows : List CertRow). Reads R rows [] end) (append-nil (rows_in R f)) r, refl)
 
-few : (R T : Entries) (f : Family) → Least (width f) (of_family f R) (of_family f T) → length (of_family f T) ≤ bound (width f) (of_family f R)
+pub few : (R T : Entries) (f : Family) → Least (width f) (of_family f R) (of_family f T) → length (of_family f T) ≤ bound (width f) (of_family f R)
 few R T f l = let fresh = fresh_law (width f) (of_family f R) [] in omega (arith, l.1 _ fresh.0 fresh.1.0, fresh.2)
 
 alike_both : (R T : Entries) → LeastInBoth R T → AlikeInBoth R T

@@ -7,7 +7,7 @@ use Rattle.route_model.specs.Choice.{IsElem, after_elems, routes_of}
 use Rattle.feed_model.specs.Feed.{hops_after, full_at, changes_from}
 use Rattle.fib_words.specs.Commands.{Named}
 use Rattle.fib_main.specs.declared.outcome.Outcome.{Outcome}
-use Rattle.fib_main.specs.declared.outcome.Outcome.TheVariants.{Done, Usage, ReadFault, WriteFault, NoMemory, TooLarge, Malformed, HopsFull, BadLine}
+use Rattle.fib_main.specs.declared.outcome.Outcome.TheVariants.{Done, CheckNo, Usage, ReadFault, WriteFault, NoMemory, TooLarge, Malformed, HopsFull, BadLine}
 use Rattle.fib_main.specs.declared.outcome.Which.TheVariants.{Dump, Updates}
 use Rattle.fib_main.specs.declared.state.State.{State}
 use Rattle.fib_main.specs.Stops.{Stop, Untold, Refused, ◌>>=◌, Is, Fails}
@@ -40,6 +40,7 @@ is_then {Y = Y} (Ok z) f x y i j = subst (λ w. Is (f w) (fine y)) (sym (same_ok
 
 fails_untold : {X : Type 0} (Y : Type 0) (o : Outcome) (d : Result X Stop) → Fails o d → Fails {Y = Y} o (Err Untold)
 fails_untold Y Done d f = f
+fails_untold Y (CheckNo x) d f = f
 fails_untold Y WriteFault d f = f
 fails_untold Y NoMemory d f = tt
 fails_untold Y ReadFault d f = tt
@@ -66,6 +67,7 @@ is_first o (Ok z) f i = absurd (ok_not_refused z o i)
 
 fails_first : {X Y : Type 0} (o : Outcome) (d : Result X Stop) (f : X → Result Y Stop) → Fails o d → Fails o (d >>= f)
 fails_first Done d f j = j
+fails_first (CheckNo x) d f j = j
 fails_first WriteFault d f j = j
 fails_first NoMemory d f j = tt
 fails_first ReadFault d f j = tt
@@ -111,6 +113,7 @@ after_is (Ok y) x names i = refl
 reads_more : (cause more : Type 0) (before now : List ℕ → ℕ) (o : Outcome) → (cause → more) → ReadsBy cause before now o → ReadsBy more before now o
 reads_more cause more before now ReadFault f r = f r
 reads_more cause more before now Done f r = r
+reads_more cause more before now (CheckNo x) f r = r
 reads_more cause more before now WriteFault f r = r
 reads_more cause more before now NoMemory f r = r
 reads_more cause more before now Usage f r = r

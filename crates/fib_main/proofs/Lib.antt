@@ -1,9 +1,13 @@
 pub mod AskLemmas
+pub mod Certifying
 pub mod Completing
 pub mod Due
 pub mod Feeding
+pub mod Fitting
 pub mod Fronts
 pub mod Looking
+pub mod Printing
+pub mod Replies
 pub mod Reporting
 pub mod Running
 pub mod Steps

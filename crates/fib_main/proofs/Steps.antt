@@ -35,7 +35,7 @@ use Rattle.fib_prefix.specs.declared.prefix.Prefix as code_prefix
 use Rattle.fib_prefix.specs.declared.event.Elem as code_elem
 use Rattle.fib_prefix.specs.declared.event.Elem.TheVariants as code_variant
 use Rattle.fib_main.specs.declared.outcome.Which.{Which}
-use Rattle.fib_main.specs.declared.outcome.Which.TheVariants.{Asks, Dump, Updates}
+use Rattle.fib_main.specs.declared.outcome.Which.TheVariants.{Asks, Dump, Updates, Printed}
 use Rattle.fib_main.specs.declared.state.State.{State}
 use Rattle.fib_main.specs.Seen.{changes_as}
 use Rattle.fib_main.specs.Standing.{kept, Stands, IsFull, Takes, TakesAll, next_elems}
@@ -105,11 +105,13 @@ changes_push hops n held (d ∷ done) elem =
 -- the changes that are kept of one elementary event
 abbrev pub kept_one : Which → ℕ → List Change → List (ℕ × Change)
 kept_one Asks n changes = []
+kept_one Printed n changes = []
 kept_one Dump n changes = []
 kept_one Updates n changes = at_event n changes
 
 kept_push : (which : Which) (hops : List Address) (held : Candidates) (done : List Elem) (elem : Elem) → kept which hops held (done ++ elem ∷ []) ≡ kept which hops held done ++ kept_one which (1 + length done) (change_by hops (after_elems held done) elem)
 kept_push Asks hops held done elem = refl
+kept_push Printed hops held done elem = refl
 kept_push Dump hops held done elem = refl
 kept_push Updates hops held done elem = changes_push hops 1 held done elem
 

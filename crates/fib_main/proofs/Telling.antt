@@ -8,6 +8,8 @@ use Rattle.address_model.specs.Order.{prefix_cmp}
 use Rattle.table_model.specs.Entries.{Entries}
 use Rattle.table_model.specs.Changes.{additions}
 use Rattle.least_model.specs.Both.{aggregate_in_both}
+use Rattle.cert_model.specs.Rows.{certificate_of}
+use Rattle.cost_cert.specs.Seen.{row_as}
 use Rattle.route_model.specs.Events.{Elem}
 use Rattle.route_model.specs.Choice.{Candidates, AreCandidates, after_elems, routes_of}
 use Rattle.route_model.proofs.Choices.{routes_sorted}
@@ -43,7 +45,7 @@ keys_stay : (hops : List Address) (routes : List (Model × Address)) → keys_of
 keys_stay hops [] = refl
 keys_stay hops (r ∷ routes) = ap (λ ks. r.0 ∷ ks) (keys_stay hops routes)
 
-entries_sorted : (hops : List Address) (held : Candidates) → AreCandidates held → IsStrictlySortedBy prefix_cmp (keys_of (entries_of hops held))
+pub entries_sorted : (hops : List Address) (held : Candidates) → AreCandidates held → IsStrictlySortedBy prefix_cmp (keys_of (entries_of hops held))
 entries_sorted hops held are = subst (IsStrictlySortedBy prefix_cmp) (sym (keys_stay hops (routes_of held))) (routes_sorted held are)
 
 counted : (load updates : Feed) (fed : Fed) (routes : Entries) (entries : List Entry) (n : ℕ) → IsCounted load fed.load → IsCounted updates fed.updates → map entry_as entries ≡ routes → n ≡ length entries → totals fed.load fed.updates n ≡ counts load updates routes
@@ -54,7 +56,7 @@ counted load updates fed routes entries n l u e len =
 pub told_is : (load updates : Feed) (fed : Fed) (state : State) (asks : List Addr) (routes loaded table : List Entry) (chosen : List (Prefix × Addr)) (looked : Looked) (changes : List (ℕ × Change)) (report : Report) (n : ℕ)
     → map route_as chosen ≡ routes_of state.candidates.candidates → map entry_as routes ≡ map (numbered state.hops.list) chosen → map entry_as loaded ≡ map (numbered state.hops.list) fed.loaded.now → (IsStrictlySortedBy prefix_cmp (keys_of (map entry_as routes)) → IsLooked (map entry_as routes) (map addr_as asks) looked)
     → changes_as changes ≡ at_event 0 (additions (map entry_as loaded)) ++ changes_as state.changes.items → table ≡ routes → report ≡ totals fed.load fed.updates n → n ≡ length routes → IsFed load updates fed state
-    → record { routes = map entry_as routes; changes = changes_as changes; answers = answers_as looked.answers.items; table = map entry_as table; least = map entry_as looked.least.items; report = report } ≡ (printed load updates (map addr_as asks)).told
+    → record { routes = map entry_as routes; changes = changes_as changes; answers = answers_as looked.answers.items; table = map entry_as table; least = map entry_as looked.least.items; cert = map row_as looked.cert.items; report = report } ≡ (printed load updates (map addr_as asks)).told
 told_is load updates fed state asks routes loaded table chosen looked changes report n r e l p c t m len f =
     let elems : List Elem = load.elems ++ updates.elems in
     let hops : List Address = hops_after [] elems in
@@ -68,9 +70,10 @@ told_is load updates fed state asks routes loaded table chosen looked changes re
     let found : IsLooked (map entry_as routes) (map addr_as asks) looked = p (subst (λ L. IsStrictlySortedBy prefix_cmp (keys_of L)) (sym entries) sorted) in
     let answered : answers_as looked.answers.items ≡ answers_to (entries_of hops held) (map addr_as asks) = found.answers ∙ ap (λ es. answers_to es (map addr_as asks)) entries in
     let least : map entry_as looked.least.items ≡ aggregate_in_both (entries_of hops held) (entries_of hops held) = found.least ∙ ap (λ es. aggregate_in_both es es) entries in
+    let proof : map row_as looked.cert.items ≡ certificate_of (entries_of hops held) = found.cert ∙ ap certificate_of entries in
     let again : map entry_as table ≡ entries_of hops held = ap (map entry_as) t ∙ entries in
     let report_is : report ≡ counts load updates (entries_of hops held) = m ∙ counted load updates fed (entries_of hops held) routes n f.counted f.has.counted entries len in
-    rw (entries, all, answered, again, least, report_is) refl
+    rw (entries, all, answered, again, least, proof, report_is) refl
 
 pub text_is : (load updates : Feed) (fed : Fed) (state : State) (asks : List Address) (run : Told) (old new : List ℕ) → IsFed load updates fed state → run ≡ (printed load updates asks).told → new ≡ old ++ run_text state.hops.list run → old ≡ [] → new ≡ text_of (printed load updates asks)
 text_is load updates fed state asks run old new f r grown empty =

@@ -1,9 +1,10 @@
--- What a run is to come to.
+-- What a run and a check are to come to.
 use Rattle.std.specs.Prelude.{ℕ, ◌+◌, List, [], ◌++◌, length, Option, Some, None, Result, Ok, Err, map}
 use Rattle.address_model.specs.Address.{Address}
 use Rattle.table_model.specs.Entries.{Entries, match_in}
 use Rattle.table_model.specs.Changes.{Change}
 use Rattle.least_model.specs.Both.{aggregate_in_both}
+use Rattle.cert_model.specs.Rows.{certificate_of}
 use Rattle.route_model.specs.Events.{Elem}
 use Rattle.route_model.specs.Choice.{after_elems, elems_after}
 use Rattle.reading_model.specs.Input.{Progress, Stopped, input}
@@ -11,16 +12,20 @@ use Rattle.feed_model.specs.Feed.{hops_after, full_at, entries_of, load_changes,
 use Rattle.fib_report.specs.Seen.{Told}
 use Rattle.fib_report.specs.Rows.{run_text}
 use Rattle.fib_report.specs.declared.run.Report.{Report}
-use Rattle.fib_words.specs.Commands.{Named, command_of}
+use Rattle.cert_model.specs.Verdict.{No}
+use Rattle.printed_model.specs.Used.{Used, printed_in}
+use Rattle.fib_words.specs.Commands.{Named, Asked, Run, Check, command_of}
 use Rattle.fib_main.specs.declared.outcome.Outcome.TheVariants.{Usage}
 use Rattle.fib_main.specs.declared.outcome.Which.{Which}
 use Rattle.fib_main.specs.declared.outcome.Which.TheVariants.{Asks, Dump, Updates}
-use Rattle.fib_main.specs.Stops.{Stop, Refused, ◌>>=◌, told, sized, lined, whole, few_hops}
+use Rattle.fib_main.specs.declared.outcome.Which.TheVariants as which
+use Rattle.fib_main.specs.Stops.{Stop, Refused, ◌>>=◌, told, sized, lined, rowed, whole, few_hops}
 use Rattle.fib_main.specs.Asks.{asks_in}
+use Rattle.fib_main.specs.Checks.{verdict_of, verdict_text}
 
-abbrev pub usage : Option Named → Result Named Stop
+abbrev pub usage : Option Asked → Result Asked Stop
 usage None = Err (Refused Usage)
-usage (Some named) = Ok named
+usage (Some asked) = Ok asked
 
 -- the octets of an input
 unfoldable pub input_at : (List ℕ → Option (List ℕ)) → Which → List ℕ → Result (List ℕ) Stop
@@ -86,9 +91,9 @@ counts load updates routes = record {
   entries = length routes;
 }
 
--- of these routes: themselves, the changes that led to them, each address with its answer, the table, the aggregate with the routes as the old table, and the counts
+-- of these routes: themselves, the changes that led to them, each address with its answer, the table, the aggregate with the routes as the old table, the certificate that it is least, and the counts
 abbrev pub run_of : Entries → List (ℕ × Change) → List Address → Feed → Feed → Told
-run_of routes changes asks load updates = record { routes = routes; changes = changes; answers = answers_to routes asks; table = routes; least = aggregate_in_both routes routes; report = counts load updates routes }
+run_of routes changes asks load updates = record { routes = routes; changes = changes; answers = answers_to routes asks; table = routes; least = aggregate_in_both routes routes; cert = certificate_of routes; report = counts load updates routes }
 
 -- the changes of the load and those of the updates, with these numbers of hops
 abbrev pub changes_of : List Address → Feed → Feed → List (ℕ × Change)
@@ -113,20 +118,68 @@ told_at content named asks = do
   updates ← feed_at content Updates load.elems named.updates
   Ok (printed load updates asks)
 
--- What is to be printed, or the first refusal: of the words, the asks, the dump, the updates.
-unfoldable pub due : List (List ℕ) → (List ℕ → Option (List ℕ)) → Result Printed Stop
-due words content = do
-  named ← usage (command_of words)
+-- what is to be printed of a run, or the first refusal: of the asks, the dump, the updates
+unfoldable pub run_at : (List ℕ → Option (List ℕ)) → Named → Result Printed Stop
+run_at content named = do
   asks ← asks_at content named.asks
   told_at content named asks
 
--- the text of the rows
+-- the text of a run's rows
 abbrev pub text_of : Printed → List ℕ
 text_of p = run_text p.hops p.told
 
 abbrev pub with_text : Result Printed Stop → Result (List ℕ) Stop
 with_text printed = printed >>= λ p. Ok (text_of p)
 
--- the text that is due
-unfoldable pub text_at : List (List ℕ) → (List ℕ → Option (List ℕ)) → Result (List ℕ) Stop
-text_at words content = with_text (due words content)
+-- what a check uses of the printed text of this name, or the text's refusal
+unfoldable pub used_at : (List ℕ → Option (List ℕ)) → List ℕ → Result Used Stop
+used_at content name = do
+  octets ← input_at content which.Printed name
+  rowed (printed_in octets)
+
+-- What is to be printed: the rows of a run, or the verdict on what a printed text has.
+pub data Output : Type 0 where
+  Ran : Printed → Output
+  Checked : Used → Output
+
+abbrev pub ran : Result Printed Stop → Result Output Stop
+ran printed = printed >>= λ p. Ok (Ran p)
+
+abbrev pub checked : Result Used Stop → Result Output Stop
+checked used = used >>= λ u. Ok (Checked u)
+
+-- of a run, or of a check
+unfoldable pub output_at : (List ℕ → Option (List ℕ)) → Asked → Result Output Stop
+output_at content (Run named) = ran (run_at content named)
+output_at content (Check name) = checked (used_at content name)
+
+-- What is to be printed, or the first refusal: of the words, and then of the inputs that they name.
+unfoldable pub due : List (List ℕ) → (List ℕ → Option (List ℕ)) → Result Output Stop
+due words content = do
+  asked ← usage (command_of words)
+  output_at content asked
+
+-- what a check finds wrong; a run finds nothing wrong
+abbrev pub wrong_in : Output → Option No
+wrong_in (Ran p) = None
+wrong_in (Checked used) = verdict_of used
+
+-- the text of the rows
+abbrev pub output_text : Output → List ℕ
+output_text (Ran p) = text_of p
+output_text (Checked used) = verdict_text used.hops (verdict_of used)
+
+-- a text, and what is wrong where it says so
+pub record Reply : Type 0 where
+  pub text : List ℕ
+  pub wrong : Option No
+
+abbrev pub reply_of : Output → Reply
+reply_of output = record { text = output_text output; wrong = wrong_in output }
+
+abbrev pub with_reply : Result Output Stop → Result Reply Stop
+with_reply output = output >>= λ o. Ok (reply_of o)
+
+-- the text that is due, and what is wrong
+unfoldable pub reply_at : List (List ℕ) → (List ℕ → Option (List ℕ)) → Result Reply Stop
+reply_at words content = with_reply (due words content)

@@ -1,37 +1,52 @@
--- What a run leaves.
+-- What a run or a check leaves.
 use Rattle.std.specs.Prelude.{◌≡◌, ℕ, List, [], ◌∷◌, ◌++◌, codes, decimal, Option, Some, None, IfSome, Result, Ok, Err, ◌⊎◌}
 use Rattle.fib_io.specs.Causes.{Rose}
 use Rattle.fib_io.specs.Octets.{Adds, AddsSome}
+use Rattle.cert_model.specs.Verdict.{No}
+use Rattle.cert_check.specs.declared.refusal.No as code
+use Rattle.cert_check.specs.Seen.{no_as}
 use Rattle.fib_main.specs.declared.outcome.Which.{Which}
-use Rattle.fib_main.specs.declared.outcome.Which.TheVariants.{Asks, Dump, Updates}
+use Rattle.fib_main.specs.declared.outcome.Which.TheVariants.{Asks, Dump, Updates, Printed}
 use Rattle.fib_main.specs.declared.outcome.Outcome.{Outcome}
-use Rattle.fib_main.specs.declared.outcome.Outcome.TheVariants.{Done, Usage, ReadFault, WriteFault, NoMemory, TooLarge, Malformed, HopsFull, BadLine}
+use Rattle.fib_main.specs.declared.outcome.Outcome.TheVariants.{Done, CheckNo, Usage, ReadFault, WriteFault, NoMemory, TooLarge, Malformed, HopsFull, BadLine}
 use Rattle.fib_main.specs.Stops.{Stop, Untold, Refused}
-use Rattle.fib_words.specs.Commands.{Named, command_of}
-use Rattle.fib_main.specs.Due.{Printed, asks_at, feed_at, text_of}
+use Rattle.fib_words.specs.Commands.{Named, Asked, Run, Check, command_of}
+use Rattle.fib_main.specs.Due.{Output, asks_at, feed_at, output_text, wrong_in}
 
--- the outcome that is due, if all that it rests on is told
-abbrev pub ending : Result Printed Stop → Option Outcome
-ending (Ok p) = Some Done
-ending (Err Untold) = None
-ending (Err (Refused o)) = Some o
+-- the outcome at the end: Done, or what a check finds wrong
+abbrev pub EndsBy : Option No → Outcome → Type 0
+EndsBy None outcome = outcome ≡ Done
+EndsBy (Some wrong) outcome = (x : code.No) × (outcome ≡ CheckNo x) × (no_as x ≡ wrong)
+
+-- the outcome is the one that is due, if all that it rests on is told
+abbrev pub IsDue : Result Output Stop → Outcome → Type 0
+IsDue (Ok output) outcome = EndsBy (wrong_in output) outcome
+IsDue (Err Untold) outcome = Unit {0}
+IsDue (Err (Refused o)) outcome = outcome ≡ o
+
+-- nothing is refused
+abbrev pub IsAccepted : Result Output Stop → Type 0
+IsAccepted (Ok output) = Unit {0}
+IsAccepted (Err Untold) = Unit {0}
+IsAccepted (Err (Refused o)) = ⊥
 
 -- what is to be written then
-abbrev pub text_due : Result Printed Stop → Option (List ℕ)
-text_due (Ok p) = Some (text_of p)
+abbrev pub text_due : Result Output Stop → Option (List ℕ)
+text_due (Ok output) = Some (output_text output)
 text_due (Err Untold) = None
 text_due (Err (Refused o)) = Some []
 
--- The outcome is the one that is due. A fault of reading or want of memory may come in its place, and a fault of writing in place of Done.
-abbrev pub Meets : Result Printed Stop → Outcome → Type 0
+-- The outcome is the one that is due. A fault of reading or want of memory may come in its place, and a fault of writing where nothing is refused.
+abbrev pub Meets : Result Output Stop → Outcome → Type 0
 Meets d NoMemory = Unit {0}
 Meets d ReadFault = Unit {0}
-Meets d WriteFault = IfSome (ending d) (λ o. o ≡ Done)
-Meets d outcome = IfSome (ending d) (λ o. outcome ≡ o)
+Meets d WriteFault = IsAccepted d
+Meets d outcome = IsDue d outcome
 
--- out has the whole text at Done, a front of it at a fault of writing, and nothing new else
+-- out has the whole text at Done and where a check says no, a front of it at a fault of writing, and nothing new else
 abbrev pub Writes : Option (List ℕ) → Option (List ℕ) → Option (List ℕ) → Outcome → Type 0
 Writes text old new Done = IfSome text (λ t. Adds old new t)
+Writes text old new (CheckNo x) = IfSome text (λ t. Adds old new t)
 Writes text old new WriteFault = IfSome text (λ t. AddsSome old new t)
 Writes text old new outcome = new ≡ old
 
@@ -51,12 +66,17 @@ abbrev pub feeds_named : (List ℕ → Option (List ℕ)) → Named → List (Li
 feeds_named content named = named.dump ∷ after (feed_at content Dump [] (Some named.dump)) (one named.updates)
 
 -- the inputs that are to be read, up to the first that is refused
-abbrev pub reads_named : (List ℕ → Option (List ℕ)) → Option Named → List (List ℕ)
-reads_named content None = []
-reads_named content (Some named) = one named.asks ++ after (asks_at content named.asks) (feeds_named content named)
+abbrev pub reads_named : (List ℕ → Option (List ℕ)) → Named → List (List ℕ)
+reads_named content named = one named.asks ++ after (asks_at content named.asks) (feeds_named content named)
+
+-- the same of what the words ask for
+abbrev pub reads_asked : (List ℕ → Option (List ℕ)) → Option Asked → List (List ℕ)
+reads_asked content None = []
+reads_asked content (Some (Run named)) = reads_named content named
+reads_asked content (Some (Check name)) = name ∷ []
 
 unfoldable pub reads : List (List ℕ) → (List ℕ → Option (List ℕ)) → List (List ℕ)
-reads words content = reads_named content (command_of words)
+reads words content = reads_asked content (command_of words)
 
 -- the count of one of these names rose
 abbrev pub OneRose : List (List ℕ) → (List ℕ → ℕ) → (List ℕ → ℕ) → Type 0
@@ -82,10 +102,12 @@ abbrev pub name_of : Which → List ℕ
 name_of Asks = codes "asks"
 name_of Dump = codes "dump"
 name_of Updates = codes "updates"
+name_of Printed = codes "printed"
 
 -- the line for an outcome
 abbrev pub line_of : Outcome → List ℕ
 line_of Done = []
+line_of (CheckNo x) = codes "fib: no\n"
 line_of Usage = codes "fib: usage\n"
 line_of ReadFault = codes "fib: read fault\n"
 line_of WriteFault = codes "fib: write fault\n"
@@ -97,6 +119,7 @@ line_of (BadLine input line why) = codes "fib: bad line " ++ name_of input ++ co
 
 abbrev pub status_of : Outcome → ℕ
 status_of Done = 0
+status_of (CheckNo x) = 1
 status_of Usage = 2
 status_of ReadFault = 3
 status_of WriteFault = 4
@@ -116,5 +139,5 @@ TellsOf Done old new before now = (new ≡ old) × (now ≡ before)
 TellsOf outcome old new before now = Tells (line_of outcome) old new before now
 
 -- With no fault of reading and none of writing, what is due comes, or memory ran out.
-abbrev pub Completes : Result Printed Stop → Type 0 → Type 0 → Outcome → Type 0
-Completes d read_failed write_failed result = (o : Outcome) → ending d ≡ Some o → (read_failed → ⊥) → (write_failed → ⊥) → (result ≡ o) ⊎ (result ≡ NoMemory)
+abbrev pub Completes : Result Output Stop → Type 0 → Type 0 → Outcome → Type 0
+Completes d read_failed write_failed result = (read_failed → ⊥) → (write_failed → ⊥) → IsDue d result ⊎ (result ≡ NoMemory)

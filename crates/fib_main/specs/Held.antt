@@ -6,8 +6,11 @@ use Rattle.address_model.specs.declared.family.Family.{Family}
 use Rattle.address_model.specs.declared.family.Family.TheVariants.{V4, V6}
 use Rattle.table_model.specs.Entries.{Entries, of_family, in_order}
 use Rattle.least_model.specs.Both.{aggregate_in_both}
+use Rattle.cert_model.specs.Rows.{certificate_of}
+use Rattle.cost_cert.specs.Seen.{row_as}
 use Rattle.orig_tree.specs.Seen.{Labels}
 use Rattle.fib_prefix.specs.Seen.{entry_as}
+use Rattle.ortc.specs.declared.table.Fresh.{Fresh}
 use Rattle.fib_main.specs.declared.trees.Trees.{Trees}
 use Rattle.fib_main.specs.declared.report.Looked.{Looked}
 use Rattle.fib_main.specs.Due.{answers_to}
@@ -34,7 +37,13 @@ Given E trees = (f : Family) → ((tree_of f trees).routes ≡ in_order (only f 
 abbrev pub Hold : Entries → Trees → Type 0
 Hold E trees = (f : Family) → (of_family f (tree_of f trees).routes ≡ of_family f E) × (of_family f (tree_of f trees).entries ≡ of_family f E)
 
--- of these routes and addresses: each address with its answer, and the aggregate
+-- of these routes: the aggregate, and the certificate that it is least
+pub record IsFresh (routes : Entries) (fresh : Fresh) : Type 0 where
+  pub table : map entry_as fresh.table.items ≡ aggregate_in_both routes routes
+  pub proof : map row_as fresh.proof.items ≡ certificate_of routes
+
+-- of these routes and addresses: each address with its answer, the aggregate, and the certificate that it is least
 pub record IsLooked (routes : Entries) (asks : List Address) (looked : Looked) : Type 0 where
   pub answers : answers_as looked.answers.items ≡ answers_to routes asks
   pub least : map entry_as looked.least.items ≡ aggregate_in_both routes routes
+  pub cert : map row_as looked.cert.items ≡ certificate_of routes

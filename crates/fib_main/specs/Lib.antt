@@ -1,5 +1,6 @@
 pub mod Asks
 pub mod Stops
+pub mod Checks
 pub mod Due
 pub mod Seen
 pub mod Held
@@ -7,3 +8,4 @@ pub mod Standing
 pub mod Ends
 pub mod Reads
 pub mod Runs
+pub mod Proves

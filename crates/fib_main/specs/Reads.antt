@@ -1,6 +1,14 @@
 -- What a reading of a whole input leaves.
 use Rattle.std.specs.Prelude.{◌≡◌, ℕ, List, Result, Ok, Err}
 use Rattle.fib_io.specs.Causes.{Rose}
+use Rattle.printed_model.specs.Texts.{BadLine}
+use Rattle.printed_model.specs.Used.{Used}
+use Rattle.cost_cert.specs.Printed.{bad_as}
+use Rattle.cost_cert.specs.declared.error.PrintedError.{PrintedError}
+use Rattle.cost_cert.specs.declared.error.PrintedError.TheVariants as printed
+use Rattle.fib_main.specs.declared.checking.Reply as code_reply
+use Rattle.fib_main.specs.Due.{Checked, reply_of}
+use Rattle.fib_main.specs.Seen.{reply_as}
 use Rattle.fib_main.specs.declared.inputs.ReadError.{ReadError}
 use Rattle.fib_main.specs.declared.inputs.ReadError.TheVariants as read
 use Rattle.fib_main.specs.declared.asks.AskError.{AskError}
@@ -18,3 +26,9 @@ abbrev pub IsList : {X Y : Type 0} → (X → Y) → Result X AskError → Resul
 IsList view (Ok x) due = due ≡ Ok (view x)
 IsList view (Err (ask.BadLine line)) due = due ≡ Err line
 IsList view (Err ask.NoMemory) due = Unit {0}
+
+-- what a check of a text returned is the reply to what is read of it, or the text's first bad line, unless memory ran out
+abbrev pub IsReply : Result code_reply.Reply PrintedError → Result Used BadLine → Type 0
+IsReply (Ok reply) due = (used : Used) × (due ≡ Ok used) × (reply_as reply ≡ reply_of (Checked used))
+IsReply (Err (printed.BadRow bad)) due = due ≡ Err (bad_as bad)
+IsReply (Err printed.NoMemory) due = Unit {0}

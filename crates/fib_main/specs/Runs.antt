@@ -5,13 +5,15 @@ use Rattle.address_model.specs.Address.{Address}
 use Rattle.table_model.specs.Entries.{match_in, AlikeInBoth}
 use Rattle.table_model.specs.Changes.{sum_of}
 use Rattle.least_model.specs.Both.{LeastInBoth}
+use Rattle.cert_model.specs.Right.{IsCertificate}
 use Rattle.fib_report.specs.Seen.{Told}
 use Rattle.fib_main.specs.Stops.{Stop}
-use Rattle.fib_main.specs.Due.{Printed}
+use Rattle.fib_main.specs.Due.{Output, Ran, Checked}
 
--- where something is due, this holds of what is told
-abbrev pub IfDue : Result Printed Stop → (Told → Type 0) → Type 0
-IfDue (Ok p) P = P p.told
+-- where a run is due, this holds of what is told
+abbrev pub IfDue : Result Output Stop → (Told → Type 0) → Type 0
+IfDue (Ok (Ran p)) P = P p.told
+IfDue (Ok (Checked used)) P = Unit {0}
 IfDue (Err stop) P = Unit {0}
 
 -- the sum of the changes, begun at the empty table, is the table
@@ -29,3 +31,7 @@ Answers told = AllByRecursion (λ (a : Address × ℕ). a.1 ≡ match_in told.ro
 -- The least table sends every address where the routes send it, and in either family no table that does so has fewer entries, drop entries counted.
 abbrev pub HasLeast : Told → Type 0
 HasLeast told = LeastInBoth told.routes told.least
+
+-- The rows of the certificate prove the least table least for the routes, to whoever trusts the rules of certificates alone.
+abbrev pub Certified : Told → Type 0
+Certified told = IsCertificate told.routes told.least told.cert

@@ -1,5 +1,5 @@
 -- What a clause sees of this crate's values.
-use Rattle.std.specs.Prelude.{ℕ, ◌+◌, List, map}
+use Rattle.std.specs.Prelude.{ℕ, ◌+◌, List, map, option_map}
 use Rattle.address_model.specs.Address.{Address, Prefix}
 use Rattle.table_model.specs.Changes.{Change}
 use Rattle.feed_model.specs.Feed.{number_in}
@@ -10,7 +10,10 @@ use Rattle.fib_prefix.specs.Seen.{addr_as, prefix_as}
 use Rattle.fib_report.specs.declared.run.Change as code_change
 use Rattle.fib_report.specs.declared.run.Report.{Report}
 use Rattle.fib_report.specs.Seen.{change_as}
+use Rattle.cert_check.specs.Seen.{no_as}
 use Rattle.fib_main.specs.declared.feed.Counts.{Counts}
+use Rattle.fib_main.specs.declared.checking.Reply as code_reply
+use Rattle.fib_main.specs.Due.{Reply}
 
 -- changes with their events' numbers
 abbrev pub changes_as : List (ℕ × code_change.Change) → List (ℕ × Change)
@@ -19,6 +22,10 @@ changes_as changes = map (λ c. (c.0, change_as c.1)) changes
 -- addresses with their answers
 abbrev pub answers_as : List (code_addr.Addr × code_hop.Hop) → List (Address × ℕ)
 answers_as answers = map (λ a. (addr_as a.0, a.1.0)) answers
+
+-- a text, and what is wrong where it says so
+abbrev pub reply_as : code_reply.Reply → Reply
+reply_as reply = record { text = reply.text.items; wrong = option_map no_as reply.no }
 
 -- a route: its prefix and its hop
 abbrev pub route_as : code_prefix.Prefix × code_addr.Addr → Prefix × Address

@@ -7,7 +7,7 @@ use Rattle.route_model.specs.Events.{Elem, Event}
 use Rattle.route_model.specs.Choice.{Candidates, IsElem, after_elems, elems_after, routes_of}
 use Rattle.feed_model.specs.Feed.{hops_after, full_at, changes_from}
 use Rattle.fib_main.specs.declared.outcome.Which.{Which}
-use Rattle.fib_main.specs.declared.outcome.Which.TheVariants.{Asks, Dump, Updates}
+use Rattle.fib_main.specs.declared.outcome.Which.TheVariants.{Asks, Dump, Updates, Printed}
 use Rattle.fib_main.specs.declared.outcome.Outcome.{Outcome}
 use Rattle.fib_main.specs.declared.outcome.Outcome.TheVariants as outcome
 use Rattle.fib_main.specs.declared.feed.Counts.{Counts}
@@ -30,6 +30,7 @@ list_of (Some x) = x ∷ []
 abbrev pub kept : Which → List Address → Candidates → List Elem → List (ℕ × Change)
 kept Asks hops held elems = []
 kept Dump hops held elems = []
+kept Printed hops held elems = []
 kept Updates hops held elems = changes_from hops 1 held elems
 
 -- The state after these elementary events of an input, which came after earlier ones. Its hops are few enough, and the changes that it keeps are those of the input, whatever hops get numbers later.

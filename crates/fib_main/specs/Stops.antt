@@ -1,10 +1,12 @@
 -- Where a run stops, and what a call gives of it.
 use Rattle.std.specs.Prelude.{◌≡◌, ℕ, ◌^◌, List, length, Option, Some, None, Result, Ok, Err, nat_le, if◌then◌else◌}
 use Rattle.reading_model.specs.Input.{Progress, Stopped}
+use Rattle.printed_model.specs.Texts.{BadLine as BadRow}
+use Rattle.printed_model.specs.Used.{Used}
 use Rattle.fib_main.specs.declared.outcome.Outcome.{Outcome}
-use Rattle.fib_main.specs.declared.outcome.Outcome.TheVariants.{Done, NoMemory, ReadFault, WriteFault, TooLarge, Malformed, HopsFull, BadLine}
+use Rattle.fib_main.specs.declared.outcome.Outcome.TheVariants.{Done, CheckNo, NoMemory, ReadFault, WriteFault, TooLarge, Malformed, HopsFull, BadLine}
 use Rattle.fib_main.specs.declared.outcome.Which.{Which}
-use Rattle.fib_main.specs.declared.outcome.Which.TheVariants.{Dump, Asks, Updates}
+use Rattle.fib_main.specs.declared.outcome.Which.TheVariants.{Dump, Asks, Updates, Printed}
 
 -- an input that doesn't tell its content, or a refusal
 pub data Stop : Type 0 where
@@ -30,6 +32,11 @@ abbrev pub lined : {A : Type 0} → Which → Result A ℕ → Result A Stop
 lined which (Ok x) = Ok x
 lined which (Err line) = Err (Refused (BadLine which line 1))
 
+-- what is used of a printed text, or the first of its lines that is no row
+abbrev pub rowed : Result Used BadRow → Result Used Stop
+rowed (Ok used) = Ok used
+rowed (Err bad) = Err (Refused (BadLine Printed bad.line bad.why))
+
 -- records that break no rule, or the first that does
 abbrev pub whole : Which → Result Progress Stopped → Result Progress Stop
 whole which (Ok read) = Ok read
@@ -39,6 +46,7 @@ whole which (Err stopped) = Err (Refused (Malformed which stopped.read.records s
 abbrev pub event_in : Which → ℕ → ℕ
 event_in Asks n = 0
 event_in Dump n = 0
+event_in Printed n = 0
 event_in Updates n = n
 
 -- no elementary event brings one hop too many, or the first that does
@@ -55,6 +63,7 @@ Is (Ok y) answer = Ok y ≡ answer
 -- An error is the refusal that is due, or a fault of reading or want of memory in its place.
 abbrev pub Fails : {Y : Type 0} → Outcome → Result Y Stop → Type 0
 Fails Done due = ⊥
+Fails (CheckNo x) due = ⊥
 Fails WriteFault due = ⊥
 Fails NoMemory due = Unit {0}
 Fails ReadFault due = Unit {0}

@@ -1,11 +1,13 @@
 //! The compiler's top call, and what stands behind it.
 //!
-//! `run_fib` reads the words, the asks, the dump and the updates, chooses among the candidates of all peers, and writes the
-//! rows. What a run is due to come to is a definition over the words and the octets of the inputs; the contract of `run_fib`
-//! ties its outcome, what it wrote and its faults to it.
+//! `run_fib` reads the words. Of a run it reads the asks, the dump and the updates, chooses among the candidates of all peers,
+//! and writes the rows. Of a check it reads a printed text, and writes whether its certificate proves its least table least.
+//! What is due is a definition over the words and the octets of the inputs; the contract of `run_fib` ties its outcome, what
+//! it wrote and its faults to it.
 #![tactic(auto)]
 
 mod asks;
+mod checking;
 mod feed;
 mod inputs;
 mod outcome;
@@ -15,5 +17,6 @@ mod run;
 mod state;
 mod trees;
 
+pub use cert_check::No;
 pub use outcome::{MOST_LINE, Outcome, Which};
 pub use run::run_fib;

@@ -1,4 +1,4 @@
-//! What a run comes to.
+//! What a run or a check comes to.
 
 ghost use Rattle.std.specs.Prelude.{◌≡◌, ◌+◌, ◌++◌, ◌≤◌, decimal, length};
 ghost use Rattle.arrayvec.specs.ArrayString.{array_string_len};
@@ -6,6 +6,7 @@ ghost use Rattle.fib_main.specs.Ends.{line_of, name_of, status_of};
 ghost use Rattle.fib_main.specs.declared.outcome.Outcome.TheVariants.{Malformed as IsMalformed, HopsFull as IsHopsFull, BadLine as IsBadLine, TooLarge as IsTooLarge};
 
 use arrayvec::ArrayString;
+use cert_check::No;
 use itoa::Buffer;
 
 /// The most octets of the line that tells an outcome.
@@ -20,13 +21,17 @@ pub enum Which {
     Dump,
     /// The updates to them.
     Updates,
+    /// The printed text that is checked.
+    Printed,
 }
 
-/// What a run comes to.
+/// What a run or a check comes to.
 #[derive(Clone, Copy, Debug, PartialEq, Eq)]
 pub enum Outcome {
     /// All was accepted, read to its end, and written.
     Done,
+    /// A printed text was checked and isn't proved; out has a row that says why.
+    CheckNo(No),
     /// The words aren't a command.
     Usage,
     /// An input couldn't be read.
@@ -53,7 +58,7 @@ pub enum Outcome {
         input: Which,
         /// The line's number, from 1.
         line: u64,
-        /// What is wrong with it: 1 where an address is due.
+        /// What is wrong with it. Of asks 1: it is no address. Of a printed text `cost_cert::why` names it.
         why: u8,
     },
     /// Memory ran out.
@@ -78,6 +83,7 @@ impl Which {
             Which::Asks => "asks",
             Which::Dump => "dump",
             Which::Updates => "updates",
+            Which::Printed => "printed",
         }
     }
 }
@@ -160,6 +166,7 @@ impl Outcome {
     {
         match self {
             Outcome::Done => 0,
+            Outcome::CheckNo(_) => 1,
             Outcome::Usage => 2,
             Outcome::ReadFault => 3,
             Outcome::WriteFault => 4,
@@ -177,6 +184,7 @@ impl Outcome {
     {
         match *self {
             Outcome::Done => plain(""),
+            Outcome::CheckNo(_) => plain("fib: no\n"),
             Outcome::Usage => plain("fib: usage\n"),
             Outcome::ReadFault => plain("fib: read fault\n"),
             Outcome::WriteFault => plain("fib: write fault\n"),

@@ -1,25 +1,29 @@
-//! From the words and the inputs to the text.
+//! From the words and the inputs to the text that is due.
 
-ghost use Rattle.std.specs.Prelude.{◌≡◌, List, [], Some, map};
+ghost use Rattle.std.specs.Prelude.{◌≡◌, List, [], Some, None, map, IfOk, OnOk};
 ghost use Rattle.std.specs.String.{string_bytes};
 ghost use Rattle.fib_io.specs.Causes.{Rose};
 ghost use Rattle.fib_prefix.specs.Seen.{addr_as};
-ghost use Rattle.fib_main.specs.Due.{asks_at, due, feed_at, input_at, text_at, told_at, with_text};
-ghost use Rattle.fib_main.specs.Ends.{feeds_named, one, OneRose, reads, ReadsFor};
+ghost use Rattle.fib_main.specs.Due.{asks_at, checked, due, feed_at, input_at, output_at, reply_at, run_at, told_at, used_at, with_reply, with_text};
+ghost use Rattle.fib_main.specs.Ends.{feeds_named, one, OneRose, reads, reads_asked, reads_named, ReadsFor};
+ghost use Rattle.fib_main.specs.Proves.{ChecksYes, IfRan, PrintsYes};
+ghost use Rattle.fib_main.specs.Seen.{reply_as};
 ghost use Rattle.fib_main.specs.Standing.{Feeds, refusal_of, Stands};
 ghost use Rattle.fib_main.specs.Stops.{Gives, event_in};
-ghost use Rattle.fib_words.specs.Commands.{named_as};
+ghost use Rattle.fib_words.specs.Commands.{asked_as, named_as};
 ghost use Rattle.route_model.specs.Events.{Elem};
 
 use crate::asks::{AskError, read_asks};
+use crate::checking::{Reply, check_text};
 use crate::feed::{Counts, feed};
 use crate::inputs::{ReadError, read_whole};
 use crate::outcome::{Outcome, Which};
 use crate::report::{Fed, write_text};
 use crate::state::{FeedError, State};
+use cost_cert::PrintedError;
 use fib_io::Inputs;
 use fib_prefix::Addr;
-use fib_words::{RunWords, WordsError, read_words};
+use fib_words::{CommandWords, RunWords, WordsError, read_words};
 use std::alloc::Global;
 
 /// What is wrong with a line where an address is due.
@@ -77,7 +81,7 @@ fn event_in(which: Which, event: u64) -> u64
 {
     match which {
         Which::Updates => event,
-        Which::Asks | Which::Dump => 0,
+        Which::Asks | Which::Dump | Which::Printed => 0,
     }
 }
 
@@ -149,6 +153,7 @@ fn text_of<I: Inputs>(
     asks: &[Addr],
 ) -> Result<Vec<u8>, Outcome>
     ensures due { Gives (λ v. v.items) result (with_text (told_at (I.content inputs.old) (named_as command.now) (map addr_as asks.now))) }
+    ensures yes { IfOk result (λ text. ChecksYes text.items) }
     ensures cause { ReadsFor (OneRose (feeds_named (I.content inputs.old) (named_as command.now)) (I.faults inputs.old) (I.faults inputs.new)) (I.faults inputs.old) (I.faults inputs.new) result }
 {
     let mut state = State::new(alloc);
@@ -168,14 +173,75 @@ fn text_of<I: Inputs>(
     }
 }
 
-/// The text for the words.
-#[tactic(auto, unfolding(crate::specs::Due::due, crate::specs::Due::text_at, crate::specs::Ends::reads))]
-pub fn text_for<I: Inputs>(
+/// Takes the asks, the dump and the updates, and gives the text.
+#[tactic(auto, unfolding(crate::specs::Due::run_at))]
+fn run_for<I: Inputs>(
+    alloc: Global,
+    inputs: &mut I,
+    command: &RunWords<'_>,
+) -> Result<Vec<u8>, Outcome>
+    ensures due { Gives (λ v. v.items) result (with_text (run_at (I.content inputs.old) (named_as command.now))) }
+    ensures yes { IfOk result (λ text. ChecksYes text.items) }
+    ensures cause { ReadsFor (OneRose (reads_named (I.content inputs.old) (named_as command.now)) (I.faults inputs.old) (I.faults inputs.new)) (I.faults inputs.old) (I.faults inputs.new) result }
+{
+    let asks = asks_of(alloc, inputs, command)?;
+    text_of(alloc, inputs, command, &asks)
+}
+
+/// Takes a printed text, and gives the reply to it.
+#[tactic(auto, unfolding(crate::specs::Due::used_at))]
+fn check_for<I: Inputs>(alloc: Global, inputs: &mut I, name: &str) -> Result<Reply, Outcome>
+    ensures due { Gives reply_as result (with_reply (checked (used_at (I.content inputs.old) name.now))) }
+    ensures cause { ReadsFor (Rose (I.faults inputs.old name.now) (I.faults inputs.new name.now)) (I.faults inputs.old) (I.faults inputs.new) result }
+{
+    let octets = octets_of(alloc, inputs, name, Which::Printed)?;
+    match check_text(alloc, &octets) {
+        Ok(reply) => Ok(reply),
+        Err(PrintedError::BadRow(bad)) => Err(Outcome::BadLine {
+            input: Which::Printed,
+            line: bad.line,
+            why: bad.why,
+        }),
+        Err(PrintedError::NoMemory) => Err(Outcome::NoMemory),
+    }
+}
+
+/// A text that says of nothing that it is wrong.
+fn reply_of(text: Vec<u8>) -> Reply
+    ensures { reply_as result ≡ record { text = text.items; wrong = None } }
+{
+    Reply { text, no: None }
+}
+
+/// The reply to what the words ask for.
+#[tactic(auto, unfolding(crate::specs::Due::output_at))]
+fn reply_to<I: Inputs>(
+    alloc: Global,
+    inputs: &mut I,
+    command: &CommandWords<'_>,
+) -> Result<Reply, Outcome>
+    ensures due { Gives reply_as result (with_reply (output_at (I.content inputs.old) (asked_as command.now))) }
+    ensures yes { OnOk result (IfRan (output_at (I.content inputs.old) (asked_as command.now)) PrintsYes) }
+    ensures cause { ReadsFor (OneRose (reads_asked (I.content inputs.old) (Some (asked_as command.now))) (I.faults inputs.old) (I.faults inputs.new)) (I.faults inputs.old) (I.faults inputs.new) result }
+{
+    match command {
+        CommandWords::Run(run) => {
+            let text = run_for(alloc, inputs, run)?;
+            Ok(reply_of(text))
+        }
+        CommandWords::Check(printed) => check_for(alloc, inputs, printed),
+    }
+}
+
+/// The reply to the words.
+#[tactic(auto, unfolding(crate::specs::Due::due, crate::specs::Due::reply_at, crate::specs::Ends::reads))]
+pub fn reply_for<I: Inputs>(
     alloc: Global,
     words: &[String],
     inputs: &mut I,
-) -> Result<Vec<u8>, Outcome>
-    ensures due { Gives (λ v. v.items) result (text_at (map string_bytes words.now) (I.content inputs.old)) }
+) -> Result<Reply, Outcome>
+    ensures due { Gives reply_as result (reply_at (map string_bytes words.now) (I.content inputs.old)) }
+    ensures yes { OnOk result (IfRan (due (map string_bytes words.now) (I.content inputs.old)) PrintsYes) }
     ensures cause { ReadsFor (OneRose (reads (map string_bytes words.now) (I.content inputs.old)) (I.faults inputs.old) (I.faults inputs.new)) (I.faults inputs.old) (I.faults inputs.new) result }
 {
     let command = match read_words(alloc, words) {
@@ -183,6 +249,5 @@ pub fn text_for<I: Inputs>(
         Err(WordsError::Usage) => return Err(Outcome::Usage),
         Err(WordsError::NoMemory) => return Err(Outcome::NoMemory),
     };
-    let asks = asks_of(alloc, inputs, &command)?;
-    text_of(alloc, inputs, &command, &asks)
+    reply_to(alloc, inputs, &command)
 }

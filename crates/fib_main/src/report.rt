@@ -1,4 +1,5 @@
-//! What is told of a run: its routes, the changes that led to them, the answers, the table, the least table and the counts.
+//! What is told of a run: its routes, the changes that led to them, the answers, the table, the least table, its
+//! certificate and the counts.
 //!
 //! The printed table is that of the routes, which is the least table's old table too.
 
@@ -14,11 +15,13 @@ ghost use Rattle.fib_main.specs.Due.{answers_to, Feed, printed, text_of};
 ghost use Rattle.fib_report.specs.Seen.{run_as};
 ghost use Rattle.fib_main.specs.Standing.{IsFed};
 ghost use Rattle.fib_main.specs.Held.{AreBoth, Hold, IsLooked};
+ghost use Rattle.fib_main.specs.Proves.{ChecksYes};
 ghost use Rattle.fib_main.specs.Seen.{answers_as, changes_as, numbered, totals};
 
 use crate::feed::Counts;
 use crate::state::{State, number};
 use crate::trees::Trees;
+use cost_cert::Row;
 use fib_prefix::{Addr, Entry, Hop, HopTable, Prefix};
 use fib_report::{Change, Report, Run, write_run};
 use std::alloc::{AllocError, Global};
@@ -107,16 +110,21 @@ struct Looked {
     answers: Vec<(Addr, Hop)>,
     /// The least table.
     least: Vec<Entry>,
+    /// The rows that prove it least.
+    cert: Vec<Row>,
 }
 
-/// The answers and the least table of these routes; their trees take memory no longer than this.
+/// The answers, the least table and the certificate of these routes; their trees take memory no longer than this.
 fn look_up(alloc: Global, routes: &[Entry], asks: &[Addr]) -> Result<Looked, AllocError>
     ensures { IsStrictlySortedBy prefix_cmp (keys_of (map entry_as routes.now)) → IfOk result (IsLooked (map entry_as routes.now) (map addr_as asks.now)) }
 {
     let trees = Trees::new(alloc, routes)?;
+    let answers = answers(alloc, &trees, asks)?;
+    let fresh = trees.least(alloc)?;
     Ok(Looked {
-        answers: answers(alloc, &trees, asks)?,
-        least: trees.least(alloc)?,
+        answers,
+        least: fresh.table,
+        cert: fresh.proof,
     })
 }
 
@@ -144,6 +152,7 @@ fn told(alloc: Global, state: &State, fed: &Fed<'_>, asks: &[Addr]) -> Result<Ru
         report: totals(&fed.load, &fed.updates, routes.len())?,
         table: Vec::from_slice(alloc, &routes)?,
         least: looked.least,
+        cert: looked.cert,
         routes,
     })
 }
@@ -155,7 +164,8 @@ pub fn write_text(
     fed: &Fed<'_>,
     asks: &[Addr],
 ) -> Result<Vec<u8>, AllocError>
-    ensures { (load updates : Feed) → IsFed load updates fed.now state.now → IfOk result (λ text. text.items ≡ text_of (printed load updates (map addr_as asks.now))) }
+    ensures text { (load updates : Feed) → IsFed load updates fed.now state.now → IfOk result (λ text. text.items ≡ text_of (printed load updates (map addr_as asks.now))) }
+    ensures yes { (load updates : Feed) → IsFed load updates fed.now state.now → IfOk result (λ text. ChecksYes text.items) }
 {
     let mut text = Vec::new(alloc);
     write_run(

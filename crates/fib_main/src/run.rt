@@ -1,19 +1,32 @@
 //! The top call: from the words and the inputs to the octets of the output.
 
-ghost use Rattle.std.specs.Prelude.{◌≡◌, ℕ, ◌<◌, List, map};
+ghost use Rattle.std.specs.Prelude.{◌≡◌, ℕ, ◌<◌, List, map, option_map};
 ghost use Rattle.std.specs.String.{string_bytes};
 ghost use Rattle.fib_io.specs.Causes.{Rose};
 ghost use Rattle.fib_main.specs.Due.{due};
-ghost use Rattle.fib_main.specs.Ends.{Completes, line_of, Meets, OneRose, reads, ReadsBy, Tells, TellsOf, text_due, Writes, WritesBy};
-ghost use Rattle.fib_main.specs.Runs.{Answers, Forwards, HasLeast, IfDue, SumsUp};
+ghost use Rattle.cert_check.specs.Seen.{no_as};
+ghost use Rattle.fib_main.specs.Ends.{Completes, EndsBy, line_of, Meets, OneRose, reads, ReadsBy, Tells, TellsOf, text_due, Writes, WritesBy};
+ghost use Rattle.fib_main.specs.Proves.{Decides, IfChecked, IfRan, PrintsYes, YesProves};
+ghost use Rattle.fib_main.specs.Runs.{Answers, Certified, Forwards, HasLeast, IfDue, SumsUp};
 
 use crate::outcome::Outcome;
-use crate::reading::text_for;
+use crate::reading::reply_for;
+use cert_check::No;
 use fib_io::{Inputs, Sink, write_all};
 use std::alloc::Global;
 
+/// The outcome at the end: Done, or what a check finds wrong.
+fn end_of(no: Option<No>) -> Outcome
+    ensures { EndsBy (option_map no_as no) result }
+{
+    match no {
+        None => Outcome::Done,
+        Some(no) => Outcome::CheckNo(no),
+    }
+}
+
 /// The outcome, with nothing told of it yet.
-#[tactic(auto, unfolding(crate::specs::Due::text_at))]
+#[tactic(auto, unfolding(crate::specs::Due::reply_at))]
 fn outcome_of<I: Inputs, O: Sink>(
     alloc: Global,
     words: &[String],
@@ -24,10 +37,11 @@ fn outcome_of<I: Inputs, O: Sink>(
     ensures read { ReadsBy (OneRose (reads (map string_bytes words.now) (I.content inputs.old)) (I.faults inputs.old) (I.faults inputs.new)) (I.faults inputs.old) (I.faults inputs.new) result }
     ensures write { WritesBy (O.faults out.old) (O.faults out.new) result }
     ensures out { Writes (text_due (due (map string_bytes words.now) (I.content inputs.old))) (O.written out.old) (O.written out.new) result }
+    ensures printed { result ≡ Outcome.Done → IfRan (due (map string_bytes words.now) (I.content inputs.old)) PrintsYes }
 {
-    match text_for(alloc, words, inputs) {
-        Ok(text) => match write_all(out, &text) {
-            Ok(()) => Outcome::Done,
+    match reply_for(alloc, words, inputs) {
+        Ok(reply) => match write_all(out, &reply.text) {
+            Ok(()) => end_of(reply.no),
             Err(_) => Outcome::WriteFault,
         },
         Err(outcome) => outcome,
@@ -55,6 +69,7 @@ fn ended<I: Inputs, O: Sink, E: Sink>(
     ensures read { ReadsBy (OneRose (reads (map string_bytes words.now) (I.content inputs.old)) (I.faults inputs.old) (I.faults inputs.new)) (I.faults inputs.old) (I.faults inputs.new) result }
     ensures write { WritesBy (O.faults out.old) (O.faults out.new) result }
     ensures out { Writes (text_due (due (map string_bytes words.now) (I.content inputs.old))) (O.written out.old) (O.written out.new) result }
+    ensures printed { result ≡ Outcome.Done → IfRan (due (map string_bytes words.now) (I.content inputs.old)) PrintsYes }
     ensures err { TellsOf result (E.written err.old) (E.written err.new) (E.faults err.old) (E.faults err.new) }
 {
     let outcome = outcome_of(alloc, words, inputs, out);
@@ -62,15 +77,16 @@ fn ended<I: Inputs, O: Sink, E: Sink>(
     outcome
 }
 
-/// Does what the words say: reads the inputs that they name, and writes the rows to `out`.
+/// Does what the words say: reads the inputs that they name, and writes the rows of a run, or the verdict on a printed text,
+/// to `out`.
 ///
 /// What is due is a function of the words and of what the inputs hold. The outcome is the due one, but that a fault of
-/// reading or want of memory may come before it, and a fault of writing in place of Done. Nothing is written to `out` before
-/// all is accepted. Every outcome but Done is told by one line to `err`, and a fault of `err` changes nothing.
+/// reading or want of memory may come before it, and a fault of writing in place of Done and of CheckNo. Nothing is written
+/// to `out` before all is accepted. Every outcome but Done is told by one line to `err`, and a fault of `err` changes nothing.
 ///
 /// It costs n log n in the octets read and the rows written, and the routes' number times the lengths of their prefixes. The
 /// octets, the routes' trees and the rows are kept in memory.
-#[tactic(auto, using(crate::proofs::Completing::completes, crate::proofs::Running::sums_up, crate::proofs::Running::forwards, crate::proofs::Running::answers, crate::proofs::Running::least))]
+#[tactic(auto, using(crate::proofs::Completing::completes, crate::proofs::Running::sums_up, crate::proofs::Running::forwards, crate::proofs::Running::answers, crate::proofs::Running::least, crate::proofs::Running::certified, crate::proofs::Replies::decides, crate::proofs::Replies::yes_proves))]
 pub fn run_fib<I: Inputs, O: Sink, E: Sink>(
     alloc: Global,
     words: &[String],
@@ -87,7 +103,7 @@ pub fn run_fib<I: Inputs, O: Sink, E: Sink>(
     // A fault of writing has its cause in out.
     ensures write { WritesBy (O.faults out.old) (O.faults out.new) result }
 
-    // Out has the due text at Done, a front of it at a fault of writing, and else nothing new.
+    // Out has the due text at Done and at CheckNo, a front of it at a fault of writing, and else nothing new.
     ensures out { Writes (text_due (due (map string_bytes words.now) (I.content inputs.old))) (O.written out.old) (O.written out.new) result }
 
     // Err has the outcome's line, and nothing new at Done.
@@ -100,13 +116,25 @@ pub fn run_fib<I: Inputs, O: Sink, E: Sink>(
     // With contents told and no count risen the due outcome comes, unless memory runs out.
     ensures complete { Completes (due (map string_bytes words.now) (I.content inputs.old)) (OneRose (reads (map string_bytes words.now) (I.content inputs.old)) (I.faults inputs.old) (I.faults inputs.new)) (Rose (O.faults out.old) (O.faults out.new)) result }
 
-    // What is due to be printed: the changes add up to the table, the table sends every address where the routes send it,
+    // What is due to be printed of a run: the changes add up to the table, the table sends every address where the routes send it,
     // each answer is the longest match among the routes, and the least table sends every address where the routes send it
     // and has no more entries in either family than any table that does.
     ensures sum { IfDue (due (map string_bytes words.now) (I.content inputs.old)) SumsUp }
     ensures forwards { IfDue (due (map string_bytes words.now) (I.content inputs.old)) Forwards }
     ensures answers { IfDue (due (map string_bytes words.now) (I.content inputs.old)) Answers }
     ensures least { IfDue (due (map string_bytes words.now) (I.content inputs.old)) HasLeast }
+
+    // The printed rows prove the printed least table least, to whoever trusts the rules of certificates alone.
+    ensures certified { IfDue (due (map string_bytes words.now) (I.content inputs.old)) Certified }
+
+    // Done of a run means that the printed text is one that a check says yes to.
+    ensures printed { result ≡ Outcome.Done → IfRan (due (map string_bytes words.now) (I.content inputs.old)) PrintsYes }
+
+    // A check that is due says yes exactly where the printed rows are a certificate, whoever wrote them. The printed least
+    // table then sends every address where the printed routes send it, and has no more entries in either family than any
+    // table that does.
+    ensures proved { IfChecked (due (map string_bytes words.now) (I.content inputs.old)) Decides }
+    ensures yes { IfChecked (due (map string_bytes words.now) (I.content inputs.old)) YesProves }
 {
     ended(alloc, words, inputs, out, err)
 }

@@ -152,6 +152,7 @@ fn step(state: &mut State, which: Which, event: u64, elem: &Elem) -> Result<(), 
     match which {
         Which::Asks => {}
         Which::Dump => {}
+        Which::Printed => {}
         Which::Updates => {
             if let Some(change) = change_of(&state.hops, choice) {
                 state.changes.push((event, change))?;

@@ -1,14 +1,13 @@
-//! The routes of both families, each family's in a tree: longest match, and the least table.
+//! The routes of both families, each family's in a tree: longest match, and the least table with the rows that prove it least.
 
 ghost use Rattle.std.specs.Prelude.{◌≡◌, [], ◌∷◌, ◌++◌, IfOk, OnOk, map};
 ghost use Rattle.table_model.specs.Entries.{Entries, match_in, with_entry};
-ghost use Rattle.least_model.specs.Both.{aggregate_in, aggregate_in_both};
 ghost use Rattle.fib_prefix.specs.Seen.{addr_as, entry_as};
-ghost use Rattle.fib_main.specs.Held.{AreBoth, Given, Hold};
+ghost use Rattle.fib_main.specs.Held.{AreBoth, Given, Hold, IsFresh};
 
 use fib_prefix::{Addr, Entry, Family, Hop};
 use orig_tree::Tree;
-use ortc::fresh;
+use ortc::{Fresh, fresh};
 use std::alloc::{AllocError, Global};
 
 /// A tree of each family.
@@ -28,13 +27,6 @@ fn set(tree: &mut Tree, entry: &Entry) -> Result<(), AllocError>
     tree.set_route(&entry.prefix, entry.hop)?;
     tree.set_entry(&entry.prefix, entry.hop)?;
     Ok(())
-}
-
-/// The least table that sends every address where the tree's routes send it.
-fn least_of(alloc: Global, tree: &Tree) -> Result<Vec<Entry>, AllocError>
-    ensures { IfOk result (λ least. map entry_as least.items ≡ aggregate_in tree.now.family tree.now.routes tree.now.entries) }
-{
-    Ok(fresh(alloc, tree)?.table)
 }
 
 impl Trees {
@@ -79,13 +71,15 @@ impl Trees {
         }
     }
 
-    /// The least table that sends every address where the routes send it, IPv4 first.
-    pub fn least(&self, alloc: Global) -> Result<Vec<Entry>, AllocError>
+    /// The least table that sends every address where the routes send it, with the rows that prove it least; IPv4 first.
+    pub fn least(&self, alloc: Global) -> Result<Fresh, AllocError>
         requires { AreBoth self.now }
-        ensures { (routes : Entries) → Hold routes self.now → IfOk result (λ least. map entry_as least.items ≡ aggregate_in_both routes routes) }
+        ensures { (routes : Entries) → Hold routes self.now → IfOk result (IsFresh routes) }
     {
-        let mut least = least_of(alloc, &self.v4)?;
-        least.extend_from_slice(&least_of(alloc, &self.v6)?)?;
+        let mut least = fresh(alloc, &self.v4)?;
+        let v6 = fresh(alloc, &self.v6)?;
+        least.table.extend_from_slice(&v6.table)?;
+        least.proof.extend_from_slice(&v6.proof)?;
         Ok(least)
     }
 }

@@ -7,6 +7,7 @@ use Rattle.csv.proofs.WriteFacts.{appends-none, appends-more}
 use Rattle.std.specs.Io.KnownBytes.{Appends, Keeps}
 use Rattle.csv.specs.Writing.{text_written}
 use Rattle.csv.specs.declared.writer.Writer.{Writer}
+use Rattle.printed_model.specs.Rows.{PrintedRow, line_of, text_of}
 use Rattle.fib_report.specs.Writing.{IsAtRow, AddsRows}
 
 -- no row yet
@@ -18,35 +19,63 @@ pub AddsRows-more : {W : Type 0} (contents : W → Option (List ℕ)) (u v w : W
     → AddsRows contents u v rows → AddsRows contents v w more → AddsRows contents u w (rows ++ more)
 AddsRows-more contents u v w rows more first next = record { at = next.at; text = appends-more _ _ _ rows more first.text next.text }
 
+-- the text of one row
+pub one_row : (row : PrintedRow) → text_of (row ∷ []) ≡ line_of row
+one_row row = append-nil (line_of row)
+
 -- the rows of one more item
-rows-more : {X Y : Type 0} (row : Y → List ℕ) (seen : X → Y) (xs : List X) (i : ℕ) (d : X) → i < length xs
-    → flat_map row (map seen (take (i + 1) xs)) ≡ flat_map row (map seen (take i xs)) ++ row (seen (get_or xs i d))
-rows-more row seen xs i d inside =
-    ap (λ ys. flat_map row (map seen ys)) (take_more xs i d inside)
-    ∙ ap (flat_map row) (map-append seen (take i xs) (get_or xs i d ∷ []))
-    ∙ flat_map-append row (map seen (take i xs)) (seen (get_or xs i d) ∷ [])
-    ∙ ap (λ ys. flat_map row (map seen (take i xs)) ++ ys) (append-nil (row (seen (get_or xs i d))))
+rows-more : {X Y : Type 0} (rows : Y → List PrintedRow) (seen : X → Y) (xs : List X) (i : ℕ) (d : X) → i < length xs
+    → text_of (flat_map rows (map seen (take (i + 1) xs))) ≡ text_of (flat_map rows (map seen (take i xs))) ++ text_of (rows (seen (get_or xs i d)))
+rows-more rows seen xs i d inside =
+    ap (λ ys. text_of (flat_map rows (map seen ys))) (take_more xs i d inside)
+    ∙ (ap (λ ys. text_of (flat_map rows ys)) (map-append seen (take i xs) (get_or xs i d ∷ []))
+    ∙ (ap text_of (flat_map-append rows (map seen (take i xs)) (seen (get_or xs i d) ∷ []))
+    ∙ (flat_map-append line_of (flat_map rows (map seen (take i xs))) (flat_map rows (seen (get_or xs i d) ∷ []))
+    ∙ ap (λ rs. text_of (flat_map rows (map seen (take i xs))) ++ text_of rs) (append-nil (rows (seen (get_or xs i d)))))))
 
 -- and the rows of one more item
-pub AddsRows-item : {W X Y : Type 0} (contents : W → Option (List ℕ)) (u v w : Writer W) (row : Y → List ℕ) (seen : X → Y) (xs : List X) (i : ℕ) (x : X) → i < length xs → x ≡ get_or xs i x
-    → AddsRows contents u v (flat_map row (map seen (take i xs))) → AddsRows contents v w (row (seen x))
-    → AddsRows contents u w (flat_map row (map seen (take (i + 1) xs)))
-AddsRows-item contents u v w row seen xs i x inside at first next =
-    subst (AddsRows contents u w) (sym (rows-more row seen xs i x inside)) (AddsRows-more contents u v w _ _ first (subst (λ y. AddsRows contents v w (row (seen y))) at next))
+pub AddsRows-items : {W X Y : Type 0} (contents : W → Option (List ℕ)) (u v w : Writer W) (rows : Y → List PrintedRow) (seen : X → Y) (xs : List X) (i : ℕ) (x : X) → i < length xs → x ≡ get_or xs i x
+    → AddsRows contents u v (text_of (flat_map rows (map seen (take i xs)))) → AddsRows contents v w (text_of (rows (seen x)))
+    → AddsRows contents u w (text_of (flat_map rows (map seen (take (i + 1) xs))))
+AddsRows-items contents u v w rows seen xs i x inside at first next =
+    subst (AddsRows contents u w) (sym (rows-more rows seen xs i x inside)) (AddsRows-more contents u v w _ _ first (subst (λ y. AddsRows contents v w (text_of (rows (seen y)))) at next))
+
+-- the row of one more item
+row-more : {X Y : Type 0} (row : Y → PrintedRow) (seen : X → Y) (xs : List X) (i : ℕ) (d : X) → i < length xs
+    → text_of (map row (map seen (take (i + 1) xs))) ≡ text_of (map row (map seen (take i xs))) ++ line_of (row (seen (get_or xs i d)))
+row-more row seen xs i d inside =
+    ap (λ ys. text_of (map row (map seen ys))) (take_more xs i d inside)
+    ∙ (ap (λ ys. text_of (map row ys)) (map-append seen (take i xs) (get_or xs i d ∷ []))
+    ∙ (ap text_of (map-append row (map seen (take i xs)) (seen (get_or xs i d) ∷ []))
+    ∙ (flat_map-append line_of (map row (map seen (take i xs))) (row (seen (get_or xs i d)) ∷ [])
+    ∙ ap (λ text. text_of (map row (map seen (take i xs))) ++ text) (one_row (row (seen (get_or xs i d)))))))
+
+-- and the row of one more item, which is written
+pub AddsRows-item : {W X Y : Type 0} (contents : W → Option (List ℕ)) (u v w : Writer W) (row : Y → PrintedRow) (seen : X → Y) (xs : List X) (i : ℕ) (x : X) (r : PrintedRow) → i < length xs → x ≡ get_or xs i x
+    → r ≡ row (seen x) → AddsRows contents u v (text_of (map row (map seen (take i xs)))) → AddsRows contents v w (line_of r)
+    → AddsRows contents u w (text_of (map row (map seen (take (i + 1) xs))))
+AddsRows-item contents u v w row seen xs i x r inside at is first next =
+    subst (AddsRows contents u w) (sym (row-more row seen xs i x inside)) (AddsRows-more contents u v w _ _ first (subst (λ y. AddsRows contents v w (line_of (row (seen y)))) at (subst (λ s. AddsRows contents v w (line_of s)) is next)))
 
 known : (o : Option (List ℕ)) (rows : List ℕ) → Appends (Some []) o rows → o ≡ Some rows
 known None rows h = absurd h
 known (Some text) rows h = ap Some h
 
--- five lists of rows, one after the other
-pub AddsRows-five : {W : Type 0} (contents : W → Option (List ℕ)) (u v w x y z : Writer W) (a b c d e : List ℕ)
-    → AddsRows contents u v a → AddsRows contents v w b → AddsRows contents w x c → AddsRows contents x y d → AddsRows contents y z e → AddsRows contents u z (a ++ b ++ c ++ d ++ e)
-AddsRows-five contents u v w x y z a b c d e p q r s t = AddsRows-more contents u y z _ e (AddsRows-more contents u x y _ d (AddsRows-more contents u w x _ c (AddsRows-more contents u v w a b p q) r) s) t
+-- lists of rows, one after the other
+two : {W : Type 0} (contents : W → Option (List ℕ)) (u v w : Writer W) (a b : List PrintedRow)
+    → AddsRows contents u v (text_of a) → AddsRows contents v w (text_of b) → AddsRows contents u w (text_of (a ++ b))
+two contents u v w a b p q = subst (AddsRows contents u w) (sym (flat_map-append line_of a b)) (AddsRows-more contents u v w _ _ p q)
 
--- six lists of rows
-pub AddsRows-six : {W : Type 0} (contents : W → Option (List ℕ)) (t u v w x y z : Writer W) (a b c d e f : List ℕ)
-    → AddsRows contents t u a → AddsRows contents u v b → AddsRows contents v w c → AddsRows contents w x d → AddsRows contents x y e → AddsRows contents y z f → AddsRows contents t z (a ++ b ++ c ++ d ++ e ++ f)
-AddsRows-six contents t u v w x y z a b c d e f p q r s n m = AddsRows-more contents t y z _ f (AddsRows-five contents t u v w x y a b c d e p q r s n) m
+pub AddsRows-four : {W : Type 0} (contents : W → Option (List ℕ)) (u v w x y : Writer W) (a b c d : List PrintedRow)
+    → AddsRows contents u v (text_of a) → AddsRows contents v w (text_of b) → AddsRows contents w x (text_of c) → AddsRows contents x y (text_of d) → AddsRows contents u y (text_of (a ++ b ++ c ++ d))
+AddsRows-four contents u v w x y a b c d p q r s = two contents u x y (a ++ b ++ c) d (two contents u w x (a ++ b) c (two contents u v w a b p q) r) s
+
+-- five rows
+pub AddsRows-five : {W : Type 0} (contents : W → Option (List ℕ)) (u v w x y z : Writer W) (a b c d e : PrintedRow)
+    → AddsRows contents u v (line_of a) → AddsRows contents v w (line_of b) → AddsRows contents w x (line_of c) → AddsRows contents x y (line_of d) → AddsRows contents y z (line_of e)
+    → AddsRows contents u z (text_of (a ∷ b ∷ c ∷ d ∷ e ∷ []))
+AddsRows-five contents u v w x y z a b c d e p q r s t =
+    AddsRows-more contents u v z _ _ p (AddsRows-more contents v w z _ _ q (AddsRows-more contents w x z _ _ r (AddsRows-more contents x y z _ _ s (subst (AddsRows contents y z) (sym (one_row e)) t))))
 
 -- the text of a writer that began with none
 pub text_written-rows : {W : Type 0} (contents : W → Option (List ℕ)) (u v : Writer W) (rows : List ℕ) → text_written contents u ≡ Some [] → AddsRows contents u v rows → text_written contents v ≡ Some rows

@@ -3,19 +3,22 @@ use Rattle.std.specs.Prelude.{ℕ, List, map}
 use Rattle.address_model.specs.Address.{Address}
 use Rattle.table_model.specs.Entries.{Entries}
 use Rattle.table_model.specs.Changes.{Change, Add, Replace, Remove}
+use Rattle.cert_model.specs.Rows.{CertRow}
 use Rattle.fib_prefix.specs.Seen.{addr_as, prefix_as, entry_as}
+use Rattle.cost_cert.specs.Seen.{row_as}
 use Rattle.fib_report.specs.declared.run.Change as code_change
 use Rattle.fib_report.specs.declared.run.Change.TheVariants as code
 use Rattle.fib_report.specs.declared.run.Report.{Report}
 use Rattle.fib_report.specs.declared.run.Run as code_run
 
--- What a run tells: the routes, the changes with their events' numbers, the answers with their hops' numbers, the table, the least table, and what was counted.
+-- What a run tells: the routes, the changes with their events' numbers, the answers with their hops' numbers, the table, the least table, the certificate that it is least, and what was counted.
 pub record Told : Type 0 where
   pub routes : Entries
   pub changes : List (ℕ × Change)
   pub answers : List (Address × ℕ)
   pub table : Entries
   pub least : Entries
+  pub cert : List CertRow
   pub report : Report
 
 -- the change, with its prefix's bits and its hop's number
@@ -32,5 +35,6 @@ run_as run = record {
   answers = map (λ a. (addr_as a.0, a.1.0)) run.answers.items;
   table = map entry_as run.table.items;
   least = map entry_as run.least.items;
+  cert = map row_as run.cert.items;
   report = run.report;
 }

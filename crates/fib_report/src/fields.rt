@@ -1,14 +1,16 @@
 //! The texts of fields.
 //!
-//! Each is written into a buffer of the caller's, which the longest text fits, and is a slice of it; a word for a missing
-//! hop is itself. No call takes memory; each costs the length of its text.
+//! An address or a prefix is written into a buffer of the caller's, which the longest text fits, and is a slice of it; a word is
+//! itself. No call takes memory; each costs the length of its text.
 
-ghost use Rattle.std.specs.Prelude.{◌≡◌};
+ghost use Rattle.std.specs.Prelude.{◌≡◌, option_map};
 ghost use Rattle.fib_prefix.specs.Seen.{addr_as, prefix_as};
 ghost use Rattle.fib_prefix.specs.Text.{address_text, prefix_text};
-ghost use Rattle.fib_report.specs.Rows.{hop_text};
+ghost use Rattle.printed_model.specs.Rows.{count_name, family_name, hop_text};
+ghost use Rattle.cost_cert.specs.Printed.{count_as};
 
-use fib_prefix::{Addr, Hop, HopTable, MOST_TEXT, Prefix, write_addr, write_prefix};
+use cost_cert::Count;
+use fib_prefix::{Addr, Family, MOST_TEXT, Prefix, write_addr, write_prefix};
 
 /// An address.
 pub(crate) fn addr_field<'a>(buffer: &'a mut [u8; MOST_TEXT], addr: &Addr) -> &'a [u8]
@@ -26,17 +28,41 @@ pub(crate) fn prefix_field<'a>(buffer: &'a mut [u8; MOST_TEXT], prefix: &Prefix)
     &buffer[..len]
 }
 
-/// The address of a hop, or the word where no hop has the number.
+/// The address of a hop, or the word for none.
 pub(crate) fn hop_field<'a>(
     buffer: &'a mut [u8; MOST_TEXT],
-    hop: Hop,
-    hops: &HopTable,
+    hop: Option<Addr>,
     word: &'a [u8],
 ) -> &'a [u8]
-    ensures { result.now ≡ hop_text hops.now.list word.now hop.0 }
+    ensures { result.now ≡ hop_text word.now (option_map addr_as hop) }
 {
-    match hops.addr(hop) {
+    match hop {
         Some(addr) => addr_field(buffer, &addr),
         None => word,
+    }
+}
+
+/// The name of a count.
+pub(crate) fn count_field(count: Count) -> &'static [u8]
+    ensures { result.now ≡ count_name (count_as count) }
+{
+    match count {
+        Count::Records => b"records",
+        Count::Skipped => b"skipped",
+        Count::Events => b"events",
+        Count::Routes => b"routes",
+        Count::Entries => b"entries",
+        Count::Nodes => b"nodes",
+        Count::Leaves => b"leaves",
+    }
+}
+
+/// A family.
+pub(crate) fn family_field(family: Family) -> &'static [u8]
+    ensures { result.now ≡ family_name family }
+{
+    match family {
+        Family::V4 => b"4",
+        Family::V6 => b"6",
     }
 }

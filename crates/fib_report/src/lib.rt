@@ -1,14 +1,16 @@
 //! The report of a run as rows of text.
 //!
-//! A run is five lists, routes, changes with their events' numbers, answers to look-ups, a table and a least table, and a few counts. Each
-//! item is a row, its fields joined by commas and ended by a line feed; the format is our own, and stands in `rows`. Contracts see the run
-//! as the model's lists, and its text as a definition over these.
+//! A run is a few lists, routes, changes with their events' numbers, answers to look-ups, a table, a least table and its
+//! certificate, and a few counts. Each item is a row, its fields joined by commas and ended by a line feed; the format is our
+//! own, and stands in `rows`. Contracts see the run as the model's lists, and its text as the text of the model's printed rows,
+//! which a checker reads again.
 //!
 //! Rows are written by csv's writer, without quotes, since no field holds a comma, a quote or a line end. Writing is linear
 //! in the rows; a field is a slice of a buffer on the stack, and only the text takes memory.
 #![tactic(auto)]
 
 mod fields;
+mod printed_row;
 mod rows;
 mod run;
 #[cfg(test)]

@@ -6,125 +6,84 @@
 //!     answer,ADDRESS,HOP
 //!     table,PREFIX,HOP
 //!     least,PREFIX,HOP
+//!     cert,leaf,PREFIX,HOP
+//!     cert,join,PREFIX,K
+//!     cert,bound,FAMILY,COUNT      with 4 or 6 for the family
 //!     report,NAME,COUNT            for records, skipped, events, routes and entries
 //!
-//! HOP is the hop's address. Where no hop has the number it is `none` in an answer and `drop` elsewhere. A run costs its
-//! rows' length, in one text of its own, which is then put behind the caller's.
+//! HOP is the hop's address. Where no hop has the number it is `none` in an answer and a leaf, and `drop` in a change and a
+//! table; a route without a hop has no row. A run costs its rows' length, in one text of its own, which is then put behind the
+//! caller's.
 
-ghost use Rattle.std.specs.Prelude.{◌≡◌, ◌≤◌, ◌++◌, ◌∷◌, [], flat_map, length, map, IfOk, OnOk, OnErr};
+ghost use Rattle.std.specs.Prelude.{◌≡◌, ◌++◌, flat_map, map, IfOk, OnOk, OnErr};
+ghost use Rattle.std.specs.List.{AllByRecursion};
 ghost use Rattle.fib_prefix.specs.Seen.{addr_as, entry_as};
-ghost use Rattle.fib_report.specs.Rows.{row, entry_row, change_row, answer_row, count_row, report_rows, run_text};
+ghost use Rattle.cost_cert.specs.Printed.{printed_row_as};
+ghost use Rattle.cost_cert.specs.Seen.{row_as};
+ghost use Rattle.printed_model.specs.Rows.{IsRow, text_of};
+ghost use Rattle.fib_report.specs.Rows.{of_answer, of_change, of_table, printed_rows, report_rows, run_text};
+ghost use Rattle.printed_model.specs.Numbered.{of_cert, of_least, of_route};
 ghost use Rattle.fib_report.specs.Seen.{change_as, run_as};
 ghost use Rattle.fib_report.specs.Writing.{AddsRows, IsAtRow};
 
-use crate::fields::{addr_field, hop_field, prefix_field};
+use crate::printed_row::put_row;
 use crate::run::{Change, Report, Run};
+use cost_cert::{Count, PrintedRow, Row};
 use csv::{QuoteStyle, Writer, WriterBuilder};
-use fib_prefix::{Addr, Entry, Hop, HopTable, MOST_TEXT};
-use itoa::Buffer;
+use fib_prefix::{Addr, Entry, Hop, HopTable};
 use std::alloc::{AllocError, Global};
 use std::io::Write;
 
-/// Writes a row of two fields or more.
-fn put_row<W: Write + Drop>(out: &mut Writer<W>, fields: &[&[u8]]) -> Result<(), AllocError>
-    requires at { IsAtRow out.old }
-    requires fields { 2 ≤ length fields.now }
-    ensures { OnOk result (AddsRows W.contents out.old out.new (row (map (λ f. f.now) fields.now))) }
-{
-    out.write_fields(fields).map_err(|_| AllocError)
-}
-
-/// Writes a row of three fields.
-fn put_three<'a, W: Write + Drop>(
+/// Writes a route, where it has a hop.
+fn put_route<W: Write + Drop>(
     out: &mut Writer<W>,
-    first: &'a [u8],
-    second: &'a [u8],
-    third: &'a [u8],
-) -> Result<(), AllocError>
-    requires { IsAtRow out.old }
-    ensures { OnOk result (AddsRows W.contents out.old out.new (row (first.now ∷ second.now ∷ third.now ∷ []))) }
-{
-    put_row(out, &[first, second, third])
-}
-
-/// Writes an entry, under the row's kind.
-fn put_entry<W: Write + Drop>(
-    out: &mut Writer<W>,
-    kind: &[u8],
-    entry: &Entry,
+    route: &Entry,
     hops: &HopTable,
 ) -> Result<(), AllocError>
     requires { IsAtRow out.old }
-    ensures { OnOk result (AddsRows W.contents out.old out.new (entry_row kind.now hops.now.list (entry_as entry.now))) }
+    ensures added { OnOk result (AddsRows W.contents out.old out.new (text_of (of_route hops.now.list (entry_as route.now)))) }
+    ensures proper { OnOk result (AllByRecursion IsRow (of_route hops.now.list (entry_as route.now))) }
 {
-    let mut prefix_text = [0; MOST_TEXT];
-    let mut hop_text = [0; MOST_TEXT];
-    let prefix = prefix_field(&mut prefix_text, &entry.prefix);
-    let hop = hop_field(&mut hop_text, entry.hop, hops, b"drop");
-    put_three(out, kind, prefix, hop)
-}
-
-/// Writes a change with its event's number.
-fn put_change<W: Write + Drop>(
-    out: &mut Writer<W>,
-    event: u64,
-    change: &Change,
-    hops: &HopTable,
-) -> Result<(), AllocError>
-    requires { IsAtRow out.old }
-    ensures { OnOk result (AddsRows W.contents out.old out.new (change_row hops.now.list (event, change_as change.now))) }
-{
-    let mut digits = Buffer::new();
-    let event = digits.format(event).as_bytes();
-    let mut text = [0; MOST_TEXT];
-    let mut hop_text = [0; MOST_TEXT];
-    match change {
-        Change::Add(prefix, hop) => {
-            let prefix = prefix_field(&mut text, prefix);
-            let hop = hop_field(&mut hop_text, *hop, hops, b"drop");
-            put_row(out, &[b"change", event, b"+", prefix, hop])
-        }
-        Change::Replace(prefix, hop) => {
-            let prefix = prefix_field(&mut text, prefix);
-            let hop = hop_field(&mut hop_text, *hop, hops, b"drop");
-            put_row(out, &[b"change", event, b"=", prefix, hop])
-        }
-        Change::Remove(prefix) => {
-            let prefix = prefix_field(&mut text, prefix);
-            put_row(out, &[b"change", event, b"-", prefix])
-        }
+    match hops.addr(route.hop) {
+        Some(addr) => put_row(out, PrintedRow::Route(route.prefix, addr)),
+        None => Ok(()),
     }
 }
 
-/// Writes an answer.
-fn put_answer<W: Write + Drop>(
-    out: &mut Writer<W>,
-    addr: &Addr,
-    hop: Hop,
-    hops: &HopTable,
-) -> Result<(), AllocError>
-    requires { IsAtRow out.old }
-    ensures { OnOk result (AddsRows W.contents out.old out.new (answer_row hops.now.list (addr_as addr.now, hop.0))) }
+/// The row of a change.
+fn change_row(event: u64, change: &Change, hops: &HopTable) -> PrintedRow
+    ensures { printed_row_as result ≡ of_change hops.now.list (event, change_as change.now) }
 {
-    let mut addr_text = [0; MOST_TEXT];
-    let mut hop_text = [0; MOST_TEXT];
-    let addr = addr_field(&mut addr_text, addr);
-    let hop = hop_field(&mut hop_text, hop, hops, b"none");
-    put_three(out, b"answer", addr, hop)
+    match *change {
+        Change::Add(prefix, hop) => PrintedRow::Add(event, prefix, hops.addr(hop)),
+        Change::Replace(prefix, hop) => PrintedRow::Replace(event, prefix, hops.addr(hop)),
+        Change::Remove(prefix) => PrintedRow::Remove(event, prefix),
+    }
 }
 
-/// Writes entries, each under the rows' kind.
-fn put_entries<W: Write + Drop>(
+/// The row of a part of a certificate.
+fn cert_row(row: &Row, hops: &HopTable) -> PrintedRow
+    ensures { printed_row_as result ≡ of_cert hops.now.list (row_as row.now) }
+{
+    match *row {
+        Row::Leaf(prefix, hop) => PrintedRow::Leaf(prefix, hops.addr(hop)),
+        Row::Join(prefix, k) => PrintedRow::Join(prefix, k),
+        Row::Bound(family, count) => PrintedRow::Bound(family, count),
+    }
+}
+
+/// Writes routes.
+fn put_routes<W: Write + Drop>(
     out: &mut Writer<W>,
-    kind: &[u8],
-    entries: &[Entry],
+    routes: &[Entry],
     hops: &HopTable,
 ) -> Result<(), AllocError>
     requires { IsAtRow out.old }
-    ensures { OnOk result (AddsRows W.contents out.old out.new (flat_map (entry_row kind.now hops.now.list) (map entry_as entries.now))) }
+    ensures added { OnOk result (AddsRows W.contents out.old out.new (text_of (flat_map (of_route hops.now.list) (map entry_as routes.now)))) }
+    ensures proper { OnOk result (AllByRecursion IsRow (flat_map (of_route hops.now.list) (map entry_as routes.now))) }
 {
-    for entry in entries {
-        put_entry(out, kind, entry, hops)?;
+    for route in routes {
+        put_route(out, route, hops)?;
     }
     Ok(())
 }
@@ -136,10 +95,11 @@ fn put_changes<W: Write + Drop>(
     hops: &HopTable,
 ) -> Result<(), AllocError>
     requires { IsAtRow out.old }
-    ensures { OnOk result (AddsRows W.contents out.old out.new (flat_map (change_row hops.now.list) (map (λ c. (c.0, change_as c.1)) changes.now))) }
+    ensures added { OnOk result (AddsRows W.contents out.old out.new (text_of (map (of_change hops.now.list) (map (λ c. (c.0, change_as c.1)) changes.now)))) }
+    ensures proper { OnOk result (AllByRecursion IsRow (map (of_change hops.now.list) (map (λ c. (c.0, change_as c.1)) changes.now))) }
 {
     for (event, change) in changes {
-        put_change(out, *event, change, hops)?;
+        put_row(out, change_row(*event, change, hops))?;
     }
     Ok(())
 }
@@ -151,60 +111,100 @@ fn put_answers<W: Write + Drop>(
     hops: &HopTable,
 ) -> Result<(), AllocError>
     requires { IsAtRow out.old }
-    ensures { OnOk result (AddsRows W.contents out.old out.new (flat_map (answer_row hops.now.list) (map (λ a. (addr_as a.0, a.1.0)) answers.now))) }
+    ensures added { OnOk result (AddsRows W.contents out.old out.new (text_of (map (of_answer hops.now.list) (map (λ a. (addr_as a.0, a.1.0)) answers.now)))) }
+    ensures proper { OnOk result (AllByRecursion IsRow (map (of_answer hops.now.list) (map (λ a. (addr_as a.0, a.1.0)) answers.now))) }
 {
     for (addr, hop) in answers {
-        put_answer(out, addr, *hop, hops)?;
+        put_row(out, PrintedRow::Answer(*addr, hops.addr(*hop)))?;
     }
     Ok(())
 }
 
-/// Writes a count under its name.
-fn put_count<W: Write + Drop>(
+/// Writes the table.
+fn put_table<W: Write + Drop>(
     out: &mut Writer<W>,
-    name: &[u8],
-    count: u64,
+    table: &[Entry],
+    hops: &HopTable,
 ) -> Result<(), AllocError>
     requires { IsAtRow out.old }
-    ensures { OnOk result (AddsRows W.contents out.old out.new (count_row name.now count)) }
+    ensures added { OnOk result (AddsRows W.contents out.old out.new (text_of (map (of_table hops.now.list) (map entry_as table.now)))) }
+    ensures proper { OnOk result (AllByRecursion IsRow (map (of_table hops.now.list) (map entry_as table.now))) }
 {
-    let mut digits = Buffer::new();
-    put_three(out, b"report", name, digits.format(count).as_bytes())
+    for entry in table {
+        put_row(out, PrintedRow::Table(entry.prefix, hops.addr(entry.hop)))?;
+    }
+    Ok(())
+}
+
+/// Writes the least table.
+fn put_least<W: Write + Drop>(
+    out: &mut Writer<W>,
+    least: &[Entry],
+    hops: &HopTable,
+) -> Result<(), AllocError>
+    requires { IsAtRow out.old }
+    ensures added { OnOk result (AddsRows W.contents out.old out.new (text_of (map (of_least hops.now.list) (map entry_as least.now)))) }
+    ensures proper { OnOk result (AllByRecursion IsRow (map (of_least hops.now.list) (map entry_as least.now))) }
+{
+    for entry in least {
+        put_row(out, PrintedRow::Least(entry.prefix, hops.addr(entry.hop)))?;
+    }
+    Ok(())
+}
+
+/// Writes the certificate.
+fn put_cert<W: Write + Drop>(
+    out: &mut Writer<W>,
+    cert: &[Row],
+    hops: &HopTable,
+) -> Result<(), AllocError>
+    requires { IsAtRow out.old }
+    ensures added { OnOk result (AddsRows W.contents out.old out.new (text_of (map (of_cert hops.now.list) (map row_as cert.now)))) }
+    ensures proper { OnOk result (AllByRecursion IsRow (map (of_cert hops.now.list) (map row_as cert.now))) }
+{
+    for row in cert {
+        put_row(out, cert_row(row, hops))?;
+    }
+    Ok(())
 }
 
 /// Writes the counts.
 fn put_report<W: Write + Drop>(out: &mut Writer<W>, report: &Report) -> Result<(), AllocError>
     requires { IsAtRow out.old }
-    ensures { OnOk result (AddsRows W.contents out.old out.new (report_rows report.now)) }
+    ensures added { OnOk result (AddsRows W.contents out.old out.new (text_of (report_rows report.now))) }
+    ensures proper { OnOk result (AllByRecursion IsRow (report_rows report.now)) }
 {
-    put_count(out, b"records", report.records)?;
-    put_count(out, b"skipped", report.skipped)?;
-    put_count(out, b"events", report.events)?;
-    put_count(out, b"routes", report.routes)?;
-    put_count(out, b"entries", report.entries)?;
+    put_row(out, PrintedRow::Report(Count::Records, report.records))?;
+    put_row(out, PrintedRow::Report(Count::Skipped, report.skipped))?;
+    put_row(out, PrintedRow::Report(Count::Events, report.events))?;
+    put_row(out, PrintedRow::Report(Count::Routes, report.routes))?;
+    put_row(out, PrintedRow::Report(Count::Entries, report.entries))?;
     Ok(())
 }
 
 /// The text of a run.
 fn text_of_run(alloc: Global, run: &Run, hops: &HopTable) -> Result<Vec<u8>, AllocError>
-    ensures { IfOk result (λ text. text.items ≡ run_text hops.now.list (run_as run.now)) }
+    ensures text { IfOk result (λ text. text.items ≡ run_text hops.now.list (run_as run.now)) }
+    ensures proper { OnOk result (AllByRecursion IsRow (printed_rows hops.now.list (run_as run.now))) }
 {
     let mut out = WriterBuilder::new()
         .quote_style(QuoteStyle::Never)
         .flexible(true)
         .from_writer(Vec::new(alloc));
-    put_entries(&mut out, b"route", &run.routes, hops)?;
+    put_routes(&mut out, &run.routes, hops)?;
     put_changes(&mut out, &run.changes, hops)?;
     put_answers(&mut out, &run.answers, hops)?;
-    put_entries(&mut out, b"table", &run.table, hops)?;
-    put_entries(&mut out, b"least", &run.least, hops)?;
+    put_table(&mut out, &run.table, hops)?;
+    put_least(&mut out, &run.least, hops)?;
+    put_cert(&mut out, &run.cert, hops)?;
     put_report(&mut out, &run.report)?;
     out.into_inner().map_err(|_| AllocError)
 }
 
-/// Appends the rows of a run to a text: first the routes, then the changes, the answers, the table, the least table and the report. A hop
-/// number that the hop table does not hold is written `none` in an answer and `drop` elsewhere. An `Err` changes nothing and means that
-/// memory ran out, as does each failure of csv's writer, which writes to memory here.
+/// Appends the rows of a run to a text: first the routes, then the changes, the answers, the table, the least table, its certificate
+/// and the report. Where the hop table does not hold a hop's number, an answer and a leaf say `none`, a change and a table `drop`,
+/// and a route has no row. An `Err` changes nothing and means that memory ran out, as does each failure of csv's writer, which
+/// writes to memory here. Each row that was written is one that a checker reads as it is.
 pub fn write_run(
     alloc: Global,
     out: &mut Vec<u8>,
@@ -213,6 +213,7 @@ pub fn write_run(
 ) -> Result<(), AllocError>
     ensures ok { OnOk result (out.new.items ≡ out.old.items ++ run_text hops.now.list (run_as run.now)) }
     ensures err { OnErr result (out.new.items ≡ out.old.items) }
+    ensures proper { OnOk result (AllByRecursion IsRow (printed_rows hops.now.list (run_as run.now))) }
 {
     let text = text_of_run(alloc, run, hops)?;
     if out.is_empty() {

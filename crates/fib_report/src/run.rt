@@ -3,6 +3,7 @@
 //! Plain lists, in the order in which they are to be written. Hops stand as their numbers in a `HopTable`, which the report
 //! is given beside the run. `specs/Seen.antt` says what contracts see of it.
 
+use cost_cert::Row;
 use fib_prefix::{Addr, Entry, Hop, Prefix};
 
 /// A change to a table.
@@ -44,6 +45,8 @@ pub struct Run {
     pub table: Vec<Entry>,
     /// The least table; `Hop::NONE` drops.
     pub least: Vec<Entry>,
+    /// The rows that prove it least: those of IPv4 with its bound, then those of IPv6 with its bound.
+    pub cert: Vec<Row>,
     /// What was counted.
     pub report: Report,
 }

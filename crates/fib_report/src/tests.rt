@@ -1,12 +1,16 @@
 //! Whole texts, written out by hand.
 
 use crate::{Change, Report, Run, write_run};
-use fib_prefix::{Addr, Entry, Hop, HopTable, Prefix};
+use cost_cert::Row;
+use fib_prefix::{Addr, Entry, Family, Hop, HopTable, Prefix};
 use std::test::Fail;
 
 #[test]
 fn one_route(rt: HostRuntime) -> Result<(), Fail> {
     let ten = Prefix::new(&Addr::v4(0x0a00_0000), 8);
+    let all = Prefix::new(&Addr::v4(0), 0);
+    let low = Prefix::new(&Addr::v4(0), 1);
+    let high = Prefix::new(&Addr::v4(0x8000_0000), 1);
     let mut hops = HopTable::new(rt.alloc());
     let hop = hops.number(&Addr::v4(0xc000_0201))?;
     let run = Run {
@@ -18,6 +22,13 @@ fn one_route(rt: HostRuntime) -> Result<(), Fail> {
         ]?,
         table: vec![in rt.alloc(); Entry { prefix: ten, hop }]?,
         least: vec![in rt.alloc(); Entry { prefix: ten, hop }]?,
+        cert: vec![in rt.alloc();
+            Row::Leaf(low, Hop::NONE),
+            Row::Leaf(high, hop),
+            Row::Join(all, 1),
+            Row::Bound(Family::V4, 2),
+            Row::Bound(Family::V6, 0),
+        ]?,
         report: Report {
             records: 2,
             skipped: 0,
@@ -35,6 +46,11 @@ answer,10.1.2.3,192.0.2.1
 answer,11.0.0.1,none
 table,10.0.0.0/8,192.0.2.1
 least,10.0.0.0/8,192.0.2.1
+cert,leaf,0.0.0.0/1,none
+cert,leaf,128.0.0.0/1,192.0.2.1
+cert,join,0.0.0.0/0,1
+cert,bound,4,2
+cert,bound,6,0
 report,records,2
 report,skipped,0
 report,events,1

@@ -3,8 +3,8 @@
 
 ghost use Rattle.std.specs.Prelude.{◌≡◌, List, ℕ, map, Ok, Some, ◌++◌, ◌⊎◌};
 ghost use Rattle.std.specs.String.{string_bytes};
-ghost use Rattle.fib_main.specs.Due.{due, Printed, text_of};
-ghost use Rattle.fib_main.specs.Ends.{ending};
+ghost use Rattle.fib_main.specs.Due.{due, Output, output_text};
+ghost use Rattle.fib_main.specs.Ends.{IsDue};
 
 use fib_io::{Inputs, MemSink, Sink, SureInputs, SureSink};
 use fib_main::{Outcome, run_fib};
@@ -21,7 +21,7 @@ pub fn run_sure(
 ) -> Outcome
     ensures read { result ≡ Outcome.ReadFault → ⊥ }
     ensures write { result ≡ Outcome.WriteFault → ⊥ }
-    ensures due { (outcome : Outcome) → ending (due (map string_bytes words.now) (⟦<SureInputs as Inputs>⟧.content inputs.old)) ≡ Some outcome → (result ≡ outcome) ⊎ (result ≡ Outcome.NoMemory) }
+    ensures due { IsDue (due (map string_bytes words.now) (⟦<SureInputs as Inputs>⟧.content inputs.old)) result ⊎ (result ≡ Outcome.NoMemory) }
 {
     run_fib(alloc, words, inputs, out, err)
 }
@@ -34,7 +34,7 @@ pub fn run_memory(
     out: &mut MemSink,
     err: &mut SureSink,
 ) -> Outcome
-    ensures { (printed : Printed) → (before : List ℕ) → ⟦<MemSink as Sink>⟧.written out.old ≡ Some before → due (map string_bytes words.now) (⟦<SureInputs as Inputs>⟧.content inputs.old) ≡ Ok printed → result ≡ Outcome.Done → ⟦<MemSink as Sink>⟧.written out.new ≡ Some (before ++ text_of printed) }
+    ensures { (output : Output) → (before : List ℕ) → ⟦<MemSink as Sink>⟧.written out.old ≡ Some before → due (map string_bytes words.now) (⟦<SureInputs as Inputs>⟧.content inputs.old) ≡ Ok output → result ≡ Outcome.Done → ⟦<MemSink as Sink>⟧.written out.new ≡ Some (before ++ output_text output) }
 {
     run_fib(alloc, words, inputs, out, err)
 }

@@ -1,14 +1,13 @@
 -- What clap answers, and the definition of the command line.
-use Rattle.std.proofs.Common.{◌≡◌, Bool, true, false, cond, List, [], ◌∷◌, Option, Some, None, Err, refl, sym, ap, ◌∙◌, subst, inl, inr, codes}
-use Rattle.std.specs.Prelude.{◌≢◌, option_map, Box, Decides}
+use Rattle.std.proofs.Common.{◌≡◌, true, false, cond, List, [], ◌∷◌, Option, Some, None, Err, refl, sym, ap, ◌∙◌, subst, inl, inr, codes}
+use Rattle.std.specs.Prelude.{◌≢◌, option_map, Box}
 use Rattle.std.specs.Option.{option_and_then}
 use Rattle.std.specs.Str.{bytes_eq}
-use Rattle.std.proofs.lemmas.Slice.Eq.{bytes_eq-Decides}
 use Rattle.std.specs.Box.{box_value}
 use Rattle.clap.specs.Kinds.{HasKind, IsAmong}
 use Rattle.clap.specs.Matches.{found_of, subcommand_name_of}
 use Rattle.clap.specs.Simple.{subcommand_rows}
-use Rattle.clap.specs.Words.{App, Row, Text, HasMatchesOf, fault_of, first_value, is_simple, is_simple_and_free, kind_of, rows_of, subcommand_of, subcommand_rows_of}
+use Rattle.clap.specs.Words.{App, Row, Text, HasMatchesOf, fault_of, first_of, first_value, is_simple, is_simple_and_free, kind_of, rows_of, subcommand_of, subcommand_rows_of}
 use Rattle.clap.specs.declared.error.Error.{Error}
 use Rattle.clap.specs.declared.error.ErrorKind.TheVariants.{OutOfMemory}
 use Rattle.clap.specs.declared.parser.matches.ArgMatches.{ArgMatches}
@@ -18,7 +17,7 @@ use Rattle.clap.proofs.WalkLemmas.{first_value-rows}
 use Rattle.clap.proofs.OnLiterals.{clap_on_literals}
 use Rattle.fib_words.specs.declared.WordsError.{WordsError}
 use Rattle.fib_words.specs.declared.WordsError.TheVariants.{Usage, NoMemory}
-use Rattle.fib_words.specs.Commands.{fib_app, takes, is_empty, run_in, named_in, command_of, IsCommand}
+use Rattle.fib_words.specs.Commands.{fib_app, takes, is_empty, Asked, Run, Check, asked_in, named_in, command_of, IsCommand}
 
 fib_free : is_simple_and_free fib_app ≡ true
 unfolding clap_on_literals
@@ -47,43 +46,46 @@ refused_is a words error Usage e h other =
       | inl memory ↦ other refl memory
       | inr among ↦ subst (IsAmong (kind_of error)) none among
     ] in
-    ap (λ b. cond b (option_and_then run_in (subcommand_of fib_app words)) None) (not_taken words fault)
+    ap (λ b. cond b (option_and_then asked_in (subcommand_of fib_app words)) None) (not_taken words fault)
 
 -- ---- what clap takes
 
-pub taken_is : (a : App) (words : List Text) (m : ArgMatches) → a ≡ fib_app → (is_simple_and_free a ≡ true → fault_of a words ≡ []) → HasMatchesOf a words m → command_of words ≡ option_and_then run_in (subcommand_rows_of m)
+pub taken_is : (a : App) (words : List Text) (m : ArgMatches) → a ≡ fib_app → (is_simple_and_free a ≡ true → fault_of a words ≡ []) → HasMatchesOf a words m → command_of words ≡ option_and_then asked_in (subcommand_rows_of m)
 unfolding command_of
 taken_is a words m e h has =
     let A : App → Type 0 = λ b. is_simple_and_free b ≡ true → fault_of b words ≡ [] in
     let M : App → Type 0 = λ b. HasMatchesOf b words m in
     let none : fault_of fib_app words ≡ [] = subst A e h fib_free in
     let both = subst M e has fib_simple in
-    ap (λ f. cond (is_empty f) (option_and_then run_in (subcommand_of fib_app words)) None) none ∙ ap (option_and_then run_in) (sym both.1)
+    ap (λ f. cond (is_empty f) (option_and_then asked_in (subcommand_of fib_app words)) None) none ∙ ap (option_and_then asked_in) (sym both.1)
 
 name_is : {Z : Type 0} (o : Option (Box SubCommand Z)) → option_map (λ (p : Text × List Row). p.0) (subcommand_rows o) ≡ option_map (λ b. (out-SubCommand (box_value b)).name.now) o
 name_is None = refl
 name_is (Some b) = refl
 
-entered_run : (o : Option (Text × List Row)) (rows : List Row) → option_map (λ (p : Text × List Row). p.0) o ≡ Some (codes "run") → option_map (λ (p : Text × List Row). p.1) o ≡ Some rows → option_and_then run_in o ≡ named_in rows
+entered_run : (o : Option (Text × List Row)) (rows : List Row) → option_map (λ (p : Text × List Row). p.0) o ≡ Some (codes "run") → option_map (λ (p : Text × List Row). p.1) o ≡ Some rows → option_and_then asked_in o ≡ option_map Run (named_in rows)
 entered_run None rows e f = absurd cc
 entered_run (Some p) rows e f =
     let name : p.0 ≡ codes "run" = cc in
     let same : p.1 ≡ rows = cc in
-    ap (λ n. cond (bytes_eq n (codes "run")) (named_in p.1) None) name ∙ ap named_in same
+    let other : Option Asked = cond (bytes_eq p.0 (codes "check")) (option_map Check (first_of (codes "printed") p.1)) None in
+    ap (λ n. cond (bytes_eq n (codes "run")) (option_map Run (named_in p.1)) other) name ∙ ap (λ r. option_map Run (named_in r)) same
 
-entered_other : (o : Option (Text × List Row)) → (option_map (λ (p : Text × List Row). p.0) o ≡ Some (codes "run") → ⊥) → option_and_then run_in o ≡ None
-entered_other None h = refl
-entered_other (Some p) h = by_name (bytes_eq p.0 (codes "run")) refl
-  where
-    by_name : (b : Bool) → bytes_eq p.0 (codes "run") ≡ b → cond b (named_in p.1) None ≡ None
-    by_name false e = refl
-    by_name true e = let D : Bool → Type 0 = λ b. Decides b (p.0 ≡ codes "run") in absurd (h (ap Some ((subst D e (bytes_eq-Decides p.0 (codes "run"))).0 refl)))
+entered_check : (o : Option (Text × List Row)) (rows : List Row) → option_map (λ (p : Text × List Row). p.0) o ≡ Some (codes "check") → option_map (λ (p : Text × List Row). p.1) o ≡ Some rows → option_and_then asked_in o ≡ option_map Check (first_of (codes "printed") rows)
+entered_check None rows e f = absurd cc
+entered_check (Some p) rows e f =
+    let name : p.0 ≡ codes "check" = cc in
+    let same : p.1 ≡ rows = cc in
+    ap (λ n. cond (bytes_eq n (codes "run")) (option_map Run (named_in p.1)) (cond (bytes_eq n (codes "check")) (option_map Check (first_of (codes "printed") p.1)) None)) name
+    ∙ ap (λ r. option_map Check (first_of (codes "printed") r)) same
 
-pub run_is : (m run : ArgMatches) → subcommand_name_of m ≡ Some (codes "run") → option_map (λ (p : Text × List Row). p.1) (subcommand_rows_of m) ≡ Some (rows_of (found_of run)) → option_and_then run_in (subcommand_rows_of m) ≡ named_in (rows_of (found_of run))
+pub run_is : (m run : ArgMatches) → subcommand_name_of m ≡ Some (codes "run") → option_map (λ (p : Text × List Row). p.1) (subcommand_rows_of m) ≡ Some (rows_of (found_of run)) → option_and_then asked_in (subcommand_rows_of m) ≡ option_map Run (named_in (rows_of (found_of run)))
 run_is m run e f = entered_run (subcommand_rows_of m) (rows_of (found_of run)) (name_is (out-ArgMatches m).subcommand ∙ e) f
 
-pub other_is : (m : ArgMatches) → (subcommand_name_of m ≡ Some (codes "run") → ⊥) → option_and_then run_in (subcommand_rows_of m) ≡ None
-other_is m h = entered_other (subcommand_rows_of m) (λ e. h (sym (name_is (out-ArgMatches m).subcommand) ∙ e))
+pub check_is : (m check : ArgMatches) (printed : Option Text) → subcommand_name_of m ≡ Some (codes "check") → option_map (λ (p : Text × List Row). p.1) (subcommand_rows_of m) ≡ Some (rows_of (found_of check)) → printed ≡ first_value (found_of check) (codes "printed") → option_and_then asked_in (subcommand_rows_of m) ≡ option_map Check printed
+check_is m check printed e f g =
+    entered_check (subcommand_rows_of m) (rows_of (found_of check)) (name_is (out-ArgMatches m).subcommand ∙ e) f
+    ∙ ap (option_map Check) (sym (g ∙ first_value-rows (found_of check) (codes "printed")))
 
 -- ---- the names in the matches of a run
 

@@ -6,6 +6,8 @@ use Rattle.clap.specs.declared.builder.Command.{Command}
 use Rattle.clap.specs.declared.builder.Command.TheViews.{out-Command}
 use Rattle.clap.specs.Words.{App, Row, Rule, Text, app_of, fault_of, first_of, new_app, new_rule, subcommand_of, with_rule, with_subcommand}
 use Rattle.fib_words.specs.declared.RunWords.{RunWords}
+use Rattle.fib_words.specs.declared.CommandWords.{CommandWords}
+use Rattle.fib_words.specs.declared.CommandWords.TheVariants as code
 use Rattle.fib_words.specs.declared.WordsError.{WordsError}
 use Rattle.fib_words.specs.declared.WordsError.TheVariants.{Usage, NoMemory}
 
@@ -21,13 +23,17 @@ option_rule id = record (new_rule id) { long = Some id }
 abbrev pub run_app : App
 run_app = with_rule (with_rule (with_rule (new_app (codes "run")) (word_rule (codes "dump"))) (option_rule (codes "updates"))) (option_rule (codes "ask"))
 
+-- `check PRINTED`
+abbrev pub check_app : App
+check_app = with_rule (new_app (codes "check")) (word_rule (codes "printed"))
+
 -- a command has to be there
 abbrev pub with_commands : App → App
 with_commands app = record { top = record app.top { subcommand_required = true }; subs = app.subs }
 
 -- `fib COMMAND`
 abbrev pub fib_app : App
-fib_app = with_subcommand (with_commands (new_app (codes "fib"))) run_app.top
+fib_app = with_subcommand (with_subcommand (with_commands (new_app (codes "fib"))) run_app.top) check_app.top
 
 -- ---- what the words name
 
@@ -48,12 +54,20 @@ takes words = is_empty (fault_of fib_app words)
 abbrev pub named_in : List Row → Option Named
 named_in rows = option_map (λ dump. record { dump = dump; updates = first_of (codes "updates") rows; asks = first_of (codes "ask") rows }) (first_of (codes "dump") rows)
 
-abbrev pub run_in : Text × List Row → Option Named
-run_in entered = if bytes_eq entered.0 (codes "run") then named_in entered.1 else None
+-- a run, or the check of a printed text
+pub data Asked : Type 0 where
+  Run : Named → Asked
+  Check : Text → Asked
 
--- the run that the words ask for, where the definition takes them
-unfoldable pub command_of : List Text → Option Named
-command_of words = if takes words then option_and_then run_in (subcommand_of fib_app words) else None
+-- what a command with its names asks for
+abbrev pub asked_in : Text × List Row → Option Asked
+asked_in entered =
+    if bytes_eq entered.0 (codes "run") then option_map Run (named_in entered.1)
+    else (if bytes_eq entered.0 (codes "check") then option_map Check (first_of (codes "printed") entered.1) else None)
+
+-- what the words ask for, where the definition takes them
+unfoldable pub command_of : List Text → Option Asked
+command_of words = if takes words then option_and_then asked_in (subcommand_of fib_app words) else None
 
 -- ---- what a clause sees
 
@@ -61,9 +75,13 @@ command_of words = if takes words then option_and_then run_in (subcommand_of fib
 abbrev pub named_as : RunWords → Named
 named_as run = record { dump = run.dump.now; updates = option_map (λ name. name.now) run.updates; asks = option_map (λ name. name.now) run.asks }
 
+abbrev pub asked_as : CommandWords → Asked
+asked_as (code.Run run) = Run (named_as run)
+asked_as (code.Check printed) = Check printed.now
+
 -- what a reading of words returned is what the words ask for, unless memory ran out
-abbrev pub IsCommand : Result RunWords WordsError → Option Named → Type 0
-IsCommand (Ok run) asked = asked ≡ Some (named_as run)
+abbrev pub IsCommand : Result CommandWords WordsError → Option Asked → Type 0
+IsCommand (Ok command) asked = asked ≡ Some (asked_as command)
 IsCommand (Err Usage) asked = asked ≡ None
 IsCommand (Err NoMemory) asked = Unit {0}
 

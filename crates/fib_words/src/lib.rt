@@ -5,10 +5,11 @@
 #![tactic(auto)]
 
 ghost use Rattle.std.specs.Prelude.{◌≡◌, ◌≢◌, IfOk, map, option_map};
+ghost use Rattle.std.specs.Option.{option_and_then};
 ghost use Rattle.std.specs.String.{string_bytes};
-ghost use Rattle.clap.specs.Words.{app_of, found_of, rows_of, with_rule};
+ghost use Rattle.clap.specs.Words.{app_of, found_of, rows_of, subcommand_rows_of, with_rule};
 ghost use Rattle.clap.specs.Values.{kind_of};
-ghost use Rattle.fib_words.specs.Commands.{command_of, fib_app, HasApp, IsCommand, IsLocal, named_as, named_in, option_rule, run_app, word_rule};
+ghost use Rattle.fib_words.specs.Commands.{asked_as, asked_in, check_app, command_of, fib_app, HasApp, IsCommand, IsLocal, named_as, named_in, option_rule, run_app, word_rule};
 ghost use Rattle.fib_words.specs.declared.WordsError.TheVariants.{NoMemory};
 
 use clap::error::ErrorKind;
@@ -24,6 +25,15 @@ pub struct RunWords<'a> {
     pub updates: Option<&'a str>,
     /// The addresses that are asked for, if any are.
     pub asks: Option<&'a str>,
+}
+
+/// What the words ask for.
+#[derive(Clone, Copy, Debug)]
+pub enum CommandWords<'a> {
+    /// A run over these inputs.
+    Run(RunWords<'a>),
+    /// A check of the printed text of this name.
+    Check(&'a str),
 }
 
 /// Why the words gave no command.
@@ -80,14 +90,23 @@ fn run_command<'a>(alloc: Global) -> Result<Command<'a>, AllocError>
     with_option(alloc, command, "ask")
 }
 
+/// `check PRINTED`.
+fn check_command<'a>(alloc: Global) -> Result<Command<'a>, AllocError>
+    ensures { IfOk result (λ c. HasApp c check_app) }
+{
+    with_word(alloc, Command::new(alloc, "check"), "printed")
+}
+
 /// `fib COMMAND`.
 fn fib_command<'a>(alloc: Global) -> Result<Command<'a>, AllocError>
     ensures { IfOk result (λ c. HasApp c fib_app) }
 {
     let run = run_command(alloc)?;
+    let check = check_command(alloc)?;
     Command::new(alloc, "fib")
         .subcommand_required(true)
-        .subcommand(run)
+        .subcommand(run)?
+        .subcommand(check)
 }
 
 /// The names in the matches of `run`.
@@ -112,10 +131,23 @@ fn why(error: &Error) -> WordsError
     }
 }
 
+/// The command in the matches.
+fn command_in<'a>(matches: &ArgMatches<'a>) -> Option<CommandWords<'a>>
+    ensures { option_map asked_as result ≡ option_and_then asked_in (subcommand_rows_of matches.now) }
+{
+    if let Some(run) = matches.subcommand_matches("run") {
+        let names = named(run)?;
+        return Some(CommandWords::Run(names));
+    }
+    let check = matches.subcommand_matches("check")?;
+    let printed = check.get_str("printed")?;
+    Some(CommandWords::Check(printed))
+}
+
 /// Reads the words of the command line, the program's name first.
 ///
 /// `Usage` exactly where clap's definition of the command line doesn't take them.
-pub fn read_words<'a>(alloc: Global, words: &'a [String]) -> Result<RunWords<'a>, WordsError>
+pub fn read_words<'a>(alloc: Global, words: &'a [String]) -> Result<CommandWords<'a>, WordsError>
     ensures { IsCommand result (command_of (map string_bytes words.now)) }
 {
     let command: Command<'a> = fib_command(alloc)?;
@@ -123,11 +155,8 @@ pub fn read_words<'a>(alloc: Global, words: &'a [String]) -> Result<RunWords<'a>
         Ok(matches) => matches,
         Err(error) => return Err(why(&error)),
     };
-    let Some(run) = matches.subcommand_matches("run") else {
-        return Err(WordsError::Usage);
-    };
-    match named(run) {
-        Some(names) => Ok(names),
+    match command_in(&matches) {
+        Some(command) => Ok(command),
         None => Err(WordsError::Usage),
     }
 }

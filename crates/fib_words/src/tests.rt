@@ -9,7 +9,7 @@ type Case<'a> = (
     Option<(&'a str, Option<&'a str>, Option<&'a str>)>,
 );
 
-const CASES: [Case<'static>; 20] = [
+const CASES: [Case<'static>; 22] = [
     (&["fib", "run", "D"], Some(("D", None, None))),
     (
         &["fib", "run", "D", "--ask", "A"],
@@ -45,6 +45,8 @@ const CASES: [Case<'static>; 20] = [
     (&["fib", "make", "0", "--seed", "1"], None),
     (&["fib", "run", "--help"], None),
     (&["fib", "help"], None),
+    (&["fib", "check"], None),
+    (&["fib", "check", "P", "--ask", "A"], None),
 ];
 
 /// The words, in memory.
@@ -61,9 +63,18 @@ fn takes_what_the_definition_takes(rt: HostRuntime) -> Result<(), Fail> {
     let alloc = rt.alloc();
     for (texts, expected) in CASES {
         let words = words_of(alloc, texts)?;
-        let read = read_words(alloc, &words);
-        let names = read.map(|run| (run.dump, run.updates, run.asks));
-        assert_eq!(rt; names, expected.ok_or(WordsError::Usage));
+        match read_words(alloc, &words) {
+            Ok(CommandWords::Run(run)) => {
+                assert_eq!(rt; Some((run.dump, run.updates, run.asks)), expected);
+            }
+            Ok(CommandWords::Check(_)) => assert!(rt; false, "no check is asked for"),
+            Err(error) => {
+                assert_eq!(rt; error, WordsError::Usage);
+                assert_eq!(rt; expected, None);
+            }
+        }
     }
+    let words = words_of(alloc, &["fib", "check", "P"])?;
+    assert!(rt; matches!(read_words(alloc, &words), Ok(CommandWords::Check("P"))));
     Ok(())
 }

@@ -13,6 +13,7 @@ mod tree;
 
 pub use answers::{EntriesOf, RoutesOf};
 pub use node::{Label, Node};
+pub use path::path_bits;
 pub use tree::Tree;
 
 #[cfg(test)]

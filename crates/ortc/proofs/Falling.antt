@@ -14,7 +14,8 @@ use Rattle.table_model.specs.Table.{Table, root, half, here, inherit, lpm, cut}
 use Rattle.table_model.specs.Entries.{Entries, of_family, of_table}
 use Rattle.table_model.proofs.Cut.{entry}
 use Rattle.least_model.specs.Regions.{lift, join}
-use Rattle.least_model.specs.Sets.{side, set_of, own, pick, agg}
+use Rattle.least_model.specs.Sets.{side, set_of, k_of, own, pick, agg, answers}
+use Rattle.cert_model.specs.Rows.{one_answer}
 use Rattle.least_model.specs.Least.{aggregate, Least}
 use Rattle.least_model.proofs.Sets.{filled, in_first, in_single, in_pick, same_own}
 use Rattle.least_model.proofs.Cost.{set_uniform, set_filled}
@@ -97,15 +98,16 @@ agg_suc e f L h hop o k i =
     sym (ap (λ x. join o (agg e (side false f) (half false L) x) (agg e (side true f) (half true L) x)) i
     ∙ ap (λ y. join y (agg e (side false f) (half false L) (inherit y h)) (agg e (side true f) (half true L) (inherit y h))) k)
 
-pub told_join : (p q r : code.Prefix) (f : List Bool → ℕ) (L : Table) (h hop : ℕ) (X Y Z W : Entries) (o old : Option ℕ) (S : List ℕ) (low high l k : Region)
+pub told_join : (p q r : code.Prefix) (f : List Bool → ℕ) (L : Table) (h hop : ℕ) (X Y Z W : Entries) (o old : Option ℕ) (S : List ℕ) (n : ℕ) (low high l k : Region)
     → (e : ℕ) × (width p.family - p.len ≡ suc e) × (root L ≡ old) × SameHops S (set_of (suc e) f) × Stands low e (side false f) (half false L) × Stands high e (side true f) (half true L)
+    × (n ≡ k_of (suc e) f) × (one_answer (suc e) f ≡ None)
     → l ≡ low → k ≡ high → o ≡ own S old h → hop ≡ inherit o h
     → prefix_as q ≡ half_of (prefix_as p) false → prefix_as r ≡ half_of (prefix_as p) true
     → Y ≡ X ++ of_table p.family (lift (prefix_as p).bits (here o))
     → ((g : List Bool → ℕ) (M : Table) → Stands l (width q.family - q.len) g M → Z ≡ Y ++ of_table q.family (lift (prefix_as q).bits (agg (width q.family - q.len) g M hop)))
     → ((g : List Bool → ℕ) (M : Table) → Stands k (width r.family - r.len) g M → W ≡ Z ++ of_table r.family (lift (prefix_as r).bits (agg (width r.family - r.len) g M hop)))
     → W ≡ X ++ of_table p.family (lift (prefix_as p).bits (agg (width p.family - p.len) f L h))
-told_join p q r f L h hop X Y Z W o old S low high l k s ll kk ow i eq er y z w =
+told_join p q r f L h hop X Y Z W o old S n low high l k s ll kk ow i eq er y z w =
     let e = s.0 in
     let P = (prefix_as p).bits in
     let m = p.family in
@@ -141,24 +143,29 @@ no_bits_left p w e a b c = omega arith
 
 -- ---- the region of a prefix
 
-pub within_told : (p : code.Prefix) (f : Family) (h q d : ℕ) (R E : Table) (RS ES X W : Entries) (region : Region) → p.family ≡ f → d ≡ width p.family - p.len → bits_of p.len q ≡ (prefix_as p).bits
-    → of_table f R ≡ RS → of_table f E ≡ ES → X ≡ []
+pub region_told : (p : code.Prefix) (f : Family) (q d : ℕ) (R E : Table) (RS ES : Entries) (region : Region) → d ≡ width p.family - p.len → bits_of p.len q ≡ (prefix_as p).bits
+    → of_table f R ≡ RS → of_table f E ≡ ES
     → Stands region d (λ a. lpm R (bits_of p.len q ++ a) 0) (cut (bits_of p.len q) E)
-    → ((g : List Bool → ℕ) (L : Table) → Stands region (width p.family - p.len) g L → W ≡ X ++ of_table p.family (lift (prefix_as p).bits (agg (width p.family - p.len) g L h)))
-    → W ≡ of_table f (aggregate (width f) (of_family f RS) (prefix_as p).bits h (of_family f ES))
-within_told p f h q d R E RS ES X W region m n b v k x s t =
+    → Stands region (width p.family - p.len) (answers (of_family f RS) (prefix_as p).bits) (cut (prefix_as p).bits (of_family f ES))
+region_told p f q d R E RS ES region n b v k s =
     let P = (prefix_as p).bits in
     let r : R ≡ of_family f RS = sym (family_is f R) ∙ ap (of_family f) v in
     let e : E ≡ of_family f ES = sym (family_is f E) ∙ ap (of_family f) k in
+    subst (λ (z : Table). Stands region (width p.family - p.len) (answers (of_family f RS) P) (cut P z)) e
+    (subst (λ (z : Table). Stands region (width p.family - p.len) (answers z P) (cut P E)) r
+    (subst (λ (z : ℕ). Stands region z (answers R P) (cut P E)) n (subst (λ (z : List Bool). Stands region d (answers R z) (cut z E)) b s)))
+
+pub within_told : (p : code.Prefix) (f : Family) (h : ℕ) (R E : Table) (X W : Entries) (region : Region) → p.family ≡ f → X ≡ []
+    → Stands region (width p.family - p.len) (answers R (prefix_as p).bits) (cut (prefix_as p).bits E)
+    → ((g : List Bool → ℕ) (L : Table) → Stands region (width p.family - p.len) g L → W ≡ X ++ of_table p.family (lift (prefix_as p).bits (agg (width p.family - p.len) g L h)))
+    → W ≡ of_table f (aggregate (width f) R (prefix_as p).bits h E)
+within_told p f h R E X W region m x s t =
+    let P = (prefix_as p).bits in
     let l : width p.family - p.len ≡ width f - length P = omega (arith, ap width m, length_prefix (width p.family) p.len p.bits p.fits) in
-    let s' : Stands region (width p.family - p.len) (λ a. lpm R (P ++ a) 0) (cut P E) =
-    subst (λ (z : ℕ). Stands region z (λ a. lpm R (P ++ a) 0) (cut P E)) n (subst (λ (z : List Bool). Stands region d (λ a. lpm R (z ++ a) 0) (cut z E)) b s)
-    in
-    t (λ a. lpm R (P ++ a) 0) (cut P E) s'
-    ∙ (ap (λ z. z ++ of_table p.family (lift P (agg (width p.family - p.len) (λ a. lpm R (P ++ a) 0) (cut P E) h))) x
-    ∙ (ap (λ z. of_table z (lift P (agg (width p.family - p.len) (λ a. lpm R (P ++ a) 0) (cut P E) h))) m
-    ∙ (ap (λ z. of_table f (lift P (agg z (λ a. lpm R (P ++ a) 0) (cut P E) h))) l
-    ∙ (ap (λ z. of_table f (aggregate (width f) z P h E)) r ∙ ap (λ z. of_table f (aggregate (width f) (of_family f RS) P h z)) e))))
+    t (answers R P) (cut P E) s
+    ∙ (ap (λ z. z ++ of_table p.family (lift P (agg (width p.family - p.len) (answers R P) (cut P E) h))) x
+    ∙ (ap (λ z. of_table z (lift P (agg (width p.family - p.len) (answers R P) (cut P E) h))) m
+    ∙ ap (λ z. of_table f (lift P (agg z (answers R P) (cut P E) h))) l))
 
 -- ---- the whole space
 

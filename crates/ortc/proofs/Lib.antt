@@ -1,3 +1,4 @@
 pub mod Rising
 pub mod Falling
 pub mod Merging
+pub mod Proving

@@ -1,23 +1,46 @@
 -- The upward pass: regions that stand for answers.
-use Rattle.std.proofs.Common.{◌≡◌, ◌≢◌, ℕ, suc, ◌-◌, ◌/◌, ◌^◌, List, [], ◌∷◌, ◌++◌, Bool, true, false, Option, Some, None, length, nat_eq, refl, sym, ap, ◌∙◌, arith, subst, inl, inr}
+use Rattle.std.proofs.Common.{◌≡◌, ◌≢◌, ℕ, zero, suc, ◌+◌, ◌-◌, ◌/◌, ◌^◌, List, [], ◌∷◌, ◌++◌, Bool, true, false, Option, Some, None, length, nat_eq, cond, IsTrue, ◌↔◌, refl, sym, ap, ◌∙◌, arith, subst, inl, inr}
 use Rattle.std.specs.Prelude.{bit_and}
-use Rattle.std.proofs.lemmas.Bool.{eqb-true, eq-eqb, cases_Bool}
+use Rattle.std.proofs.lemmas.Bool.{eqb-true, eq-eqb, ne_eqb, cases_Bool}
 use Rattle.address_model.specs.Bits.{bits_of}
 use Rattle.table_model.specs.Table.{Table, root, half, inherit, lpm, cut}
 use Rattle.table_model.proofs.Cut.{lpm_nil, lpm_cut}
-use Rattle.least_model.specs.Sets.{side, set_of, is_in, joint}
+use Rattle.least_model.specs.Sets.{side, set_of, k_of, is_in, common, joint, one_if_empty, apart}
 use Rattle.least_model.proofs.Sets.{same_joint}
-use Rattle.least_model.proofs.Cost.{set_uniform, set_more, set_alike}
+use Rattle.least_model.proofs.Cost.{set_uniform, set_more, set_alike, k_uniform, k_more, k_alike}
+use Rattle.cert_model.specs.Rows.{one_answer, same_hop}
+use Rattle.cert_model.proofs.Answers.{one_answer_from}
 use Rattle.orig_tree.proofs.Paths.{no_bits, first_one, first_zero}
 use Rattle.ortc.specs.Hops.{SameHops}
 use Rattle.ortc.specs.declared.region.Region.{Region}
 use Rattle.ortc.specs.declared.region.Region.TheVariants.{Leaf, Join'}
-use Rattle.ortc.specs.Stands.{Stands, hops_of, hop_in}
+use Rattle.ortc.specs.Stands.{Stands, hops_of, k_in, hop_in}
 
 -- a region's set
 pub hops_stand : (r : Region) (d : ℕ) (f : List Bool → ℕ) (L : Table) → Stands r d f L → SameHops (hops_of r) (set_of d f)
 hops_stand (Leaf old h) d f L s = λ k. ap (is_in k) (sym (set_uniform d f h s.1))
-hops_stand (Join' old S p l r) d f L s = λ k. s.3 k ∙ ap (λ n. is_in k (set_of n f)) (sym s.1)
+hops_stand (Join' old S k p l r) d f L s = λ h. s.3 h ∙ ap (λ n. is_in h (set_of n f)) (sym s.1)
+
+-- its k
+pub k_stands : (r : Region) (d : ℕ) (f : List Bool → ℕ) (L : Table) → Stands r d f L → k_in r ≡ k_of d f
+k_stands (Leaf old h) d f L s = sym (k_uniform d f h s.1)
+k_stands (Join' old S k p l r) d f L s = s.6 ∙ ap (λ n. k_of n f) (sym s.1)
+
+-- and its one hop
+hop_stands : (r : Region) (d : ℕ) (f : List Bool → ℕ) (L : Table) → Stands r d f L → hop_in r ≡ one_answer d f
+hop_stands (Leaf old h) d f L s = sym (one_answer_from d f h s.1)
+hop_stands (Join' old S k p l r) d f L s = sym (ap (λ n. one_answer n f) s.1 ∙ s.7)
+
+one_more : (d : ℕ) (f : List Bool → ℕ) → one_answer (suc d) f ≡ same_hop (one_answer d (side false f)) (one_answer d (side true f))
+unfolding one_answer
+one_more d f = refl
+
+one_alike : (d : ℕ) (f g : List Bool → ℕ) → ((a : List Bool) → length a ≡ d → f a ≡ g a) → one_answer d f ≡ one_answer d g
+unfolding one_answer
+one_alike zero f g e = ap Some (e [] refl)
+one_alike (suc d) f g e =
+    ap (λ x. same_hop x (one_answer d (side true f))) (one_alike d (side false f) (side false g) (λ a l. e (false ∷ a) (ap suc l)))
+    ∙ ap (same_hop (one_answer d (side false g))) (one_alike d (side true f) (side true g) (λ a l. e (true ∷ a) (ap suc l)))
 
 same_some : (g h : ℕ) → (let a : Option ℕ = Some g in a) ≡ Some h → g ≡ h
 same_some g h e = cc
@@ -25,7 +48,7 @@ same_some g h e = cc
 -- a leaf's hop is what its addresses get
 leaf_is : (r : Region) (d h : ℕ) (f : List Bool → ℕ) (L : Table) → hop_in r ≡ Some h → Stands r d f L → (a : List Bool) → length a ≡ d → f a ≡ h
 leaf_is (Leaf old g) d h f L e s a n = s.1 a n ∙ same_some g h e
-leaf_is (Join' old S p l r) d h f L e s a n = cc
+leaf_is (Join' old S k p l r) d h f L e s a n = cc
 
 -- two regions of one hop are one leaf
 pub one_leaf : (low high : Region) (d h : ℕ) (f : List Bool → ℕ) (L : Table) → hop_in low ≡ Some h → hop_in high ≡ Some h → Stands low d (side false f) (half false L) → Stands high d (side true f) (half true L) → (x : List Bool) → length x ≡ suc d → f x ≡ h
@@ -36,14 +59,16 @@ one_leaf low high d h f L e k s t (true ∷ a) n = leaf_is high d h (side true f
 -- answers alike and the same old entries
 pub stands_alike : (r : Region) (d : ℕ) (f g : List Bool → ℕ) (L M : Table) → ((a : List Bool) → length a ≡ d → f a ≡ g a) → L ≡ M → Stands r d f L → Stands r d g M
 stands_alike (Leaf old h) d f g L M e m s = (ap root (sym m) ∙ s.0, λ a n. sym (e a n) ∙ s.1 a n)
-stands_alike (Join' old S p l r) d f g L M e m s =
+stands_alike (Join' old S k p l r) d f g L M e m s =
     let up : (x : List Bool) → length x ≡ suc s.0 → f x ≡ g x = λ x n. e x (n ∙ sym s.1) in (
       s.0,
       s.1,
       ap root (sym m) ∙ s.2,
-      λ k. s.3 k ∙ ap (is_in k) (set_alike (suc s.0) f g up),
+      λ h. s.3 h ∙ ap (is_in h) (set_alike (suc s.0) f g up),
       stands_alike l s.0 (side false f) (side false g) (half false L) (half false M) (λ a n. up (false ∷ a) (ap suc n)) (ap (half false) m) s.4,
       stands_alike r s.0 (side true f) (side true g) (half true L) (half true M) (λ a n. up (true ∷ a) (ap suc n)) (ap (half true) m) s.5,
+      s.6 ∙ k_alike (suc s.0) f g up,
+      sym (one_alike (suc s.0) f g up) ∙ s.7,
     )
 
 -- a node with no bits left
@@ -72,6 +97,35 @@ set_joined low high d f L A B J a b j s t =
     let v = hops_stand high d (side true f) (half true L) t in
     λ k. j k ∙ (ap (λ z. is_in k (joint z B)) a ∙ (ap (λ z. is_in k (joint (hops_of low) z)) b
     ∙ ((same_joint (hops_of low) (hops_of high) (set_of d (side false f)) (set_of d (side true f)) u v).0 k ∙ ap (is_in k) (sym (set_more d f)))))
+
+-- what it costs to put them together
+gap_is : (b : Bool) (S T : List ℕ) → IsTrue b ↔ (common S T ≡ []) → cond b 1 0 ≡ apart S T
+gap_is b S T t = by_common b (common S T) t
+  where
+    by_common : (b : Bool) (C : List ℕ) → IsTrue b ↔ (C ≡ []) → cond b 1 0 ≡ one_if_empty C
+    by_common true [] t = refl
+    by_common true (h ∷ C) t = let e : h ∷ C ≡ [] = t.0 refl in cc
+    by_common false [] t = let e : false ≡ true = t.1 refl in cc
+    by_common false (h ∷ C) t = refl
+
+-- their k
+pub k_joined : (low high : Region) (d : ℕ) (f : List Bool → ℕ) (L : Table) (A B : List ℕ) (j k l : ℕ) (b? : Bool) → A ≡ hops_of low → B ≡ hops_of high → k ≡ k_in low → l ≡ k_in high → IsTrue b? ↔ (common A B ≡ []) → j ≡ k + l + cond b? 1 0
+    → Stands low d (side false f) (half false L) → Stands high d (side true f) (half true L) → j ≡ k_of (suc d) f
+k_joined low high d f L A B j k l b? a b m n t x s u =
+    let v : apart (hops_of low) (hops_of high) ≡ apart (set_of d (side false f)) (set_of d (side true f)) =
+    (same_joint (hops_of low) (hops_of high) (set_of d (side false f)) (set_of d (side true f)) (hops_stand low d (side false f) (half false L) s) (hops_stand high d (side true f) (half true L) u)).1
+    in
+    omega (arith, x, m, n, k_more d f, k_stands low d (side false f) (half false L) s, k_stands high d (side true f) (half true L) u, gap_is b? A B t, ap (λ x. apart x B) a, ap (apart (hops_of low)) b, v)
+
+-- halves of two answers
+no_hop : (x y : Option ℕ) → ((h : ℕ) → x ≡ Some h → y ≡ Some h → ⊥) → same_hop x y ≡ None
+no_hop None y n = refl
+no_hop (Some g) None n = refl
+no_hop (Some g) (Some h) n = ap (λ (b : Bool). cond b (Some g) None) (ne_eqb g h (λ e. n g refl (ap Some (sym e))))
+
+pub no_leaf : (low high : Region) (d : ℕ) (f : List Bool → ℕ) (L : Table) → ((h : ℕ) → hop_in low ≡ Some h → hop_in high ≡ Some h → ⊥) → Stands low d (side false f) (half false L) → Stands high d (side true f) (half true L) → one_answer (suc d) f ≡ None
+no_leaf low high d f L n s t =
+    one_more d f ∙ (ap (λ x. same_hop x (one_answer d (side true f))) (sym (hop_stands low d (side false f) (half false L) s)) ∙ (ap (same_hop (hop_in low)) (sym (hop_stands high d (side true f) (half true L) t)) ∙ no_hop (hop_in low) (hop_in high) n))
 
 -- ---- the way down to a prefix
 

@@ -1,2 +1,3 @@
 pub mod Hops
 pub mod Stands
+pub mod Proved

@@ -11,12 +11,15 @@ ghost use Rattle.least_model.specs.Regions.{lift};
 ghost use Rattle.least_model.specs.Sets.{agg};
 ghost use Rattle.least_model.specs.Least.{Least, aggregate};
 ghost use Rattle.least_model.specs.Both.{aggregate_in};
+ghost use Rattle.cert_model.specs.Rows.{family_rows};
 ghost use Rattle.fib_prefix.specs.Seen.{entry_as, prefix_as};
+ghost use Rattle.cost_cert.specs.Seen.{row_as};
 ghost use Rattle.ortc.specs.Stands.{Stands};
+ghost use Rattle.ortc.specs.Proved.{ProveLeast};
 
 use crate::hop_set::own_hop;
-use crate::path::path_bits;
-use crate::region::{Region, below, rise_below};
+use crate::region::{Region, below, region_of};
+use crate::rows::prove;
 use crate::table::Fresh;
 use fib_prefix::{Addr, Entry, Hop, Prefix};
 use orig_tree::Tree;
@@ -59,7 +62,7 @@ pub fn descend(
         Region::Leaf(_, hop) => {
             push_own(prefix, leaf_hop(*hop, inherited), out)?;
         }
-        Region::Join(old, set, halves) => {
+        Region::Join(old, set, _, halves) => {
             if prefix.len == prefix.family.width() {
                 return Ok(());
             }
@@ -89,16 +92,14 @@ pub fn within(
     requires { prefix.now.family ≡ tree.now.family }
     ensures { IfOk result (λ v. map entry_as v.items ≡ of_table tree.now.family (aggregate (width tree.now.family) (of_family tree.now.family tree.now.routes) (prefix_as prefix.now).bits inherited.0 (of_family tree.now.family tree.now.entries))) }
 {
-    let depth = prefix.family.width() - prefix.len;
-    let path = path_bits(prefix);
-    let region = rise_below(alloc, tree.root(), path, prefix.len, 0, depth)?;
+    let region = region_of(alloc, tree, prefix)?;
     let mut table = Vec::new(alloc);
     descend(&region, inherited.0, *prefix, &mut table)?;
     Ok(table)
 }
 
 /// The least table with the answers of the tree's routes: of all such tables the one that the best hops fix, with the
-/// tree's entries as the old table. It costs the tree's nodes, and their sets of hops.
+/// tree's entries as the old table; and the rows that prove it least. It costs the tree's nodes, and their sets of hops.
 ///
 /// # Errors
 ///
@@ -106,12 +107,17 @@ pub fn within(
 pub fn fresh(alloc: Global, tree: &Tree) -> Result<Fresh, AllocError>
     ensures aggregate { IfOk result (λ v. map entry_as v.table.items ≡ aggregate_in tree.now.family tree.now.routes tree.now.entries) }
     ensures least { IfOk result (λ v. Least (width tree.now.family) (of_family tree.now.family tree.now.routes) (of_family tree.now.family (map entry_as v.table.items))) }
+    ensures proof { IfOk result (λ v. map row_as v.proof.items ≡ family_rows tree.now.family tree.now.routes) }
+    ensures certificate { IfOk result (λ v. ProveLeast tree.now.family tree.now.routes (map entry_as v.table.items) (map row_as v.proof.items)) }
 {
     let first = Addr {
         family: tree.family(),
         bits: 0,
     };
     let whole = Prefix::new(&first, 0);
-    let table = within(alloc, tree, &whole, Hop::NONE)?;
-    Ok(Fresh { table })
+    let region = region_of(alloc, tree, &whole)?;
+    let mut table = Vec::new(alloc);
+    descend(&region, Hop::NONE.0, whole, &mut table)?;
+    let proof = prove(alloc, &region, whole)?;
+    Ok(Fresh { table, proof })
 }

@@ -3,7 +3,7 @@
 //! A set is a sorted list of hop numbers. Most sets hold one to three hops: up to eight are kept in place, more in an
 //! allocation. Two sets are merged in one pass over both.
 
-ghost use Rattle.std.specs.Prelude.{◌≡◌, ◌++◌, IfOk};
+ghost use Rattle.std.specs.Prelude.{◌≡◌, ◌++◌, ◌↔◌, [], IfOk, IsTrue};
 ghost use Rattle.least_model.specs.Sets.{common, joint, is_in, smallest, own};
 ghost use Rattle.ortc.specs.Hops.{Ascending, SameHops};
 
@@ -29,6 +29,15 @@ impl Model for HopSet {
     ghost view = { λ s. s.hops.items };
 
     ghost invariant = { λ s. Ascending s.hops.items };
+}
+
+/// Two sets put together.
+#[derive(Drop)]
+pub struct Joint {
+    /// The hops that both have, or where there are none, the hops of either.
+    pub set: HopSet,
+    /// Whether they have no hop in common.
+    pub apart: bool,
 }
 
 /// The hops that are in both sets.
@@ -83,22 +92,26 @@ fn all_hops(alloc: Global, low: &[u16], high: &[u16]) -> Result<Hops, AllocError
 }
 
 impl HopSet {
-    /// The hops that are in both sets, or where there are none, the hops of either.
+    /// Two sets put together.
     ///
     /// # Errors
     ///
     /// No memory.
-    pub fn joint(alloc: Global, low: &[u16], high: &[u16]) -> Result<HopSet, AllocError>
+    pub fn joint(alloc: Global, low: &[u16], high: &[u16]) -> Result<Joint, AllocError>
         requires low { Ascending low.now }
         requires high { Ascending high.now }
-        ensures { IfOk result (λ s. SameHops s (joint low.now high.now)) }
+        ensures hops { IfOk result (λ j. SameHops j.set (joint low.now high.now)) }
+        ensures apart { IfOk result (λ j. IsTrue j.apart ↔ (common low.now high.now ≡ [])) }
     {
         let common = common_hops(alloc, low, high)?;
         if common.is_empty() {
-            let hops = all_hops(alloc, low, high)?;
-            return Ok(HopSet { hops });
+            let set = HopSet {
+                hops: all_hops(alloc, low, high)?,
+            };
+            return Ok(Joint { set, apart: true });
         }
-        Ok(HopSet { hops: common })
+        let set = HopSet { hops: common };
+        Ok(Joint { set, apart: false })
     }
 
     /// The hops, each once, the least first.

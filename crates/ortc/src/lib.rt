@@ -1,16 +1,17 @@
 //! Least tables by three passes over a tree (Draves, King, Venkatachary and Zill, 'Constructing Optimal IP Routing Tables',
 //! INFOCOM 1999): the routes are pushed to the leaves, each region gets the set of its best hops from those of its halves,
-//! and from the root down a region gets an entry where what it inherits isn't in its set.
+//! and from the root down a region gets an entry where what it inherits isn't in its set. The regions, told with the cost of
+//! each, are the rows of a certificate: they prove the table least.
 #![tactic(auto)]
 
 mod down;
 mod hop_set;
-mod path;
 mod region;
+mod rows;
 mod table;
 
 pub use down::{fresh, within};
-pub use hop_set::HopSet;
+pub use hop_set::{HopSet, Joint};
 pub use table::Fresh;
 
 #[cfg(test)]

@@ -2,19 +2,24 @@
 //!
 //! A region is a leaf where the routes give all its addresses one hop, else two halves with the set of its best hops, made
 //! from those of the halves: what both sets have, or where they have nothing in common, what either has (section 3 of the
-//! paper). Both halves lie in one allocation, and a leaf takes none of its own. Two leaves of one hop become one leaf, so
-//! there are never more regions than the tree has nodes and missing halves.
+//! paper). Its k is the sum of its halves' k, and one more where their sets have nothing in common. Both halves lie in one
+//! allocation, and a leaf takes none of its own. Two leaves of one hop become one leaf, so there are never more regions than
+//! the tree has nodes and missing halves.
 
-ghost use Rattle.std.specs.Prelude.{◌≡◌, ◌≤◌, ◌++◌, ℕ, List, Bool, true, false, suc, Some, IfOk, IfSome, IsSome};
+ghost use Rattle.std.specs.Prelude.{◌≡◌, ◌≤◌, ◌+◌, ◌-◌, ◌++◌, ℕ, List, Bool, true, false, cond, suc, Some, IfOk, IfSome, IsSome};
 ghost use Rattle.address_model.specs.Bits.{bits_of};
+ghost use Rattle.address_model.specs.Width.{width};
 ghost use Rattle.table_model.specs.Table.{Table, lpm, root, half, inherit, cut};
-ghost use Rattle.least_model.specs.Sets.{side};
+ghost use Rattle.table_model.specs.Entries.{of_family};
+ghost use Rattle.least_model.specs.Sets.{side, answers};
+ghost use Rattle.fib_prefix.specs.Seen.{prefix_as};
 ghost use Rattle.orig_tree.specs.Walk.{behind};
 ghost use Rattle.ortc.specs.Hops.{Ascending};
-ghost use Rattle.ortc.specs.Stands.{Stands, hops_of, hop_in};
+ghost use Rattle.ortc.specs.Stands.{Stands, hops_of, k_in, hop_in};
 
 use crate::hop_set::HopSet;
-use orig_tree::{Label, Node};
+use fib_prefix::Prefix;
+use orig_tree::{Label, Node, Tree, path_bits};
 use std::alloc::{AllocError, Global};
 use std::slice;
 
@@ -24,8 +29,8 @@ use std::slice;
 pub enum Region {
     /// A region whose addresses all get one hop.
     Leaf(Option<u16>, u16),
-    /// A region of two halves, and its set.
-    Join(Option<u16>, HopSet, Box<Halves>),
+    /// A region of two halves, its set, and its k: what it costs under a hop of its set, in entries.
+    Join(Option<u16>, HopSet, u64, Box<Halves>),
 }
 
 /// The halves of a region, whose next bit is 0 and 1.
@@ -39,14 +44,31 @@ pub struct Halves {
 }
 
 /// The hops of a region's set.
-fn hops_of(region: &Region) -> &[u16]
+pub fn hops_of(region: &Region) -> &[u16]
     ensures hops { result.now ≡ hops_of region.now }
     ensures order { Ascending result.now }
 {
     match region {
         Region::Leaf(_, hop) => slice::from_ref(hop),
-        Region::Join(_, set, _) => set.as_slice(),
+        Region::Join(_, set, _, _) => set.as_slice(),
     }
+}
+
+/// A region's k.
+pub fn k_in(region: &Region) -> u64
+    ensures { result ≡ k_in region.now }
+{
+    match region {
+        Region::Leaf(_, _) => 0,
+        Region::Join(_, _, k, _) => *k,
+    }
+}
+
+/// The sum, or no memory where it passes 64 bits. No k does: it is below the number of the region's leaves.
+pub fn sum(a: u64, b: u64) -> Result<u64, AllocError>
+    ensures { IfOk result (λ n. n ≡ a + b) }
+{
+    a.checked_add(b).ok_or(AllocError)
 }
 
 /// The one hop of both regions, where there is one.
@@ -57,10 +79,18 @@ fn one_hop(low: &Region, high: &Region) -> Option<u16>
     match low {
         Region::Leaf(_, a) => match high {
             Region::Leaf(_, b) => { if *a == *b { Some(*a) } else { None } }
-            Region::Join(_, _, _) => None,
+            Region::Join(_, _, _, _) => None,
         },
-        Region::Join(_, _, _) => None,
+        Region::Join(_, _, _, _) => None,
     }
+}
+
+/// The k of two halves, which is one more where their sets are apart.
+fn joint_k(low: u64, high: u64, apart: bool) -> Result<u64, AllocError>
+    ensures { IfOk result (λ k. k ≡ low + high + cond apart 1 0) }
+{
+    let k = sum(low, high)?;
+    if apart { sum(k, 1) } else { Ok(k) }
 }
 
 /// The region of two halves by their sets.
@@ -70,10 +100,13 @@ fn join_halves(
     low: Region,
     high: Region,
 ) -> Result<Region, AllocError>
+    requires { (h : ℕ) → hop_in low ≡ Some h → hop_in high ≡ Some h → ⊥ }
     ensures { IfOk result (λ r. (d : ℕ) (f : List Bool → ℕ) (L : Table) → root L ≡ old → Stands low d (side false f) (half false L) → Stands high d (side true f) (half true L) → Stands r (suc d) f L) }
 {
-    let set = HopSet::joint(alloc, hops_of(&low), hops_of(&high))?;
-    Ok(Region::Join(old, set, Box::new(alloc, Halves { low, high })?))
+    let joint = HopSet::joint(alloc, hops_of(&low), hops_of(&high))?;
+    let k = joint_k(k_in(&low), k_in(&high), joint.apart)?;
+    let halves = Box::new(alloc, Halves { low, high })?;
+    Ok(Region::Join(old, joint.set, k, halves))
 }
 
 /// The region of two halves: a leaf where both are leaves of one hop.
@@ -100,7 +133,7 @@ pub fn below(label: Option<u16>, inherited: u16) -> u16
 
 /// The region of a node, whose prefix is `depth` bits shorter than addresses are.
 #[cycle(rising)]
-pub fn rise(alloc: Global, node: &Node, inherited: u16, depth: u8) -> Result<Region, AllocError>
+fn rise(alloc: Global, node: &Node, inherited: u16, depth: u8) -> Result<Region, AllocError>
     ensures { IfOk result (λ r. Stands r depth (λ a. lpm node.now.routes a inherited) node.now.entries) }
 {
     let hop = below(node.hop(Label::Route), inherited);
@@ -134,7 +167,7 @@ fn rise_link(
 
 /// The region of the prefix whose path from a node is the lowest `left` bits of `q`; the prefix is `depth` bits shorter
 /// than addresses are.
-pub fn rise_below(
+fn rise_below(
     alloc: Global,
     node: &Node,
     q: u128,
@@ -158,4 +191,15 @@ pub fn rise_below(
         }
         None => Ok(Region::Leaf(None, hop)),
     }
+}
+
+/// The region of a prefix of the tree, with the tree's entries as the old ones.
+pub fn region_of(alloc: Global, tree: &Tree, prefix: &Prefix) -> Result<Region, AllocError>
+    requires { prefix.now.family ≡ tree.now.family }
+    ensures { IfOk result (λ r. Stands r (width prefix.now.family - prefix.now.len) (answers (of_family tree.now.family tree.now.routes) (prefix_as prefix.now).bits) (cut (prefix_as prefix.now).bits (of_family tree.now.family tree.now.entries))) }
+{
+    let depth = prefix.family.width() - prefix.len;
+    let path = path_bits(prefix);
+    let region = rise_below(alloc, tree.root(), path, prefix.len, 0, depth)?;
+    Ok(region)
 }

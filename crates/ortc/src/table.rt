@@ -1,5 +1,6 @@
 //! What a fresh table comes with.
 
+use cost_cert::Row;
 use fib_prefix::Entry;
 
 /// A fresh table.
@@ -7,4 +8,7 @@ use fib_prefix::Entry;
 pub struct Fresh {
     /// The table's entries, in the order of prefixes.
     pub table: Vec<Entry>,
+    /// The rows that prove it least: those of the regions, the lower half's and the upper half's before a region's own, and
+    /// the bound.
+    pub proof: Vec<Row>,
 }

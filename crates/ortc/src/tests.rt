@@ -1,5 +1,5 @@
-//! Least tables of whole trees and of regions. The expected tables come from another program, written from the
-//! definitions.
+//! Least tables of whole trees and of regions, and their proofs. What is expected comes from another program, written from
+//! the definitions.
 
 ghost use Rattle.std.specs.Prelude.{◌≡◌, IfOk};
 ghost use Rattle.address_model.specs.declared.family.Family.TheVariants.{V4};
@@ -12,13 +12,21 @@ use std::alloc::{AllocError, Global};
 /// A prefix's bits and length, and a hop.
 type Row = (u32, u8, u16);
 
-/// Routes, old entries, a region, what it inherits, and its least table.
+/// A row of a proof: a leaf with its hop, a join with its k, or the bound.
+enum Step {
+    Leaf(u32, u8, u16),
+    Join(u32, u8, u64),
+    Bound(u64),
+}
+
+/// Routes, old entries, a region, what it inherits, and its least table; of some whole trees the proof too.
 struct Case<'a> {
     routes: &'a [Row],
     entries: &'a [Row],
     region: (u32, u8),
     inherited: u16,
     table: &'a [Row],
+    proof: &'a [Step],
 }
 
 fn prefix(bits: u32, len: u8) -> Prefix
@@ -51,6 +59,18 @@ fn listed(alloc: Global, rows: &[Row]) -> Result<Vec<Entry>, AllocError> {
     Ok(list)
 }
 
+fn proof_of(alloc: Global, steps: &[Step]) -> Result<Vec<cost_cert::Row>, AllocError> {
+    let mut rows = Vec::new(alloc);
+    for step in steps {
+        rows.push(match step {
+            Step::Leaf(bits, len, hop) => cost_cert::Row::Leaf(prefix(*bits, *len), Hop(*hop)),
+            Step::Join(bits, len, k) => cost_cert::Row::Join(prefix(*bits, *len), *k),
+            Step::Bound(entries) => cost_cert::Row::Bound(Family::V4, *entries),
+        })?;
+    }
+    Ok(rows)
+}
+
 const CASES: [Case<'static>; 15] = [
     // no routes
     Case {
@@ -59,6 +79,7 @@ const CASES: [Case<'static>; 15] = [
         region: (0x0000_0000, 0),
         inherited: 0,
         table: &[],
+        proof: &[Step::Leaf(0x0000_0000, 0, 0), Step::Bound(0)],
     },
     // an old entry decides a tie
     Case {
@@ -67,6 +88,7 @@ const CASES: [Case<'static>; 15] = [
         region: (0x0000_0000, 0),
         inherited: 0,
         table: &[(0x0a00_0000, 8, 2), (0x0a00_0000, 9, 1)],
+        proof: &[],
     },
     // without it the least hop
     Case {
@@ -75,6 +97,7 @@ const CASES: [Case<'static>; 15] = [
         region: (0x0000_0000, 0),
         inherited: 0,
         table: &[(0x0a00_0000, 8, 1), (0x0a00_0000, 9, 2)],
+        proof: &[],
     },
     // an old hop that isn't best
     Case {
@@ -83,6 +106,7 @@ const CASES: [Case<'static>; 15] = [
         region: (0x0000_0000, 0),
         inherited: 0,
         table: &[(0x0a00_0000, 8, 1), (0x0a00_0000, 9, 2)],
+        proof: &[],
     },
     // halves that share a hop
     Case {
@@ -100,6 +124,32 @@ const CASES: [Case<'static>; 15] = [
             (0x0a00_0000, 10, 1),
             (0x0ac0_0000, 10, 3),
         ],
+        proof: &[
+            Step::Leaf(0x0000_0000, 5, 0),
+            Step::Leaf(0x0800_0000, 7, 0),
+            Step::Leaf(0x0a00_0000, 10, 1),
+            Step::Leaf(0x0a40_0000, 10, 2),
+            Step::Join(0x0a00_0000, 9, 1),
+            Step::Leaf(0x0a80_0000, 10, 2),
+            Step::Leaf(0x0ac0_0000, 10, 3),
+            Step::Join(0x0a80_0000, 9, 1),
+            Step::Join(0x0a00_0000, 8, 2),
+            Step::Leaf(0x0b00_0000, 8, 0),
+            Step::Join(0x0a00_0000, 7, 3),
+            Step::Join(0x0800_0000, 6, 3),
+            Step::Leaf(0x0c00_0000, 6, 0),
+            Step::Join(0x0800_0000, 5, 3),
+            Step::Join(0x0000_0000, 4, 3),
+            Step::Leaf(0x1000_0000, 4, 0),
+            Step::Join(0x0000_0000, 3, 3),
+            Step::Leaf(0x2000_0000, 3, 0),
+            Step::Join(0x0000_0000, 2, 3),
+            Step::Leaf(0x4000_0000, 2, 0),
+            Step::Join(0x0000_0000, 1, 3),
+            Step::Leaf(0x8000_0000, 1, 0),
+            Step::Join(0x0000_0000, 0, 3),
+            Step::Bound(3),
+        ],
     },
     // a hole gets a drop entry
     Case {
@@ -112,6 +162,16 @@ const CASES: [Case<'static>; 15] = [
         region: (0x0000_0000, 0),
         inherited: 0,
         table: &[(0x0000_0000, 0, 1), (0xe000_0000, 3, 0)],
+        proof: &[
+            Step::Leaf(0x0000_0000, 1, 1),
+            Step::Leaf(0x8000_0000, 2, 1),
+            Step::Leaf(0xc000_0000, 3, 1),
+            Step::Leaf(0xe000_0000, 3, 0),
+            Step::Join(0xc000_0000, 2, 1),
+            Step::Join(0x8000_0000, 1, 1),
+            Step::Join(0x0000_0000, 0, 1),
+            Step::Bound(2),
+        ],
     },
     // none as good as a hop
     Case {
@@ -120,6 +180,12 @@ const CASES: [Case<'static>; 15] = [
         region: (0x0000_0000, 0),
         inherited: 0,
         table: &[(0x0000_0000, 1, 3)],
+        proof: &[
+            Step::Leaf(0x0000_0000, 1, 3),
+            Step::Leaf(0x8000_0000, 1, 0),
+            Step::Join(0x0000_0000, 0, 1),
+            Step::Bound(1),
+        ],
     },
     // more hops than are kept in place
     Case {
@@ -162,6 +228,7 @@ const CASES: [Case<'static>; 15] = [
             (0x0ac0_0000, 12, 8),
             (0x0ae0_0000, 12, 6),
         ],
+        proof: &[],
     },
     // the route above holds in the region
     Case {
@@ -170,6 +237,7 @@ const CASES: [Case<'static>; 15] = [
         region: (0x0a00_0000, 12),
         inherited: 0,
         table: &[(0x0a00_0000, 12, 1), (0x0a00_0000, 16, 2)],
+        proof: &[],
     },
     // what it inherits is best
     Case {
@@ -178,6 +246,7 @@ const CASES: [Case<'static>; 15] = [
         region: (0x0a00_0000, 12),
         inherited: 1,
         table: &[(0x0a00_0000, 16, 2)],
+        proof: &[],
     },
     // a region without a node
     Case {
@@ -186,6 +255,7 @@ const CASES: [Case<'static>; 15] = [
         region: (0x0a01_0000, 16),
         inherited: 0,
         table: &[(0x0a01_0000, 16, 1)],
+        proof: &[],
     },
     // which needs no entry
     Case {
@@ -194,6 +264,7 @@ const CASES: [Case<'static>; 15] = [
         region: (0x0a01_0000, 16),
         inherited: 1,
         table: &[],
+        proof: &[],
     },
     // no route below what it inherits
     Case {
@@ -202,6 +273,7 @@ const CASES: [Case<'static>; 15] = [
         region: (0x0a00_0000, 8),
         inherited: 5,
         table: &[(0x0a00_0000, 8, 0)],
+        proof: &[],
     },
     // old entries within the region
     Case {
@@ -214,6 +286,7 @@ const CASES: [Case<'static>; 15] = [
         region: (0x0a00_0000, 7),
         inherited: 0,
         table: &[(0x0a00_0000, 7, 1), (0x0a80_0000, 9, 2)],
+        proof: &[],
     },
     // an address
     Case {
@@ -222,6 +295,7 @@ const CASES: [Case<'static>; 15] = [
         region: (0x0a00_0001, 32),
         inherited: 3,
         table: &[(0x0a00_0001, 32, 4)],
+        proof: &[],
     },
 ];
 
@@ -234,10 +308,12 @@ fn the_tables_are_least(rt: HostRuntime) -> Result<(), AllocError> {
         let part = within(rt.alloc(), &tree, &prefix(bits, len), Hop(case.inherited))?;
         assert_eq!(rt; part.as_slice(), table.as_slice());
         if len == 0 {
-            assert_eq!(rt;
-                fresh(rt.alloc(), &tree)?.table.as_slice(),
-                table.as_slice()
-            );
+            let whole = fresh(rt.alloc(), &tree)?;
+            assert_eq!(rt; whole.table.as_slice(), table.as_slice());
+            let proof = proof_of(rt.alloc(), case.proof)?;
+            if !proof.is_empty() {
+                assert_eq!(rt; whole.proof.as_slice(), proof.as_slice());
+            }
         }
     }
     Ok(())
@@ -246,11 +322,13 @@ fn the_tables_are_least(rt: HostRuntime) -> Result<(), AllocError> {
 #[test]
 fn sets_are_merged(rt: HostRuntime) -> Result<(), AllocError> {
     let both = HopSet::joint(rt.alloc(), &[1, 3, 5], &[2, 3, 5, 6])?;
-    assert_eq!(rt; both.as_slice(), [3, 5].as_slice());
+    assert_eq!(rt; both.set.as_slice(), [3, 5].as_slice());
+    assert!(rt; !both.apart);
     let all = HopSet::joint(rt.alloc(), &[1, 4], &[2, 3, 5])?;
-    assert_eq!(rt; all.as_slice(), [1, 2, 3, 4, 5].as_slice());
+    assert_eq!(rt; all.set.as_slice(), [1, 2, 3, 4, 5].as_slice());
+    assert!(rt; all.apart);
     assert_eq!(rt;
-        (all.least(), all.contains(5), all.contains(6)),
+        (all.set.least(), all.set.contains(5), all.set.contains(6)),
         (1, true, false)
     );
     Ok(())

@@ -33,4 +33,12 @@ returns-in-Ok-write_text-clause-due g c =
     let updates = c.in_ok-updates.ensures.due load.0.elems (stands_updates _ _ load.1.stands) in
     let is = rw c.in_ok-load.ensures.same at updates.2 in
     let fed = fed_all load.0 updates.0 c.in-Ok.loaded.items _ _ _ c.in-Ok.ensures.routes c.deref.ensures.value load.1 updates.1 in
-    all_due _ _ _ load.0 updates.0 _ load.2 is (c.in-Ok-write_text.ensures load.0 updates.0 fed)
+    all_due _ _ _ load.0 updates.0 _ load.2 is (c.in-Ok-write_text.ensures.text load.0 updates.0 fed)
+
+pub returns-in-Ok-write_text-clause-yes : goal.returns-in-Ok-write_text-clause-yes
+returns-in-Ok-write_text-clause-yes g c =
+    let s = stands_new _ c.new-state.ensures.candidates c.new-state.ensures.hops c.new-state.ensures.changes in
+    let load = c.in_ok-load.ensures.due [] s in
+    let updates = c.in_ok-updates.ensures.due load.0.elems (stands_updates _ _ load.1.stands) in
+    let fed = fed_all load.0 updates.0 c.in-Ok.loaded.items _ _ _ c.in-Ok.ensures.routes c.deref.ensures.value load.1 updates.1 in
+    c.in-Ok-write_text.ensures.yes load.0 updates.0 fed

@@ -7,4 +7,5 @@ pub returns : goal.returns
 returns c = λ sorted.
     let routes = map entry_as c.args.routes.now in
     let hold = given_hold routes c.in_ok-trees.trees sorted c.in_ok-trees.ensures.given in
-    record { answers = c.in_ok-answers.ensures routes hold; least = c.in_ok-least.ensures routes hold }
+    let fresh = c.in_ok-fresh.ensures routes hold in
+    record { answers = c.in_ok-answers.ensures routes hold; least = fresh.table; cert = fresh.proof }

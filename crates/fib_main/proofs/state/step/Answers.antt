@@ -15,6 +15,11 @@ returns-in-Dump c = λ before done counted s.
     let e = c.in-Ok.ensures in
     stands_next _ before done _ c.args.state.now _ _ c.in-Ok.choice (is_elem c.args.elem.now) counted s e.candidates e.hops e.few e.choice (adds_nothing _ _ _ _ (rw c.in-Dump.is refl))
 
+pub returns-in-Printed : goal.returns-in-Printed
+returns-in-Printed c = λ before done counted s.
+    let e = c.in-Ok.ensures in
+    stands_next _ before done _ c.args.state.now _ _ c.in-Ok.choice (is_elem c.args.elem.now) counted s e.candidates e.hops e.few e.choice (adds_nothing _ _ _ _ (rw c.in-Printed.is refl))
+
 pub returns-in_ok-push-in-Updates : goal.returns-in_ok-push-in-Updates
 returns-in_ok-push-in-Updates c = λ before done counted s.
     let e = c.in-Ok.ensures in

@@ -20,6 +20,6 @@ pub returns-in_ok-descend-in-Join-2 : goal.returns-in_ok-descend-in-Join-2
 returns-in_ok-descend-in-Join-2 t c = λ f L s.
     let s' = rw c.in-Join.is at s in
     told_join c.args.prefix c.half.result c.half-in-Join.result f L c.args.inherited c.below-hop.result (map entry_as c.args.out.now.items) (map entry_as c.push_own-in-Join.new.out.items) (map entry_as c.descend.new.out.items) (map entry_as c.descend-in-Join.new.out.items)
-    c.own_hop-own.result c.in-Join.old c.in-Join.set c.in-Join.halves.value.low c.in-Join.halves.value.high c.deref.result.now.low c.deref-in-Join.result.now.high s'
+    c.own_hop-own.result c.in-Join.old c.in-Join.set _ c.in-Join.halves.value.low c.in-Join.halves.value.high c.deref.result.now.low c.deref-in-Join.result.now.high s'
     (ap (λ (z : Halves). z.low) c.deref.ensures) (ap (λ (z : Halves). z.high) c.deref-in-Join.ensures) c.own_hop-own.ensures c.below-hop.ensures c.half.ensures c.half-in-Join.ensures
     c.in_ok-push_own-in-Join.ensures c.in_ok-descend-in-Join.ensures c.in_ok-descend-in-Join-2.ensures

@@ -1,15 +1,35 @@
-use Rattle.std.proofs.Common.{[], map, refl, ap, ◌∙◌}
+use Rattle.std.proofs.Common.{◌≡◌, [], map, refl, ap, ◌∙◌}
 use Rattle.address_model.specs.Address.{Prefix}
-use Rattle.fib_prefix.specs.Seen.{entry_as}
+use Rattle.fib_prefix.specs.Seen.{prefix_as, entry_as}
 use Rattle.table_model.specs.Entries.{of_family}
-use Rattle.ortc.proofs.Falling.{fresh_told, fresh_least}
+use Rattle.cost_cert.specs.Seen.{row_as}
+use Rattle.ortc.proofs.Falling.{within_told, fresh_told, fresh_least}
+use Rattle.ortc.proofs.Proving.{fresh_proved, certified}
 use Rattle.ortc.proofs.down.fresh.Goals as goal
+
+pub returns-clause-aggregate : goal.returns-clause-aggregate
+returns-clause-aggregate c =
+    let p = c.new-whole.result in
+    let f = c.args.tree.now.family in
+    let R = of_family f c.args.tree.now.routes in
+    let E = of_family f c.args.tree.now.entries in
+    let W = map entry_as c.descend.new.out.items in
+    let whole : prefix_as p ≡ record { family = f; bits = [] } = c.new-whole.ensures ∙ ap (λ k. let q : Prefix = record { family = k; bits = [] } in q) c.family.ensures in
+    fresh_told f p 0 R E W whole refl (within_told p f 0 R E (map entry_as c.new-table.result.items) W c.in_ok-region.region (ap (λ (q : Prefix). q.family) whole) (ap (map entry_as) c.new-table.ensures.items) c.in_ok-region.ensures c.in_ok-descend.ensures)
 
 pub returns-clause-least : goal.returns-clause-least
 returns-clause-least c =
     let f = c.args.tree.now.family in
     let R = of_family f c.args.tree.now.routes in
     let E = of_family f c.args.tree.now.entries in
-    let W = map entry_as c.in_ok-table.table.items in
-    let whole = c.new-whole.ensures ∙ ap (λ k. let p : Prefix = record { family = k; bits = [] } in p) c.family.ensures in
-    fresh_least f R E W (fresh_told f c.new-whole.result 0 R E W whole refl c.in_ok-table.ensures)
+    fresh_least f R E (map entry_as c.descend.new.out.items) (returns-clause-aggregate c)
+
+pub returns-clause-proof : goal.returns-clause-proof
+returns-clause-proof c =
+    let p = c.new-whole.result in
+    let f = c.args.tree.now.family in
+    let whole : prefix_as p ≡ record { family = f; bits = [] } = c.new-whole.ensures ∙ ap (λ k. let q : Prefix = record { family = k; bits = [] } in q) c.family.ensures in
+    fresh_proved f p c.args.tree.now.routes (of_family f c.args.tree.now.entries) c.in_ok-region.region (map row_as c.in_ok-proof.proof.items) whole c.in_ok-region.ensures c.in_ok-proof.ensures
+
+pub returns-clause-certificate : goal.returns-clause-certificate
+returns-clause-certificate c = certified c.args.tree.now.family c.args.tree.now.routes (map entry_as c.descend.new.out.items) (map row_as c.in_ok-proof.proof.items) (returns-clause-proof c) (returns-clause-least c)

@@ -1,7 +1,7 @@
 use Rattle.std.proofs.Common.{ℕ, List, Bor, map}
 use Rattle.std.proofs.lemmas.List.{length-map}
 use Rattle.fib_report.proofs.Joined.{OnOk-row}
-use Rattle.fib_report.proofs.rows.put_row.Goals as goal
+use Rattle.fib_report.proofs.printed_row.put_fields.Goals as goal
 
 pub returns : goal.returns
 returns g c =

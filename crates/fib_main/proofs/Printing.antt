@@ -1,0 +1,140 @@
+-- What a run prints is a text that a check says yes to.
+use Rattle.std.proofs.Common.{◌≡◌, ℕ, ◌≤◌, List, [], ◌∷◌, ◌++◌, Option, Some, None, Result, Ok, Err, length, map, refl, sym, ap, subst, ◌∙◌, append_assoc, arith}
+use Rattle.std.specs.Prelude.{flat_map, unwrap_or}
+use Rattle.std.specs.List.{AllByRecursion, IsDistinct}
+use Rattle.address_model.specs.Address.{Address, Prefix, same_address}
+use Rattle.table_model.specs.Changes.{Change, Add, Replace, Remove}
+use Rattle.table_model.specs.Entries.{Entries}
+use Rattle.least_model.specs.Both.{aggregate_in_both}
+use Rattle.cert_model.specs.Rows.{CertRow, certificate_of}
+use Rattle.cert_model.specs.Right.{IsCertificate}
+use Rattle.cert_model.proofs.Verdicts.{verdict_from}
+use Rattle.route_model.specs.Events.{Elem}
+use Rattle.route_model.specs.Choice.{Candidates, after_elems, routes_of}
+use Rattle.route_model.proofs.Elems.{candidates_stay}
+use Rattle.route_model.proofs.Said.{none_yet}
+use Rattle.feed_model.specs.Feed.{IsNumbered, brought, entries_of, hops_after, number_in}
+use Rattle.feed_model.proofs.Numbers.{routes_numbered}
+use Rattle.printed_model.specs.Rows.{PrintedRow, IsRow, text_of as rows_text}
+use Rattle.printed_model.specs.Numbered.{of_route, of_least, of_cert, IsOther, HaveHops, Proves, rows_with}
+use Rattle.printed_model.specs.Used.{Used, printed_in, used_of}
+use Rattle.printed_model.proofs.Few.{folded_distinct, printed_read}
+use Rattle.printed_model.proofs.Renamed.{printed_proves}
+use Rattle.fib_report.specs.Seen.{Told}
+use Rattle.fib_report.specs.Rows.{change_by, of_answer, of_change, of_table, printed_rows, report_rows}
+use Rattle.fib_words.specs.Commands.{Named, Asked, Run, Check}
+use Rattle.fib_main.specs.declared.outcome.Outcome.{Outcome}
+use Rattle.fib_main.specs.declared.outcome.Outcome.TheVariants.{Done}
+use Rattle.fib_main.specs.declared.report.Fed.{Fed}
+use Rattle.fib_main.specs.declared.state.State.{State}
+use Rattle.fib_main.specs.Due.{Feed, Printed, checked, output_at, printed, ran, run_at, text_of, used_at, with_text}
+use Rattle.fib_main.specs.Proves.{ChecksYes, IfRan, PrintsYes}
+use Rattle.fib_main.specs.Standing.{IsFed}
+use Rattle.fib_main.specs.Stops.{Stop, Untold, Refused, ◌>>=◌, Fails, Is}
+use Rattle.fib_main.proofs.Certifying.{certified_least}
+use Rattle.fib_main.proofs.Telling.{entries_sorted}
+
+-- ---- the rows
+
+-- rows of routes, others, those of the least table and of its certificate, and others at the end
+parted : {A : Type 0} (r c a t l e p : List A) → r ++ c ++ a ++ t ++ l ++ e ++ p ≡ r ++ ((c ++ a ++ t) ++ (l ++ (e ++ p)))
+parted r c a t l e p =
+    append_assoc (r ++ c ++ a ++ t ++ l) e p
+    ∙ (append_assoc (r ++ c ++ a ++ t) l (e ++ p)
+    ∙ (ap (λ xs. xs ++ t ++ (l ++ (e ++ p))) (append_assoc r c a)
+    ∙ (ap (λ xs. xs ++ (l ++ (e ++ p))) (append_assoc r (c ++ a) t) ∙ append_assoc r (c ++ a ++ t) (l ++ (e ++ p)))))
+
+all_other : {X : Type 0} (f : X → PrintedRow) → ((x : X) → IsOther (f x)) → (xs : List X) → AllByRecursion IsOther (map f xs)
+all_other f o [] = tt
+all_other f o (x ∷ xs) = (o x, all_other f o xs)
+
+both_other : (xs ys : List PrintedRow) → AllByRecursion IsOther xs → AllByRecursion IsOther ys → AllByRecursion IsOther (xs ++ ys)
+both_other [] ys a b = b
+both_other (x ∷ xs) ys a b = (a.0, both_other xs ys a.1 b)
+
+change_other : (hops : List Address) (event : ℕ) (c : Change) → IsOther (change_by hops event c)
+change_other hops event (Add p h) = tt
+change_other hops event (Replace p h) = tt
+change_other hops event (Remove p) = tt
+
+between_other : (hops : List Address) (told : Told) → AllByRecursion IsOther (map (of_change hops) told.changes ++ map (of_answer hops) told.answers ++ map (of_table hops) told.table)
+between_other hops told =
+    both_other (map (of_change hops) told.changes ++ map (of_answer hops) told.answers) (map (of_table hops) told.table)
+    (both_other (map (of_change hops) told.changes) (map (of_answer hops) told.answers) (all_other (of_change hops) (λ c. change_other hops c.0 c.1) told.changes) (all_other (of_answer hops) (λ a. tt) told.answers))
+    (all_other (of_table hops) (λ e. tt) told.table)
+
+-- ---- the hops
+
+none_distinct : IsDistinct same_address []
+unfolding IsDistinct
+none_distinct = tt
+
+-- routes whose hops have numbers
+have_hops : (hops : List Address) (routes : List (Prefix × Address)) → AllByRecursion (λ (r : Prefix × Address). IsNumbered hops r.1) routes → HaveHops hops (map (λ (r : Prefix × Address). (r.0, number_in hops r.1)) routes)
+have_hops hops [] n = tt
+have_hops hops (r ∷ routes) n =
+    let is : number_in hops r.1 ≡ n.0.0 = ap (λ o. unwrap_or o 0) n.0.1 in
+    (subst (λ m. (1 ≤ m) × (m ≤ length hops)) (sym is) (n.0.2, n.0.3), have_hops hops routes n.1)
+
+-- ---- the text
+
+pub checks_yes : (load updates : Feed) (fed : Fed) (state : State) (asks : List Address) (run : Told) (text : List ℕ) → IsFed load updates fed state → run ≡ (printed load updates asks).told
+    → AllByRecursion IsRow (printed_rows state.hops.list run) → text ≡ text_of (printed load updates asks) → ChecksYes text
+checks_yes load updates fed state asks run text f r proper e =
+    let elems : List Elem = load.elems ++ updates.elems in
+    let hops : List Address = hops_after [] elems in
+    let held : Candidates = after_elems [] elems in
+    let told : Told = (printed load updates asks).told in
+    let R : Entries = entries_of hops held in
+    let T : Entries = aggregate_in_both R R in
+    let C : List CertRow = certificate_of R in
+    let between : List PrintedRow = map (of_change hops) told.changes ++ map (of_answer hops) told.answers ++ map (of_table hops) told.table in
+    let after : List PrintedRow = report_rows told.report in
+    let s = f.has.stands in
+    let few : length hops ≤ 65534 = subst (λ h. length h ≤ 65534) s.hops s.few in
+    let cert : IsCertificate R T C = certified_least R R (entries_sorted hops held (candidates_stay [] elems none_yet s.proper)) in
+    let others = between_other hops told in
+    let same : printed_rows hops told ≡ rows_with hops R T C between after =
+    parted (flat_map (of_route hops) R) (map (of_change hops) told.changes) (map (of_answer hops) told.answers) (map (of_table hops) told.table) (map (of_least hops) T) (map (of_cert hops) C) after
+    in
+    let all : AllByRecursion IsRow (rows_with hops R T C between after) =
+    subst (AllByRecursion IsRow) same (subst (λ h. AllByRecursion IsRow (printed_rows h told)) s.hops (subst (λ x. AllByRecursion IsRow (printed_rows state.hops.list x)) r proper))
+    in
+    let right : Proves (used_of (rows_with hops R T C between after)) =
+    printed_proves hops R T C between after (folded_distinct [] (flat_map brought elems) none_distinct) (have_hops hops (routes_of held) (routes_numbered elems)) others (tt, (tt, (tt, (tt, (tt, tt))))) cert
+    in
+    record {
+      used = used_of (rows_with hops R T C between after);
+      read = ap printed_in (e ∙ ap rows_text same) ∙ printed_read hops R T C between after few others (tt, (tt, (tt, (tt, (tt, tt))))) all;
+      certified = right;
+      yes = verdict_from _ _ _ right;
+    }
+
+-- ---- where a run is due
+
+abbrev fine : {A : Type 0} → A → Result A Stop
+fine x = Ok x
+
+same_fine : {A : Type 0} (x y : A) → fine x ≡ fine y → x ≡ y
+same_fine x y e = cc
+
+pub run_yes : (content : List ℕ → Option (List ℕ)) (named : Named) (asked : Asked) (text : List ℕ) → asked ≡ Run named → Is (with_text (run_at content named)) (Ok text) → ChecksYes text → IfRan (output_at content asked) PrintsYes
+unfolding output_at
+run_yes content named asked text a i says = rw a (by_run (run_at content named) i)
+  where
+    by_run : (d : Result Printed Stop) → Is (with_text d) (fine text) → IfRan (ran d) PrintsYes
+    by_run (Ok p) i = subst ChecksYes (sym (same_fine (text_of p) text i)) says
+    by_run (Err Untold) i = tt
+    by_run (Err (Refused o)) i = tt
+
+pub check_yes : (content : List ℕ → Option (List ℕ)) (name : List ℕ) (asked : Asked) → asked ≡ Check name → IfRan (output_at content asked) PrintsYes
+unfolding output_at
+check_yes content name asked a = rw a (by_used (used_at content name))
+  where
+    by_used : (d : Result Used Stop) → IfRan (checked d) PrintsYes
+    by_used (Ok used) = tt
+    by_used (Err stop) = tt
+
+-- Done is no failure
+pub not_done : {Y : Type 0} (o : Outcome) (d : Result Y Stop) → Fails o d → o ≡ Done → ⊥
+not_done o d f e = subst (λ x. Fails x d) e f

@@ -1,0 +1,88 @@
+-- Replies: of a run its text, and of a check the verdict, whose yes proves the table least.
+use Rattle.std.proofs.Common.{◌≡◌, ℕ, List, [], ◌∷◌, ◌++◌, Option, Some, None, Result, Ok, Err, refl, sym, ap, ◌∙◌, subst, append_assoc, ◌+◌, ◌<◌, length, map, take}
+use Rattle.std.specs.Prelude.{get_or}
+use Rattle.std.specs.List.{AllByRecursion, join_with_byte}
+use Rattle.std.proofs.lemmas.List.{map_push, take_more}
+use Rattle.cert_model.proofs.Rules.{soundness_law}
+use Rattle.cert_model.proofs.Verdicts.{verdict_is, verdict_law}
+use Rattle.cert_model.specs.Verdict.{RowFits}
+use Rattle.printed_model.specs.Texts.{BadLine}
+use Rattle.printed_model.specs.Used.{Used, printed_in}
+use Rattle.fib_words.specs.Commands.{Named, Asked, Run, Check, command_of}
+use Rattle.fib_main.specs.declared.outcome.Which.TheVariants as which
+use Rattle.fib_main.specs.Stops.{Stop, Untold, Refused, ◌>>=◌, rowed, Is}
+use Rattle.fib_main.specs.Due.{Printed, Reply, ran, checked, due, input_at, output_at, run_at, usage, used_at, text_of, with_text, with_reply}
+use Rattle.fib_main.specs.Proves.{IfChecked, Decides, YesProves}
+use Rattle.fib_main.proofs.Fitting.{read_fits}
+
+-- ---- rows
+
+-- one more field behind a row
+pub more_field : (first : List ℕ) (fields : List (List ℕ)) (field : List ℕ) → join_with_byte 44 (first ∷ fields) ++ 44 ∷ field ≡ join_with_byte 44 (first ∷ (fields ++ field ∷ []))
+more_field first [] field = refl
+more_field first (next ∷ fields) field = append_assoc first (44 ∷ join_with_byte 44 (next ∷ fields)) (44 ∷ field) ∙ ap (λ text. first ++ 44 ∷ text) (more_field next fields field)
+
+-- the same of a list of them
+pub row_grows : {A : Type 0} (view : A → List ℕ) (first : List ℕ) (fields : List A) (i : ℕ) (x : A) (old new : List ℕ) → i < length fields → old ≡ join_with_byte 44 (first ∷ map view (take i fields)) → new ≡ old ++ 44 ∷ view (get_or fields i x) → new ≡ join_with_byte 44 (first ∷ map view (take (i + 1) fields))
+row_grows view first fields i x old new lt is grown =
+    let field : List ℕ = view (get_or fields i x) in
+    grown ∙ (ap (λ text. text ++ 44 ∷ field) is ∙ (more_field first (map view (take i fields)) field ∙ ap (λ fs. join_with_byte 44 (first ∷ fs)) (sym (ap (map view) (take_more fields i x lt) ∙ map_push view (take i fields) (get_or fields i x)))))
+
+-- ---- what a run replies
+
+-- the text of a run, where nothing is wrong
+abbrev plain : List ℕ → Reply
+plain text = record { text = text; wrong = None }
+
+abbrev fine : {A : Type 0} → A → Result A Stop
+fine x = Ok x
+
+same_fine : {A : Type 0} (x y : A) → fine x ≡ fine y → x ≡ y
+same_fine x y e = cc
+
+pub ran_replied : (content : List ℕ → Option (List ℕ)) (named : Named) (asked : Asked) (text : List ℕ) (reply : Reply) → asked ≡ Run named → reply ≡ record { text = text; wrong = None } → Is (with_text (run_at content named)) (Ok text) → Is (with_reply (output_at content asked)) (Ok reply)
+unfolding output_at
+ran_replied content named asked text reply a r i = rw (a, r) (by_run (run_at content named) i)
+  where
+    by_run : (d : Result Printed Stop) → Is (with_text d) (fine text) → Is (with_reply (ran d)) (fine (plain text))
+    by_run (Ok p) i = ap (λ t. fine (plain t)) (same_fine (text_of p) text i)
+    by_run (Err Untold) i = tt
+    by_run (Err (Refused o)) i = absurd cc
+
+-- ---- what holds of each text that is checked
+
+-- a property of what is used of each text whose rows are of prefixes
+abbrev pub OfEachText : (Used → Type 0) → Type 0
+OfEachText P = (used : Used) → AllByRecursion RowFits used.cert → P used
+
+text_checked : (P : Used → Type 0) → OfEachText P → (text : List ℕ) (r : Result Used BadLine) → printed_in text ≡ r → IfChecked (checked (rowed r)) P
+text_checked P each text (Ok used) e = each used (read_fits text used e)
+text_checked P each text (Err bad) e = tt
+
+name_checked : (P : Used → Type 0) → OfEachText P → (content : List ℕ → Option (List ℕ)) (name : List ℕ) → IfChecked (checked (used_at content name)) P
+unfolding used_at
+name_checked P each content name = by_octets (input_at content which.Printed name)
+  where
+    by_octets : (r : Result (List ℕ) Stop) → IfChecked (checked (r >>= λ octets. rowed (printed_in octets))) P
+    by_octets (Ok octets) = text_checked P each octets (printed_in octets) refl
+    by_octets (Err stop) = tt
+
+none_checked : (P : Used → Type 0) (p : Result Printed Stop) → IfChecked (ran p) P
+none_checked P (Ok p) = tt
+none_checked P (Err stop) = tt
+
+words_checked : (P : Used → Type 0) → OfEachText P → (content : List ℕ → Option (List ℕ)) (o : Option Asked) → IfChecked (usage o >>= output_at content) P
+unfolding output_at
+words_checked P each content None = tt
+words_checked P each content (Some (Run named)) = none_checked P (run_at content named)
+words_checked P each content (Some (Check name)) = name_checked P each content name
+
+each_checked : (P : Used → Type 0) → OfEachText P → (words : List (List ℕ)) (content : List ℕ → Option (List ℕ)) → IfChecked (due words content) P
+unfolding due
+each_checked P each words content = words_checked P each content (command_of words)
+
+pub decides : (words : List (List ℕ)) (content : List ℕ → Option (List ℕ)) → IfChecked (due words content) Decides
+decides = each_checked Decides (λ used fit. verdict_law used.routes used.least used.cert fit)
+
+pub yes_proves : (words : List (List ℕ)) (content : List ℕ → Option (List ℕ)) → IfChecked (due words content) YesProves
+yes_proves = each_checked YesProves (λ used fit none. soundness_law used.routes used.least used.cert (verdict_is used.routes used.least used.cert fit none))

@@ -1,0 +1,39 @@
+-- What a check's yes says, and the text of a run, to which a check says yes.
+use Rattle.std.specs.Prelude.{◌≡◌, ◌↔◌, ℕ, List, None, Result, Ok, Err}
+use Rattle.least_model.specs.Both.{LeastInBoth}
+use Rattle.cert_model.specs.Right.{IsCertificate}
+use Rattle.printed_model.specs.Used.{Used, printed_in}
+use Rattle.fib_main.specs.Stops.{Stop}
+use Rattle.fib_main.specs.Checks.{verdict_of}
+use Rattle.fib_main.specs.Due.{Output, Ran, Checked, Printed, text_of}
+
+-- nothing is wrong exactly where the rows are a certificate that the least table is least for the routes
+abbrev pub Decides : Used → Type 0
+Decides used = (verdict_of used ≡ None) ↔ IsCertificate used.routes used.least used.cert
+
+-- where nothing is wrong, the least table sends every address where the routes send it, and in either family no table that does so has fewer entries
+abbrev pub YesProves : Used → Type 0
+YesProves used = verdict_of used ≡ None → LeastInBoth used.routes used.least
+
+-- this holds of what is used of a text, where a check is due
+abbrev pub IfChecked : Result Output Stop → (Used → Type 0) → Type 0
+IfChecked (Ok (Ran p)) P = Unit {0}
+IfChecked (Ok (Checked used)) P = P used
+IfChecked (Err stop) P = Unit {0}
+
+-- The text is one that a check says yes to: each of its lines is a printed row, the rows have a certificate that proves their least table least for their routes, and so nothing is wrong with them.
+pub record ChecksYes (text : List ℕ) : Type 0 where
+  pub used : Used
+  pub read : printed_in text ≡ Ok used
+  pub certified : IsCertificate used.routes used.least used.cert
+  pub yes : verdict_of used ≡ None
+
+-- so is the text of what is printed
+abbrev pub PrintsYes : Printed → Type 0
+PrintsYes p = ChecksYes (text_of p)
+
+-- where a run is due, this holds of what is to be printed
+abbrev pub IfRan : Result Output Stop → (Printed → Type 0) → Type 0
+IfRan (Ok (Ran p)) P = P p
+IfRan (Ok (Checked used)) P = Unit {0}
+IfRan (Err stop) P = Unit {0}

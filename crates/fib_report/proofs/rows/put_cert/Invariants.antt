@@ -1,0 +1,11 @@
+use Rattle.std.proofs.Common.{map, take}
+use Rattle.std.specs.List.{AllByRecursion}
+use Rattle.cost_cert.specs.Seen.{row_as}
+use Rattle.printed_model.specs.Rows.{IsRow, text_of}
+use Rattle.printed_model.specs.Numbered.{of_cert}
+use Rattle.fib_report.specs.Writing.{AddsRows}
+use Rattle.fib_report.proofs.rows.put_cert.Given as goal
+
+-- the rows of the certificate so far are added, and each is read as it is
+abbrev pub invariant-loop-row : goal.invariant-loop-row
+invariant-loop-row g l = AddsRows g.W.Write.contents l.fn.out l.out (text_of (map (of_cert l.hops.list) (map row_as (take l.row-index l.cert)))) × AllByRecursion IsRow (map (of_cert l.hops.list) (map row_as (take l.row-index l.cert)))
