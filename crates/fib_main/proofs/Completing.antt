@@ -1,5 +1,5 @@
 -- The ends of a run and of a check.
-use Rattle.std.proofs.Common.{◌≡◌, ℕ, List, Result, inl, inr, refl}
+use Rattle.std.proofs.Common.{ℕ, List, Result, inl, inr, refl}
 use Rattle.fib_io.specs.Causes.{Rose}
 use Rattle.fib_main.specs.declared.outcome.Outcome.{Outcome}
 use Rattle.fib_main.specs.declared.outcome.Outcome.TheVariants.{Done, CheckNo, Usage, ReadFault, WriteFault, NoMemory, TooLarge, Malformed, HopsFull, BadLine}

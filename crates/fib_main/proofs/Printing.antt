@@ -1,5 +1,5 @@
 -- What a run prints is a text that a check says yes to.
-use Rattle.std.proofs.Common.{◌≡◌, ℕ, ◌≤◌, List, [], ◌∷◌, ◌++◌, Option, Some, None, Result, Ok, Err, length, map, refl, sym, ap, subst, ◌∙◌, append_assoc, arith}
+use Rattle.std.proofs.Common.{◌≡◌, ℕ, ◌≤◌, List, [], ◌∷◌, ◌++◌, Option, Result, Ok, Err, length, map, sym, ap, subst, ◌∙◌, append_assoc}
 use Rattle.std.specs.Prelude.{flat_map, unwrap_or}
 use Rattle.std.specs.List.{AllByRecursion, IsDistinct}
 use Rattle.address_model.specs.Address.{Address, Prefix, same_address}
@@ -30,7 +30,7 @@ use Rattle.fib_main.specs.declared.state.State.{State}
 use Rattle.fib_main.specs.Due.{Feed, Printed, checked, output_at, printed, ran, run_at, text_of, used_at, with_text}
 use Rattle.fib_main.specs.Proves.{ChecksYes, IfRan, PrintsYes}
 use Rattle.fib_main.specs.Standing.{IsFed}
-use Rattle.fib_main.specs.Stops.{Stop, Untold, Refused, ◌>>=◌, Fails, Is}
+use Rattle.fib_main.specs.Stops.{Stop, Untold, Refused, Fails, Is}
 use Rattle.fib_main.proofs.Certifying.{certified_least}
 use Rattle.fib_main.proofs.Telling.{entries_sorted}
 

@@ -103,12 +103,7 @@ fn wrong_row(alloc: Global, word: &[u8], number: u64) -> Result<Vec<u8>, AllocEr
 }
 
 /// `no,joinwrong,ROW,SAID,DUE`: the number that the row says, and the one that is due.
-fn join_wrong_row(
-    alloc: Global,
-    number: u64,
-    said: u64,
-    due: u64,
-) -> Result<Vec<u8>, AllocError>
+fn join_wrong_row(alloc: Global, number: u64, said: u64, due: u64) -> Result<Vec<u8>, AllocError>
     ensures { IfOk result (λ text. text.items ≡ line (codes "no" ∷ codes "joinwrong" ∷ decimal number ∷ decimal said ∷ decimal due ∷ [])) }
 {
     let mut number_text = Buffer::new();
@@ -166,11 +161,7 @@ fn no_row(alloc: Global, no: &No, hops: &HopTable) -> Result<Vec<u8>, AllocError
 }
 
 /// `yes`, or what is wrong.
-fn verdict_row(
-    alloc: Global,
-    no: &Option<No>,
-    hops: &HopTable,
-) -> Result<Vec<u8>, AllocError>
+fn verdict_row(alloc: Global, no: &Option<No>, hops: &HopTable) -> Result<Vec<u8>, AllocError>
     ensures { IfOk result (λ text. text.items ≡ verdict_text hops.now.list (option_map no_as no.now)) }
 {
     match no {

@@ -206,7 +206,7 @@ fn check_for<I: Inputs>(alloc: Global, inputs: &mut I, name: &str) -> Result<Rep
     }
 }
 
-/// A text that says of nothing that it is wrong.
+/// The reply that is this text, with nothing wrong.
 fn reply_of(text: Vec<u8>) -> Reply
     ensures { reply_as result ≡ record { text = text.items; wrong = None } }
 {

@@ -127,7 +127,8 @@ pub fn run_fib<I: Inputs, O: Sink, E: Sink>(
     // The printed rows prove the printed least table least, to whoever trusts the rules of certificates alone.
     ensures certified { IfDue (due (map string_bytes words.now) (I.content inputs.old)) Certified }
 
-    // Done of a run means that the printed text is one that a check says yes to.
+    // At Done of a run the text, which out has, is one that a check says yes to: it is read again as rows with a certificate,
+    // whatever numbers the reader gives the hops.
     ensures printed { result ≡ Outcome.Done → IfRan (due (map string_bytes words.now) (I.content inputs.old)) PrintsYes }
 
     // A check that is due says yes exactly where the printed rows are a certificate, whoever wrote them. The printed least

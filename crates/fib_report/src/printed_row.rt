@@ -1,7 +1,7 @@
 //! A printed row, written: its fields with commas between them, and a line feed. What is written is what cost_cert reads, and
 //! a row costs its length.
 
-ghost use Rattle.std.specs.Prelude.{◌≡◌, ◌≤◌, ℕ, List, ◌∷◌, [], codes, decimal, length, map, option_map, OnOk};
+ghost use Rattle.std.specs.Prelude.{◌≤◌, ◌∷◌, [], codes, decimal, length, map, option_map, OnOk};
 ghost use Rattle.fib_prefix.specs.Seen.{addr_as, prefix_as};
 ghost use Rattle.fib_prefix.specs.Text.{address_text, prefix_text};
 ghost use Rattle.printed_model.specs.Rows.{IsRow, count_name, family_name, hop_text, line_of};
@@ -154,11 +154,7 @@ fn put_leaf<W: Write + Drop>(
 }
 
 /// Writes the k of a region that is put together from its halves.
-fn put_join<W: Write + Drop>(
-    out: &mut Writer<W>,
-    prefix: &Prefix,
-    k: u64,
-) -> Result<(), AllocError>
+fn put_join<W: Write + Drop>(out: &mut Writer<W>, prefix: &Prefix, k: u64) -> Result<(), AllocError>
     requires { IsAtRow out.old }
     ensures { OnOk result (AddsRows W.contents out.old out.new (line (codes "cert" ∷ codes "join" ∷ prefix_text (prefix_as prefix.now) ∷ decimal k ∷ []))) }
 {

@@ -153,7 +153,8 @@ const WRONG_LEAST: &[u8] =
     b"least,0.0.0.0/0,192.0.2.1\nleast,64.0.0.0/2,192.0.2.2\nleast,192.0.0.0/2,192.0.2.1\n";
 
 /// A join that says 1 where 2 is due.
-const WRONG_JOIN: &[u8] = b"cert,join,0.0.0.0/0,1\ncert,bound,4,3\ncert,leaf,::/0,none\ncert,bound,6,0\n";
+const WRONG_JOIN: &[u8] =
+    b"cert,join,0.0.0.0/0,1\ncert,bound,4,3\ncert,leaf,::/0,none\ncert,bound,6,0\n";
 
 /// The certificate of no routes.
 const CERTIFICATE_OF_NONE: &[u8] =
@@ -592,7 +593,9 @@ fn certificates_that_are_right(rt: HostRuntime) -> Result<(), Fail> {
         ("no routes", &[CERTIFICATE_OF_NONE]),
         (
             "kinds in another order",
-            &[TIE_LEAST, TIE_LEAVES, b"\n", TIE_BOUNDS, b"\r\n", TIE_ROUTES],
+            &[
+                TIE_LEAST, TIE_LEAVES, b"\n", TIE_BOUNDS, b"\r\n", TIE_ROUTES,
+            ],
         ),
     ];
     for (name, printed) in cases {
@@ -643,7 +646,9 @@ fn certificates_that_are_wrong(rt: HostRuntime) -> Result<(), Fail> {
         ("nothing", &[], No::Shape { row: 1 }, b"no,shape,1\n"),
         (
             "a leaf with another hop",
-            &[b"cert,leaf,0.0.0.0/0,192.0.2.1\ncert,bound,4,0\ncert,leaf,::/0,none\ncert,bound,6,0\n"],
+            &[
+                b"cert,leaf,0.0.0.0/0,192.0.2.1\ncert,bound,4,0\ncert,leaf,::/0,none\ncert,bound,6,0\n",
+            ],
             No::LeafWrong { row: 1 },
             b"no,leafwrong,1\n",
         ),
@@ -702,12 +707,7 @@ fn texts_that_are_not_printed(rt: HostRuntime) -> Result<(), Fail> {
             3,
             b"fib: bad line printed 1 why 3\n",
         ),
-        (
-            b"cert,bound,4,01",
-            1,
-            5,
-            b"fib: bad line printed 1 why 5\n",
-        ),
+        (b"cert,bound,4,01", 1, 5, b"fib: bad line printed 1 why 5\n"),
     ];
     for (text, line, why, err) in cases {
         let expected = Expected {

@@ -1,4 +1,3 @@
-use Rattle.std.proofs.Common.{List}
 use Rattle.fib_main.proofs.Replies.{row_grows}
 use Rattle.fib_main.proofs.checking.row_of.Goals as goal
 
