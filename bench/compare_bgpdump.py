@@ -5,7 +5,8 @@
 runs `PROGRAM run DUMP [--updates UPDATES]`, where PROGRAM is the built `fib`, and
 `bgpdump -m` on each of the files, chooses among the routes that bgpdump prints by fib's
 rule, and prints each prefix whose next hop isn't the same in both, then counts.  The
-status is 0 where all are equal, 1 where any differ, 2 where a program failed.
+status is 0 where all are equal, 1 where any differ, 2 where a program is missing or
+failed, or bgpdump printed a line of an unknown kind.
 
 It needs Python 3.9 and bgpdump.  As fib does, it passes over records with ADD-PATH and
 takes a route without a next hop as a withdrawal.
@@ -41,11 +42,18 @@ def prefix(text):
     return net.version, int(net.network_address), net.prefixlen
 
 
+def give_up(why):
+    sys.stderr.write(f"{why}\n")
+    sys.exit(2)
+
+
 def lines_of(command):
-    done = subprocess.run(command, capture_output=True, text=True)
+    try:
+        done = subprocess.run(command, capture_output=True, text=True)
+    except OSError as error:
+        give_up(f"{command[0]}: {error.strerror}")
     if done.returncode != 0:
-        sys.stderr.write(f"{command[0]}: status {done.returncode}\n{done.stderr}")
-        sys.exit(2)
+        give_up(f"{command[0]}: status {done.returncode}\n{done.stderr}")
     return done.stdout.splitlines()
 
 
@@ -94,7 +102,7 @@ class Candidates:
                 offer = path_length(fields[6]), address(fields[8])
                 self.offers.setdefault(prefix(fields[5]), {})[peer] = offer
             else:
-                sys.exit(f"a line of bgpdump of an unknown kind: {line}")
+                give_up(f"a line of bgpdump of an unknown kind: {line}")
 
     def chosen(self):
         """The next hop of each prefix: the shortest path, then the least peer."""

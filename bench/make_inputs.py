@@ -5,7 +5,8 @@ Usage:  make_inputs.py PREFIXES UPDATES ASKS SEED DIR
 
 DIR/dump.mrt gets a peer table of eight peers and a RIB record for each of so many distinct
 prefixes, with an entry of every peer: five of six prefixes are IPv4, with lengths mixed about
-as on the Internet, the others IPv6; half of them lie within another.  DIR/updates.mrt gets so
+as on the Internet, the others IPv6.  Every second draw is within a prefix drawn before, and a
+repeated one is drawn again: four to five in ten lie within another.  DIR/updates.mrt gets so
 many UPDATE messages of the peers, nine of ten announcing one of the prefixes anew and the
 others withdrawing one, and then the loss of the first peer's session.  DIR/asks.txt gets the
 addresses, nine of ten within a prefix.  Equal arguments give equal files.
@@ -39,8 +40,12 @@ def record(kind, subtype, body):
 
 
 def attribute(kind, value):
-    """A path attribute (RFC 4271, section 4.3), with a length of two octets."""
-    return be(0x50, 1) + be(kind, 1) + be(len(value), 2) + value
+    """A path attribute (RFC 4271, section 4.3), with a length of two octets.
+
+    Its flags say well-known, of the attributes of RFC 4760 optional and non-transitive.
+    """
+    flags = 0x90 if kind in (14, 15) else 0x50
+    return be(flags, 1) + be(kind, 1) + be(len(value), 2) + value
 
 
 def on_wire(family, bits, length):

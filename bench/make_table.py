@@ -4,8 +4,9 @@
 Usage:  make_table.py IPV4 IPV6 SEED FILE
 
 FILE gets a peer table of one peer and a RIB record for each of so many distinct prefixes of each
-family, with lengths mixed about as on the Internet.  Half of the prefixes lie within another, and
-four of five of these have its next hop, as more-specifics of one network mostly have.  All other
+family, with lengths mixed about as on the Internet.  Every second draw is within a prefix drawn
+before, and a repeated one is drawn again: four to five in ten lie within another.  Four of five
+drawn so have that prefix's next hop, as more-specifics of one network mostly have.  All other
 hops are drawn from 60, a few of which most routes have.  Equal arguments give equal files.
 """
 

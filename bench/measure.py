@@ -6,8 +6,9 @@ Usage:  measure.py PROGRAM [--table]
 Runs `PROGRAM run DUMP --updates UPDATES --ask ASKS` with its output to a file on inputs of
 make_inputs.py, and prints the best time of three; then once more for its peak of memory. The
 first line of each size is the dump alone. With --table it runs `PROGRAM run DUMP` on whole
-tables of make_table.py. A run that doesn't end with 0 or hasn't the routes that are due ends it
-with status 1. No time and no memory is judged.
+tables of make_table.py, and `PROGRAM check` on what that printed. A run that doesn't end with 0
+or hasn't the routes that are due, or a check that doesn't say yes, ends it with status 1. No
+time and no memory is judged.
 """
 
 import argparse
@@ -84,45 +85,47 @@ def peak(words, out):
 def count_rows(out):
     """How many rows of each kind the file holds."""
     with open(out, "rb") as f:
-        return Counter(line.split(b",", 1)[0].decode("latin-1") for line in f)
+        return Counter(line.split(b",", 1)[0].decode("latin-1").rstrip("\n") for line in f)
 
 
-def measured(words, out, octets, routes):
-    """The columns of one run."""
+def measured(words, out, octets, due):
+    """The columns of one run, and how many rows of each kind it printed; these are due at least."""
     best = None
     for _ in range(RUNS):
         status, seconds = timed(words, out)
         if status != 0:
             sys.exit("%s ended with %d" % (" ".join(words[1:]), status))
         rows = count_rows(out)
-        if rows["route"] != routes or rows["table"] != routes:
-            sys.exit("%s: %d routes due, printed %s" % (" ".join(words[1:]), routes, dict(rows)))
+        if any(rows[kind] != count for kind, count in due.items()):
+            sys.exit("%s: %s due, printed %s" % (" ".join(words[1:]), due, dict(rows)))
         best = seconds if best is None else min(best, seconds)
-    return octets, best, octets / best / 1e6, peak(words, out) / MIB, rows
+    return (octets, best, octets / best / 1e6, peak(words, out) / MIB), rows
 
 
 def peers(program, folder, out):
     """All peers' routes with updates, at several sizes."""
     print("%8s %8s %11s %9s %9s %9s %9s" % ("prefixes", "updates", "octets", "seconds", "MB/s", "peak MiB", "rows"))
 
-    def row(updates, *run):
-        *columns, rows = measured(*run)
+    def row(updates, words, octets):
+        columns, rows = measured(words, out, octets, {"route": n, "table": n})
         print("%8d %8d %11d %9.2f %9.1f %9.0f %9d" % (n, updates, *columns, sum(rows.values())), flush=True)
 
     for n in SIZES:
         dump, updates, asks = make_inputs(n, folder)
         octets = os.path.getsize(dump)
-        row(0, [program, "run", dump, "--ask", asks], out, octets, n)
-        row(n, [program, "run", dump, "--updates", updates, "--ask", asks], out, octets + os.path.getsize(updates), n)
+        row(0, [program, "run", dump, "--ask", asks], octets)
+        row(n, [program, "run", dump, "--updates", updates, "--ask", asks], octets + os.path.getsize(updates))
 
 
 def tables(program, folder, out):
-    """Whole tables of one peer, at several sizes."""
-    print("%8s %8s %11s %9s %9s %9s %9s" % ("IPv4", "IPv6", "octets", "seconds", "MB/s", "peak MiB", "least"))
+    """Whole tables of one peer, at several sizes, and the checks of what is printed of them."""
+    print("%8s %8s %11s %9s %9s %9s %9s %9s" % ("IPv4", "IPv6", "octets", "seconds", "MB/s", "peak MiB", "least", "cert"))
     for counts in TABLES:
-        dump = make_table(counts, folder)
-        *columns, rows = measured([program, "run", dump], out, os.path.getsize(dump), sum(counts))
-        print("%8d %8d %11d %9.2f %9.1f %9.0f %9d" % (*counts, *columns, rows["least"]), flush=True)
+        dump, n = make_table(counts, folder), sum(counts)
+        columns, rows = measured([program, "run", dump], out, os.path.getsize(dump), {"route": n, "table": n})
+        print("%8d %8d %11d %9.2f %9.1f %9.0f %9d %9d" % (*counts, *columns, rows["least"], rows["cert"]), flush=True)
+        columns, _ = measured([program, "check", out], out + ".check", os.path.getsize(out), {"yes": 1})
+        print("%17s %11d %9.2f %9.1f %9.0f" % ("check", *columns), flush=True)
 
 
 def main():

@@ -4,14 +4,15 @@
 Usage:  measure_choice.py
 
 Copies the crates into a folder of its own, puts a program over `route_choice` beside them, proves and builds it, and
-runs it once: candidates of 200,000 prefixes from 8 peers, peer by peer with the prefixes in no order, and then prefix by
+runs it twice, and measures the second run: candidates of 200,000 prefixes from 8 peers, peer by peer with the prefixes in no order, and then prefix by
 prefix in their order; the loss of one of the peers; and one prefix with 60,000 candidates that come, change twice and
-go. It prints the times and the peak of memory. No time and no memory is judged.
+go. It prints the times and the peak of memory, and ends with the program's status. No time and no memory is judged.
 """
 
 import os
 import shutil
 import subprocess
+import sys
 import tempfile
 
 ROOT = os.path.dirname(os.path.dirname(os.path.abspath(__file__)))
@@ -114,7 +115,8 @@ fn main(rt: HostRuntime) -> io::Result<()> {
 
 def main():
     with tempfile.TemporaryDirectory() as top:
-        shutil.copytree(os.path.join(ROOT, "crates"), os.path.join(top, "crates"))
+        shutil.copytree(os.path.join(ROOT, "crates"), os.path.join(top, "crates"),
+                        ignore=shutil.ignore_patterns("out"))
         shutil.copy(os.path.join(ROOT, "HANDLES"), top)
         with open(os.path.join(ROOT, "crates.txt")) as lines:
             listed = lines.read()
@@ -130,9 +132,10 @@ def main():
         subprocess.run(["rt", "run"], cwd=crate, check=True, stdout=subprocess.DEVNULL)
         program = subprocess.Popen([os.path.join(crate, "out", "bench_choice")])
         _, status, used = os.wait4(program.pid, 0)
-        print(f"status {os.waitstatus_to_exitcode(status)}, {used.ru_utime:.1f} s of processor time, "
-              f"{used.ru_maxrss // 1024} MiB at the peak")
+        status = os.waitstatus_to_exitcode(status)
+        print(f"status {status}, {used.ru_utime:.1f} s of processor time, {used.ru_maxrss // 1024} MiB at the peak")
+        return status
 
 
 if __name__ == "__main__":
-    main()
+    sys.exit(main())

@@ -10,17 +10,20 @@ pub record Address : Type 0 where
   pub family : Family
   pub bits : List Bool
 
+-- as many bits as the family's addresses have
 abbrev pub IsAddress : Address → Type 0
 IsAddress a = length a.bits ≡ width a.family
 
--- A prefix: the first bits of addresses, at most as many as its family has (RFC 4271, 1.1). Its region is all addresses that begin with it.
+-- A prefix: the first bits of addresses, at most as many as its family has (RFC 4632, 3.1, and RFC 4291, 2.3). Its region is all addresses that begin with it.
 pub record Prefix : Type 0 where
   pub family : Family
   pub bits : List Bool
 
+-- at most as many bits as the family's addresses have
 abbrev pub IsPrefix : Prefix → Type 0
 IsPrefix p = length p.bits ≤ width p.family
 
+-- whether two families are one
 abbrev pub same_family : Family → Family → Bool
 same_family V4 V4 = true
 same_family V4 V6 = false

@@ -15,5 +15,6 @@ family_cmp f g = nat_cmp (width f) (width g)
 abbrev pub filled : Prefix → ℕ
 filled p = value_of (p.bits ++ replicate (width p.family - length p.bits) false)
 
+-- by family, then by that number, then by length
 abbrev pub prefix_cmp : Prefix → Prefix → Ordering
 prefix_cmp p q = ordering_then (family_cmp p.family q.family) (ordering_then (nat_cmp (filled p) (filled q)) (nat_cmp (length p.bits) (length q.bits)))

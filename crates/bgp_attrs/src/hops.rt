@@ -1,7 +1,7 @@
 //! Next hops.
 
-ghost use Rattle.std.specs.Prelude.{◌≡◌, ◌==◌, ◌||◌, IsTrue, length};
-ghost use Rattle.address_model.specs.declared.family.Family.TheVariants.{V6};
+ghost use Rattle.std.specs.Prelude.{◌≡◌, IsTrue, length};
+ghost use Rattle.address_model.specs.declared.family.Family.TheVariants.{V4};
 ghost use Rattle.octet_fields.specs.Gives.{Gives};
 ghost use Rattle.reading_model.specs.Attribute.{full_hop, hop_of, is_hop_length, next_hop_at, rib_hop};
 ghost use Rattle.fib_prefix.specs.Seen.{addr_as};
@@ -12,7 +12,7 @@ use wire_fields::{family, rule};
 
 /// The address in the octets of a next hop: 4 are IPv4, and of 16 or 32 the first 16 are IPv6 (RFC 2545, section 3).
 pub fn next_hop(octets: &[u8]) -> Addr
-    requires { IsTrue (is_hop_length V6 (length octets.now) || length octets.now == 4) }
+    requires { IsTrue (is_hop_length V4 (length octets.now)) }
     ensures { addr_as result ≡ hop_of octets.now }
 {
     if octets.len() == 4 {
@@ -22,7 +22,8 @@ pub fn next_hop(octets: &[u8]) -> Addr
     }
 }
 
-/// Whether a next hop for this family may have so many octets.
+/// Whether a next hop for this family may have so many octets (RFC 4271, section 5.1.3; RFC 2545, section 3; RFC 8950,
+/// section 3).
 fn is_next_hop(family: Family, len: u8) -> bool
     ensures { result ≡ is_hop_length family len }
 {
@@ -57,8 +58,9 @@ fn next_hop_in_full(wanted: Family, value: &[u8]) -> Result<(Addr, &[u8]), u8>
     next_hop_of(wanted, rest)
 }
 
-/// The next hop in the MP_REACH_NLRI of a RIB entry: the short form of RFC 6396, section 4.3.4, or the full one, which
-/// begins with 0.
+/// The next hop in the MP_REACH_NLRI of a RIB entry: RFC 6396, section 4.3.4 has the next hop's length and the next hop
+/// alone. A value that begins with 0 is RFC 4760's full form, as some daemons write it: no next hop has length 0, and AFI 1
+/// and 2 begin with 0.
 #[tactic(auto, unfolding(reading_model::specs::Attribute::rib_hop))]
 pub fn next_hop_in_rib(family: Family, value: &[u8]) -> Result<(Addr, &[u8]), u8>
     ensures { Gives (λ x. (addr_as x.0, x.1.now)) result (rib_hop family value.now) }

@@ -8,12 +8,13 @@
 
 mod hops;
 mod list;
+mod multiprotocol;
 mod path;
 mod reach;
 
 pub use list::{Attrs, read_attrs};
+pub use multiprotocol::{Reach, Unreach};
 pub use path::path_length;
-pub use reach::{Reach, Unreach};
 pub use reading_model::Place;
 
 #[cfg(test)]

@@ -1,14 +1,16 @@
 //! Attribute lists.
 
-ghost use Rattle.std.specs.Prelude.{◌≡◌, ◌<◌, ◌^◌, ◌==◌, length, IfOk, bit_and, if◌then◌else◌};
+ghost use Rattle.std.specs.Prelude.{◌<◌, ◌^◌, ◌==◌, length, IfOk, bit_and, if◌then◌else◌};
 ghost use Rattle.octet_fields.specs.Field.{number_at};
 ghost use Rattle.octet_fields.specs.Gives.{Gives};
+ghost use Rattle.reading_model.specs.Rules.{attribute_cut};
 ghost use Rattle.reading_model.specs.Attribute.{with_path, with_hop, with_reach, with_unreach, with_value, attribute_at, attributes};
 ghost use Rattle.bgp_attrs.specs.Views.{found_as, listed_as};
 
 use crate::hops::next_hop;
+use crate::multiprotocol::{Reach, Unreach};
 use crate::path::path_length;
-use crate::reach::{Reach, Unreach, reach_in_rib, reach_in_update, unreach_in_update};
+use crate::reach::{reach_in_rib, reach_in_update, unreach_in_update};
 use fib_prefix::Addr;
 use octet_fields::{octet, octets, u16_at};
 use reading_model::Place;
@@ -32,9 +34,10 @@ pub struct Attrs<'a> {
     pub path: u32,
     /// NEXT_HOP.
     pub hop: Option<Addr>,
-    /// MP_REACH_NLRI, where its family is known and unicast.
+    /// MP_REACH_NLRI. None where it is missing or of a family that isn't read; in a RIB entry also where it can't be read
+    /// or isn't of the record's family.
     pub reach: Option<Reach<'a>>,
-    /// MP_UNREACH_NLRI, where its family is known and unicast; none in a RIB entry.
+    /// MP_UNREACH_NLRI. None where it is missing or of a family that isn't read, and in a RIB entry.
     pub unreach: Option<Unreach<'a>>,
 }
 
@@ -49,7 +52,7 @@ struct Found<'a> {
     unreach: Option<Unreach<'a>>,
 }
 
-/// An AS_PATH; the first counts.
+/// An AS_PATH; the first counts (RFC 7606, section 3 (g)).
 #[tactic(auto, unfolding(reading_model::specs::Attribute::with_path))]
 fn with_as_path<'a>(before: Found<'a>, place: Place, value: &[u8]) -> Result<Found<'a>, u8>
     requires { length value.now < 2 ^ 32 }
@@ -66,7 +69,7 @@ fn with_as_path<'a>(before: Found<'a>, place: Place, value: &[u8]) -> Result<Fou
     Ok(Found { path, ..before })
 }
 
-/// A NEXT_HOP; the first counts.
+/// A NEXT_HOP; the first counts (RFC 7606, section 3 (g)).
 #[tactic(auto, unfolding(reading_model::specs::Attribute::with_hop))]
 fn with_next_hop<'a>(before: Found<'a>, value: &[u8]) -> Result<Found<'a>, u8>
     ensures { Gives found_as result (with_hop (found_as before.entry) value.now) }
@@ -141,7 +144,7 @@ fn with_attribute<'a>(
 
 /// The length of a value, in two octets where the flags say so.
 fn value_len(flags: u8, bytes: &[u8]) -> Result<(u16, &[u8]), u8>
-    ensures value { Gives (λ x. (x.0, x.1.now)) result (number_at 9 (if bit_and flags 16 == 0 then 1 else 2) bytes.now) }
+    ensures value { Gives (λ x. (x.0, x.1.now)) result (number_at attribute_cut (if bit_and flags 16 == 0 then 1 else 2) bytes.now) }
     ensures shorter { IfOk result (λ x. length x.1.now < length bytes.now) }
 {
     if flags & EXTENDED_LENGTH != 0 {
@@ -163,6 +166,7 @@ fn attribute<'a>(
 {
     let (flags, rest) = octet(rule::ATTRIBUTE_CUT, bytes)?;
     let (kind, rest) = octet(rule::ATTRIBUTE_CUT, rest)?;
+    // A second one breaks a rule (RFC 7606, section 3 (g)).
     if before.has_reach && kind == MP_REACH_NLRI || before.has_unreach && kind == MP_UNREACH_NLRI {
         return Err(rule::SECOND_MP);
     }

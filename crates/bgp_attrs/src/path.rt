@@ -36,7 +36,7 @@ fn segment(so_far: u32, bytes: &[u8], wide: bool) -> Result<(u32, &[u8]), u8>
     ensures fits { IfOk result (λ x. x.0 + length x.1.now ≤ so_far + length bytes.now) }
 {
     let (kind, rest) = octet(rule::ATTRIBUTE_VALUE, bytes)?;
-    if kind < AS_SET || AS_CONFED_SET < kind {
+    if !matches!(kind, AS_SET..=AS_CONFED_SET) {
         return Err(rule::ATTRIBUTE_VALUE);
     }
     let (count, rest) = octet(rule::ATTRIBUTE_VALUE, rest)?;
@@ -46,7 +46,10 @@ fn segment(so_far: u32, bytes: &[u8], wide: bool) -> Result<(u32, &[u8]), u8>
 }
 
 /// The path length of an AS_PATH's value, whose AS numbers have four octets where it is wide and else two: the AS numbers
-/// in its sequences, and 1 for each set that isn't empty. A wrong segment breaks `ATTRIBUTE_VALUE`.
+/// in its sequences, and 1 for each set that isn't empty; confederation segments count nothing (RFC 4271, section 9.1.2.2 a;
+/// RFC 5065, section 5.3). A wrong segment breaks `ATTRIBUTE_VALUE`.
+///
+/// The octets are fewer than 2^32, so that the length fits.
 pub fn path_length(bytes: &[u8], wide: bool) -> Result<u32, u8>
     requires { length bytes.now < 2 ^ 32 }
     ensures { Gives (λ x. x) result (path_of (as_size wide) bytes.now) }

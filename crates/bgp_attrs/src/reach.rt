@@ -1,4 +1,4 @@
-//! MP_REACH_NLRI and MP_UNREACH_NLRI (RFC 4760).
+//! Reading MP_REACH_NLRI and MP_UNREACH_NLRI (RFC 4760, sections 3 and 4).
 
 ghost use Rattle.std.specs.Prelude.{◌≡◌, option_map};
 ghost use Rattle.octet_fields.specs.Gives.{Gives};
@@ -6,31 +6,13 @@ ghost use Rattle.reading_model.specs.Attribute.{reach_in, reach_of_rib, rib_hop,
 ghost use Rattle.bgp_attrs.specs.Views.{reached, unreached};
 
 use crate::hops::{next_hop_in_rib, next_hop_of};
-use fib_prefix::{Addr, Family};
+use crate::multiprotocol::{Reach, Unreach};
+use fib_prefix::Family;
 use octet_fields::octet;
 use wire_fields::{check_prefixes, rule};
 
-/// What MP_REACH_NLRI gives: a next hop for the prefixes in these octets.
-#[derive(Clone, Copy, Debug)]
-pub struct Reach<'a> {
-    /// The family of the prefixes.
-    pub family: Family,
-    /// The next hop.
-    pub hop: Addr,
-    /// The prefixes, each of them right; empty in a RIB entry.
-    pub nlri: &'a [u8],
-}
-
-/// What MP_UNREACH_NLRI gives: the prefixes in these octets are withdrawn.
-#[derive(Clone, Copy, Debug)]
-pub struct Unreach<'a> {
-    /// The family of the prefixes.
-    pub family: Family,
-    /// The prefixes, each of them right.
-    pub nlri: &'a [u8],
-}
-
 /// MP_REACH_NLRI of a RIB entry; one that can't be read gives nothing.
+#[tactic(auto, unfolding(reading_model::specs::Wire::prefixes, octet_fields::specs::Field::steps))]
 pub fn reach_in_rib<'a>(family: Family, value: &'a [u8]) -> Option<Reach<'a>>
     ensures { option_map reached result ≡ reach_of_rib family (rib_hop family value.now) }
 {

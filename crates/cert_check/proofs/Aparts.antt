@@ -169,9 +169,6 @@ both_go_on a b i hop x y u v r ra rb la lb ia ib ne front h e =
     subst (λ (z : Apart). IsFirstApart a b (Some z)) is
     (subst (λ (xs : List Run). IsFirstApart xs b (Some (next_apart x y (last_hop c)))) (sym wa) (subst (λ (ys : List Run). IsFirstApart (c ++ x ∷ drop (suc i) a) ys (Some (next_apart x y (last_hop c)))) (sym wb) f))
 
-pub both_end : (a b : List Run) (i : ℕ) → i ≡ length a → i ≡ length b → take i a ≡ take i b → IsFirstApart a b None
-both_end a b i e f front n = ap (λ runs. run_at runs n) (sym (take_all a i e) ∙ (front ∙ take_all b i f))
-
 pub front_more : (a b : List Run) (i : ℕ) (x y u v : Run) → i < length a → i < length b → x ≡ get_or a i u → y ≡ get_or b i v → (nat_eq x.start y.start && nat_eq x.hop y.hop) ≡ true → take i a ≡ take i b
     → (take (i + 1) a ≡ take (i + 1) b) × (x.hop ≡ last_hop (take (i + 1) a))
 front_more a b i x y u v la lb ia ib e front =

@@ -1,8 +1,8 @@
 -- Entries are dealt out to the halves of a region.
-use Rattle.std.proofs.Common.{◌≡◌, ◌≢◌, ℕ, zero, suc, ◌+◌, ◌-◌, ◌/◌, ◌^◌, ◌<◌, List, [], ◌∷◌, ◌++◌, Bool, true, false, cond, Option, Some, None, length, map, take, get_or, nat_eq, refl, sym, ap, ◌∙◌, arith, append-nil, eq-eqb}
-use Rattle.std.specs.Prelude.{bit_and}
-use Rattle.std.proofs.lemmas.Bool.{ne_eqb, cond-true, cond-false}
-use Rattle.std.proofs.lemmas.Nat.Bits.{shr_and_one}
+use Rattle.std.proofs.Common.{◌≡◌, ◌≢◌, ℕ, zero, suc, ◌+◌, ◌-◌, ◌<◌, List, [], ◌∷◌, ◌++◌, Bool, true, false, cond, Option, Some, None, length, map, take, get_or, nat_eq, refl, sym, ap, ◌∙◌, arith, append-nil}
+use Rattle.std.specs.Int.{bit_at}
+use Rattle.std.proofs.lemmas.Bool.{cond-true, cond-false}
+use Rattle.std.specs.Option.{option_or}
 use Rattle.address_model.specs.Bits.{bits_of}
 use Rattle.address_model.specs.Width.{width}
 use Rattle.address_model.specs.Address.{same_family}
@@ -15,23 +15,17 @@ use Rattle.least_model.proofs.Join.{half_append}
 use Rattle.fib_prefix.specs.Seen.{entry_as}
 use Rattle.fib_prefix.specs.declared.entry.Entry as code
 use Rattle.cert_check.specs.declared.runs.Part.{Part}
-use Rattle.cert_check.specs.Runs.{part_as, table_of, first_own}
+use Rattle.cert_check.specs.Runs.{part_as, table_of}
 
 -- ---- the bits of a part
 
-first_of_taken : (d l n : ℕ) (b : Bool) → l ≢ 0 → nat_eq (bit_and (n / 2 ^ d) 1) 1 ≡ b → take l (bits_of (d + 1) n) ≡ b ∷ take (l - 1) (bits_of d n)
+pub taken : (d l n : ℕ) (b : Bool) → l ≢ 0 → b ≡ nat_eq (bit_at n d) 1 → take l (bits_of (d + 1) n) ≡ b ∷ take (l - 1) (bits_of d n)
 unfolding bits_of
-first_of_taken d zero n b h e = absurd (h refl)
-first_of_taken d (suc l) n b h e =
+taken d zero n b h e = absurd (h refl)
+taken d (suc l) n b h e =
     let f : suc l - 1 ≡ l = omega arith in
     let g : d + 1 ≡ suc d = omega arith in
-    ap (λ j. take (suc l) (bits_of j n)) g ∙ (ap (λ x. x ∷ take l (bits_of d n)) (sym (ap (λ x. nat_eq x 1) (shr_and_one n d)) ∙ e) ∙ ap (λ j. b ∷ take j (bits_of d n)) (sym f))
-
-pub taken_one : (d l n : ℕ) → l ≢ 0 → bit_and (n / 2 ^ d) 1 ≡ 1 → take l (bits_of (d + 1) n) ≡ true ∷ take (l - 1) (bits_of d n)
-taken_one d l n h e = first_of_taken d l n true h (eq-eqb _ _ e)
-
-pub taken_zero : (d l n : ℕ) → l ≢ 0 → bit_and (n / 2 ^ d) 1 ≢ 1 → take l (bits_of (d + 1) n) ≡ false ∷ take (l - 1) (bits_of d n)
-taken_zero d l n h e = first_of_taken d l n false h (ne_eqb _ _ e)
+    ap (λ j. take (suc l) (bits_of j n)) g ∙ (ap (λ x. x ∷ take l (bits_of d n)) (sym e) ∙ ap (λ j. b ∷ take j (bits_of d n)) (sym f))
 
 -- ---- one part
 
@@ -48,12 +42,12 @@ module _ {X Y : Type 0} (f : X → Y) where
 no_more : (d : ℕ) (parts : List Part) → table_of d parts ≡ table_of d parts ++ []
 no_more d parts = sym (append-nil (table_of d parts))
 
-own_kept : (own : Option ℕ) → own ≡ first_own own None
+own_kept : (own : Option ℕ) → own ≡ option_or own None
 own_kept None = refl
 own_kept (Some h) = refl
 
-pub own_stays : (own : Option ℕ) (b : Bool) (p q : List Bool) (hop : ℕ) → p ≡ b ∷ q → own ≡ first_own own (root_of p hop None)
-own_stays own b p q hop e = own_kept own ∙ ap (λ x. first_own own (root_of x hop None)) (sym e)
+pub own_stays : (own : Option ℕ) (b : Bool) (p q : List Bool) (hop : ℕ) → p ≡ b ∷ q → own ≡ option_or own (root_of p hop None)
+own_stays own b p q hop e = own_kept own ∙ ap (λ x. option_or own (root_of x hop None)) (sym e)
 
 pub half_stays_low : (d : ℕ) (parts : List Part) (p q : List Bool) (hop : ℕ) → p ≡ true ∷ q → table_of d parts ≡ table_of d parts ++ half_of false p hop []
 half_stays_low d parts p q hop e = no_more d parts ∙ ap (λ x. table_of d parts ++ half_of false x hop []) (sym e)
@@ -73,18 +67,18 @@ half_grows_low d old new p bits len hop e f =
 
 -- ---- parts one after another
 
-root_push : (L : Table) (e : ModelEntry) → root (L ++ e ∷ []) ≡ first_own (root L) (root (e ∷ []))
+root_push : (L : Table) (e : ModelEntry) → root (L ++ e ∷ []) ≡ option_or (root L) (root (e ∷ []))
 root_push [] e = refl
 root_push (x ∷ L) e = by_prefix x.prefix (root_push L e)
   where
-    by_prefix : (p : List Bool) → root (L ++ e ∷ []) ≡ first_own (root L) (root (e ∷ [])) → root_of p x.hop (root (L ++ e ∷ [])) ≡ first_own (root_of p x.hop (root L)) (root (e ∷ []))
+    by_prefix : (p : List Bool) → root (L ++ e ∷ []) ≡ option_or (root L) (root (e ∷ [])) → root_of p x.hop (root (L ++ e ∷ [])) ≡ option_or (root_of p x.hop (root L)) (root (e ∷ []))
     by_prefix [] ih = refl
     by_prefix (b ∷ p) ih = ih
 
 pub own_next : (d i : ℕ) (parts : List Part) (part z : Part) (own new : Option ℕ) → i < length parts → part ≡ get_or parts i z → own ≡ root (table_of d (take i parts))
-    → new ≡ first_own own (root (part_as d part ∷ [])) → new ≡ root (table_of d (take (i + 1) parts))
+    → new ≡ option_or own (root (part_as d part ∷ [])) → new ≡ root (table_of d (take (i + 1) parts))
 own_next d i parts part z own new lt is e f =
-    f ∙ (ap (λ x. first_own x (root (part_as d part ∷ []))) e ∙ (sym (root_push (table_of d (take i parts)) (part_as d part)) ∙ ap root (sym (take_next (part_as d) parts i part z lt is))))
+    f ∙ (ap (λ x. option_or x (root (part_as d part ∷ []))) e ∙ (sym (root_push (table_of d (take i parts)) (part_as d part)) ∙ ap root (sym (take_next (part_as d) parts i part z lt is))))
 
 pub half_next : (b : Bool) (d i : ℕ) (parts : List Part) (part z : Part) (old new : Table) → i < length parts → part ≡ get_or parts i z → old ≡ half b (table_of d (take i parts))
     → new ≡ old ++ half b (part_as d part ∷ []) → new ≡ half b (table_of d (take (i + 1) parts))

@@ -1,11 +1,11 @@
 -- What an answer of `same` says.
 use Rattle.std.proofs.Common.{◌≡◌, ℕ, Option, Some, None, refl, sym, ap, ◌∙◌, subst, ◌↔◌}
 use Rattle.std.specs.Prelude.{option_map}
-use Rattle.std.specs.Option.{IfSome}
+use Rattle.std.specs.Option.{IfSome, option_or}
 use Rattle.address_model.specs.Address.{Address}
 use Rattle.address_model.specs.declared.family.Family.TheVariants.{V4, V6}
 use Rattle.table_model.specs.Entries.{Entries, match_in, AlikeInBoth}
-use Rattle.cert_model.specs.Verdict.{NotSame, IsLeastDiffering, not_same, not_same_in, first_of}
+use Rattle.cert_model.specs.Verdict.{NotSame, IsLeastDiffering, not_same, not_same_in}
 use Rattle.cert_model.proofs.Differing.{same_law, says}
 use Rattle.fib_prefix.specs.Seen.{addr_as}
 use Rattle.cert_check.specs.declared.alike.Differ.{Differ}
@@ -33,7 +33,7 @@ answers R T (Some x) e =
     )
 
 pub by_v4 : (R T : Entries) (d : Option Differ) (x : Differ) → d ≡ Some x → option_map differ_as d ≡ not_same_in R T V4 → option_map differ_as (Some x) ≡ not_same R T
-by_v4 R T d x e f = ap (λ o. first_of o (not_same_in R T V6)) (ap (option_map differ_as) (sym e) ∙ f)
+by_v4 R T d x e f = ap (λ o. option_or o (not_same_in R T V6)) (ap (option_map differ_as) (sym e) ∙ f)
 
 pub by_v6 : (R T : Entries) (d e : Option Differ) → d ≡ None → option_map differ_as d ≡ not_same_in R T V4 → option_map differ_as e ≡ not_same_in R T V6 → option_map differ_as e ≡ not_same R T
-by_v6 R T d e n f g = g ∙ ap (λ o. first_of o (not_same_in R T V6)) (sym (ap (option_map differ_as) n) ∙ f)
+by_v6 R T d e n f g = g ∙ ap (λ o. option_or o (not_same_in R T V6)) (sym (ap (option_map differ_as) n) ∙ f)

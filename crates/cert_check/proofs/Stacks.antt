@@ -1,6 +1,6 @@
 -- Rows read one by one.
 use Rattle.std.proofs.Common.{◌≡◌, ◌≢◌, ℕ, zero, suc, ◌+◌, ◌<◌, ◌≤◌, List, [], ◌∷◌, ◌++◌, Bool, true, false, Option, Some, None, length, map, drop, get_or, drop-cons, fold, nat_eq, refl, sym, ap, ◌∙◌, arith, subst, length-append}
-use Rattle.std.specs.Prelude.{◌&&◌, option_map}
+use Rattle.std.specs.Prelude.{◌&&◌, ◌↔◌, IsSome, option_map, option_to_list}
 use Rattle.std.proofs.lemmas.Bool.{cond-true, cond-false, eq-eqb, ne_eqb, and_from, and_parts}
 use Rattle.address_model.specs.Width.{width}
 use Rattle.address_model.specs.Address.{Prefix, IsPrefix, same_prefix, same_family}
@@ -23,7 +23,7 @@ use Rattle.cost_cert.specs.Seen.{row_as}
 use Rattle.cert_check.specs.Seen.{no_as}
 use Rattle.cert_check.specs.declared.refusal.No as code
 use Rattle.cert_check.specs.declared.rows.Item.{Item}
-use Rattle.cert_check.specs.Stack.{item_as, stack_as, due_as, weight, AllRight, Told, RowRead, LeafRead, JoinDone, JoinRead, WholeTaken, next_due, bound_in}
+use Rattle.cert_check.specs.Stack.{item_as, stack_as, due_as, weight, AllRight, Told, RowRead, LeafRead, JoinDone, JoinRead, WholeTaken, Popped, next_due, bound_in}
 
 pub push_as : (xs : List Item) (x : Item) → stack_as (xs ++ x ∷ []) ≡ item_as x ∷ stack_as xs
 push_as xs x = go xs []
@@ -120,10 +120,6 @@ join_done p k n st st' low high more (Some x) e h d = λ R f due rows. ap (λ xs
 
 -- ---- bounds
 
-pub late_row : (R : Entries) (row : CertRow) (n : ℕ) (st st' : List ModelItem) (due' : Option Family) → RowRead R row n None st due' st' (Some (Shape n))
-unfolding wrong_row
-late_row R row n st st' due' rows = refl
-
 wrong_family : (R : Entries) (g f : Family) (due : List Family) (m n : ℕ) (st : List ModelItem) (rows : List CertRow) → same_family g f ≡ false → wrong_row R (bound_row g m ∷ rows) (f ∷ due) st n ≡ Some (Shape n)
 unfolding wrong_row
 wrong_family R g f due m n [] rows e = refl
@@ -200,13 +196,18 @@ too_long p q b s e = by_test (same_prefix q (half_at b p)) refl
 pub no_halves : (p low high : Prefix) → IsPrefix low → length p.bits ≡ width p.family → false ≡ (same_prefix low (half_at false p) && same_prefix high (half_at true p))
 no_halves p low high s e = ap (λ b. b && same_prefix high (half_at true p)) (sym (too_long p low false s e))
 
-pub popped_none : (old new : List Item) → length old ≡ 0 → old ≡ new ++ [] → (stack_as old ≡ []) × (stack_as new ≡ [])
+popped_none : (old new : List Item) → length old ≡ 0 → old ≡ new ++ [] → (stack_as old ≡ []) × (stack_as new ≡ [])
 popped_none [] [] l e = (refl, refl)
 popped_none [] (x ∷ new) l e = cc
 popped_none (x ∷ old) new l e = absurd (omega arith)
 
-pub popped_some : (old new : List Item) (x : Item) → old ≡ new ++ x ∷ [] → stack_as old ≡ item_as x ∷ stack_as new
+popped_some : (old new : List Item) (x : Item) → old ≡ new ++ x ∷ [] → stack_as old ≡ item_as x ∷ stack_as new
 popped_some old new x e = ap stack_as e ∙ push_as new x
+
+pub popped : (old new : List Item) (o : Option Item) (n : ℕ) → n ≡ length old → IsSome o ↔ (0 < n) → old ≡ new ++ option_to_list o → Popped (stack_as old) (stack_as new) (option_map item_as o)
+popped [] new None n l v e = popped_none [] new refl e
+popped (x ∷ old) new None n l v e = let some : IsSome {T = Item} None = v.1 (omega arith) in cc
+popped old new (Some x) n l v e = popped_some old new x e
 
 -- ---- bounds, as they are read
 

@@ -1,5 +1,5 @@
 -- What runs and the entries of a region stand for.
-use Rattle.std.specs.Prelude.{◌≡◌, ◌≢◌, ℕ, ◌+◌, ◌<◌, ◌≤◌, ◌^◌, List, [], ◌∷◌, ◌++◌, cond, Option, Some, None, fold, map, take, drop, nat_le, nat_eq}
+use Rattle.std.specs.Prelude.{◌≡◌, ◌≢◌, ℕ, ◌+◌, ◌<◌, ◌≤◌, ◌^◌, List, [], ◌∷◌, ◌++◌, cond, fold, map, take, drop, nat_le, nat_eq}
 use Rattle.std.specs.List.{AllByRecursion}
 use Rattle.address_model.specs.Bits.{bits_of}
 use Rattle.address_model.specs.Width.{width}
@@ -16,11 +16,6 @@ part_as d e = record { prefix = take e.len (bits_of d e.bits); hop = e.hop }
 
 abbrev pub table_of : ℕ → List Part → Table
 table_of d parts = map (λ e. part_as d e) parts
-
--- the first of two hops
-abbrev pub first_own : Option ℕ → Option ℕ → Option ℕ
-first_own (Some h) other = Some h
-first_own None other = other
 
 -- the hop of the last run that begins at the number or before it; 0 where none does
 abbrev pub run_at : List Run → ℕ → ℕ

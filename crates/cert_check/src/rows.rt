@@ -21,7 +21,7 @@ use crate::refusal::No;
 use crate::runs::{Run, holds};
 use crate::sets::{common_hops, one_if_none, or_all};
 use cost_cert::Row;
-use fib_prefix::{Addr, Family, Hop, Prefix};
+use fib_prefix::{Family, Hop, Prefix};
 use std::alloc::{AllocError, Global};
 
 /// What the addresses of both families get from the routes.
@@ -102,8 +102,7 @@ fn is_same(p: &Prefix, q: &Prefix) -> bool
 fn is_whole(prefix: &Prefix, family: Family) -> bool
     ensures { result ≡ same_prefix (prefix_as prefix.now) (whole family) }
 {
-    let first = Addr { family, bits: 0 };
-    is_same(prefix, &Prefix::new(&first, 0))
+    is_same(prefix, &Prefix::whole(family))
 }
 
 /// Whether these are the halves of the prefix's region.
@@ -151,10 +150,7 @@ fn join_items(
 fn pop_item(stack: &mut Vec<Item>) -> Option<Item>
     ensures { Popped (stack_as stack.old.items) (stack_as stack.new.items) (option_map item_as result) }
 {
-    match stack.pop() {
-        None => None,
-        Some(item) => Some(item),
-    }
+    stack.pop()
 }
 
 fn read_join(

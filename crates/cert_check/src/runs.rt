@@ -6,14 +6,15 @@
 //! each bit of each entry, and goes 128 levels down at most.
 
 ghost use Rattle.std.specs.Prelude.{◌≡◌, ◌↔◌, ◌+◌, ◌-◌, ◌<◌, ◌≤◌, ◌^◌, [], ◌∷◌, ◌++◌, false, true, length, map, take, IfOk, OnOk};
+ghost use Rattle.std.specs.Option.{option_or};
 ghost use Rattle.address_model.specs.Width.{width};
 ghost use Rattle.table_model.specs.Table.{root, half};
 ghost use Rattle.table_model.specs.Entries.{Entries, of_family};
 ghost use Rattle.cert_model.specs.Verdict.{all_get};
 ghost use Rattle.fib_prefix.specs.Seen.{entry_as, prefix_as};
-ghost use Rattle.cert_check.specs.Runs.{part_as, table_of, first_own, Noted, Swept, AreRuns, Tells, IsBegun, last_hop};
+ghost use Rattle.cert_check.specs.Runs.{part_as, table_of, Noted, Swept, AreRuns, Tells, IsBegun, last_hop};
 
-use fib_prefix::{Entry, Family, Prefix};
+use fib_prefix::{Entry, Family, Prefix, bit_at};
 use std::alloc::{AllocError, Global};
 
 /// A first address, and the hop of the addresses from there to the next run.
@@ -65,7 +66,7 @@ impl Halves {
     /// Puts an entry where it belongs, after those that are there; the halves' addresses have `left` bits.
     fn put(&mut self, part: &Part, left: u8) -> Result<(), AllocError>
         requires { left < 128 }
-        ensures own { OnOk result (self.new.own ≡ first_own self.old.own (root (part_as (left + 1) part.now ∷ []))) }
+        ensures own { OnOk result (self.new.own ≡ option_or self.old.own (root (part_as (left + 1) part.now ∷ []))) }
         ensures low { OnOk result (table_of left self.new.low.items ≡ table_of left self.old.low.items ++ half false (part_as (left + 1) part.now ∷ [])) }
         ensures high { OnOk result (table_of left self.new.high.items ≡ table_of left self.old.high.items ++ half true (part_as (left + 1) part.now ∷ [])) }
     {
@@ -78,7 +79,7 @@ impl Halves {
             len: part.len - 1,
             hop: part.hop,
         };
-        if (part.bits >> left) & 1 == 1 {
+        if bit_at(part.bits, left) {
             self.high.push(rest)?;
         } else {
             self.low.push(rest)?;

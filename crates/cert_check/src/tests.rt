@@ -64,6 +64,12 @@ fn a_tie(rt: HostRuntime) -> Result<(), AllocError> {
         Err(CheckError::No(no))
     );
     let other = [table[0], table[1], entry(d, 2, 1)];
+    let differ = Differ {
+        addr: Addr::v4(d),
+        first: Hop(2),
+        second: Hop(1),
+    };
+    assert_eq!(rt; same(alloc, &routes, &other)?, Some(differ));
     let no = No::NotSame {
         addr: Addr::v4(d),
         want: Hop(2),

@@ -1,13 +1,14 @@
 //! The verdict on a certificate.
 
 ghost use Rattle.std.specs.Prelude.{◌≡◌, ◌∷◌, [], IfOk, IfErr, OnOk, Some, length, map, option_map};
+ghost use Rattle.std.specs.Option.{option_or};
 ghost use Rattle.address_model.specs.declared.family.Family.TheVariants.{V4, V6};
 ghost use Rattle.table_model.specs.Entries.{Entries, of_family};
 ghost use Rattle.least_model.specs.Both.{LeastInBoth};
 ghost use Rattle.cert_model.specs.Right.{IsCertificate};
-ghost use Rattle.cert_model.specs.Verdict.{Twice, first_of, twice, wrong_row, too_many_in, verdict};
+ghost use Rattle.cert_model.specs.Verdict.{Twice, twice, wrong_row, too_many_in, verdict};
 ghost use Rattle.cert_model.specs.Verdict.{not_same as model_not_same};
-ghost use Rattle.fib_prefix.specs.Seen.{prefix_as, entry_as};
+ghost use Rattle.fib_prefix.specs.Seen.{entry_as};
 ghost use Rattle.cost_cert.specs.Seen.{row_as};
 ghost use Rattle.cert_check.specs.Seen.{differ_as, no_as, IfNo};
 ghost use Rattle.cert_check.specs.Stack.{TellsBoth, AreOfBoth, bound_in};
@@ -34,7 +35,7 @@ fn runs_in_both(alloc: Global, entries: &[Entry]) -> Result<Runs, AllocError>
 
 /// A prefix that stands twice in the routes, or else in the table.
 fn repeated(alloc: Global, routes: &[Entry], table: &[Entry]) -> Result<Option<No>, AllocError>
-    ensures { IfOk result (λ no. option_map no_as no ≡ first_of (option_map Twice (twice (map entry_as routes.now))) (option_map Twice (twice (map entry_as table.now)))) }
+    ensures { IfOk result (λ no. option_map no_as no ≡ option_or (option_map Twice (twice (map entry_as routes.now))) (option_map Twice (twice (map entry_as table.now)))) }
 {
     if let Some(prefix) = first_twice(alloc, routes)? {
         return Ok(Some(No::Twice { prefix }));
@@ -106,7 +107,7 @@ fn wrong_in(
     table: &[Entry],
     rows: &[Row],
 ) -> Result<Option<No>, AllocError>
-    ensures { IfOk result (λ no. (R : Entries) → TellsBoth R runs.now → option_map no_as no ≡ first_of (wrong_row R (map row_as rows.now) (V4 ∷ V6 ∷ []) [] 1) (first_of (too_many_in R (map entry_as table.now) V4) (too_many_in R (map entry_as table.now) V6))) }
+    ensures { IfOk result (λ no. (R : Entries) → TellsBoth R runs.now → option_map no_as no ≡ option_or (wrong_row R (map row_as rows.now) (V4 ∷ V6 ∷ []) [] 1) (option_or (too_many_in R (map entry_as table.now) V4) (too_many_in R (map entry_as table.now) V6))) }
 {
     let mut reading = Reading {
         due: Some(Family::V4),

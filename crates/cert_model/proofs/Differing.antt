@@ -4,6 +4,7 @@ use Rattle.std.specs.Prelude.{option_map}
 use Rattle.std.specs.declared.cmp.Ordering.TheVariants.{Less}
 use Rattle.std.proofs.lemmas.Bool.{eqb-true, eq-eqb}
 use Rattle.std.proofs.lemmas.Cmp.{ranked}
+use Rattle.std.specs.Option.{option_or}
 use Rattle.address_model.specs.Bits.{value_of}
 use Rattle.address_model.specs.Width.{width}
 use Rattle.address_model.specs.Address.{Address}
@@ -12,9 +13,9 @@ use Rattle.address_model.specs.declared.family.Family.TheVariants.{V4, V6}
 use Rattle.address_model.proofs.BitLaws.{value-lt}
 use Rattle.table_model.specs.Entries.{Entries, of_family, match_in, AlikeInBoth}
 use Rattle.least_model.specs.Sets.{side, answers}
-use Rattle.cert_model.specs.Verdict.{No, NotSame, first_of, address_cmp, IsLeastDiffering, or_next, least_differing, not_same_at, not_same_in, not_same}
+use Rattle.cert_model.specs.Verdict.{No, NotSame, address_cmp, IsLeastDiffering, least_differing, not_same_at, not_same_in, not_same}
 
-none_of_both : (x y : Option (List Bool)) → or_next (option_map (λ a. false ∷ a) x) (option_map (λ a. true ∷ a) y) ≡ None → (x ≡ None) × (y ≡ None)
+none_of_both : (x y : Option (List Bool)) → option_or (option_map (λ a. false ∷ a) x) (option_map (λ a. true ∷ a) y) ≡ None → (x ≡ None) × (y ≡ None)
 none_of_both None None e = (refl, refl)
 none_of_both None (Some a) e = cc
 none_of_both (Some a) y e = cc
@@ -35,8 +36,8 @@ pub none_from : (d : ℕ) (f g : List Bool → ℕ) → ((a : List Bool) → len
 unfolding least_differing
 none_from zero f g e = ap (λ (b : Bool). cond b None (let s : Option (List Bool) = Some [] in s)) (eq-eqb (f []) (g []) (e [] refl))
 none_from (suc d) f g e =
-    ap (λ x. or_next (option_map (λ a. false ∷ a) x) (option_map (λ a. true ∷ a) (least_differing d (side true f) (side true g)))) (none_from d (side false f) (side false g) (λ a l. e (false ∷ a) (ap suc l)))
-    ∙ ap (λ x. or_next None (option_map (λ a. true ∷ a) x)) (none_from d (side true f) (side true g) (λ a l. e (true ∷ a) (ap suc l)))
+    ap (λ x. option_or (option_map (λ a. false ∷ a) x) (option_map (λ a. true ∷ a) (least_differing d (side true f) (side true g)))) (none_from d (side false f) (side false g) (λ a l. e (false ∷ a) (ap suc l)))
+    ∙ ap (λ x. option_or None (option_map (λ a. true ∷ a) x)) (none_from d (side true f) (side true g) (λ a l. e (true ∷ a) (ap suc l)))
 
 -- the answers differ at a, and at no lesser address of d bits
 abbrev pub IsLeastAt : ℕ → (List Bool → ℕ) → (List Bool → ℕ) → List Bool → Type 0
@@ -79,7 +80,7 @@ some_differs (suc d) f g a e = by_low (λ c t. some_differs d (side false f) (si
     by_high high None n t x = cc
     by_high high (Some c) n t x = let is : true ∷ c ≡ a = cc in subst (IsLeastAt (suc d) f g) is (least_in_high d f g c n (high c t))
 
-    by_low : ((c : List Bool) → least_differing d (side false f) (side false g) ≡ Some c → IsLeastAt d (side false f) (side false g) c) → ((c : List Bool) → least_differing d (side true f) (side true g) ≡ Some c → IsLeastAt d (side true f) (side true g) c) → (x : Option (List Bool)) → least_differing d (side false f) (side false g) ≡ x → or_next (option_map (λ a. false ∷ a) x) (option_map (λ a. true ∷ a) (least_differing d (side true f) (side true g))) ≡ Some a
+    by_low : ((c : List Bool) → least_differing d (side false f) (side false g) ≡ Some c → IsLeastAt d (side false f) (side false g) c) → ((c : List Bool) → least_differing d (side true f) (side true g) ≡ Some c → IsLeastAt d (side true f) (side true g) c) → (x : Option (List Bool)) → least_differing d (side false f) (side false g) ≡ x → option_or (option_map (λ a. false ∷ a) x) (option_map (λ a. true ∷ a) (least_differing d (side true f) (side true g))) ≡ Some a
         → IsLeastAt (suc d) f g a
     by_low low high None t z = by_high high (least_differing d (side true f) (side true g)) t refl z
     by_low low high (Some c) t z = let is : false ∷ c ≡ a = cc in subst (IsLeastAt (suc d) f g) is (least_in_low d f g c (low c t))
@@ -93,7 +94,7 @@ none_at R T f (Some a) e = cc
 alike_from : (R T : Entries) (f : Family) → not_same_in R T f ≡ None → (a : List Bool) → length a ≡ width f → answers (of_family f R) [] a ≡ answers (of_family f T) [] a
 alike_from R T f e = none_differs (width f) (answers (of_family f R) []) (answers (of_family f T) []) (none_at R T f _ e)
 
-pub none_of : (x y : Option No) → first_of x y ≡ None → (x ≡ None) × (y ≡ None)
+pub none_of : (x y : Option No) → option_or x y ≡ None → (x ≡ None) × (y ≡ None)
 none_of None y e = (refl, e)
 none_of (Some n) y e = cc
 
@@ -108,7 +109,7 @@ none_in : (R T : Entries) (f : Family) → AlikeInBoth R T → not_same_in R T f
 none_in R T f e = ap (not_same_at R T f) (none_from (width f) (answers (of_family f R) []) (answers (of_family f T) []) (λ a l. let x : Address = record { family = f; bits = a } in e x l))
 
 pub alike_is_same : (R T : Entries) → AlikeInBoth R T → not_same R T ≡ None
-alike_is_same R T e = ap (λ x. first_of x (not_same_in R T V6)) (none_in R T V4 e) ∙ none_in R T V6 e
+alike_is_same R T e = ap (λ x. option_or x (not_same_in R T V6)) (none_in R T V4 e) ∙ none_in R T V6 e
 
 pub same_law : (R T : Entries) → (not_same R T ≡ None) ↔ AlikeInBoth R T
 same_law R T = (same_is_alike R T, alike_is_same R T)
@@ -144,6 +145,6 @@ says R T x e = by_v4 (least_differing 32 (answers (of_family V4 R) []) (answers 
     by_v6 None n t z = cc
     by_v6 (Some c) n t z = says_at R T V6 x c t (lesser_v6 R T c n) z
 
-    by_v4 : (o : Option (List Bool)) → least_differing 32 (answers (of_family V4 R) []) (answers (of_family V4 T) []) ≡ o → first_of (not_same_at R T V4 o) (not_same_in R T V6) ≡ Some x → Says R T x
+    by_v4 : (o : Option (List Bool)) → least_differing 32 (answers (of_family V4 R) []) (answers (of_family V4 T) []) ≡ o → option_or (not_same_at R T V4 o) (not_same_in R T V6) ≡ Some x → Says R T x
     by_v4 None t z = by_v6 (least_differing 128 (answers (of_family V6 R) []) (answers (of_family V6 T) [])) (ap (not_same_at R T V4) t) refl z
     by_v4 (Some c) t z = says_at R T V4 x c t (lesser_v4 R T c) z

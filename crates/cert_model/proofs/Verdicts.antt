@@ -4,6 +4,7 @@ use Rattle.std.specs.Prelude.{option_map, ◌||◌}
 use Rattle.std.specs.List.{AllByRecursion, IsDistinct, list_any}
 use Rattle.std.specs.Map.{keys_of}
 use Rattle.std.proofs.lemmas.Bool.{cond-true, cond-false, lt-ltb, le-ltb, cases_lt}
+use Rattle.std.specs.Option.{option_or}
 use Rattle.address_model.specs.Width.{width}
 use Rattle.address_model.specs.Address.{Prefix, same_prefix}
 use Rattle.address_model.specs.declared.family.Family.{Family}
@@ -14,7 +15,7 @@ use Rattle.least_model.specs.Least.{bound}
 use Rattle.least_model.proofs.Laws.{not_least}
 use Rattle.cert_model.specs.Rows.{CertRow, bound_row}
 use Rattle.cert_model.specs.Right.{HaveBound, IsCertificate}
-use Rattle.cert_model.specs.Verdict.{No, Twice, NotLeast, first_of, twice, not_same, wrong_row, RowFits, too_many_in, verdict}
+use Rattle.cert_model.specs.Verdict.{No, Twice, NotLeast, twice, not_same, wrong_row, RowFits, too_many_in, verdict}
 use Rattle.cert_model.proofs.Rules.{bound_is}
 use Rattle.cert_model.proofs.Differing.{none_of, same_is_alike, alike_is_same}
 use Rattle.cert_model.proofs.Reading.{passes_family, fronts, nothing_left}
@@ -86,10 +87,10 @@ no_twice (Some p) e = cc
 pub verdict_is : (R T : Entries) (rows : List CertRow) → AllByRecursion RowFits rows → verdict R T rows ≡ None → IsCertificate R T rows
 verdict_is R T rows a e =
     let wrong = wrong_row R rows (V4 ∷ V6 ∷ []) [] 1 in
-    let many = first_of (too_many_in R T V4) (too_many_in R T V6) in
-    let x1 = none_of (option_map Twice (twice R)) (first_of (option_map Twice (twice T)) (first_of (not_same R T) (first_of wrong many))) e in
-    let x2 = none_of (option_map Twice (twice T)) (first_of (not_same R T) (first_of wrong many)) x1.1 in
-    let x3 = none_of (not_same R T) (first_of wrong many) x2.1 in
+    let many = option_or (too_many_in R T V4) (too_many_in R T V6) in
+    let x1 = none_of (option_map Twice (twice R)) (option_or (option_map Twice (twice T)) (option_or (not_same R T) (option_or wrong many))) e in
+    let x2 = none_of (option_map Twice (twice T)) (option_or (not_same R T) (option_or wrong many)) x1.1 in
+    let x3 = none_of (not_same R T) (option_or wrong many) x2.1 in
     let x4 = none_of wrong many x3.1 in
     let x5 = none_of (too_many_in R T V4) (too_many_in R T V6) x4.1 in
     let (low, m4, more, S4, k4, n, e4, r4, b4, w, a4) = fronts R rows V4 (V6 ∷ []) [] 1 a tt x4.0 in
@@ -123,12 +124,12 @@ verdict_from R T rows c =
     let n4 : length (of_family V4 T) ≤ bound 32 (of_family V4 R) = omega (arith, bound_is R V4 c.rows_v4 c.bound_v4 c.right_v4, c.few_v4) in
     let n6 : length (of_family V6 T) ≤ bound 128 (of_family V6 R) = omega (arith, bound_is R V6 c.rows_v6 c.bound_v6 c.right_v6, c.few_v6) in
     let read : wrong_row R rows (V4 ∷ V6 ∷ []) [] 1 ≡ None = ap (λ xs. wrong_row R xs (V4 ∷ V6 ∷ []) [] 1) c.parts ∙ (p4.1 ∙ (p6.1 ∙ empty R p6.0)) in
-    let few : first_of (too_many_in R T V4) (too_many_in R T V6) ≡ None = ap (λ x. first_of x (too_many_in R T V6)) (few_from R T V4 n4) ∙ few_from R T V6 n6 in
+    let few : option_or (too_many_in R T V4) (too_many_in R T V6) ≡ None = ap (λ x. option_or x (too_many_in R T V6)) (few_from R T V4 n4) ∙ few_from R T V6 n6 in
     both (option_map Twice (twice R)) _ (ap (option_map Twice) (once_from R c.routes_once))
     (both (option_map Twice (twice T)) _ (ap (option_map Twice) (once_from T c.table_once)) (both (not_same R T) _ (alike_is_same R T c.alike) (both (wrong_row R rows (V4 ∷ V6 ∷ []) [] 1) _ read few)))
   where
-    both : (x y : Option No) → x ≡ None → y ≡ None → first_of x y ≡ None
-    both x y e f = ap (λ z. first_of z y) e ∙ f
+    both : (x y : Option No) → x ≡ None → y ≡ None → option_or x y ≡ None
+    both x y e f = ap (λ z. option_or z y) e ∙ f
 
 pub verdict_law : (R T : Entries) (rows : List CertRow) → AllByRecursion RowFits rows → (verdict R T rows ≡ None) ↔ IsCertificate R T rows
 verdict_law R T rows a = (verdict_is R T rows a, verdict_from R T rows)

@@ -2,6 +2,7 @@
 use Rattle.std.specs.Prelude.{◌≡◌, ◌≢◌, ℕ, zero, suc, ◌+◌, ◌-◌, List, [], ◌∷◌, Bool, true, false, ◌&&◌, cond, Option, Some, None, option_map, length, nat_eq, nat_lt}
 use Rattle.std.specs.List.{list_any}
 use Rattle.std.specs.Map.{keys_of}
+use Rattle.std.specs.Option.{option_or}
 use Rattle.std.specs.Ordering.{nat_cmp, ordering_then}
 use Rattle.std.specs.declared.cmp.Ordering.{Ordering}
 use Rattle.std.specs.declared.cmp.Ordering.TheVariants.{Less}
@@ -29,11 +30,6 @@ pub data No : Type 0 where
   JoinWrong : ℕ → ℕ → ℕ → No
   NotLeast : Family → ℕ → ℕ → No
 
--- the first, or where there is none the second
-abbrev pub first_of : Option No → Option No → Option No
-first_of (Some x) other = Some x
-first_of None other = other
-
 -- ---- the tables
 
 -- the first prefix that stands again later in the list
@@ -51,16 +47,11 @@ pub record IsLeastDiffering (R T : Entries) (a : Address) : Type 0 where
   pub differ : match_in R a ≢ match_in T a
   pub least : (b : Address) → IsAddress b → address_cmp b a ≡ Less → match_in R b ≡ match_in T b
 
--- this, or where there is none the other
-abbrev pub or_next : Option (List Bool) → Option (List Bool) → Option (List Bool)
-or_next (Some a) other = Some a
-or_next None other = other
-
 -- the least of the addresses of d bits that get different answers: the lower half's, else the upper half's
 unfoldable pub least_differing : ℕ → (List Bool → ℕ) → (List Bool → ℕ) → Option (List Bool)
 least_differing zero f g = cond (nat_eq (f []) (g [])) None (Some [])
 least_differing (suc d) f g =
-    or_next (option_map (λ a. false ∷ a) (least_differing d (side false f) (side false g))) (option_map (λ a. true ∷ a) (least_differing d (side true f) (side true g)))
+    option_or (option_map (λ a. false ∷ a) (least_differing d (side false f) (side false g))) (option_map (λ a. true ∷ a) (least_differing d (side true f) (side true g)))
 
 -- what both tables answer at an address of the family
 abbrev pub not_same_at : Entries → Entries → Family → Option (List Bool) → Option No
@@ -72,7 +63,7 @@ not_same_in R T f = not_same_at R T f (least_differing (width f) (answers (of_fa
 
 -- the least address that gets different answers
 abbrev pub not_same : Entries → Entries → Option No
-not_same R T = first_of (not_same_in R T V4) (not_same_in R T V6)
+not_same R T = option_or (not_same_in R T V4) (not_same_in R T V6)
 
 -- ---- the rows
 
@@ -122,5 +113,5 @@ too_many_in R T f =
 -- differ; a row that is wrong; a family with too many entries.
 abbrev pub verdict : Entries → Entries → List CertRow → Option No
 verdict R T rows =
-    first_of (option_map Twice (twice R))
-    (first_of (option_map Twice (twice T)) (first_of (not_same R T) (first_of (wrong_row R rows (V4 ∷ V6 ∷ []) [] 1) (first_of (too_many_in R T V4) (too_many_in R T V6)))))
+    option_or (option_map Twice (twice R))
+    (option_or (option_map Twice (twice T)) (option_or (not_same R T) (option_or (wrong_row R rows (V4 ∷ V6 ∷ []) [] 1) (option_or (too_many_in R T V4) (too_many_in R T V6)))))

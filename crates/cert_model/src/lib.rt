@@ -63,8 +63,8 @@ pub fn verdict_law()
     ensures { (R T : Entries) (rows : List CertRow) → AllByRecursion RowFits rows → (verdict R T rows ≡ None) ↔ IsCertificate R T rows }
 {}
 
-/// The numbers of hops don't matter: other numbers make a certificate of a certificate, where no hop stays 0 and different hops
-/// of the routes stay different, and other than none.
+/// The numbers of hops don't matter: other numbers make a certificate of a certificate, where 0 stays 0, and the hops of the
+/// routes keep numbers that differ from each other and from 0.
 pub fn renaming_law()
     ensures { (to : ℕ → ℕ) (R T : Entries) (rows : List CertRow) → to 0 ≡ 0 → KeepsApart to (hops_of_entries R) →
         IsCertificate R T rows → IsCertificate (renamed to R) (renamed to T) (renamed_rows to rows) }

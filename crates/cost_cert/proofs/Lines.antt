@@ -8,9 +8,10 @@ use Rattle.bstr.specs.Text.{without_terminator, lines_of as cut_lines}
 use Rattle.address_model.specs.Address.{Address}
 use Rattle.table_model.specs.Entries.{Entries}
 use Rattle.cert_model.specs.Rows.{CertRow}
+use Rattle.fib_prefix.specs.Hops.{most_hops}
 use Rattle.printed_model.specs.Rows.{PrintedRow}
 use Rattle.printed_model.specs.Reading.{line_in}
-use Rattle.printed_model.specs.Texts.{BadLine, lines_of, most_hops, hops_in, with_row, rows_after, rows_in}
+use Rattle.printed_model.specs.Texts.{BadLine, lines_of, hops_in, with_row, rows_after, rows_in}
 use Rattle.printed_model.specs.Used.{Used, used_of, printed_in}
 use Rattle.printed_model.proofs.Hops.{hops_more, routes_more, least_more, cert_more}
 use Rattle.printed_model.proofs.Lines.{lines_same, few_lines}

@@ -1,19 +1,19 @@
 -- What one more row or line makes of what was read.
-use Rattle.std.specs.Prelude.{◌≡◌, ◌<◌, ◌≤◌, ℕ, List, ◌++◌, Option, Result, Ok, Err, fold, length}
+use Rattle.std.specs.Prelude.{◌≡◌, ◌<◌, ◌≤◌, ℕ, List, ◌++◌, Option, Result, Ok, Err, fold, length, option_to_list}
 use Rattle.address_model.specs.Address.{Address}
-use Rattle.fib_prefix.specs.Hops.{with_hop}
+use Rattle.fib_prefix.specs.Hops.{with_hop, most_hops}
 use Rattle.fib_prefix.specs.declared.hops.HopError.{HopError}
 use Rattle.fib_prefix.specs.declared.hops.HopError.TheVariants as hop_error
 use Rattle.printed_model.specs.Rows.{PrintedRow}
 use Rattle.printed_model.specs.Reading.{too_many_hops}
-use Rattle.printed_model.specs.Texts.{most_hops, numbered_hop, hop_list}
+use Rattle.printed_model.specs.Texts.{numbered_hop}
 use Rattle.printed_model.specs.Used.{Used, route_entry, least_entry, cert_part}
 use Rattle.cost_cert.specs.declared.error.PrintedError.{PrintedError}
 use Rattle.cost_cert.specs.declared.error.PrintedError.TheVariants as error
 
 -- the hops and one more, if there is one
 abbrev pub hops_with : List Address → Option Address → List Address
-hops_with hops hop = fold with_hop hops (hop_list hop)
+hops_with hops hop = fold with_hop hops (option_to_list hop)
 
 -- the hops after a row
 abbrev pub hops_after : List Address → PrintedRow → List Address

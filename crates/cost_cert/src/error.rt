@@ -19,6 +19,6 @@ pub enum PrintedError {
     #[error("{0}")]
     BadRow(BadRow),
     /// Memory ran out.
-    #[error("out of memory")]
+    #[error("no memory")]
     NoMemory,
 }

@@ -1,9 +1,9 @@
 //! Whole printed texts.
 
 ghost use Rattle.std.specs.Prelude.{◌≡◌, ◌≤◌, [], length, option_map};
+ghost use Rattle.fib_prefix.specs.Hops.{most_hops};
 ghost use Rattle.fib_prefix.specs.Seen.{addr_as};
 ghost use Rattle.printed_model.specs.Reading.{line_in};
-ghost use Rattle.printed_model.specs.Texts.{most_hops};
 ghost use Rattle.printed_model.specs.Used.{hop_number, printed_in, used_of};
 ghost use Rattle.cost_cert.specs.Printed.{IsRead, printed_as, printed_row_as};
 ghost use Rattle.cost_cert.specs.declared.error.PrintedError.TheVariants as printed_error;
@@ -14,7 +14,7 @@ use crate::printed_row::{PrintedRow, read_row};
 use crate::row::Row;
 use crate::why;
 use bstr::ByteSlice;
-use fib_prefix::{Addr, Entry, Hop, HopError, HopTable, Prefix};
+use fib_prefix::{Addr, Entry, Hop, HopError, HopTable};
 use std::alloc::Global;
 
 /// What a checker uses of a printed text. Each list keeps the order of its rows, and hops are numbered in the order of their

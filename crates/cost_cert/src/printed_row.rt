@@ -14,7 +14,7 @@
 //!
 //! HOP is an address, or for no hop `none` in answer and leaf rows and `drop` in change, table and least rows.
 
-ghost use Rattle.std.specs.Prelude.{◌≡◌, codes, option_map};
+ghost use Rattle.std.specs.Prelude.{option_map};
 ghost use Rattle.octet_fields.specs.Gives.{Gives};
 ghost use Rattle.fib_prefix.specs.Seen.{prefix_as, addr_as};
 ghost use Rattle.printed_model.specs.Reading.{answer_in, bound_in, cert_in, change_in, entry_in, join_in, line_in, named_in, part_in, report_in, route_in, row_in, signed_in, visits_in};

@@ -34,7 +34,7 @@ full_at hops (elem ∷ elems) = if nat_lt most_hops (length (hops_after hops (el
 
 -- ---- the table of routes
 
--- the number of a hop that has one
+-- the number of a hop that has one, 0 of any other
 abbrev pub number_in : List Address → Address → ℕ
 number_in hops hop = unwrap_or (number_of hops hop) 0
 

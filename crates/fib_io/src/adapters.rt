@@ -28,8 +28,8 @@ fn write_through<W: Write>(inner: &mut W, piece: &[u8]) -> io::Result<usize>
     Ok(taken)
 }
 
-/// Files by name. A file that can't be opened, placed or read is a fault, whatever the cause, and all names have
-/// one count of faults.
+/// Files by name. A file that can't be opened, sought or read is a fault, whatever the cause, an interrupted call
+/// too, and all names have one count of faults.
 #[derive(Drop)]
 pub struct FileInputs<'r, R: Files> {
     rt: &'r R,
@@ -61,8 +61,9 @@ impl<R: Files> Inputs for FileInputs<'_, R> {
     }
 }
 
-/// A writer, flushed within each write. A failed write, a failed flush, and a writer that takes nothing of a piece
-/// that isn't empty are faults.
+/// A writer, flushed within each write. A failed write, a failed flush, an interrupted call of either, and a writer
+/// that takes nothing of a piece that isn't empty are faults. After an `Err` some of the piece may have gone out: a
+/// flush can fail after the write.
 #[derive(Drop)]
 pub struct StdSink<W: Write + Drop> {
     inner: W,

@@ -66,7 +66,7 @@ pub trait Sink {
 
     /// Takes octets from the front of `piece`, and says how many: at least one, unless `piece` is empty.
     ///
-    /// On `Err` none was taken.
+    /// On `Err` none was added to `written`.
     fn write(&mut self, piece: &[u8]) -> Result<usize, OutFault>
         ensures most { IfOk result (λ n. n ≤ length piece.now) }
         ensures some { IfOk result (λ n. 0 < length piece.now → 0 < n) }

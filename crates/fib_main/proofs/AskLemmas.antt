@@ -1,59 +1,15 @@
 -- One line after another.
-use Rattle.std.proofs.Common.{◌≡◌, ℕ, suc, List, [], ◌∷◌, ◌++◌, Bool, true, false, cond, Some, None, Result, Ok, Err, length, take, drop, map, refl, sym, ap, ◌∙◌, arith, append_assoc}
+use Rattle.std.proofs.Common.{◌≡◌, ℕ, suc, List, [], ◌∷◌, ◌++◌, true, false, Some, None, Result, Ok, Err, length, map, refl, sym, ap, ◌∙◌, arith, append_assoc, append-nil}
 use Rattle.std.specs.Prelude.{◌==◌, ◌+◌, ◌≤◌}
 use Rattle.octet_fields.specs.Field.{◌>>=◌}
-use Rattle.std.proofs.Common.{append-nil}
 use Rattle.std.proofs.lemmas.Bool.{eqb-true}
 use Rattle.std.proofs.lemmas.List.{length-map}
-use Rattle.bstr.specs.Text.{line_len, without_terminator, lines_of as cut_lines}
-use Rattle.bstr.proofs.lemmas.LineLemmas.{lines-nil, lines-step}
+use Rattle.bstr.specs.Text.{without_terminator, lines_of as cut_lines}
 use Rattle.address_model.specs.Address.{Address}
 use Rattle.fib_prefix.specs.Text.{address_in}
-use Rattle.fib_main.specs.Asks.{in_front, lines_of, address_or, addresses_from, asks_in}
-
--- ---- the lines are those of bstr
-
-line_long : (b : ℕ) (text : List ℕ) → (b == 10) ≡ true → cut_lines (b ∷ text) ≡ (b ∷ []) ∷ cut_lines text
-unfolding line_len
-line_long b text e =
-    let one : line_len (b ∷ text) ≡ 1 = ap (λ t. cond t 1 (suc (line_len text))) e in
-    lines-step (b ∷ text) (omega arith) ∙ ap (λ n. take n (b ∷ text) ∷ cut_lines (drop n (b ∷ text))) one
-
-line_more : (b : ℕ) (text : List ℕ) → (b == 10) ≡ false → cut_lines (b ∷ text) ≡ in_front b (cut_lines text)
-unfolding line_len
-line_more b text e =
-    let long : line_len (b ∷ text) ≡ suc (line_len text) = ap (λ t. cond t 1 (suc (line_len text))) e in
-    lines-step (b ∷ text) (omega arith) ∙ (ap (λ n. take n (b ∷ text) ∷ cut_lines (drop n (b ∷ text))) long ∙ rest text)
-  where
-    rest : (text : List ℕ) → (b ∷ take (line_len text) text) ∷ cut_lines (drop (line_len text) text) ≡ in_front b (cut_lines text)
-    rest [] = ap (λ ls. (b ∷ []) ∷ ls) lines-nil ∙ sym (ap (in_front b) lines-nil)
-    rest (c ∷ more) = sym (ap (in_front b) (lines-step (c ∷ more) (omega arith)))
-
-lines_same : (text : List ℕ) → cut_lines text ≡ lines_of text
-unfolding lines_of
-lines_same [] = lines-nil
-lines_same (b ∷ text) = by_test (b == 10) refl (lines_same text)
-  where
-    by_test : (t : Bool) → (b == 10) ≡ t → cut_lines text ≡ lines_of text → cut_lines (b ∷ text) ≡ cond t ((b ∷ []) ∷ lines_of text) (in_front b (lines_of text))
-    by_test true e ih = line_long b text e ∙ ap (λ ls. (b ∷ []) ∷ ls) ih
-    by_test false e ih = line_more b text e ∙ ap (in_front b) ih
-
--- ---- there are no more lines than octets
-
-front_long : (b : ℕ) (lines : List (List ℕ)) → length (in_front b lines) ≤ suc (length lines)
-front_long b [] = omega arith
-front_long b (line ∷ lines) = omega arith
-
-few_lines : (text : List ℕ) → length (lines_of text) ≤ length text
-unfolding lines_of
-few_lines [] = omega arith
-few_lines (b ∷ text) = by_test (b == 10) (few_lines text)
-  where
-    by_test : (t : Bool) → length (lines_of text) ≤ length text → length (cond t ((b ∷ []) ∷ lines_of text) (in_front b (lines_of text))) ≤ suc (length text)
-    by_test true le = omega (arith, le)
-    by_test false le = omega (arith, le, front_long b (lines_of text))
-
--- ---- asks so far and the lines left
+use Rattle.printed_model.specs.Texts.{lines_of}
+use Rattle.printed_model.proofs.Lines.{lines_same, few_lines}
+use Rattle.fib_main.specs.Asks.{address_or, addresses_from, asks_in}
 
 -- the asks of the n lines so far, and what the lines left give
 pub record Left (asks : List Address) (n : ℕ) (lines : List (List ℕ)) (text : List ℕ) : Type 0 where

@@ -1,20 +1,18 @@
 -- The certificate of the least table.
-use Rattle.std.proofs.Common.{◌≡◌, ◌≢◌, List, [], ◌∷◌, ◌++◌, Bool, true, false, refl, sym, ap, ◌∙◌, map}
+use Rattle.std.proofs.Common.{◌≡◌, ◌≢◌, List, [], ◌∷◌, ◌++◌, Bool, true, false, refl, ap, ◌∙◌, map}
 use Rattle.std.specs.List.{AllByRecursion, IsDistinct}
 use Rattle.std.specs.List.Sorted.{IsStrictlySortedBy}
 use Rattle.std.specs.Map.{keys_of}
-use Rattle.std.specs.Ordering.{ordering_reverse}
-use Rattle.std.specs.declared.cmp.Ordering.TheVariants.{Less, Greater}
 use Rattle.std.proofs.lemmas.List.{map-append}
 use Rattle.address_model.specs.Address.{Prefix, same_prefix}
 use Rattle.address_model.specs.Order.{prefix_cmp}
 use Rattle.address_model.specs.Width.{width}
 use Rattle.address_model.specs.declared.family.Family.{Family}
 use Rattle.address_model.specs.declared.family.Family.TheVariants.{V4, V6}
-use Rattle.address_model.proofs.Ordered.{prefix_total}
 use Rattle.address_model.proofs.Same.{same_prefix_is}
 use Rattle.table_model.specs.Table.{Entry as Row, Table, Distinct}
 use Rattle.table_model.specs.Entries.{Entries, of_family, of_table}
+use Rattle.table_model.proofs.Once.{once_sorted}
 use Rattle.least_model.specs.Both.{aggregate_in_both}
 use Rattle.least_model.specs.Least.{aggregate, bound}
 use Rattle.least_model.specs.Sets.{answers}
@@ -29,26 +27,6 @@ use Rattle.fib_main.specs.Held.{AreBoth, Hold, tree_of}
 use Rattle.fib_main.proofs.Looking.{least_in_both}
 
 -- ---- no prefix stands twice
-
-below : (p q : Prefix) → prefix_cmp p q ≡ Less → same_prefix p q ≡ false
-below p q l = by_test (same_prefix p q) refl
-  where
-    by_test : (b : Bool) → same_prefix p q ≡ b → same_prefix p q ≡ false
-    by_test false e = e
-    by_test true e =
-        let t : prefix_cmp p p ≡ Less = ap (prefix_cmp p) (same_prefix_is p q e) ∙ l in
-        let turned : Less ≡ Greater = sym t ∙ (prefix_total.antisymm p p ∙ ap ordering_reverse t) in
-        absurd cc
-
-all_below : (p : Prefix) (ps : List Prefix) → AllByRecursion (λ q. prefix_cmp p q ≡ Less) ps → AllByRecursion (λ q. same_prefix p q ≡ false) ps
-all_below p [] a = tt
-all_below p (q ∷ ps) a = (below p q a.0, all_below p ps a.1)
-
--- in prefixes that rise
-pub once_sorted : (ps : List Prefix) → IsStrictlySortedBy prefix_cmp ps → IsDistinct same_prefix ps
-unfolding IsStrictlySortedBy IsDistinct
-once_sorted [] s = tt
-once_sorted (p ∷ ps) s = (all_below p ps s.0, once_sorted ps s.1)
 
 other : (f : Family) (p q : List Bool) → p ≢ q → same_prefix (record { family = f; bits = p }) (record { family = f; bits = q }) ≡ false
 other f p q n = by_test (same_prefix (record { family = f; bits = p }) (record { family = f; bits = q })) refl

@@ -1,6 +1,8 @@
 -- What is due, part by part.
 use Rattle.std.proofs.Common.{◌≡◌, ℕ, List, [], Option, Some, Result, Ok, Err, inr, map, refl, sym, ap, ◌∙◌, subst, append-nil, arith}
+use Rattle.std.specs.Prelude.{option_to_list}
 use Rattle.std.specs.List.{AllByRecursion}
+use Rattle.octet_fields.specs.Field.{◌>>=◌}
 use Rattle.address_model.specs.Address.{Address}
 use Rattle.route_model.specs.Events.{Elem}
 use Rattle.route_model.specs.Choice.{IsElem, after_elems, routes_of}
@@ -10,9 +12,9 @@ use Rattle.fib_main.specs.declared.outcome.Outcome.{Outcome}
 use Rattle.fib_main.specs.declared.outcome.Outcome.TheVariants.{Done, CheckNo, Usage, ReadFault, WriteFault, NoMemory, TooLarge, Malformed, HopsFull, BadLine}
 use Rattle.fib_main.specs.declared.outcome.Which.TheVariants.{Dump, Updates}
 use Rattle.fib_main.specs.declared.state.State.{State}
-use Rattle.fib_main.specs.Stops.{Stop, Untold, Refused, ◌>>=◌, Is, Fails}
+use Rattle.fib_main.specs.Stops.{Stop, Untold, Refused, Is, Fails}
 use Rattle.fib_main.specs.Due.{Feed, feed_at, printed, told_at, text_of, with_text}
-use Rattle.fib_main.specs.Ends.{OneRose, ReadsBy, after, feeds_named, one}
+use Rattle.fib_main.specs.Ends.{OneRose, ReadsBy, after, feeds_named}
 use Rattle.fib_prefix.specs.declared.addr.Addr.{Addr}
 use Rattle.fib_prefix.specs.declared.prefix.Prefix.{Prefix}
 use Rattle.fib_main.specs.declared.report.Fed.{Fed}
@@ -122,12 +124,12 @@ reads_more cause more before now (Malformed input number rule) f r = r
 reads_more cause more before now (HopsFull event) f r = r
 reads_more cause more before now (BadLine input line why) f r = r
 
-pub updates_read : (content : Content) (named : Named) (load : Feed) (before mid now : List ℕ → ℕ) (o : Outcome) → Is (feed_at content Dump [] (Some named.dump)) (Ok load) → mid ≡ before → ReadsBy (OneRose (one named.updates) mid now) mid now o
+pub updates_read : (content : Content) (named : Named) (load : Feed) (before mid now : List ℕ → ℕ) (o : Outcome) → Is (feed_at content Dump [] (Some named.dump)) (Ok load) → mid ≡ before → ReadsBy (OneRose (option_to_list named.updates) mid now) mid now o
     → ReadsBy (OneRose (feeds_named content named) before now) before now o
 updates_read content named load before mid now o i same r =
-    let at : ReadsBy (OneRose (one named.updates) before now) before now o = subst (λ b. ReadsBy (OneRose (one named.updates) b now) b now o) same r in
-    reads_more (OneRose (one named.updates) before now) (OneRose (feeds_named content named) before now) before now o
-    (λ rose. inr (subst (λ names. OneRose names before now) (sym (after_is (feed_at content Dump [] (Some named.dump)) load (one named.updates) i)) rose)) at
+    let at : ReadsBy (OneRose (option_to_list named.updates) before now) before now o = subst (λ b. ReadsBy (OneRose (option_to_list named.updates) b now) b now o) same r in
+    reads_more (OneRose (option_to_list named.updates) before now) (OneRose (feeds_named content named) before now) before now o
+    (λ rose. inr (subst (λ names. OneRose names before now) (sym (after_is (feed_at content Dump [] (Some named.dump)) load (option_to_list named.updates) i)) rose)) at
 
 -- ---- where the inputs begin
 

@@ -1,24 +1,21 @@
 -- The trees of both families, and the least table from them.
-use Rattle.std.proofs.Common.{◌≡◌, ℕ, List, [], ◌∷◌, ◌++◌, Bool, true, false, cond, refl, sym, ap, ◌∙◌, subst, append-nil, map}
+use Rattle.std.proofs.Common.{◌≡◌, List, [], ◌∷◌, ◌++◌, Bool, true, false, cond, refl, sym, ap, ◌∙◌, subst, append-nil, map}
 use Rattle.std.proofs.lemmas.List.{map-append}
-use Rattle.std.proofs.lemmas.List.Elements.{filter-append}
-use Rattle.std.proofs.lemmas.List.Sums.{fold-append}
 use Rattle.std.specs.List.{AllByRecursion}
 use Rattle.std.specs.List.Sorted.{IsStrictlySortedBy}
 use Rattle.std.specs.Map.{keys_of}
 use Rattle.std.specs.declared.cmp.Ordering.TheVariants.{Less}
-use Rattle.address_model.specs.Address.{Address, Prefix, same_family}
+use Rattle.address_model.specs.Address.{Prefix, same_family}
 use Rattle.address_model.specs.Order.{prefix_cmp}
 use Rattle.address_model.specs.Width.{width}
 use Rattle.address_model.specs.declared.family.Family.{Family}
 use Rattle.address_model.specs.declared.family.Family.TheVariants.{V4, V6}
-use Rattle.table_model.specs.Table.{Table, lpm}
-use Rattle.table_model.specs.Entries.{Entries, in_order, match_in, of_family, of_table, with_entry}
+use Rattle.table_model.specs.Table.{Table}
+use Rattle.table_model.specs.Entries.{Entries, in_order, of_family, of_table}
 use Rattle.table_model.proofs.Sums.{in_order_again}
 use Rattle.least_model.specs.Both.{LeastInBoth, aggregate_in, aggregate_in_both}
 use Rattle.least_model.specs.Least.{Least, aggregate}
 use Rattle.least_model.proofs.Laws.{fresh_law}
-use Rattle.orig_tree.specs.Seen.{Labels}
 use Rattle.orig_tree.proofs.Places.{family_is}
 use Rattle.fib_prefix.specs.declared.entry.Entry.{Entry}
 use Rattle.fib_prefix.specs.Seen.{entry_as}

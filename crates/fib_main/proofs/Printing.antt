@@ -15,22 +15,21 @@ use Rattle.route_model.proofs.Elems.{candidates_stay}
 use Rattle.route_model.proofs.Said.{none_yet}
 use Rattle.feed_model.specs.Feed.{IsNumbered, brought, entries_of, hops_after, number_in}
 use Rattle.feed_model.proofs.Numbers.{routes_numbered}
+use Rattle.fib_prefix.specs.Hops.{most_hops}
 use Rattle.printed_model.specs.Rows.{PrintedRow, IsRow, text_of as rows_text}
 use Rattle.printed_model.specs.Numbered.{of_route, of_least, of_cert, IsOther, HaveHops, Proves, rows_with}
-use Rattle.printed_model.specs.Used.{Used, printed_in, used_of}
+use Rattle.printed_model.specs.Used.{printed_in, used_of}
 use Rattle.printed_model.proofs.Few.{folded_distinct, printed_read}
 use Rattle.printed_model.proofs.Renamed.{printed_proves}
 use Rattle.fib_report.specs.Seen.{Told}
 use Rattle.fib_report.specs.Rows.{change_by, of_answer, of_change, of_table, printed_rows, report_rows}
-use Rattle.fib_words.specs.Commands.{Named, Asked, Run, Check}
-use Rattle.fib_main.specs.declared.outcome.Outcome.{Outcome}
-use Rattle.fib_main.specs.declared.outcome.Outcome.TheVariants.{Done}
+use Rattle.fib_words.specs.Commands.{Named, Asked, Run}
 use Rattle.fib_main.specs.declared.report.Fed.{Fed}
 use Rattle.fib_main.specs.declared.state.State.{State}
-use Rattle.fib_main.specs.Due.{Feed, Printed, checked, output_at, printed, ran, run_at, text_of, used_at, with_text}
+use Rattle.fib_main.specs.Due.{Feed, Printed, output_at, printed, ran, run_at, text_of, with_text}
 use Rattle.fib_main.specs.Proves.{ChecksYes, IfRan, PrintsYes}
 use Rattle.fib_main.specs.Standing.{IsFed}
-use Rattle.fib_main.specs.Stops.{Stop, Untold, Refused, Fails, Is}
+use Rattle.fib_main.specs.Stops.{Stop, Untold, Refused, Is}
 use Rattle.fib_main.proofs.Certifying.{certified_least}
 use Rattle.fib_main.proofs.Telling.{entries_sorted}
 
@@ -91,7 +90,7 @@ checks_yes load updates fed state asks run text f r proper e =
     let between : List PrintedRow = map (of_change hops) told.changes ++ map (of_answer hops) told.answers ++ map (of_table hops) told.table in
     let after : List PrintedRow = report_rows told.report in
     let s = f.has.stands in
-    let few : length hops ≤ 65534 = subst (λ h. length h ≤ 65534) s.hops s.few in
+    let few : length hops ≤ most_hops = subst (λ h. length h ≤ most_hops) s.hops s.few in
     let cert : IsCertificate R T C = certified_least R R (entries_sorted hops held (candidates_stay [] elems none_yet s.proper)) in
     let others = between_other hops told in
     let same : printed_rows hops told ≡ rows_with hops R T C between after =
@@ -126,15 +125,3 @@ run_yes content named asked text a i says = rw a (by_run (run_at content named) 
     by_run (Ok p) i = subst ChecksYes (sym (same_fine (text_of p) text i)) says
     by_run (Err Untold) i = tt
     by_run (Err (Refused o)) i = tt
-
-pub check_yes : (content : List ℕ → Option (List ℕ)) (name : List ℕ) (asked : Asked) → asked ≡ Check name → IfRan (output_at content asked) PrintsYes
-unfolding output_at
-check_yes content name asked a = rw a (by_used (used_at content name))
-  where
-    by_used : (d : Result Used Stop) → IfRan (checked d) PrintsYes
-    by_used (Ok used) = tt
-    by_used (Err stop) = tt
-
--- Done is no failure
-pub not_done : {Y : Type 0} (o : Outcome) (d : Result Y Stop) → Fails o d → o ≡ Done → ⊥
-not_done o d f e = subst (λ x. Fails x d) e f

@@ -1,8 +1,7 @@
 -- Replies: of a run its text, and of a check the verdict, whose yes proves the table least.
-use Rattle.std.proofs.Common.{◌≡◌, ℕ, List, [], ◌∷◌, ◌++◌, Option, Some, None, Result, Ok, Err, refl, sym, ap, ◌∙◌, append_assoc, ◌+◌, ◌<◌, length, map, take}
-use Rattle.std.specs.Prelude.{get_or}
-use Rattle.std.specs.List.{AllByRecursion, join_with_byte}
-use Rattle.std.proofs.lemmas.List.{map_push, take_more}
+use Rattle.std.proofs.Common.{◌≡◌, ℕ, List, Option, Some, None, Result, Ok, Err, refl, ap}
+use Rattle.std.specs.List.{AllByRecursion}
+use Rattle.octet_fields.specs.Field.{◌>>=◌}
 use Rattle.cert_model.proofs.Rules.{soundness_law}
 use Rattle.cert_model.proofs.Verdicts.{verdict_is, verdict_law}
 use Rattle.cert_model.specs.Verdict.{RowFits}
@@ -10,23 +9,10 @@ use Rattle.printed_model.specs.Texts.{BadLine}
 use Rattle.printed_model.specs.Used.{Used, printed_in}
 use Rattle.fib_words.specs.Commands.{Named, Asked, Run, Check, command_of}
 use Rattle.fib_main.specs.declared.outcome.Which.TheVariants as which
-use Rattle.fib_main.specs.Stops.{Stop, Untold, Refused, ◌>>=◌, rowed, Is}
+use Rattle.fib_main.specs.Stops.{Stop, Untold, Refused, rowed, Is}
 use Rattle.fib_main.specs.Due.{Printed, Reply, ran, checked, due, input_at, output_at, run_at, usage, used_at, text_of, with_text, with_reply}
 use Rattle.fib_main.specs.Proves.{IfChecked, Decides, YesProves}
 use Rattle.fib_main.proofs.Fitting.{read_fits}
-
--- ---- rows
-
--- one more field behind a row
-pub more_field : (first : List ℕ) (fields : List (List ℕ)) (field : List ℕ) → join_with_byte 44 (first ∷ fields) ++ 44 ∷ field ≡ join_with_byte 44 (first ∷ (fields ++ field ∷ []))
-more_field first [] field = refl
-more_field first (next ∷ fields) field = append_assoc first (44 ∷ join_with_byte 44 (next ∷ fields)) (44 ∷ field) ∙ ap (λ text. first ++ 44 ∷ text) (more_field next fields field)
-
--- the same of a list of them
-pub row_grows : {A : Type 0} (view : A → List ℕ) (first : List ℕ) (fields : List A) (i : ℕ) (x : A) (old new : List ℕ) → i < length fields → old ≡ join_with_byte 44 (first ∷ map view (take i fields)) → new ≡ old ++ 44 ∷ view (get_or fields i x) → new ≡ join_with_byte 44 (first ∷ map view (take (i + 1) fields))
-row_grows view first fields i x old new lt is grown =
-    let field : List ℕ = view (get_or fields i x) in
-    grown ∙ (ap (λ text. text ++ 44 ∷ field) is ∙ (more_field first (map view (take i fields)) field ∙ ap (λ fs. join_with_byte 44 (first ∷ fs)) (sym (ap (map view) (take_more fields i x lt) ∙ map_push view (take i fields) (get_or fields i x)))))
 
 -- ---- what a run replies
 

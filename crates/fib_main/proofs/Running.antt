@@ -2,6 +2,7 @@
 use Rattle.std.proofs.Common.{◌≡◌, ℕ, List, [], ◌∷◌, ◌++◌, Option, Some, None, Result, Ok, Err, refl, sym, ap, ◌∙◌, subst}
 use Rattle.std.proofs.lemmas.List.Sums.{fold-append}
 use Rattle.std.specs.List.{AllByRecursion}
+use Rattle.octet_fields.specs.Field.{◌>>=◌}
 use Rattle.address_model.specs.Address.{Address}
 use Rattle.table_model.specs.Entries.{Entries, match_in}
 use Rattle.route_model.specs.Events.{Elem}
@@ -17,7 +18,7 @@ use Rattle.fib_words.specs.Commands.{Named, Asked, Run, Check, command_of}
 use Rattle.printed_model.specs.Used.{Used}
 use Rattle.fib_main.specs.declared.outcome.Which.{Which}
 use Rattle.fib_main.specs.declared.outcome.Which.TheVariants.{Dump, Updates}
-use Rattle.fib_main.specs.Stops.{Stop, ◌>>=◌, few_hops, whole}
+use Rattle.fib_main.specs.Stops.{Stop, few_hops, whole}
 use Rattle.fib_main.specs.Due.{Feed, printed, input_at, asks_at, feed_at, feed_of, feed_in, elems_in, read_part, told_at, run_at, used_at, output_at, ran, checked, due, usage, answers_to}
 use Rattle.fib_main.specs.Runs.{IfDue, SumsUp, Forwards, Answers, HasLeast, Certified}
 use Rattle.fib_main.proofs.Certifying.{certified_least}

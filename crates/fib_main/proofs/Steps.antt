@@ -1,6 +1,6 @@
 -- One elementary event after another.
-use Rattle.std.proofs.Common.{◌≡◌, ℕ, suc, ◌+◌, ◌<◌, ◌≤◌, List, [], ◌∷◌, ◌++◌, true, false, cond, Option, Some, None, Result, Err, length, map, take, drop, refl, sym, ap, ◌∙◌, arith, subst, append_assoc, append-nil, length-append}
-use Rattle.std.specs.Prelude.{option_map, get_or}
+use Rattle.std.proofs.Common.{◌≡◌, ℕ, suc, ◌+◌, ◌<◌, ◌≤◌, List, [], ◌∷◌, ◌++◌, true, false, cond, Option, Some, None, Result, Err, length, map, take, drop, refl, sym, ap, ◌∙◌, arith, subst, append_assoc, append-nil, length-append, inl, inr}
+use Rattle.std.specs.Prelude.{option_map, get_or, ◌⊎◌}
 use Rattle.std.proofs.Math.Seq.{drop-cons}
 use Rattle.std.proofs.lemmas.List.{take_all, take_more, take-append-drop, map-append}
 use Rattle.fib_prefix.specs.declared.hops.HopError.{HopError}
@@ -21,7 +21,7 @@ use Rattle.route_model.specs.Choice.{Candidates, IsElem, after_elem, after_elems
 use Rattle.route_model.proofs.Elems.{elems_more}
 use Rattle.feed_model.specs.Feed.{AreNumbered, hops_after, full_at, change_of, change_by, changes_from, at_event, number_in}
 use Rattle.feed_model.proofs.Numbers.{hops_more, full_in_front, full_behind, routes_numbered, change_stays}
-use Rattle.fib_prefix.specs.Hops.{number_of, with_hop}
+use Rattle.fib_prefix.specs.Hops.{number_of, with_hop, most_hops}
 use Rattle.fib_prefix.specs.Seen.{addr_as}
 use Rattle.fib_prefix.specs.declared.addr.Addr.{Addr}
 use Rattle.fib_prefix.proofs.HopLemmas.{new_is_not}
@@ -53,13 +53,13 @@ other_hop hops p before after old hop n b a t e = rw (b, a, t, e) refl
 
 -- ---- one hop too many
 
-pub full_hop : (hops : List Address) (a : Address) → length hops ≡ 65534 → number_of hops a ≡ None → 65534 < length (with_hop hops a)
+pub full_hop : (hops : List Address) (a : Address) → length hops ≡ most_hops → number_of hops a ≡ None → most_hops < length (with_hop hops a)
 full_hop hops a len none =
     let grown : with_hop hops a ≡ hops ++ a ∷ [] = ap (λ t. cond t hops (hops ++ a ∷ [])) (new_is_not hops a (sym none)) in
     omega (arith, len, ap length grown, length-append hops (a ∷ []))
 
 -- of an elementary event that puts this hop
-pub full_put : (hops : List Address) (elem : code_elem.Elem) (q : code_peer.Peer) (p : code_prefix.Prefix) (path : ℕ) (hop : Addr) → elem ≡ code_variant.Put q p path hop → (length hops ≡ 65534) × (number_of hops (addr_as hop) ≡ None) → 65534 < length (hops_after hops (elem_as elem ∷ []))
+pub full_put : (hops : List Address) (elem : code_elem.Elem) (q : code_peer.Peer) (p : code_prefix.Prefix) (path : ℕ) (hop : Addr) → elem ≡ code_variant.Put q p path hop → (length hops ≡ most_hops) × (number_of hops (addr_as hop) ≡ None) → most_hops < length (hops_after hops (elem_as elem ∷ []))
 full_put hops elem q p path hop is full = rw is (full_hop hops (addr_as hop) full.0 full.1)
 
 abbrev refused : HopError → Result Choice HopError
@@ -68,19 +68,19 @@ refused e = Err e
 pub same_error : (e f : HopError) → refused e ≡ refused f → e ≡ f
 same_error e f h = cc
 
-full_one : (hops : List Address) (elem : Elem) → 65534 < length (hops_after hops (elem ∷ [])) → full_at hops (elem ∷ []) ≡ Some 1
+full_one : (hops : List Address) (elem : Elem) → most_hops < length (hops_after hops (elem ∷ [])) → full_at hops (elem ∷ []) ≡ Some 1
 unfolding full_at
-full_one hops elem over = ap (λ t. cond t (Some 1) (option_map suc None)) (lt-ltb 65534 (length (hops_after hops (elem ∷ []))) over)
+full_one hops elem over = ap (λ t. cond t (Some 1) (option_map suc None)) (lt-ltb most_hops (length (hops_after hops (elem ∷ []))) over)
 
-fits_one : (hops : List Address) (elem : Elem) → length (hops_after hops (elem ∷ [])) ≤ 65534 → full_at hops (elem ∷ []) ≡ None
+fits_one : (hops : List Address) (elem : Elem) → length (hops_after hops (elem ∷ [])) ≤ most_hops → full_at hops (elem ∷ []) ≡ None
 unfolding full_at
-fits_one hops elem few = ap (λ t. cond t (Some 1) (option_map suc None)) (le-ltb 65534 (length (hops_after hops (elem ∷ []))) few)
+fits_one hops elem few = ap (λ t. cond t (Some 1) (option_map suc None)) (le-ltb most_hops (length (hops_after hops (elem ∷ []))) few)
 
 -- the hops of a state after what came before it in its input
 hops_here : (which : Which) (before done : List Elem) (state : State) → Stands which before done state → hops_after (hops_after [] before) done ≡ state.hops.list
 hops_here which before done state s = sym (hops_more [] before done) ∙ sym s.hops
 
-pub full_here : (which : Which) (before done : List Elem) (elem : Elem) (state : State) (event : ℕ) → event ≡ length (done ++ elem ∷ []) → Stands which before done state → 65534 < length (hops_after state.hops.list (elem ∷ [])) → IsFull before (done ++ elem ∷ []) event
+pub full_here : (which : Which) (before done : List Elem) (elem : Elem) (state : State) (event : ℕ) → event ≡ length (done ++ elem ∷ []) → Stands which before done state → most_hops < length (hops_after state.hops.list (elem ∷ [])) → IsFull before (done ++ elem ∷ []) event
 full_here which before done elem state event counted s over =
     let one : full_at (hops_after (hops_after [] before) done) (elem ∷ []) ≡ Some 1 = ap (λ hs. full_at hs (elem ∷ [])) (hops_here which before done state s) ∙ full_one state.hops.list elem over in
     let n : length done + 1 ≡ event = omega (arith, counted, length-append done (elem ∷ [])) in
@@ -127,6 +127,15 @@ adds_change which event changes change old new w e grown = record {
   added = ap changes_as grown ∙ (map_push (λ (c : ℕ × code_change.Change). (c.0, change_as c.1)) old (event, change) ∙ ap (λ cs. changes_as old ++ cs) (ap (at_event event) e ∙ ap (λ u. kept_one u event changes) (sym w)));
 }
 
+-- of an input that isn't the updates
+pub none_kept : (which : Which) (event : ℕ) (changes : List Change) → which ≡ Asks ⊎ (which ≡ Dump ⊎ which ≡ Printed) → kept_one which event changes ≡ []
+none_kept Asks event changes w = refl
+none_kept Dump event changes w = refl
+none_kept Printed event changes w = refl
+none_kept Updates event changes (inl e) = cc
+none_kept Updates event changes (inr (inl e)) = cc
+none_kept Updates event changes (inr (inr e)) = cc
+
 pub no_change : (which : Which) (event : ℕ) (changes : List Change) → which ≡ Updates → [] ≡ changes → kept_one which event changes ≡ []
 no_change which event changes w e = ap (λ u. kept_one u event changes) w ∙ ap (at_event event) (sym e)
 
@@ -144,7 +153,7 @@ all_push P [] x a p = (p, tt)
 all_push P (y ∷ xs) x a p = (a.0, all_push P xs x a.1 p)
 
 pub stands_next : (which : Which) (before done : List Elem) (elem : Elem) (old new : State) (event : ℕ) (choice : Choice) → IsElem elem → event ≡ length (done ++ elem ∷ []) → Stands which before done old
-    → new.candidates.candidates ≡ after_elem old.candidates.candidates elem → new.hops.list ≡ hops_after old.hops.list (elem ∷ []) → (length old.hops.list ≤ 65534 → length new.hops.list ≤ 65534) → IsChoice old.candidates.candidates elem choice
+    → new.candidates.candidates ≡ after_elem old.candidates.candidates elem → new.hops.list ≡ hops_after old.hops.list (elem ∷ []) → (length old.hops.list ≤ most_hops → length new.hops.list ≤ most_hops) → IsChoice old.candidates.candidates elem choice
     → Adds which event (change_of new.hops.list (prefix_as choice.prefix) (option_map addr_as choice.before) (option_map addr_as choice.after)) (changes_as old.changes.items) (changes_as new.changes.items)
     → Stands which before (done ++ elem ∷ []) new
 stands_next which before done elem old new event choice is counted s held more few chosen adds = record {

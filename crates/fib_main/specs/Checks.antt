@@ -4,8 +4,7 @@ use Rattle.address_model.specs.Address.{Address}
 use Rattle.cert_model.specs.Verdict.{No, Twice, NotSame, Shape, LeafWrong, JoinWrong, NotLeast, verdict}
 use Rattle.fib_prefix.specs.Hops.{hop_at}
 use Rattle.fib_prefix.specs.Text.{address_text, prefix_text}
-use Rattle.fib_report.specs.Writing.{line}
-use Rattle.printed_model.specs.Rows.{family_name, hop_text}
+use Rattle.printed_model.specs.Rows.{family_name, hop_text, line}
 use Rattle.printed_model.specs.Used.{Used}
 
 -- the first thing that is wrong with the rows of a printed text, if anything is

@@ -1,5 +1,6 @@
 -- What a run and a check are to come to.
 use Rattle.std.specs.Prelude.{ℕ, ◌+◌, List, [], ◌++◌, length, Option, Some, None, Result, Ok, Err, map}
+use Rattle.octet_fields.specs.Field.{◌>>=◌}
 use Rattle.address_model.specs.Address.{Address}
 use Rattle.table_model.specs.Entries.{Entries, match_in}
 use Rattle.table_model.specs.Changes.{Change}
@@ -19,7 +20,7 @@ use Rattle.fib_main.specs.declared.outcome.Outcome.TheVariants.{Usage}
 use Rattle.fib_main.specs.declared.outcome.Which.{Which}
 use Rattle.fib_main.specs.declared.outcome.Which.TheVariants.{Asks, Dump, Updates}
 use Rattle.fib_main.specs.declared.outcome.Which.TheVariants as which
-use Rattle.fib_main.specs.Stops.{Stop, Refused, ◌>>=◌, told, sized, lined, rowed, whole, few_hops}
+use Rattle.fib_main.specs.Stops.{Stop, Refused, told, sized, lined, rowed, whole, few_hops}
 use Rattle.fib_main.specs.Asks.{asks_in}
 use Rattle.fib_main.specs.Checks.{verdict_of, verdict_text}
 

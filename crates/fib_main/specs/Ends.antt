@@ -1,5 +1,5 @@
 -- What a run or a check leaves.
-use Rattle.std.specs.Prelude.{◌≡◌, ℕ, List, [], ◌∷◌, ◌++◌, codes, decimal, Option, Some, None, IfSome, Result, Ok, Err, ◌⊎◌}
+use Rattle.std.specs.Prelude.{◌≡◌, ℕ, List, [], ◌∷◌, ◌++◌, codes, decimal, Option, Some, None, IfSome, Result, Ok, Err, ◌⊎◌, option_to_list}
 use Rattle.fib_io.specs.Causes.{Rose}
 use Rattle.fib_io.specs.Octets.{Adds, AddsSome}
 use Rattle.cert_model.specs.Verdict.{No}
@@ -56,18 +56,13 @@ after (Err (Refused o)) names = []
 after (Err Untold) names = names
 after (Ok x) names = names
 
--- a name, if there is one
-abbrev pub one : Option (List ℕ) → List (List ℕ)
-one None = []
-one (Some name) = name ∷ []
-
 -- the dump and then the updates
 abbrev pub feeds_named : (List ℕ → Option (List ℕ)) → Named → List (List ℕ)
-feeds_named content named = named.dump ∷ after (feed_at content Dump [] (Some named.dump)) (one named.updates)
+feeds_named content named = named.dump ∷ after (feed_at content Dump [] (Some named.dump)) (option_to_list named.updates)
 
 -- the inputs that are to be read, up to the first that is refused
 abbrev pub reads_named : (List ℕ → Option (List ℕ)) → Named → List (List ℕ)
-reads_named content named = one named.asks ++ after (asks_at content named.asks) (feeds_named content named)
+reads_named content named = option_to_list named.asks ++ after (asks_at content named.asks) (feeds_named content named)
 
 -- the same of what the words ask for
 abbrev pub reads_asked : (List ℕ → Option (List ℕ)) → Option Asked → List (List ℕ)

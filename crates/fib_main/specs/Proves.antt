@@ -1,8 +1,10 @@
 -- What a check's yes says, and the text of a run, to which a check says yes.
-use Rattle.std.specs.Prelude.{◌≡◌, ◌↔◌, ℕ, List, None, Result, Ok, Err}
+use Rattle.std.specs.Prelude.{◌≡◌, ◌↔◌, ℕ, List, Option, Some, None, Result, Ok, Err}
+use Rattle.fib_io.specs.Octets.{Adds}
 use Rattle.least_model.specs.Both.{LeastInBoth}
 use Rattle.cert_model.specs.Right.{IsCertificate}
 use Rattle.printed_model.specs.Used.{Used, printed_in}
+use Rattle.fib_words.specs.Commands.{Asked, Run, Check}
 use Rattle.fib_main.specs.Stops.{Stop}
 use Rattle.fib_main.specs.Checks.{verdict_of}
 use Rattle.fib_main.specs.Due.{Output, Ran, Checked, Printed, text_of}
@@ -21,7 +23,7 @@ IfChecked (Ok (Ran p)) P = Unit {0}
 IfChecked (Ok (Checked used)) P = P used
 IfChecked (Err stop) P = Unit {0}
 
--- The text is one that a check says yes to: each of its lines is a printed row, the rows have a certificate that proves their least table least for their routes, and so nothing is wrong with them.
+-- The text, if it isn't too large for an input, is one that a check says yes to: each of its lines is a printed row, the rows have a certificate that proves their least table least for their routes, and so nothing is wrong with them.
 pub record ChecksYes (text : List ℕ) : Type 0 where
   pub used : Used
   pub read : printed_in text ≡ Ok used
@@ -37,3 +39,13 @@ abbrev pub IfRan : Result Output Stop → (Printed → Type 0) → Type 0
 IfRan (Ok (Ran p)) P = P p
 IfRan (Ok (Checked used)) P = Unit {0}
 IfRan (Err stop) P = Unit {0}
+
+-- the words are those of a run
+abbrev pub IsRun : Option Asked → Type 0
+IsRun (Some (Run named)) = Unit {0}
+IsRun (Some (Check name)) = ⊥
+IsRun None = ⊥
+
+-- a text that a check says yes to was added, where out tells it
+abbrev pub AddsYes : Option (List ℕ) → Option (List ℕ) → Type 0
+AddsYes old new = (text : List ℕ) × Adds old new text × ChecksYes text

@@ -1,24 +1,24 @@
 -- What holds of what a run prints.
-use Rattle.std.specs.Prelude.{◌≡◌, Some, Result, Ok, Err, map, ℕ}
+use Rattle.std.specs.Prelude.{◌≡◌, Some, Result, ℕ}
 use Rattle.std.specs.List.{AllByRecursion}
 use Rattle.address_model.specs.Address.{Address}
 use Rattle.table_model.specs.Entries.{match_in, AlikeInBoth}
 use Rattle.table_model.specs.Changes.{sum_of}
 use Rattle.least_model.specs.Both.{LeastInBoth}
 use Rattle.cert_model.specs.Right.{IsCertificate}
+use Rattle.feed_model.specs.Feed.{changes_in}
 use Rattle.fib_report.specs.Seen.{Told}
 use Rattle.fib_main.specs.Stops.{Stop}
-use Rattle.fib_main.specs.Due.{Output, Ran, Checked}
+use Rattle.fib_main.specs.Due.{Output}
+use Rattle.fib_main.specs.Proves.{IfRan}
 
 -- where a run is due, this holds of what is told
 abbrev pub IfDue : Result Output Stop → (Told → Type 0) → Type 0
-IfDue (Ok (Ran p)) P = P p.told
-IfDue (Ok (Checked used)) P = Unit {0}
-IfDue (Err stop) P = Unit {0}
+IfDue output P = IfRan output (λ p. P p.told)
 
 -- the sum of the changes, begun at the empty table, is the table
 abbrev pub SumsUp : Told → Type 0
-SumsUp told = sum_of (map (λ c. c.1) told.changes) ≡ Some told.table
+SumsUp told = sum_of (changes_in told.changes) ≡ Some told.table
 
 -- the table sends every address where the routes send it
 abbrev pub Forwards : Told → Type 0

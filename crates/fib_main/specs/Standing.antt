@@ -1,11 +1,12 @@
 -- What a state holds after elementary events.
-use Rattle.std.specs.Prelude.{◌≡◌, ℕ, ◌≤◌, List, [], ◌∷◌, ◌++◌, length, map, Option, Some, None, Result, Ok, Err}
+use Rattle.std.specs.Prelude.{◌≡◌, ℕ, ◌≤◌, List, [], ◌++◌, length, map, Some, None, Result, Ok, Err}
 use Rattle.std.specs.List.{AllByRecursion}
 use Rattle.address_model.specs.Address.{Address}
 use Rattle.table_model.specs.Changes.{Change}
 use Rattle.route_model.specs.Events.{Elem, Event}
 use Rattle.route_model.specs.Choice.{Candidates, IsElem, after_elems, elems_after, routes_of}
 use Rattle.feed_model.specs.Feed.{hops_after, full_at, changes_from}
+use Rattle.fib_prefix.specs.Hops.{most_hops}
 use Rattle.fib_main.specs.declared.outcome.Which.{Which}
 use Rattle.fib_main.specs.declared.outcome.Which.TheVariants.{Asks, Dump, Updates, Printed}
 use Rattle.fib_main.specs.declared.outcome.Outcome.{Outcome}
@@ -21,11 +22,6 @@ use Rattle.fib_main.specs.Seen.{changes_as, route_as}
 use Rattle.fib_main.specs.Stops.{Stop, Refused, Is, Fails, event_in}
 use Rattle.fib_main.specs.Due.{Feed}
 
--- the value as a list of one, or none
-abbrev pub list_of : {A : Type 0} → Option A → List A
-list_of None = []
-list_of (Some x) = x ∷ []
-
 -- the changes that are kept of an input's elementary events: those of updates
 abbrev pub kept : Which → List Address → Candidates → List Elem → List (ℕ × Change)
 kept Asks hops held elems = []
@@ -37,7 +33,7 @@ kept Updates hops held elems = changes_from hops 1 held elems
 pub record Stands (which : Which) (before elems : List Elem) (state : State) : Type 0 where
   pub candidates : state.candidates.candidates ≡ after_elems [] (before ++ elems)
   pub hops : state.hops.list ≡ hops_after [] (before ++ elems)
-  pub few : length state.hops.list ≤ 65534
+  pub few : length state.hops.list ≤ most_hops
   pub fits : full_at (hops_after [] before) elems ≡ None
   pub proper : AllByRecursion IsElem (before ++ elems)
   pub changes : (more : List Elem) → changes_as state.changes.items ≡ kept which (hops_after state.hops.list more) (after_elems [] before) elems

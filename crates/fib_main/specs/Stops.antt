@@ -13,11 +13,6 @@ pub data Stop : Type 0 where
   Untold : Stop
   Refused : Outcome → Stop
 
-infixl 10 ◌>>=◌
-abbrev pub ◌>>=◌ : {A B : Type 0} → Result A Stop → (A → Result B Stop) → Result B Stop
-(Ok x) >>= f = f x
-(Err e) >>= f = Err e
-
 -- the content of an input, where it is told
 abbrev pub told : Option (List ℕ) → Result (List ℕ) Stop
 told None = Err Untold

@@ -1,12 +1,11 @@
 //! The check of a printed text, and the row that it prints.
 
-ghost use Rattle.std.specs.Prelude.{◌≡◌, ◌∷◌, ◌++◌, [], codes, decimal, map, option_map, IfOk, OnOk, Some};
+ghost use Rattle.std.specs.Prelude.{◌≡◌, ◌∷◌, [], codes, decimal, option_map, IfOk, Some};
 ghost use Rattle.cert_check.specs.Seen.{no_as};
 ghost use Rattle.cost_cert.specs.Printed.{printed_as};
 ghost use Rattle.fib_prefix.specs.Seen.{addr_as, prefix_as};
 ghost use Rattle.fib_prefix.specs.Text.{address_text, prefix_text};
-ghost use Rattle.fib_report.specs.Writing.{line};
-ghost use Rattle.printed_model.specs.Rows.{family_name};
+ghost use Rattle.printed_model.specs.Rows.{family_name, line};
 ghost use Rattle.printed_model.specs.Used.{printed_in};
 ghost use Rattle.fib_main.specs.Checks.{hop_field, no_fields, verdict_of, verdict_text};
 ghost use Rattle.fib_main.specs.Due.{Checked, reply_of};
@@ -15,7 +14,8 @@ ghost use Rattle.fib_main.specs.Seen.{reply_as};
 
 use cert_check::{CheckError, No, check};
 use cost_cert::{Printed, PrintedError, read_printed};
-use fib_prefix::{Addr, Family, Hop, HopTable, MOST_TEXT, Prefix, write_addr, write_prefix};
+use fib_prefix::{Addr, Family, Hop, HopTable, MOST_TEXT, Prefix, addr_text, prefix_text};
+use fib_report::{family_field, hop_field, row_text};
 use itoa::Buffer;
 use std::alloc::{AllocError, Global};
 
@@ -28,51 +28,12 @@ pub struct Reply {
     pub no: Option<No>,
 }
 
-/// Puts a comma and a field behind a row.
-fn push_field(row: &mut Vec<u8>, field: &[u8]) -> Result<(), AllocError>
-    ensures { OnOk result (row.new.items ≡ row.old.items ++ 44 ∷ field.now) }
-{
-    row.push(b',')?;
-    row.extend_from_slice(field)
-}
-
-/// A row: its fields with commas between them, and a line feed.
-fn row_of(alloc: Global, first: &[u8], more: &[&[u8]]) -> Result<Vec<u8>, AllocError>
-    ensures { IfOk result (λ text. text.items ≡ line (first.now ∷ map (λ f. f.now) more.now)) }
-{
-    let mut text = Vec::from_slice(alloc, first)?;
-    for field in more {
-        push_field(&mut text, field)?;
-    }
-    text.push(b'\n')?;
-    Ok(text)
-}
-
-/// An address.
-fn addr_field<'a>(buffer: &'a mut [u8; MOST_TEXT], addr: &Addr) -> &'a [u8]
-    ensures { result.now ≡ address_text (addr_as addr.now) }
-{
-    let len = write_addr(addr, buffer);
-    &buffer[..len]
-}
-
-/// The address of a hop, or `none`.
-fn hop_field<'a>(buffer: &'a mut [u8; MOST_TEXT], hop: Hop, hops: &HopTable) -> &'a [u8]
-    ensures { result.now ≡ hop_field hops.now.list hop.0 }
-{
-    match hops.addr(hop) {
-        Some(addr) => addr_field(buffer, &addr),
-        None => b"none",
-    }
-}
-
 /// `no,twice,PREFIX`.
 fn twice_row(alloc: Global, prefix: &Prefix) -> Result<Vec<u8>, AllocError>
     ensures { IfOk result (λ text. text.items ≡ line (codes "no" ∷ codes "twice" ∷ prefix_text (prefix_as prefix.now) ∷ [])) }
 {
     let mut buffer = [0; MOST_TEXT];
-    let len = write_prefix(prefix, &mut buffer);
-    row_of(alloc, b"no", &[b"twice", &buffer[..len]])
+    row_text(alloc, &[b"no", b"twice", prefix_text(&mut buffer, prefix)])
 }
 
 /// `no,notsame,ADDRESS,WANT,HAS`: the hops of the address from the routes and from the table.
@@ -85,13 +46,13 @@ fn not_same_row(
 ) -> Result<Vec<u8>, AllocError>
     ensures { IfOk result (λ text. text.items ≡ line (codes "no" ∷ codes "notsame" ∷ address_text (addr_as addr.now) ∷ hop_field hops.now.list want.0 ∷ hop_field hops.now.list has.0 ∷ [])) }
 {
-    let mut addr_text = [0; MOST_TEXT];
+    let mut text = [0; MOST_TEXT];
     let mut want_text = [0; MOST_TEXT];
     let mut has_text = [0; MOST_TEXT];
-    let addr = addr_field(&mut addr_text, addr);
-    let want = hop_field(&mut want_text, want, hops);
-    let has = hop_field(&mut has_text, has, hops);
-    row_of(alloc, b"no", &[b"notsame", addr, want, has])
+    let addr = addr_text(&mut text, addr);
+    let want = hop_field(&mut want_text, hops.addr(want), b"none");
+    let has = hop_field(&mut has_text, hops.addr(has), b"none");
+    row_text(alloc, &[b"no", b"notsame", addr, want, has])
 }
 
 /// `no,WORD,ROW`.
@@ -99,7 +60,7 @@ fn wrong_row(alloc: Global, word: &[u8], number: u64) -> Result<Vec<u8>, AllocEr
     ensures { IfOk result (λ text. text.items ≡ line (codes "no" ∷ word.now ∷ decimal number ∷ [])) }
 {
     let mut digits = Buffer::new();
-    row_of(alloc, b"no", &[word, digits.format(number).as_bytes()])
+    row_text(alloc, &[b"no", word, digits.format(number).as_bytes()])
 }
 
 /// `no,joinwrong,ROW,SAID,DUE`: the number that the row says, and the one that is due.
@@ -112,17 +73,7 @@ fn join_wrong_row(alloc: Global, number: u64, said: u64, due: u64) -> Result<Vec
     let number = number_text.format(number).as_bytes();
     let said = said_text.format(said).as_bytes();
     let due = due_text.format(due).as_bytes();
-    row_of(alloc, b"no", &[b"joinwrong", number, said, due])
-}
-
-/// The number that a family is named by.
-fn family_field(family: Family) -> &'static [u8]
-    ensures { result.now ≡ family_name family }
-{
-    match family {
-        Family::V4 => b"4",
-        Family::V6 => b"6",
-    }
+    row_text(alloc, &[b"no", b"joinwrong", number, said, due])
 }
 
 /// `no,notleast,FAMILY,ENTRIES,BOUND`: how many entries the table has, and how many a least one.
@@ -139,7 +90,7 @@ fn not_least_row(
     let family = family_field(family);
     let entries = entries_text.format(entries).as_bytes();
     let bound = bound_text.format(bound).as_bytes();
-    row_of(alloc, b"no", &[b"notleast", family, entries, bound])
+    row_text(alloc, &[b"no", b"notleast", family, entries, bound])
 }
 
 /// The row of what is wrong.
@@ -165,7 +116,7 @@ fn verdict_row(alloc: Global, no: &Option<No>, hops: &HopTable) -> Result<Vec<u8
     ensures { IfOk result (λ text. text.items ≡ verdict_text hops.now.list (option_map no_as no.now)) }
 {
     match no {
-        None => row_of(alloc, b"yes", &[]),
+        None => Vec::from_slice(alloc, b"yes\n"),
         Some(no) => no_row(alloc, no, hops),
     }
 }
@@ -205,8 +156,5 @@ pub fn check_text(alloc: Global, text: &[u8]) -> Result<Reply, PrintedError>
     ensures { IsReply result (printed_in text.now) }
 {
     let printed = read_printed(alloc, text)?;
-    match reply_to(alloc, &printed) {
-        Ok(reply) => Ok(reply),
-        Err(_) => Err(PrintedError::NoMemory),
-    }
+    reply_to(alloc, &printed).map_err(|_| PrintedError::NoMemory)
 }

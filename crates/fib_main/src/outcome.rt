@@ -9,7 +9,7 @@ use arrayvec::ArrayString;
 use cert_check::No;
 use itoa::Buffer;
 
-/// The most octets of the line that tells an outcome.
+/// Room for the line that tells an outcome.
 pub const MOST_LINE: usize = 96;
 
 /// An input, by what it is for.
@@ -44,7 +44,7 @@ pub enum Outcome {
         input: Which,
         /// The record's number in its input, from 0.
         number: u64,
-        /// The rule.
+        /// The rule of reading that it breaks, by its number in docs/FORMATS.md.
         rule: u8,
     },
     /// An event brings the 65,535th different next hop.

@@ -1,16 +1,16 @@
 //! From the words and the inputs to the text that is due.
 
-ghost use Rattle.std.specs.Prelude.{◌≡◌, List, [], Some, None, map, IfOk, OnOk};
+ghost use Rattle.std.specs.Prelude.{◌≡◌, List, [], Some, None, map, IfOk, OnOk, option_to_list};
 ghost use Rattle.std.specs.String.{string_bytes};
 ghost use Rattle.fib_io.specs.Causes.{Rose};
 ghost use Rattle.fib_prefix.specs.Seen.{addr_as};
 ghost use Rattle.fib_main.specs.Due.{asks_at, checked, due, feed_at, input_at, output_at, reply_at, run_at, told_at, used_at, with_reply, with_text};
-ghost use Rattle.fib_main.specs.Ends.{feeds_named, one, OneRose, reads, reads_asked, reads_named, ReadsFor};
-ghost use Rattle.fib_main.specs.Proves.{ChecksYes, IfRan, PrintsYes};
+ghost use Rattle.fib_main.specs.Ends.{feeds_named, OneRose, reads, reads_asked, reads_named, ReadsFor};
+ghost use Rattle.fib_main.specs.Proves.{ChecksYes, IfRan, IsRun, PrintsYes};
 ghost use Rattle.fib_main.specs.Seen.{reply_as};
 ghost use Rattle.fib_main.specs.Standing.{Feeds, refusal_of, Stands};
 ghost use Rattle.fib_main.specs.Stops.{Gives, event_in};
-ghost use Rattle.fib_words.specs.Commands.{asked_as, named_as};
+ghost use Rattle.fib_words.specs.Commands.{asked_as, command_of, named_as};
 ghost use Rattle.route_model.specs.Events.{Elem};
 
 use crate::asks::{AskError, read_asks};
@@ -58,7 +58,7 @@ fn asks_of<I: Inputs>(
 ) -> Result<Vec<Addr>, Outcome>
     ensures due { Gives (λ v. map addr_as v.items) result (asks_at (I.content inputs.old) (named_as command.now).asks) }
     ensures same { I.content inputs.new ≡ I.content inputs.old }
-    ensures cause { ReadsFor (OneRose (one (named_as command.now).asks) (I.faults inputs.old) (I.faults inputs.new)) (I.faults inputs.old) (I.faults inputs.new) result }
+    ensures cause { ReadsFor (OneRose (option_to_list (named_as command.now).asks) (I.faults inputs.old) (I.faults inputs.new)) (I.faults inputs.old) (I.faults inputs.new) result }
 {
     let Some(name) = command.asks else {
         return Ok(Vec::new(alloc));
@@ -116,10 +116,7 @@ fn feed_of<I: Inputs>(
     ensures cause { ReadsFor (Rose (I.faults inputs.old name.now) (I.faults inputs.new name.now)) (I.faults inputs.old) (I.faults inputs.new) result }
 {
     let octets = octets_of(alloc, inputs, name, which)?;
-    match feed(alloc, state, which, &octets) {
-        Ok(counts) => Ok(counts),
-        Err(error) => Err(refused(which, error)),
-    }
+    feed(alloc, state, which, &octets).map_err(|error| refused(which, error))
 }
 
 /// Takes what the updates bring, if any are named.
@@ -132,7 +129,7 @@ fn updates_of<I: Inputs>(
 ) -> Result<Counts, Outcome>
     ensures due { (before : List Elem) → Stands Which.Updates before [] state.old → Feeds Which.Updates before result state.new (feed_at (I.content inputs.old) Which.Updates before (named_as command.now).updates) }
     ensures same { I.content inputs.new ≡ I.content inputs.old }
-    ensures cause { ReadsFor (OneRose (one (named_as command.now).updates) (I.faults inputs.old) (I.faults inputs.new)) (I.faults inputs.old) (I.faults inputs.new) result }
+    ensures cause { ReadsFor (OneRose (option_to_list (named_as command.now).updates) (I.faults inputs.old) (I.faults inputs.new)) (I.faults inputs.old) (I.faults inputs.new) result }
 {
     match command.updates {
         Some(name) => feed_of(alloc, inputs, state, Which::Updates, name),
@@ -221,7 +218,8 @@ fn reply_to<I: Inputs>(
     command: &CommandWords<'_>,
 ) -> Result<Reply, Outcome>
     ensures due { Gives reply_as result (with_reply (output_at (I.content inputs.old) (asked_as command.now))) }
-    ensures yes { OnOk result (IfRan (output_at (I.content inputs.old) (asked_as command.now)) PrintsYes) }
+    ensures yes { IsRun (Some (asked_as command.now)) → IfOk result (λ reply. ChecksYes reply.text.items) }
+    ensures due_yes { OnOk result (IfRan (output_at (I.content inputs.old) (asked_as command.now)) PrintsYes) }
     ensures cause { ReadsFor (OneRose (reads_asked (I.content inputs.old) (Some (asked_as command.now))) (I.faults inputs.old) (I.faults inputs.new)) (I.faults inputs.old) (I.faults inputs.new) result }
 {
     match command {
@@ -241,7 +239,8 @@ pub fn reply_for<I: Inputs>(
     inputs: &mut I,
 ) -> Result<Reply, Outcome>
     ensures due { Gives reply_as result (reply_at (map string_bytes words.now) (I.content inputs.old)) }
-    ensures yes { OnOk result (IfRan (due (map string_bytes words.now) (I.content inputs.old)) PrintsYes) }
+    ensures yes { IsRun (command_of (map string_bytes words.now)) → IfOk result (λ reply. ChecksYes reply.text.items) }
+    ensures due_yes { OnOk result (IfRan (due (map string_bytes words.now) (I.content inputs.old)) PrintsYes) }
     ensures cause { ReadsFor (OneRose (reads (map string_bytes words.now) (I.content inputs.old)) (I.faults inputs.old) (I.faults inputs.new)) (I.faults inputs.old) (I.faults inputs.new) result }
 {
     let command = match read_words(alloc, words) {

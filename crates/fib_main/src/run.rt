@@ -5,8 +5,9 @@ ghost use Rattle.std.specs.String.{string_bytes};
 ghost use Rattle.fib_io.specs.Causes.{Rose};
 ghost use Rattle.fib_main.specs.Due.{due};
 ghost use Rattle.cert_check.specs.Seen.{no_as};
-ghost use Rattle.fib_main.specs.Ends.{Completes, EndsBy, line_of, Meets, OneRose, reads, ReadsBy, Tells, TellsOf, text_due, Writes, WritesBy};
-ghost use Rattle.fib_main.specs.Proves.{Decides, IfChecked, IfRan, PrintsYes, YesProves};
+ghost use Rattle.fib_main.specs.Ends.{Completes, EndsBy, Meets, OneRose, reads, ReadsBy, TellsOf, text_due, Writes, WritesBy};
+ghost use Rattle.fib_main.specs.Proves.{AddsYes, Decides, IfChecked, IfRan, IsRun, PrintsYes, YesProves};
+ghost use Rattle.fib_words.specs.Commands.{command_of};
 ghost use Rattle.fib_main.specs.Runs.{Answers, Certified, Forwards, HasLeast, IfDue, SumsUp};
 
 use crate::outcome::Outcome;
@@ -37,7 +38,8 @@ fn outcome_of<I: Inputs, O: Sink>(
     ensures read { ReadsBy (OneRose (reads (map string_bytes words.now) (I.content inputs.old)) (I.faults inputs.old) (I.faults inputs.new)) (I.faults inputs.old) (I.faults inputs.new) result }
     ensures write { WritesBy (O.faults out.old) (O.faults out.new) result }
     ensures out { Writes (text_due (due (map string_bytes words.now) (I.content inputs.old))) (O.written out.old) (O.written out.new) result }
-    ensures printed { result ≡ Outcome.Done → IfRan (due (map string_bytes words.now) (I.content inputs.old)) PrintsYes }
+    ensures printed { result ≡ Outcome.Done → IsRun (command_of (map string_bytes words.now)) → AddsYes (O.written out.old) (O.written out.new) }
+    ensures due_yes { result ≡ Outcome.Done → IfRan (due (map string_bytes words.now) (I.content inputs.old)) PrintsYes }
 {
     match reply_for(alloc, words, inputs) {
         Ok(reply) => match write_all(out, &reply.text) {
@@ -69,7 +71,8 @@ fn ended<I: Inputs, O: Sink, E: Sink>(
     ensures read { ReadsBy (OneRose (reads (map string_bytes words.now) (I.content inputs.old)) (I.faults inputs.old) (I.faults inputs.new)) (I.faults inputs.old) (I.faults inputs.new) result }
     ensures write { WritesBy (O.faults out.old) (O.faults out.new) result }
     ensures out { Writes (text_due (due (map string_bytes words.now) (I.content inputs.old))) (O.written out.old) (O.written out.new) result }
-    ensures printed { result ≡ Outcome.Done → IfRan (due (map string_bytes words.now) (I.content inputs.old)) PrintsYes }
+    ensures printed { result ≡ Outcome.Done → IsRun (command_of (map string_bytes words.now)) → AddsYes (O.written out.old) (O.written out.new) }
+    ensures due_yes { result ≡ Outcome.Done → IfRan (due (map string_bytes words.now) (I.content inputs.old)) PrintsYes }
     ensures err { TellsOf result (E.written err.old) (E.written err.new) (E.faults err.old) (E.faults err.new) }
 {
     let outcome = outcome_of(alloc, words, inputs, out);
@@ -84,8 +87,9 @@ fn ended<I: Inputs, O: Sink, E: Sink>(
 /// reading or want of memory may come before it, and a fault of writing in place of Done and of CheckNo. Nothing is written
 /// to `out` before all is accepted. Every outcome but Done is told by one line to `err`, and a fault of `err` changes nothing.
 ///
-/// It costs n log n in the octets read and the rows written, and the routes' number times the lengths of their prefixes. The
-/// octets, the routes' trees and the rows are kept in memory.
+/// It costs n log n in the octets read and the rows written, and the routes' number times the lengths of their prefixes. In
+/// memory are, at most, one input twice while it is read, the candidates of all peers, the trees of the routes while they are
+/// looked up, and the whole text. A check keeps the text, its routes, least table and certificate, and the runs of both tables.
 #[tactic(auto, using(crate::proofs::Completing::completes, crate::proofs::Running::sums_up, crate::proofs::Running::forwards, crate::proofs::Running::answers, crate::proofs::Running::least, crate::proofs::Running::certified, crate::proofs::Replies::decides, crate::proofs::Replies::yes_proves))]
 pub fn run_fib<I: Inputs, O: Sink, E: Sink>(
     alloc: Global,
@@ -127,9 +131,10 @@ pub fn run_fib<I: Inputs, O: Sink, E: Sink>(
     // The printed rows prove the printed least table least, to whoever trusts the rules of certificates alone.
     ensures certified { IfDue (due (map string_bytes words.now) (I.content inputs.old)) Certified }
 
-    // At Done of a run the text, which out has, is one that a check says yes to: it is read again as rows with a certificate,
-    // whatever numbers the reader gives the hops.
-    ensures printed { result ≡ Outcome.Done → IfRan (due (map string_bytes words.now) (I.content inputs.old)) PrintsYes }
+    // At Done of a run out has one text more, to which a check says yes: it is read again as rows with a certificate, whatever
+    // numbers the reader gives the hops. Where the inputs tell what they hold, the due text is such a text.
+    ensures printed { result ≡ Outcome.Done → IsRun (command_of (map string_bytes words.now)) → AddsYes (O.written out.old) (O.written out.new) }
+    ensures due_yes { result ≡ Outcome.Done → IfRan (due (map string_bytes words.now) (I.content inputs.old)) PrintsYes }
 
     // A check that is due says yes exactly where the printed rows are a certificate, whoever wrote them. The printed least
     // table then sends every address where the printed routes send it, and has no more entries in either family than any

@@ -1,12 +1,13 @@
 //! What the inputs bring: candidates, the numbers of next hops, and the changes that updates make.
 
-ghost use Rattle.std.specs.Prelude.{◌≡◌, ◌≤◌, ◌<◌, ◌∷◌, [], length, map, option_map, IfOk, OnOk, IsErrOf};
+ghost use Rattle.std.specs.Prelude.{◌≡◌, ◌≤◌, ◌<◌, ◌∷◌, [], length, map, option_map, IfOk, OnOk, IsErrOf, option_to_list};
 ghost use Rattle.fib_prefix.specs.Seen.{addr_as, elem_as, event_as, prefix_as};
 ghost use Rattle.route_model.specs.Choice.{after_elem};
 ghost use Rattle.route_choice.specs.Held.{IsChoice};
 ghost use Rattle.feed_model.specs.Feed.{change_of, hops_after, number_in};
+ghost use Rattle.fib_prefix.specs.Hops.{most_hops};
 ghost use Rattle.fib_report.specs.Seen.{change_as};
-ghost use Rattle.fib_main.specs.Standing.{list_of, of_read, Takes, TakesAll};
+ghost use Rattle.fib_main.specs.Standing.{of_read, Takes, TakesAll};
 ghost use Rattle.fib_main.specs.declared.state.FeedError.TheVariants.{Malformed as IsMalformed, NoMemory as IsNoMemory};
 
 use crate::outcome::Which;
@@ -101,7 +102,7 @@ pub fn number(hops: &HopTable, hop: &Addr) -> Hop
 
 /// The change that a choice makes, if it makes one.
 fn change_of(hops: &HopTable, choice: Choice) -> Option<Change>
-    ensures { list_of (option_map change_as result) ≡ change_of hops.now.list (prefix_as choice.prefix) (option_map addr_as choice.before) (option_map addr_as choice.after) }
+    ensures { option_to_list (option_map change_as result) ≡ change_of hops.now.list (prefix_as choice.prefix) (option_map addr_as choice.before) (option_map addr_as choice.after) }
 {
     match (choice.before, choice.after) {
         (None, None) => None,
@@ -125,19 +126,14 @@ fn take_elem(
 ) -> Result<Choice, HopError>
     ensures candidates { OnOk result (candidates.new.candidates ≡ after_elem candidates.old.candidates (elem_as elem.now)) }
     ensures hops { OnOk result (hops.new.list ≡ hops_after hops.old.list (elem_as elem.now ∷ [])) }
-    ensures few { OnOk result (length hops.old.list ≤ 65534 → length hops.new.list ≤ 65534) }
+    ensures few { OnOk result (length hops.old.list ≤ most_hops → length hops.new.list ≤ most_hops) }
     ensures choice { IfOk result (IsChoice candidates.old.candidates (elem_as elem.now)) }
-    ensures full { IsErrOf result HopError.HopsFull → 65534 < length (hops_after hops.old.list (elem_as elem.now ∷ [])) }
+    ensures full { IsErrOf result HopError.HopsFull → most_hops < length (hops_after hops.old.list (elem_as elem.now ∷ [])) }
 {
     if let Elem::Put(_, _, _, hop) = elem {
-        if let Err(error) = hops.number(hop) {
-            return Err(error);
-        }
+        hops.number(hop)?;
     }
-    match candidates.apply(elem) {
-        Ok(choice) => Ok(choice),
-        Err(_) => Err(HopError::NoMemory),
-    }
+    candidates.apply(elem).map_err(|_| HopError::NoMemory)
 }
 
 /// Takes the elementary event of this number, and of updates keeps the change that it makes.
@@ -150,9 +146,7 @@ fn step(state: &mut State, which: Which, event: u64, elem: &Elem) -> Result<(), 
         Err(HopError::NoMemory) => return Err(FeedError::NoMemory),
     };
     match which {
-        Which::Asks => {}
-        Which::Dump => {}
-        Which::Printed => {}
+        Which::Asks | Which::Dump | Which::Printed => {}
         Which::Updates => {
             if let Some(change) = change_of(&state.hops, choice) {
                 state.changes.push((event, change))?;

@@ -2,8 +2,7 @@
 use Rattle.std.proofs.Common.{◌≡◌, ℕ, ◌+◌, ◌-◌, ◌*◌, ◌/◌, ◌%◌, ◌^◌, ◌<◌, ◌≤◌, List, [], ◌∷◌, Bool, true, false, nat_eq, length, take, refl, sym, ap, ◌∙◌, arith, subst, eq-eqb, inl, inr}
 use Rattle.std.specs.Prelude.{◌&&◌}
 use Rattle.std.proofs.lemmas.Bool.{ne_eqb, cases_eq}
-use Rattle.std.proofs.lemmas.Nat.{shl-shr, shr_below, shl_below}
-use Rattle.std.proofs.Math.Nat.{mul-mod_left}
+use Rattle.std.proofs.lemmas.Nat.{shl-shr, shr_below}
 use Rattle.address_model.specs.Bits.{bits_of, begins, same_bits}
 use Rattle.address_model.specs.Width.{width}
 use Rattle.address_model.specs.Address.{contains, same_family}
@@ -18,14 +17,6 @@ pub filled_bits : (w len n : ℕ) → len ≤ w → take len (bits_of w (n / 2 ^
 filled_bits w len n h =
     let u = w - len in
     bits_take w len (n / 2 ^ u * 2 ^ u) h ∙ (ap (bits_of len) (shl-shr (n / 2 ^ u) u) ∙ sym (bits_take w len n h))
-
--- what is filled fits, and has only zeros past the first bits
-pub filled_fits : (w len n : ℕ) → len ≤ w → n < 2 ^ w → (n / 2 ^ (w - len) * 2 ^ (w - len) < 2 ^ w) × (n / 2 ^ (w - len) * 2 ^ (w - len) % 2 ^ (w - len) ≡ 0)
-filled_fits w len n h lt =
-    let u = w - len in
-    let e : len + u ≡ w = omega arith in
-    let low : n / 2 ^ u < 2 ^ len = shr_below n len u (subst (λ (j : ℕ). n < 2 ^ j) (sym e) lt) in
-    (subst (λ (j : ℕ). n / 2 ^ u * 2 ^ u < 2 ^ j) e (shl_below (n / 2 ^ u) len u low), mul-mod_left (n / 2 ^ u) (2 ^ u))
 
 begins_take : (p a : List Bool) → length p ≤ length a → begins p a ≡ same_bits p (take (length p) a)
 unfolding same_bits

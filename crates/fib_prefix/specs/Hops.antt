@@ -8,6 +8,10 @@ pub record Hops : Type 0 where
   pub list : List Address
   pub spare : ℕ
 
+-- the most hops that may have numbers
+abbrev pub most_hops : ℕ
+most_hops = 65534
+
 -- the number of a hop: its place in the list from 1, if it is there
 abbrev pub number_of : List Address → Address → Option ℕ
 number_of hops a = option_map (λ place. place + 1) (position (same_address a) hops)

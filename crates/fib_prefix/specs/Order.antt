@@ -9,6 +9,6 @@ use Rattle.fib_prefix.specs.contracts.event.PeerOrd.TheImpl as peer_ord
 abbrev pub code_cmp : Prefix → Prefix → Ordering
 code_cmp = (prefix_ord.ghosts).cmp
 
--- what `cmp` of peers answers
+-- what `cmp` of peers answers; by the order law it is the order of peers
 abbrev pub code_peer_cmp : Peer → Peer → Ordering
 code_peer_cmp = (peer_ord.ghosts).cmp

@@ -1,6 +1,9 @@
 //! Tables that are asked about whole prefixes.
 
 ghost use Rattle.std.specs.Prelude.{◌≡◌, IfSome, IfNone};
+ghost use Rattle.std.specs.List.{IsDistinct};
+ghost use Rattle.std.specs.Map.{keys_of};
+ghost use Rattle.address_model.specs.Address.{same_prefix};
 ghost use Rattle.address_model.specs.declared.family.Family.{Family};
 ghost use Rattle.table_model.specs.Entries.{Entries};
 ghost use Rattle.fib_prefix.specs.Seen.{prefix_as};
@@ -12,7 +15,7 @@ use address_model::Family;
 
 /// A table of one family, which tells whether the addresses of a prefix all get one answer.
 ///
-/// Contracts see the entries; an address gets what longest match among them gives, hop 0 where there is none.
+/// Contracts see the entries, each prefix once; an address gets what longest match among them gives, hop 0 where there is none.
 pub trait Answers {
     ghost entries: { Self → Entries };
 
@@ -20,7 +23,8 @@ pub trait Answers {
 
     /// The family of the addresses that it answers for.
     fn family(&self) -> Family
-        ensures { result ≡ of self.now };
+        ensures family { result ≡ of self.now }
+        ensures distinct { IsDistinct same_prefix (keys_of (entries self.now)) };
 
     /// The hop that every address of the prefix gets, `Hop::NONE` where none gets one; or `None` where two of its addresses
     /// get different hops.

@@ -3,7 +3,7 @@
 use crate::addr::Addr;
 use crate::prefix::Prefix;
 
-/// A peer: its address and its AS number. Peers are ordered by address, then by AS number.
+/// A peer: its address and its AS number. Peers are ordered by address, IPv4 before IPv6, then by AS number.
 #[derive(Clone, Copy, Debug, PartialEq, Eq, PartialOrd, Ord, Hash)]
 pub struct Peer {
     /// The address.
@@ -26,7 +26,7 @@ pub enum Event {
 /// What is said of one prefix and one peer.
 #[derive(Clone, Copy, Debug, PartialEq, Eq)]
 pub enum Elem {
-    /// This is the peer's candidate from now on.
+    /// This is the peer's candidate from now on, with the length of its path and its next hop.
     Put(Peer, Prefix, u32, Addr),
     /// The peer has none from now on.
     Cut(Peer, Prefix),

@@ -1,11 +1,12 @@
 //! The numbers of next hops.
 //!
 //! Hops are numbered 1, 2, .. in the order in which they are first brought, and keep their number for good. They are kept
-//! in a hash set in that order: a hop's number is its place there from 1. Asking and numbering cost one look-up.
+//! in a hash set in that order: a hop's number is its place there from 1. Asking costs one look-up, and so does numbering a
+//! hop that is held; a new one costs two.
 
 ghost use Rattle.std.specs.Prelude.{◌≡◌, ◌↔◌, ◌+◌, ◌<◌, ◌≤◌, [], length, map, option_map, Some, None, IsOk, IsErr, IsSome, IfOk, OnOk, OnErr, IsErrOf};
 ghost use Rattle.indexmap.specs.IndexSet.{spare};
-ghost use Rattle.fib_prefix.specs.Hops.{Hops, number_of, hop_at, with_hop};
+ghost use Rattle.fib_prefix.specs.Hops.{Hops, most_hops, number_of, hop_at, with_hop};
 ghost use Rattle.fib_prefix.specs.Seen.{addr_as};
 ghost use Rattle.fib_prefix.specs.declared.hops.HopError.TheVariants as hop_error;
 
@@ -16,7 +17,7 @@ use std::alloc::{AllocError, AllocFailed, Global};
 use std::marker::Model;
 use thiserror::Error;
 
-/// How many different hops have numbers at most, so that a number and `Hop::NONE` fit two octets.
+/// How many different hops have numbers at most, a limit of this program: one fewer than a `u16` holds beside `Hop::NONE`.
 pub const MOST_HOPS: usize = 65_534;
 
 /// The hop is new, and 65,534 hops are held.
@@ -63,7 +64,7 @@ impl Model for HopTable {
 
     ghost view = { λ table. record { list = map addr_as table.hops.keys; spare = spare table.hops } };
 
-    ghost invariant = { λ table. length table.hops.keys ≤ 65534 };
+    ghost invariant = { λ table. length table.hops.keys ≤ most_hops };
 }
 
 /// The number of the hop at a place.
@@ -101,10 +102,10 @@ impl HopTable {
     pub fn number(&mut self, addr: &Addr) -> Result<Hop, HopError>
         ensures number { IfOk result (λ hop. number_of self.new.list (addr_as addr.now) ≡ Some hop.0) }
         ensures hops { OnOk result (self.new.list ≡ with_hop self.old.list (addr_as addr.now)) }
-        ensures few { OnOk result (length self.new.list ≤ 65534) }
+        ensures few { OnOk result (length self.new.list ≤ most_hops) }
 
         ensures known { IsSome (number_of self.old.list (addr_as addr.now)) → IsOk result × (self.new ≡ self.old) }
-        ensures full { IsErrOf result HopError.HopsFull ↔ (length self.old.list ≡ 65534) × (number_of self.old.list (addr_as addr.now) ≡ None) }
+        ensures full { IsErrOf result HopError.HopsFull ↔ (length self.old.list ≡ most_hops) × (number_of self.old.list (addr_as addr.now) ≡ None) }
         ensures err { OnErr result (self.new.list ≡ self.old.list) }
 
         ensures room { 1 ≤ self.old.spare → ¬ (IsErrOf result HopError.NoMemory) }
@@ -119,10 +120,10 @@ impl HopTable {
         Ok(hop)
     }
 
-    /// The number that `number` would give the hop, memory aside. Takes none.
+    /// The number that `number` would give the hop, memory aside. It takes no memory.
     pub fn next(&self, addr: &Addr) -> Result<Hop, HopsFull>
         ensures number { IfOk result (λ hop. number_of (with_hop self.now.list (addr_as addr.now)) (addr_as addr.now) ≡ Some hop.0) }
-        ensures full { IsErr result ↔ (length self.now.list ≡ 65534) × (number_of self.now.list (addr_as addr.now) ≡ None) }
+        ensures full { IsErr result ↔ (length self.now.list ≡ most_hops) × (number_of self.now.list (addr_as addr.now) ≡ None) }
     {
         match self.find(addr) {
             Some(hop) => Ok(hop),
@@ -133,7 +134,7 @@ impl HopTable {
     /// The number of the next new hop.
     fn fresh(&self) -> Result<Hop, HopsFull>
         ensures number { IfOk result (λ hop. hop.0 ≡ length self.now.list + 1) }
-        ensures full { IsErr result ↔ (length self.now.list ≡ 65534) }
+        ensures full { IsErr result ↔ (length self.now.list ≡ most_hops) }
     {
         if self.hops.len() == MOST_HOPS {
             return Err(HopsFull);
@@ -141,7 +142,7 @@ impl HopTable {
         Ok(numbered(self.hops.len()))
     }
 
-    /// The number of a hop that is held.
+    /// The hop's number, `None` exactly where it isn't held.
     pub fn find(&self, addr: &Addr) -> Option<Hop>
         ensures { option_map (λ hop. hop.0) result ≡ number_of self.now.list (addr_as addr.now) }
     {

@@ -1,6 +1,6 @@
 //! The text of IPv6 addresses: eight groups of 16 bits (RFC 4291, section 2.2), written as RFC 5952, section 4, has it.
 
-ghost use Rattle.std.specs.Prelude.{◌≡◌, ◌+◌, ◌*◌, ◌<◌, ◌≤◌, ◌++◌, false, length, take, option_map};
+ghost use Rattle.std.specs.Prelude.{◌≡◌, ◌+◌, ◌-◌, ◌*◌, ◌<◌, ◌≤◌, ◌++◌, false, length, take, option_map};
 ghost use Rattle.std.specs.Char.{digit_char};
 ghost use Rattle.std.specs.List.{list_any};
 ghost use Rattle.std.specs.Net.Text as Text;
@@ -10,7 +10,7 @@ ghost use Rattle.fib_prefix.specs.Seen.{addr_as};
 ghost use Rattle.fib_prefix.specs.Text.{ipv6_in, is_dot};
 
 use crate::addr::Addr;
-use crate::text::put;
+use crate::text::{MOST_TEXT, put};
 use std::net::Ipv6Addr;
 
 /// How many zero groups `::` is written for at least (RFC 5952, section 4.2.2).
@@ -53,8 +53,8 @@ fn leading_zeros(group: u16) -> usize
 }
 
 /// Puts a group without leading zeros at a place of the text, and gives the place after it.
-fn put_group(out: &mut [u8; 44], at: usize, group: u16) -> usize
-    requires { at + 4 ≤ 44 }
+fn put_group(out: &mut [u8; MOST_TEXT], at: usize, group: u16) -> usize
+    requires { at + 4 ≤ MOST_TEXT }
     ensures text { take result out.new ≡ take at out.old ++ Text.hex group }
     ensures end { result ≤ at + 4 }
 {
@@ -68,10 +68,10 @@ fn put_group(out: &mut [u8; 44], at: usize, group: u16) -> usize
 }
 
 /// Puts groups with colons between them.
-fn put_groups(out: &mut [u8; 44], at: usize, groups: &[u16]) -> usize
-    requires { at + 5 * length groups.now ≤ 44 }
+fn put_groups(out: &mut [u8; MOST_TEXT], at: usize, groups: &[u16]) -> usize
+    requires { at + (5 * length groups.now - 1) ≤ MOST_TEXT }
     ensures text { take result out.new ≡ take at out.old ++ Text.groups_text groups.now }
-    ensures end { result ≤ at + 5 * length groups.now }
+    ensures end { result ≤ at + (5 * length groups.now - 1) }
 {
     let [first, rest @ ..] = groups else {
         return at;
@@ -104,9 +104,9 @@ fn longest_zero_run(groups: &[u16]) -> (usize, usize)
 
 /// Writes the address of these bits at the front of the buffer, and gives the text's length. A run of at least two zero
 /// groups, the longest, is written `::`.
-pub(crate) fn put_ipv6(out: &mut [u8; 44], bits: u128) -> usize
+pub(crate) fn put_ipv6(out: &mut [u8; MOST_TEXT], bits: u128) -> usize
     ensures text { take result out.new ≡ ipv6_text (groups_of (bits_of 128 bits)) }
-    ensures end { result ≤ 40 }
+    ensures end { result ≤ 39 }
 {
     let groups = Ipv6Addr::from_bits(bits).segments();
     let (place, run) = longest_zero_run(&groups);

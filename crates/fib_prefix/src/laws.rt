@@ -8,12 +8,14 @@ ghost use Rattle.address_model.specs.declared.family.Family.TheVariants.{V4};
 ghost use Rattle.std.specs.Net.Text.{longest_zero_run};
 ghost use Rattle.fib_prefix.specs.Groups.{IsLongestZeroRun};
 ghost use Rattle.table_model.specs.Entries.{Entries};
-ghost use Rattle.fib_prefix.specs.Order.{code_cmp};
+ghost use Rattle.fib_prefix.specs.Order.{code_cmp, code_peer_cmp};
 ghost use Rattle.fib_prefix.specs.Regions.{half_of};
-ghost use Rattle.fib_prefix.specs.Seen.{prefix_as};
+ghost use Rattle.fib_prefix.specs.Seen.{peer_as, prefix_as};
 ghost use Rattle.fib_prefix.specs.Text.{address_in, address_text, prefix_in, prefix_text};
 ghost use Rattle.fib_prefix.specs.Uniform.{AllGet, TwoDiffer};
+ghost use Rattle.fib_prefix.specs.declared.event.Peer as code_peer;
 ghost use Rattle.fib_prefix.specs.declared.prefix.Prefix as code_prefix;
+ghost use Rattle.route_model.specs.Events.{peer_cmp};
 
 /// What is written of an address is read as it, and what is read as an address is one. An IPv4 address has one text alone,
 /// which is its printed one; IPv6 addresses have more. The zero groups that are written `::` are a longest run, and the first
@@ -33,9 +35,10 @@ pub fn prefix_text_law()
 {}
 
 /// `cmp` of prefixes is their order: IPv4 before IPv6, then by the bits filled with zeros as a number, then the shorter
-/// first.
+/// first. `cmp` of peers is theirs: by address, IPv4 before IPv6, then by AS number.
 pub fn order_law()
-    ensures { (p q : code_prefix.Prefix) → code_cmp p q ≡ prefix_cmp (prefix_as p) (prefix_as q) }
+    ensures prefixes { (p q : code_prefix.Prefix) → code_cmp p q ≡ prefix_cmp (prefix_as p) (prefix_as q) }
+    ensures peers { (p q : code_peer.Peer) → code_peer_cmp p q ≡ peer_cmp (peer_as p) (peer_as q) }
 {}
 
 /// A prefix gets one hop exactly where both its halves get it; it gets one hop at most, and none where two of its addresses

@@ -1,7 +1,8 @@
 //! Addresses, prefixes, their text, and the numbers of next hops.
 //!
 //! An address is the number of its bits, a prefix that of its first bits filled with zeros; contracts see both as lists
-//! of bits, the most significant first (`address_model`). Shifts and masks stay in this crate.
+//! of bits, the most significant first (`address_model`). Prefixes are filled and cut in this crate; the trees above take
+//! a prefix's bits one at a time.
 #![tactic(auto)]
 
 mod addr;
@@ -21,8 +22,10 @@ pub use entry::{Entry, Hop};
 pub use event::{Elem, Event, Peer};
 pub use hops::{HopError, HopTable, HopsFull, MOST_HOPS};
 pub use laws::{order_law, prefix_text_law, text_law, uniform_law};
-pub use prefix::Prefix;
-pub use text::{MOST_TEXT, read_addr, read_ipv4, read_prefix, write_addr, write_prefix};
+pub use prefix::{Prefix, bit_at};
+pub use text::{
+    MOST_TEXT, addr_text, prefix_text, read_addr, read_ipv4, read_prefix, write_addr, write_prefix,
+};
 
 #[cfg(test)]
 mod tests;

@@ -1,6 +1,7 @@
 //! Prefixes.
 
-ghost use Rattle.std.specs.Prelude.{◌≡◌, ◌≤◌, ◌+◌, ◌-◌, ◌*◌, ◌/◌, ◌%◌, ◌^◌, ◌<◌, if◌then◌else◌, length, take};
+ghost use Rattle.std.specs.Prelude.{◌≡◌, ◌==◌, ◌≤◌, ◌+◌, ◌-◌, ◌*◌, ◌/◌, ◌%◌, ◌^◌, ◌<◌, [], if◌then◌else◌, length, take};
+ghost use Rattle.std.specs.Int as Int;
 ghost use Rattle.address_model.specs.Bits.{bits_of, octet_bits};
 ghost use Rattle.address_model.specs.Width.{width};
 
@@ -28,19 +29,15 @@ fn upper(bits: u128, unused: u8) -> u128
     requires { unused ≤ 128 }
     ensures { result ≡ bits / 2 ^ unused }
 {
-    if unused == 128 { 0 } else { bits >> unused }
+    bits.unbounded_shr(u32::from(unused))
 }
 
 /// The bits with so many of the lowest ones cleared.
-fn filled(bits: u128, unused: u8) -> u128
+fn cleared(bits: u128, unused: u8) -> u128
     requires { unused ≤ 128 }
     ensures { result ≡ bits / 2 ^ unused * 2 ^ unused }
 {
-    if unused == 128 {
-        0
-    } else {
-        (bits >> unused) << unused
-    }
+    upper(bits, unused).unbounded_shl(u32::from(unused))
 }
 
 /// The first `len` bits of octets, as the first of so many.
@@ -69,18 +66,37 @@ fn with_bit(bits: u128, place: u8, bit: bool) -> u128
     if bit { bits + (1 << place) } else { bits }
 }
 
+/// The bit at a place, counted from the lowest, which is place 0.
+pub fn bit_at(bits: u128, place: u8) -> bool
+    requires { place < 128 }
+    ensures { result ≡ (Int.bit_at bits place == 1) }
+{
+    (bits >> place) & 1 == 1
+}
+
 impl Prefix {
     ghost use Rattle.address_model.specs.Address.{contains, first_bits};
     ghost use Rattle.fib_prefix.specs.Regions.{is_within, half_of};
     ghost use Rattle.fib_prefix.specs.Seen.{addr_as, prefix_as};
     ghost use Rattle.fib_prefix.specs.Text.{first_address};
 
+    /// The prefix of all addresses of the family.
+    pub fn whole(family: Family) -> Prefix
+        ensures { prefix_as result ≡ record { family = family; bits = [] } }
+    {
+        Prefix {
+            family,
+            bits: 0,
+            len: 0,
+        }
+    }
+
     /// The first `len` bits of an address.
     pub fn new(addr: &Addr, len: u8) -> Prefix
         requires { len ≤ width addr.now.family }
         ensures { prefix_as result ≡ first_bits len (addr_as addr.now) }
     {
-        let bits = filled(addr.bits, addr.family.width() - len);
+        let bits = cleared(addr.bits, addr.family.width() - len);
         Prefix {
             family: addr.family,
             bits,

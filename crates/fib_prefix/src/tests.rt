@@ -1,4 +1,4 @@
-//! The text of addresses and prefixes, and the numbers of hops up to the last.
+//! The text of addresses and prefixes, what lies within a prefix, and the numbers of hops up to the last.
 
 use super::*;
 use std::test::Fail;
@@ -169,6 +169,71 @@ fn reads_and_writes_text(rt: HostRuntime) {
         };
         assert!(rt; is_right, "{text}");
     }
+}
+
+/// The prefix that this text stands for.
+fn prefix_of(text: &str) -> Result<Prefix, Fail> {
+    match read_prefix(text.as_bytes()) {
+        Some(prefix) => Ok(prefix),
+        None => Err(Fail::new("no prefix")),
+    }
+}
+
+#[test]
+fn lends_text(rt: HostRuntime) -> Result<(), Fail> {
+    let mut buffer = [0; MOST_TEXT];
+    assert!(rt; addr_text(&mut buffer, &Addr::v6(1)) == b"::1".as_slice());
+    let ten = prefix_of("10.0.0.0/8")?;
+    assert!(rt; prefix_text(&mut buffer, &ten) == b"10.0.0.0/8".as_slice());
+    Ok(())
+}
+
+#[test]
+fn tells_what_is_within_a_prefix(rt: HostRuntime) -> Result<(), Fail> {
+    let ten = prefix_of("10.0.0.0/8")?;
+    assert!(rt; ten.contains(&Addr::v4(0x0a00_0000)));
+    assert!(rt; ten.contains(&Addr::v4(0x0aff_ffff)));
+    assert!(rt; !ten.contains(&Addr::v4(0x0b00_0000)));
+    assert!(rt; !ten.contains(&Addr::v4(0x09ff_ffff)));
+    assert!(rt; !ten.contains(&Addr::v6(0x0aff_ffff)));
+    assert!(rt; !ten.contains(&Addr::v6(0x0a << 120)));
+    let all = Prefix::whole(Family::V6);
+    let one = prefix_of("::1/128")?;
+    assert!(rt; all.contains(&Addr::v6(u128::MAX)));
+    assert!(rt; !all.contains(&Addr::v4(0)));
+    assert!(rt; one.contains(&Addr::v6(1)));
+    assert!(rt; !one.contains(&Addr::v6(0)));
+
+    let narrow = prefix_of("10.128.0.0/9")?;
+    assert!(rt; narrow.is_within(&ten));
+    assert!(rt; !ten.is_within(&narrow));
+    assert!(rt; ten.is_within(&ten));
+    assert!(rt; one.is_within(&all));
+    assert!(rt; !ten.is_within(&all));
+    Ok(())
+}
+
+/// The halves of the prefix, where it has any.
+fn halves_of(prefix: &Prefix) -> Option<(Prefix, Prefix)> {
+    if prefix.len < prefix.family.width() {
+        Some((prefix.half(false), prefix.half(true)))
+    } else {
+        None
+    }
+}
+
+#[test]
+fn halves_prefixes(rt: HostRuntime) -> Result<(), Fail> {
+    let all = Prefix::whole(Family::V4);
+    assert_eq!(rt; prefix_of("0.0.0.0/0")?, all);
+    let halves = (prefix_of("0.0.0.0/1")?, prefix_of("128.0.0.0/1")?);
+    assert_eq!(rt; halves_of(&all), Some(halves));
+    let last = (prefix_of("::2/128")?, prefix_of("::3/128")?);
+    assert_eq!(rt; halves_of(&prefix_of("::2/127")?), Some(last));
+    assert!(rt; bit_at(2, 1));
+    assert!(rt; !bit_at(2, 0));
+    assert!(rt; bit_at(1 << 127, 127));
+    Ok(())
 }
 
 #[test]

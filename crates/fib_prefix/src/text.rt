@@ -17,11 +17,11 @@ use itoa::Buffer;
 use std::net::Ipv4Addr;
 use std::str;
 
-/// The octets that the longest text of an address or a prefix takes.
-pub const MOST_TEXT: usize = 44;
+/// The octets of a buffer that holds the text of any address or prefix: the longest takes 39 of an IPv6 address and `/128`.
+pub const MOST_TEXT: usize = 43;
 
 /// Reads an IPv4 address alone, from its first octet to its last: four decimal numbers from 0 to 255 without leading zeros,
-/// with dots between them. `None` exactly where the text is anything else.
+/// with dots between them (`IPv4address` of RFC 3986, section 3.2.2). `None` exactly where the text is anything else.
 pub fn read_ipv4(text: &[u8]) -> Option<Addr>
     ensures { option_map addr_as result ≡ ipv4_in text.now }
 {
@@ -78,8 +78,8 @@ pub fn read_prefix(text: &[u8]) -> Option<Prefix>
 }
 
 /// Puts a piece at a place of the text, and gives the place after it.
-pub(crate) fn put(out: &mut [u8; 44], at: usize, piece: &[u8]) -> usize
-    requires { at + length piece.now ≤ 44 }
+pub(crate) fn put(out: &mut [u8; MOST_TEXT], at: usize, piece: &[u8]) -> usize
+    requires { at + length piece.now ≤ MOST_TEXT }
     ensures text { take result out.new ≡ take at out.old ++ piece.now }
     ensures end { result ≡ at + length piece.now }
 {
@@ -89,8 +89,8 @@ pub(crate) fn put(out: &mut [u8; 44], at: usize, piece: &[u8]) -> usize
 }
 
 /// Puts a number of at most three digits at a place of the text, and gives the place after it.
-fn put_octet(out: &mut [u8; 44], at: usize, octet: u8) -> usize
-    requires { at + 3 ≤ 44 }
+fn put_octet(out: &mut [u8; MOST_TEXT], at: usize, octet: u8) -> usize
+    requires { at + 3 ≤ MOST_TEXT }
     ensures text { take result out.new ≡ take at out.old ++ decimal octet }
     ensures end { result ≤ at + 3 }
 {
@@ -99,8 +99,8 @@ fn put_octet(out: &mut [u8; 44], at: usize, octet: u8) -> usize
 }
 
 /// Puts a dot and such a number.
-fn put_dot_octet(out: &mut [u8; 44], at: usize, octet: u8) -> usize
-    requires { at + 4 ≤ 44 }
+fn put_dot_octet(out: &mut [u8; MOST_TEXT], at: usize, octet: u8) -> usize
+    requires { at + 4 ≤ MOST_TEXT }
     ensures text { take result out.new ≡ take at out.old ++ codes "." ++ decimal octet }
     ensures end { result ≤ at + 4 }
 {
@@ -108,8 +108,8 @@ fn put_dot_octet(out: &mut [u8; 44], at: usize, octet: u8) -> usize
     put_octet(out, after_dot, octet)
 }
 
-/// Writes four octets as RFC 791's addresses are written, with dots between them.
-fn put_ipv4(out: &mut [u8; 44], octets: [u8; 4]) -> usize
+/// Writes four octets as decimal numbers, with dots between them.
+fn put_ipv4(out: &mut [u8; MOST_TEXT], octets: [u8; 4]) -> usize
     ensures text { take result out.new ≡ ipv4_text octets }
     ensures end { result ≤ 15 }
 {
@@ -120,11 +120,11 @@ fn put_ipv4(out: &mut [u8; 44], octets: [u8; 4]) -> usize
     put_dot_octet(out, at, d)
 }
 
-/// Writes the address at the front of the buffer, IPv4 as RFC 791 has it and IPv6 as RFC 5952, section 4, has it, without
-/// a dotted part, and gives the text's length.
-pub fn write_addr(addr: &Addr, out: &mut [u8; 44]) -> usize
+/// Writes the address at the front of the buffer, IPv4 as `IPv4address` of RFC 3986, section 3.2.2, and IPv6 as RFC 5952,
+/// section 4, has it, without a dotted part, and gives the text's length.
+pub fn write_addr(addr: &Addr, out: &mut [u8; MOST_TEXT]) -> usize
     ensures text { take result out.new ≡ address_text (addr_as addr.now) }
-    ensures fits { result ≤ 40 }
+    ensures fits { result ≤ 39 }
 {
     match addr.family {
         Family::V4 => put_ipv4(out, (addr.bits as u32).to_be_bytes()),
@@ -134,11 +134,27 @@ pub fn write_addr(addr: &Addr, out: &mut [u8; 44]) -> usize
 
 /// Writes the prefix at the front of the buffer: its first address, a slash and its length (RFC 4632, section 3.1), and
 /// gives the text's length.
-pub fn write_prefix(prefix: &Prefix, out: &mut [u8; 44]) -> usize
+pub fn write_prefix(prefix: &Prefix, out: &mut [u8; MOST_TEXT]) -> usize
     ensures text { take result out.new ≡ prefix_text (prefix_as prefix.now) }
-    ensures fits { result ≤ 44 }
+    ensures fits { result ≤ MOST_TEXT }
 {
     let after_addr = write_addr(&prefix.first_addr(), out);
     let after_slash = put(out, after_addr, b"/");
     put_octet(out, after_slash, prefix.len)
+}
+
+/// The address's text, in the buffer.
+pub fn addr_text<'a>(buffer: &'a mut [u8; MOST_TEXT], addr: &Addr) -> &'a [u8]
+    ensures { result.now ≡ address_text (addr_as addr.now) }
+{
+    let len = write_addr(addr, buffer);
+    &buffer[..len]
+}
+
+/// The prefix's text, in the buffer.
+pub fn prefix_text<'a>(buffer: &'a mut [u8; MOST_TEXT], prefix: &Prefix) -> &'a [u8]
+    ensures { result.now ≡ prefix_text (prefix_as prefix.now) }
+{
+    let len = write_prefix(prefix, buffer);
+    &buffer[..len]
 }

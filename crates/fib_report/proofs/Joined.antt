@@ -6,7 +6,8 @@ use Rattle.csv.specs.Writing.{fields_text, is_blank, row_text, writer_setup, fie
 use Rattle.csv.specs.declared.writer.QuoteStyle.TheVariants.{Never, NonNumeric}
 use Rattle.csv.specs.declared.writer.Writer.{Writer}
 use Rattle.csv.specs.declared.writer.WriterBuilder.{WriterBuilder}
-use Rattle.fib_report.specs.Writing.{line, setup, IsAtRow, AddsRows}
+use Rattle.fib_report.specs.Writing.{setup, IsAtRow, AddsRows}
+use Rattle.printed_model.specs.Rows.{line}
 
 joined : (field : List ℕ) (rest : List (List ℕ)) → field ++ fields_text setup rest ≡ join_with_byte 44 (field ∷ rest)
 unfolding fields_text

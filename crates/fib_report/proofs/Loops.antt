@@ -3,16 +3,12 @@ use Rattle.std.proofs.Common.{◌≡◌, ℕ, ◌+◌, ◌<◌, List, [], ◌∷
 use Rattle.std.specs.List.{flat_map}
 use Rattle.std.proofs.lemmas.Grind.{flat_map-append}
 use Rattle.std.proofs.lemmas.List.{take_more, map-append}
-use Rattle.csv.proofs.WriteFacts.{appends-none, appends-more}
+use Rattle.csv.proofs.WriteFacts.{appends-more}
 use Rattle.std.specs.Io.KnownBytes.{Appends, Keeps}
 use Rattle.csv.specs.Writing.{text_written}
 use Rattle.csv.specs.declared.writer.Writer.{Writer}
 use Rattle.printed_model.specs.Rows.{PrintedRow, line_of, text_of}
-use Rattle.fib_report.specs.Writing.{IsAtRow, AddsRows}
-
--- no row yet
-pub AddsRows-none : {W : Type 0} (contents : W → Option (List ℕ)) (w : Writer W) → IsAtRow w → AddsRows contents w w []
-AddsRows-none contents w at = record { at = at; text = appends-none (text_written contents w) }
+use Rattle.fib_report.specs.Writing.{AddsRows}
 
 -- rows, and then more
 pub AddsRows-more : {W : Type 0} (contents : W → Option (List ℕ)) (u v w : Writer W) (rows more : List ℕ)

@@ -1,15 +1,10 @@
 -- What csv's writer is between two rows, and what rows add to its text.
-use Rattle.std.specs.Prelude.{◌≡◌, ℕ, [], ◌∷◌, ◌++◌, true, false, List, Option}
-use Rattle.std.specs.List.{join_with_byte}
+use Rattle.std.specs.Prelude.{◌≡◌, ℕ, true, false, List, Option}
 use Rattle.std.specs.Io.KnownBytes.{Appends}
 use Rattle.csv.specs.Writing.{default_writer, with_style, with_flexible, writer_setup, fields_written, has_written, text_written}
 use Rattle.csv.specs.declared.writer.QuoteStyle.TheVariants.{Never}
 use Rattle.csv.specs.declared.writer.Writer.{Writer}
 use Rattle.csv.specs.declared.writer.WriterBuilder.{WriterBuilder}
-
--- a line: its fields with commas between them, and a line feed
-abbrev pub line : List (List ℕ) → List ℕ
-line fields = join_with_byte 44 fields ++ 10 ∷ []
 
 -- commas and line feeds, no quotes, rows of any number of fields
 abbrev pub setup : WriterBuilder

@@ -1,43 +1,22 @@
 //! The texts of fields.
 //!
-//! An address or a prefix is written into a buffer of the caller's, which the longest text fits, and is a slice of it; a word is
-//! itself. No call takes memory; each costs the length of its text.
+//! An address is written into a buffer of the caller's, which the longest text fits, and is a slice of it; a word is itself. No
+//! call takes memory; each costs the length of its text.
 
 ghost use Rattle.std.specs.Prelude.{◌≡◌, option_map};
-ghost use Rattle.fib_prefix.specs.Seen.{addr_as, prefix_as};
-ghost use Rattle.fib_prefix.specs.Text.{address_text, prefix_text};
+ghost use Rattle.fib_prefix.specs.Seen.{addr_as};
 ghost use Rattle.printed_model.specs.Rows.{count_name, family_name, hop_text};
 ghost use Rattle.cost_cert.specs.Printed.{count_as};
 
 use cost_cert::Count;
-use fib_prefix::{Addr, Family, MOST_TEXT, Prefix, write_addr, write_prefix};
-
-/// An address.
-pub(crate) fn addr_field<'a>(buffer: &'a mut [u8; MOST_TEXT], addr: &Addr) -> &'a [u8]
-    ensures { result.now ≡ address_text (addr_as addr.now) }
-{
-    let len = write_addr(addr, buffer);
-    &buffer[..len]
-}
-
-/// A prefix.
-pub(crate) fn prefix_field<'a>(buffer: &'a mut [u8; MOST_TEXT], prefix: &Prefix) -> &'a [u8]
-    ensures { result.now ≡ prefix_text (prefix_as prefix.now) }
-{
-    let len = write_prefix(prefix, buffer);
-    &buffer[..len]
-}
+use fib_prefix::{Addr, Family, MOST_TEXT, addr_text};
 
 /// The address of a hop, or the word for none.
-pub(crate) fn hop_field<'a>(
-    buffer: &'a mut [u8; MOST_TEXT],
-    hop: Option<Addr>,
-    word: &'a [u8],
-) -> &'a [u8]
+pub fn hop_field<'a>(buffer: &'a mut [u8; MOST_TEXT], hop: Option<Addr>, word: &'a [u8]) -> &'a [u8]
     ensures { result.now ≡ hop_text word.now (option_map addr_as hop) }
 {
     match hop {
-        Some(addr) => addr_field(buffer, &addr),
+        Some(addr) => addr_text(buffer, &addr),
         None => word,
     }
 }
@@ -57,8 +36,8 @@ pub(crate) fn count_field(count: Count) -> &'static [u8]
     }
 }
 
-/// A family.
-pub(crate) fn family_field(family: Family) -> &'static [u8]
+/// The number that a family is named by.
+pub fn family_field(family: Family) -> &'static [u8]
     ensures { result.now ≡ family_name family }
 {
     match family {

@@ -16,5 +16,6 @@ mod run;
 #[cfg(test)]
 mod tests;
 
-pub use rows::write_run;
+pub use fields::{family_field, hop_field};
+pub use rows::{row_text, write_run};
 pub use run::{Change, Report, Run};

@@ -4,20 +4,23 @@
 ghost use Rattle.std.specs.Prelude.{◌≤◌, ◌∷◌, [], codes, decimal, length, map, option_map, OnOk};
 ghost use Rattle.fib_prefix.specs.Seen.{addr_as, prefix_as};
 ghost use Rattle.fib_prefix.specs.Text.{address_text, prefix_text};
-ghost use Rattle.printed_model.specs.Rows.{IsRow, count_name, family_name, hop_text, line_of};
+ghost use Rattle.printed_model.specs.Rows.{IsRow, count_name, family_name, hop_text, line_of, line};
 ghost use Rattle.cost_cert.specs.Printed.{count_as, printed_row_as};
-ghost use Rattle.fib_report.specs.Writing.{AddsRows, IsAtRow, line};
+ghost use Rattle.fib_report.specs.Writing.{AddsRows, IsAtRow};
 
-use crate::fields::{addr_field, count_field, family_field, hop_field, prefix_field};
+use crate::fields::{count_field, family_field, hop_field};
 use cost_cert::{Count, PrintedRow};
 use csv::Writer;
-use fib_prefix::{Addr, Family, MOST_TEXT, Prefix};
+use fib_prefix::{Addr, Family, MOST_TEXT, Prefix, addr_text, prefix_text};
 use itoa::Buffer;
 use std::alloc::AllocError;
 use std::io::Write;
 
 /// Writes the fields of a row, two or more.
-fn put_fields<W: Write + Drop>(out: &mut Writer<W>, fields: &[&[u8]]) -> Result<(), AllocError>
+pub(crate) fn put_fields<W: Write + Drop>(
+    out: &mut Writer<W>,
+    fields: &[&[u8]],
+) -> Result<(), AllocError>
     requires at { IsAtRow out.old }
     requires fields { 2 ≤ length fields.now }
     ensures { OnOk result (AddsRows W.contents out.old out.new (line (map (λ f. f.now) fields.now))) }
@@ -64,7 +67,7 @@ fn put_entry<W: Write + Drop>(
 {
     let mut text = [0; MOST_TEXT];
     let mut hop_text = [0; MOST_TEXT];
-    let prefix = prefix_field(&mut text, prefix);
+    let prefix = prefix_text(&mut text, prefix);
     let hop = hop_field(&mut hop_text, hop, b"drop");
     put_three(out, name, prefix, hop)
 }
@@ -84,7 +87,7 @@ fn put_change<W: Write + Drop>(
     let mut text = [0; MOST_TEXT];
     let mut hop_text = [0; MOST_TEXT];
     let event = digits.format(event).as_bytes();
-    let prefix = prefix_field(&mut text, prefix);
+    let prefix = prefix_text(&mut text, prefix);
     let hop = hop_field(&mut hop_text, hop, b"drop");
     put_signed(out, event, sign, prefix, hop)
 }
@@ -101,7 +104,7 @@ fn put_remove<W: Write + Drop>(
     let mut digits = Buffer::new();
     let mut text = [0; MOST_TEXT];
     let event = digits.format(event).as_bytes();
-    let prefix = prefix_field(&mut text, prefix);
+    let prefix = prefix_text(&mut text, prefix);
     put_fields(out, &[b"change", event, b"-", prefix])
 }
 
@@ -116,7 +119,7 @@ fn put_answer<W: Write + Drop>(
 {
     let mut text = [0; MOST_TEXT];
     let mut hop_text = [0; MOST_TEXT];
-    let addr = addr_field(&mut text, addr);
+    let addr = addr_text(&mut text, addr);
     let hop = hop_field(&mut hop_text, hop, b"none");
     put_fields(out, &[b"answer", addr, hop])
 }
@@ -133,7 +136,7 @@ fn put_visits<W: Write + Drop>(
     let mut digits = Buffer::new();
     let mut text = [0; MOST_TEXT];
     let number = digits.format(number).as_bytes();
-    let addr = addr_field(&mut text, addr);
+    let addr = addr_text(&mut text, addr);
     put_fields(out, &[b"visits", addr, number])
 }
 
@@ -148,7 +151,7 @@ fn put_leaf<W: Write + Drop>(
 {
     let mut text = [0; MOST_TEXT];
     let mut hop_text = [0; MOST_TEXT];
-    let prefix = prefix_field(&mut text, prefix);
+    let prefix = prefix_text(&mut text, prefix);
     let hop = hop_field(&mut hop_text, hop, b"none");
     put_fields(out, &[b"cert", b"leaf", prefix, hop])
 }
@@ -161,7 +164,7 @@ fn put_join<W: Write + Drop>(out: &mut Writer<W>, prefix: &Prefix, k: u64) -> Re
     let mut digits = Buffer::new();
     let mut text = [0; MOST_TEXT];
     let k = digits.format(k).as_bytes();
-    let prefix = prefix_field(&mut text, prefix);
+    let prefix = prefix_text(&mut text, prefix);
     put_fields(out, &[b"cert", b"join", prefix, k])
 }
 

@@ -15,18 +15,19 @@
 //! table; a route without a hop has no row. A run costs its rows' length, in one text of its own, which is then put behind the
 //! caller's.
 
-ghost use Rattle.std.specs.Prelude.{◌≡◌, ◌++◌, flat_map, map, IfOk, OnOk, OnErr};
+ghost use Rattle.std.specs.Prelude.{◌≡◌, ◌≤◌, [], ◌++◌, flat_map, length, map, IfOk, OnOk, OnErr, Some};
 ghost use Rattle.std.specs.List.{AllByRecursion};
 ghost use Rattle.fib_prefix.specs.Seen.{addr_as, entry_as};
 ghost use Rattle.cost_cert.specs.Printed.{printed_row_as};
 ghost use Rattle.cost_cert.specs.Seen.{row_as};
-ghost use Rattle.printed_model.specs.Rows.{IsRow, text_of};
+ghost use Rattle.printed_model.specs.Rows.{IsRow, text_of, line};
 ghost use Rattle.fib_report.specs.Rows.{of_answer, of_change, of_table, printed_rows, report_rows, run_text};
 ghost use Rattle.printed_model.specs.Numbered.{of_cert, of_least, of_route};
 ghost use Rattle.fib_report.specs.Seen.{change_as, run_as};
+ghost use Rattle.csv.specs.Writing.{text_written};
 ghost use Rattle.fib_report.specs.Writing.{AddsRows, IsAtRow};
 
-use crate::printed_row::put_row;
+use crate::printed_row::{put_fields, put_row};
 use crate::run::{Change, Report, Run};
 use cost_cert::{Count, PrintedRow, Row};
 use csv::{QuoteStyle, Writer, WriterBuilder};
@@ -182,15 +183,35 @@ fn put_report<W: Write + Drop>(out: &mut Writer<W>, report: &Report) -> Result<(
     Ok(())
 }
 
+/// A writer of rows into memory.
+fn row_writer(alloc: Global) -> Writer<Vec<u8>>
+    ensures at { IsAtRow result }
+    ensures empty { text_written (λ v. Some v.items) result ≡ Some [] }
+{
+    WriterBuilder::new()
+        .quote_style(QuoteStyle::Never)
+        .flexible(true)
+        .from_writer(Vec::new(alloc))
+}
+
+/// The text of a row of these fields: commas between them, and a line feed. Two fields at least, since csv writes a row of one
+/// empty field as two quotes. A reader finds the fields again where none holds a comma or a line end. An `Err` means that memory
+/// ran out.
+pub fn row_text(alloc: Global, fields: &[&[u8]]) -> Result<Vec<u8>, AllocError>
+    requires { 2 ≤ length fields.now }
+    ensures { IfOk result (λ text. text.items ≡ line (map (λ f. f.now) fields.now)) }
+{
+    let mut out = row_writer(alloc);
+    put_fields(&mut out, fields)?;
+    out.into_inner().map_err(|_| AllocError)
+}
+
 /// The text of a run.
 fn text_of_run(alloc: Global, run: &Run, hops: &HopTable) -> Result<Vec<u8>, AllocError>
     ensures text { IfOk result (λ text. text.items ≡ run_text hops.now.list (run_as run.now)) }
     ensures proper { OnOk result (AllByRecursion IsRow (printed_rows hops.now.list (run_as run.now))) }
 {
-    let mut out = WriterBuilder::new()
-        .quote_style(QuoteStyle::Never)
-        .flexible(true)
-        .from_writer(Vec::new(alloc));
+    let mut out = row_writer(alloc);
     put_routes(&mut out, &run.routes, hops)?;
     put_changes(&mut out, &run.changes, hops)?;
     put_answers(&mut out, &run.answers, hops)?;

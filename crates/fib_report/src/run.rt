@@ -32,10 +32,11 @@ pub struct Report {
     pub entries: u64,
 }
 
-/// A run: what it began with, what changed at which event, what it answered, and what it ended with.
+/// What a run tells: the routes that it ended with, the changes with their events, the answers, the table, the least table with
+/// its certificate, and the counts.
 #[derive(Debug, Drop)]
 pub struct Run {
-    /// The routes.
+    /// The routes after the last event, in the order of prefixes.
     pub routes: Vec<Entry>,
     /// The changes to the table, each with its event's number.
     pub changes: Vec<(u64, Change)>,

@@ -17,7 +17,7 @@ use Rattle.clap.proofs.WalkLemmas.{first_value-rows}
 use Rattle.clap.proofs.OnLiterals.{clap_on_literals}
 use Rattle.fib_words.specs.declared.WordsError.{WordsError}
 use Rattle.fib_words.specs.declared.WordsError.TheVariants.{Usage, NoMemory}
-use Rattle.fib_words.specs.Commands.{fib_app, takes, is_empty, Asked, Run, Check, asked_in, named_in, command_of, IsCommand}
+use Rattle.fib_words.specs.Commands.{fib_app, takes, is_empty, Run, Check, asked_in, named_in, command_of, IsCommand}
 
 fib_free : is_simple_and_free fib_app ≡ true
 unfolding clap_on_literals
@@ -63,14 +63,6 @@ name_is : {Z : Type 0} (o : Option (Box SubCommand Z)) → option_map (λ (p : T
 name_is None = refl
 name_is (Some b) = refl
 
-entered_run : (o : Option (Text × List Row)) (rows : List Row) → option_map (λ (p : Text × List Row). p.0) o ≡ Some (codes "run") → option_map (λ (p : Text × List Row). p.1) o ≡ Some rows → option_and_then asked_in o ≡ option_map Run (named_in rows)
-entered_run None rows e f = absurd cc
-entered_run (Some p) rows e f =
-    let name : p.0 ≡ codes "run" = cc in
-    let same : p.1 ≡ rows = cc in
-    let other : Option Asked = cond (bytes_eq p.0 (codes "check")) (option_map Check (first_of (codes "printed") p.1)) None in
-    ap (λ n. cond (bytes_eq n (codes "run")) (option_map Run (named_in p.1)) other) name ∙ ap (λ r. option_map Run (named_in r)) same
-
 entered_check : (o : Option (Text × List Row)) (rows : List Row) → option_map (λ (p : Text × List Row). p.0) o ≡ Some (codes "check") → option_map (λ (p : Text × List Row). p.1) o ≡ Some rows → option_and_then asked_in o ≡ option_map Check (first_of (codes "printed") rows)
 entered_check None rows e f = absurd cc
 entered_check (Some p) rows e f =
@@ -78,9 +70,6 @@ entered_check (Some p) rows e f =
     let same : p.1 ≡ rows = cc in
     ap (λ n. cond (bytes_eq n (codes "run")) (option_map Run (named_in p.1)) (cond (bytes_eq n (codes "check")) (option_map Check (first_of (codes "printed") p.1)) None)) name
     ∙ ap (λ r. option_map Check (first_of (codes "printed") r)) same
-
-pub run_is : (m run : ArgMatches) → subcommand_name_of m ≡ Some (codes "run") → option_map (λ (p : Text × List Row). p.1) (subcommand_rows_of m) ≡ Some (rows_of (found_of run)) → option_and_then asked_in (subcommand_rows_of m) ≡ option_map Run (named_in (rows_of (found_of run)))
-run_is m run e f = entered_run (subcommand_rows_of m) (rows_of (found_of run)) (name_is (out-ArgMatches m).subcommand ∙ e) f
 
 pub check_is : (m check : ArgMatches) (printed : Option Text) → subcommand_name_of m ≡ Some (codes "check") → option_map (λ (p : Text × List Row). p.1) (subcommand_rows_of m) ≡ Some (rows_of (found_of check)) → printed ≡ first_value (found_of check) (codes "printed") → option_and_then asked_in (subcommand_rows_of m) ≡ option_map Check printed
 check_is m check printed e f g =

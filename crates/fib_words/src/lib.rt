@@ -146,7 +146,8 @@ fn command_in<'a>(matches: &ArgMatches<'a>) -> Option<CommandWords<'a>>
 
 /// Reads the words of the command line, the program's name first.
 ///
-/// `Usage` exactly where clap's definition of the command line doesn't take them.
+/// Unless memory runs out, `Usage` comes exactly where the words are no command: where clap's definition of the command
+/// line doesn't take them, or what it takes names no command with its word.
 pub fn read_words<'a>(alloc: Global, words: &'a [String]) -> Result<CommandWords<'a>, WordsError>
     ensures { IsCommand result (command_of (map string_bytes words.now)) }
 {

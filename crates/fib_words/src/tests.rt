@@ -9,7 +9,7 @@ type Case<'a> = (
     Option<(&'a str, Option<&'a str>, Option<&'a str>)>,
 );
 
-const CASES: [Case<'static>; 22] = [
+const CASES: [Case<'static>; 26] = [
     (&["fib", "run", "D"], Some(("D", None, None))),
     (
         &["fib", "run", "D", "--ask", "A"],
@@ -33,6 +33,10 @@ const CASES: [Case<'static>; 22] = [
     ),
     (&["fib", "run", "--", "-D"], Some(("-D", None, None))),
     (&["fib", "run", "-"], Some(("-", None, None))),
+    (
+        &["fib", "run", "D", "--ask", "-"],
+        Some(("D", None, Some("-"))),
+    ),
     (&["fib", "run", "help"], Some(("help", None, None))),
     (&[], None),
     (&["fib"], None),
@@ -40,10 +44,13 @@ const CASES: [Case<'static>; 22] = [
     (&["fib", "run", "-D"], None),
     (&["fib", "run", "D", "E"], None),
     (&["fib", "run", "D", "--ask"], None),
+    (&["fib", "run", "D", "--ask", "-A"], None),
     (&["fib", "run", "D", "--ask", "A", "--ask", "A"], None),
     (&["fib", "run", "D", "--direct", "19"], None),
     (&["fib", "make", "0", "--seed", "1"], None),
     (&["fib", "run", "--help"], None),
+    (&["fib", "--help"], None),
+    (&["fib", "--version"], None),
     (&["fib", "help"], None),
     (&["fib", "check"], None),
     (&["fib", "check", "P", "--ask", "A"], None),

@@ -5,7 +5,7 @@ use Rattle.std.specs.List.{filter}
 use Rattle.std.proofs.Common.{length-append, append_assoc}
 use Rattle.table_model.specs.Table.{Entry, Table, lpm, longest, longer, hop_or, IsTable, Alike, cut}
 use Rattle.least_model.specs.Regions.{IsWithin, lift}
-use Rattle.least_model.specs.Least.{Least}
+use Rattle.least_model.specs.Least.{Least, LeastWithin}
 use Rattle.least_model.specs.Sets.{is_in, miss, joint, apart, side, set_of, k_of, agg, answers, smallest}
 use Rattle.least_model.specs.Least.{Gives}
 use Rattle.least_model.specs.Least.{IsCost, IsBest, candidates, set_at, k_at, bound, aggregate}
@@ -43,6 +43,18 @@ cost_is w R p h s = (
   (aggregate w R p h [], aggregate_table w R p h [] s, within_lift p (agg (w - length p) (answers R p) (cut p []) h), aggregate_gives w R p h [] s, aggregate_length w R p h []),
   λ L t i g. region_lower w R p h s L i g,
 )
+
+-- the aggregate of a region is a least table of the region
+pub aggregate_least : (w : ℕ) (R : Table) (p : List Bool) (h : ℕ) (old : Table) → length p ≤ w → LeastWithin w R p h (aggregate w R p h old)
+aggregate_least w R p h old s = (
+  aggregate_table w R p h old s,
+  within_lift p (agg (w - length p) (answers R p) (cut p old) h),
+  aggregate_gives w R p h old s,
+  λ L t i g. omega (arith, aggregate_length w R p h old, region_lower w R p h s L i g),
+)
+
+pub region_law : (w : ℕ) (R : Table) (p : List Bool) (h : ℕ) (old : Table) → length p ≤ w → LeastWithin w R p h (aggregate w R p h old) × IsCost w R p h (length (aggregate w R p h old))
+region_law w R p h old s = (aggregate_least w R p h old s, subst (IsCost w R p h) (sym (aggregate_length w R p h old)) (cost_is w R p h s))
 
 choose : (b : Bool) (k : ℕ) → k + cond b 0 1 ≡ cond b k (k + 1)
 choose true k = omega arith
@@ -142,9 +154,6 @@ fresh_law w R old =
 -- a region's set and k from those of its halves
 answers_half : (R : Table) (p : List Bool) (b : Bool) (a : List Bool) → answers R p (b ∷ a) ≡ answers R (p ++ (b ∷ [])) a
 answers_half R p b a = ap (λ x. lpm R x 0) (sym (append_assoc p (b ∷ []) a))
-
-half_depth : (w : ℕ) (p : List Bool) (b : Bool) → length p < w → w - length p ≡ suc (w - length (p ++ (b ∷ [])))
-half_depth w p b s = omega (arith, length-append p (b ∷ []))
 
 set_half : (w : ℕ) (R : Table) (p : List Bool) (b : Bool) (d : ℕ) → d ≡ w - length (p ++ (b ∷ [])) → set_of d (side b (answers R p)) ≡ set_at w R (p ++ (b ∷ []))
 set_half w R p b d e = ap (λ x. set_of x (side b (answers R p))) e ∙ set_alike (w - length (p ++ (b ∷ []))) (side b (answers R p)) (answers R (p ++ (b ∷ []))) (λ a l. answers_half R p b a)

@@ -5,7 +5,7 @@ use Rattle.address_model.specs.Bits.{begins}
 use Rattle.least_model.specs.Regions.{IsWithin, outside, above}
 use Rattle.least_model.specs.Least.{Least}
 use Rattle.least_model.specs.Sets.{agg, answers}
-use Rattle.least_model.specs.Regions.{entry_at, SameOutside, SameEntries}
+use Rattle.least_model.specs.Regions.{entry_at, SameEntries}
 use Rattle.least_model.specs.Least.{aggregate, patch}
 use Rattle.table_model.proofs.Cut.{entry, lpm_cut, lpm_nil}
 use Rattle.least_model.proofs.Region.{cut_append, within_lift, within_half, within_rootless}
@@ -82,10 +82,6 @@ patch_repairs w T R p q =
     let M : Table = aggregate w R p (above p T 0) T in
     let e : cut (p ++ q) (outside p T) ≡ [] = cut_cut p q (outside p T) ∙ (ap (cut q) (cut_outside p T) ∙ cut_nil q) in
     ap root (cut_append (p ++ q) (outside p T) M ∙ ap (λ x. x ++ cut (p ++ q) M) e)
-
--- so the patch has the entries of T outside p
-pub patch_same : (w : ℕ) (T R : Table) (p : List Bool) → SameOutside p (patch w T R p) T
-patch_same w T R p q n = patch_keeps w T R p q n
 
 -- a table has no entry past its width
 pub entry_beyond : (w : ℕ) (q : List Bool) (L : Table) → IsTable w L → w < length q → entry_at q L ≡ None

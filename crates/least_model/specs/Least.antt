@@ -19,6 +19,12 @@ IsCost w R p h k =
     ((L : Table) × IsTable w L × IsWithin p L × Gives w R p h L × (length L ≡ k))
     × ((L : Table) → IsTable w L → IsWithin p L → Gives w R p h L → k ≤ length L)
 
+-- of the tables within p that under h give R's answers there, T is one that has the fewest entries
+abbrev pub LeastWithin : ℕ → Table → List Bool → ℕ → Table → Type 0
+LeastWithin w R p h T =
+    IsTable w T × IsWithin p T × Gives w R p h T
+    × ((L : Table) → IsTable w L → IsWithin p L → Gives w R p h L → length T ≤ length L)
+
 -- none and the hops of R
 abbrev pub candidates : Table → List ℕ
 candidates R = 0 ∷ map (λ e. e.hop) R

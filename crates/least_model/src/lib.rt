@@ -10,7 +10,7 @@ ghost use Rattle.address_model.specs.Bits.{begins};
 ghost use Rattle.table_model.specs.Table.{Table, lpm, IsTable, Alike, half, root};
 ghost use Rattle.least_model.specs.Regions.{join, above, entry_at, SameOutside, SameEntries, InOrder};
 ghost use Rattle.least_model.specs.Sets.{is_in, own, joint, apart};
-ghost use Rattle.least_model.specs.Least.{Least, IsCost, IsBest, IsAggregate, set_at, k_at, bound, aggregate, patch};
+ghost use Rattle.least_model.specs.Least.{Least, LeastWithin, IsCost, IsBest, IsAggregate, set_at, k_at, bound, aggregate, patch};
 ghost use Rattle.least_model.specs.Kept.{Kept};
 
 /// An entry at the root, if any, and two halves make a table.
@@ -58,6 +58,12 @@ pub fn bound_law()
 pub fn fresh_law()
     ensures { (w : ℕ) (R old : Table) →
         IsTable w (aggregate w R [] 0 old) × Least w R (aggregate w R [] 0 old) × (length (aggregate w R [] 0 old) ≡ bound w R) }
+{}
+
+/// The aggregate of a region answers there as R, in as many entries as the region costs: no table of the region has fewer.
+pub fn region_law()
+    ensures { (w : ℕ) (R : Table) (p : List Bool) (h : ℕ) (old : Table) → length p ≤ w →
+        LeastWithin w R p h (aggregate w R p h old) × IsCost w R p h (length (aggregate w R p h old)) }
 {}
 
 /// The patch at p of a table that answers as R outside p answers as R.

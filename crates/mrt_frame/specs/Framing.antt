@@ -35,13 +35,6 @@ pub record Feeds (old : Framer) (piece : List ℕ) (new : Framer) : Type 0 where
   pub refuses : refusal new ≡ refusal old
   pub stands : (fed : List ℕ) (taken : List Record) → Stands fed taken old → Stands (fed ++ piece) taken new
 
--- nothing was fed or taken
-pub record IsUnchanged (old new : Framer) : Type 0 where
-  pub leaves : left new ≡ left old
-  pub counts : count new ≡ count old
-  pub refuses : refusal new ≡ refusal old
-  pub stands : (fed : List ℕ) (taken : List Record) → Stands fed taken old → Stands fed taken new
-
 -- the refusal that is kept comes first
 abbrev pub kept_or : {A : Type 0} → Option Fault → Result A Fault → Result A Fault
 kept_or (Some fault) other = Err fault
@@ -68,6 +61,15 @@ left_before framer = drop framer.last framer.kept.items
 pub record HasTaken (framer : Framer) : Type 0 where
   pub behind : framer.last < framer.at
   pub counted : 0 < count framer
+
+-- nothing was fed, taken or given back
+pub record IsUnchanged (old new : Framer) : Type 0 where
+  pub leaves : left new ≡ left old
+  pub before : left_before new ≡ left_before old
+  pub counts : count new ≡ count old
+  pub refuses : refusal new ≡ refusal old
+  pub has_taken : HasTaken old → HasTaken new
+  pub stands : (fed : List ℕ) (taken : List Record) → Stands fed taken old → Stands fed taken new
 
 -- the record taken last is the next one again
 pub record TakesBack (old new : Framer) : Type 0 where

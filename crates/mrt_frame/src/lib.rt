@@ -4,11 +4,11 @@
 //! of body (RFC 6396, section 2).
 //!
 //! The framer keeps all that it was fed, the place up to which records were taken, and the place before the last of them.
-//! It holds that these lie within what is kept, and that no more records were taken than octets. `feed` costs its piece, `next` a header: a body
-//! is lent where it lies. The memory is that of all that was fed.
+//! These places lie within what is kept, and no more records were taken than octets. `feed` costs its piece, `next` a
+//! header: a body is lent where it lies. The memory is that of all that was fed.
 #![tactic(auto)]
 
-ghost use Rattle.std.specs.Prelude.{◌≡◌, ◌+◌, ◌≤◌, ◌<◌, ◌++◌, [], length, vec_len, IfErr, IfOk, OnErr, OnOk, None, option_map};
+ghost use Rattle.std.specs.Prelude.{◌≡◌, ◌+◌, ◌≤◌, ◌<◌, [], length, vec_len, IfErr, IfOk, OnErr, OnOk, None, option_map};
 ghost use Rattle.octet_fields.specs.Gives.{Gives};
 ghost use Rattle.reading_model.specs.Record.{record_at};
 ghost use Rattle.mrt_frame.specs.Records.{answer_of, record_behind, record_of};
@@ -17,14 +17,19 @@ use octet_fields::{octets, u16_at, u32_at};
 use std::alloc::{AllocError, Global};
 use thiserror::Error;
 
+/// The octets of a header.
 const HEADER: usize = 12;
 
+/// The greatest Length that is taken, in octets: a limit of this program, not of RFC 6396.
 const MOST_LENGTH: u32 = 16_777_216;
 
+/// The rule that an input which ends within a header breaks.
 const HEADER_CUT: u8 = 1;
 
+/// The rule that an input which ends within a body breaks.
 const BODY_CUT: u8 = 2;
 
+/// The rule that a Length over `MOST_LENGTH` breaks.
 const TOO_LONG: u8 = 3;
 
 /// A record, a part of the framer's buffer.
@@ -84,10 +89,15 @@ fn read_header(bytes: &[u8]) -> Result<Header, u8>
 /// What was fed, and how much of it was taken.
 #[derive(Debug, Drop)]
 pub struct Framer {
+    // All that was fed.
     kept: Vec<u8>,
+    // The place after the records that were taken.
     at: usize,
+    // The place of the last of them, or `at` once it was given back; 0 where none was taken.
     last: usize,
+    // How many records were taken.
     number: u64,
+    // What was refused, for good.
     refused: Option<Malformed>,
     ghost within: { at ≤ vec_len kept },
     ghost behind: { last ≤ at },
@@ -157,7 +167,7 @@ impl Framer {
         }
     }
 
-    /// Makes the record that `next` gave just before the next one again.
+    /// Gives the record back that `next` has just given: `next` gives it once more.
     pub fn again(&mut self)
         requires { HasTaken self.old }
         ensures { TakesBack self.old self.new }

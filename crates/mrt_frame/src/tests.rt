@@ -1,4 +1,5 @@
-//! Two records in pieces of several sizes, and inputs that are cut or have a Length over the limit.
+//! Two records in pieces of several sizes, a record that is given back, and inputs that are cut or have a Length over the
+//! limit.
 ghost use Rattle.std.specs.Prelude.{OnOk};
 ghost use Rattle.mrt_frame.specs.Framing.{IsUsedUp};
 
@@ -35,6 +36,19 @@ fn take_whole(framer: &mut Framer, subs: &mut Vec<u16>, bodies: &mut Vec<u8>) ->
     Ok(())
 }
 
+/// Takes a record, gives it back and takes it anew: both times its Subtype and the length of its body.
+fn take_twice(framer: &mut Framer) -> Result<Option<[(u16, usize); 2]>, Malformed> {
+    let Some(framed) = framer.next()? else {
+        return Ok(None);
+    };
+    let first = (framed.sub, framed.body.len());
+    framer.again();
+    let Some(framed) = framer.next()? else {
+        return Ok(None);
+    };
+    Ok(Some([first, (framed.sub, framed.body.len())]))
+}
+
 /// What is said once the records of the input are taken.
 fn ended(framer: &mut Framer) -> Result<(), Malformed>
     ensures { IsUsedUp framer.new }
@@ -65,6 +79,18 @@ fn takes_the_same_records_from_pieces_of_any_size(rt: HostRuntime) -> Result<(),
         );
         assert_eq!(rt; ended(&mut framer), Ok(()), "in pieces of {size}");
     }
+    Ok(())
+}
+
+#[test]
+fn gives_a_record_back(rt: HostRuntime) -> Result<(), Fail> {
+    let mut framer = Framer::new(rt.alloc());
+    framer.feed(&PEERS)?;
+    framer.feed(&ROUTES)?;
+    assert_eq!(rt; take_twice(&mut framer), Ok(Some([(1, 21), (1, 21)])));
+    assert_eq!(rt; take_twice(&mut framer), Ok(Some([(2, 36), (2, 36)])));
+    assert_eq!(rt; take_twice(&mut framer), Ok(None));
+    assert_eq!(rt; ended(&mut framer), Ok(()));
     Ok(())
 }
 

@@ -1,7 +1,6 @@
 -- How a reader stands.
-use Rattle.std.proofs.Common.{◌≡◌, ℕ, ◌+◌, List, [], ◌∷◌, ◌++◌, length, map, Option, Some, None, IfNone, IfSome, option_map, Result, Ok, Err, refl, sym, ap, ◌∙◌, inl, inr, append-nil, arith}
+use Rattle.std.proofs.Common.{◌≡◌, ℕ, ◌+◌, List, [], ◌∷◌, ◌++◌, length, Option, Some, None, IfNone, IfSome, Result, Ok, Err, refl, sym, ap, ◌∙◌, inl, inr, append-nil, arith}
 use Rattle.std.proofs.lemmas.Bool.{ne_eqb}
-use Rattle.std.specs.declared.vec.Vec.{Vec}
 use Rattle.route_model.specs.Events.{Peer, Event}
 use Rattle.octet_fields.specs.Field.{◌>>=◌}
 use Rattle.reading_model.specs.Record.{Record, Fault, record_at, at_record}
@@ -11,14 +10,13 @@ use Rattle.reading_model.proofs.Reading.{reading_starts, reading_takes, reading_
 use Rattle.mrt_frame.specs.Framing as framing
 use Rattle.mrt_frame.specs.Records.{answer_of}
 use Rattle.mrt_frame.specs.declared.Malformed.{Malformed}
-use Rattle.fib_prefix.specs.Seen.{event_as}
-use Rattle.fib_prefix.specs.declared.event.Event as code_event
 use Rattle.wire_fields.specs.declared.refusal.Refusal.{Refusal}
 use Rattle.wire_fields.specs.declared.refusal.Refusal.TheVariants.{Rule}
 use Rattle.mrt_read.specs.Next as next
-use Rattle.mrt_read.specs.Seen.{read_as, told_events}
-use Rattle.mrt_read.specs.Standing.{left, peers, refusal, Stands, next_in, IsUsedUp, IsFault, TakesEvents, Refuses, Tells}
+use Rattle.mrt_read.specs.Seen.{told_events}
+use Rattle.mrt_read.specs.Standing.{left, peers, refusal, Stands, next_in, IsUsedUp, IsFault, TakesEvents, Refuses, end_of, Tells}
 use Rattle.mrt_read.specs.declared.reader.Reader.{Reader}
+use Rattle.mrt_read.specs.declared.reader.Told.{Told}
 
 -- ---- a refusal is kept, or none is
 
@@ -38,50 +36,53 @@ pub stands_at_start : (r : Reader) → refusal r ≡ None → left r ≡ [] → 
 stands_at_start r none empty p n k = stands_on [] start r none (sym p) (sym n) (sym k) (rw empty reading_starts)
 
 pub refuses_again : (r : Reader) (fault : Fault) → refusal r ≡ Some fault → Refuses r fault r
-refuses_again r fault kept = record { refuses = kept; tells = λ fed read s. refused_of fed read r fault kept s; stands = λ fed read s. s }
+refuses_again r fault kept = record { refuses = kept; peers = refl; records = refl; skipped = refl; tells = λ fed read s. refused_of fed read r fault kept s; stands = λ fed read s. s }
 
 pub tells_refused : (r : Reader) (fault : Fault) → refusal r ≡ Some fault → (fed : List ℕ) (read : Progress) → Stands fed read r → IsFault fed read fault
 tells_refused r fault kept fed read s = refused_of fed read r fault kept s
 
 -- ---- a record more
 
-same_progress : {A : Type 0} (read : Progress) (table : Option (List Peer)) (told : Option (Vec code_event.Event A)) (events : List Event) (records skipped : ℕ)
-    → events ≡ told_events (option_map (λ v. map event_as v.items) told) → records ≡ read.records + 1 → IfNone told (skipped ≡ read.skipped + 1) → IfSome told (λ v. skipped ≡ read.skipped)
-    → counted read (table, option_map (λ v. map event_as v.items) told) ≡ record { peers = table; events = read.events ++ events; records = records; skipped = skipped }
+same_progress : (read : Progress) (table : Option (List Peer)) (told : Option (List Event)) (events : List Event) (records skipped : ℕ)
+    → events ≡ told_events told → records ≡ read.records + 1 → IfNone told (skipped ≡ read.skipped + 1) → IfSome told (λ v. skipped ≡ read.skipped)
+    → counted read (table, told) ≡ record { peers = table; events = read.events ++ events; records = records; skipped = skipped }
 same_progress read table None events records skipped e n none some = rw (e, n, none, append-nil read.events) refl
 same_progress read table (Some v) events records skipped e n none some = rw (e, n, some) refl
 
 abbrev pub source : Reader → next.Source
 source r = record { framer = r.framer; table = r.table }
 
-pub takes_events : {A : Type 0} (old new : Reader) (told : Option (Vec code_event.Event A)) (events : List Event) → refusal old ≡ None → refusal new ≡ None → next.Reads (source old) told (source new)
-    → events ≡ told_events (option_map (λ v. map event_as v.items) told) → new.records ≡ old.records + 1 → IfNone told (new.skipped ≡ old.skipped + 1) → IfSome told (λ v. new.skipped ≡ old.skipped) → TakesEvents old events new
-takes_events {A = A} old new told events none still r e n skips keeps = record {
+pub takes_events : (old new : Reader) (told : Told) (events : List Event) → refusal old ≡ None → refusal new ≡ None → next.ReadsRecord (source old) told (source new)
+    → events ≡ told_events (next.events_of told) → new.records ≡ old.records + 1 → IfNone (next.events_of told) (new.skipped ≡ old.skipped + 1) → IfSome (next.events_of told) (λ v. new.skipped ≡ old.skipped) → TakesEvents old events new
+takes_events old new told events none still r e n skips keeps = record {
   shorter = r.shorter;
   counts = n;
   refuses = still;
   stands = λ fed read s.
-      let says : record_in read.peers r.read ≡ Ok (read_as new.table told) = rw s.peers r.says in
-      let on = reading_takes fed (left old) (left new) read r.read (read_as new.table told) (reads_of fed read old none s) r.front says in
-      let same = same_progress read (peers new) told events new.records new.skipped e (rw s.records n) (rw s.skipped skips) (rw s.skipped keeps) in
+      let says : record_in read.peers r.read ≡ Ok (peers new, next.events_of told) = rw s.peers r.says in
+      let on = reading_takes fed (left old) (left new) read r.read (peers new, next.events_of told) (reads_of fed read old none s) r.front says in
+      let same = same_progress read (peers new) (next.events_of told) events new.records new.skipped e (rw s.records n) (rw s.skipped skips) (rw s.skipped keeps) in
       stands_on fed _ new still refl refl refl (rw same at on);
 }
 
-pub went_on : {A : Type 0} (old new : next.Source) (given : Option (Option (Vec code_event.Event A))) (told : Option (Vec code_event.Event A)) → given ≡ Some told → next.Goes old (Ok given) new → next.Reads old told new
-went_on {A = A} old new given told is goes = rw is at goes
+pub went_on : (old new : next.Source) (given : Option Told) (told : Told) → given ≡ Some told → next.Goes old (Ok given) new → next.ReadsRecord old told new
+went_on old new given told is goes = rw is at goes
 
-pub went_wrong : (old new : next.Source) (why : Refusal) (rule : ℕ) → why ≡ Rule rule → next.Fails old why new → next.Breaks old rule × (new.table ≡ old.table)
+pub went_wrong : (old new : next.Source) (why : Refusal) (rule : ℕ) → why ≡ Rule rule → next.Fails old why new → next.BreaksRule old rule × (new.table ≡ old.table)
 went_wrong old new why rule is fails = rw is at fails
 
 -- ---- a rule is broken
 
-breaks : (old : Reader) (rule : ℕ) → refusal old ≡ None → next.Breaks (source old) rule → (fed : List ℕ) (read : Progress) → Stands fed read old → ReadsNo fed (record { read = read; rule = rule })
+breaks : (old : Reader) (rule : ℕ) → refusal old ≡ None → next.BreaksRule (source old) rule → (fed : List ℕ) (read : Progress) → Stands fed read old → ReadsNo fed (record { read = read; rule = rule })
 breaks old rule none (inl over) fed read s = rw over.1 (reading_too_long fed (left old) read (reads_of fed read old none s) over.0)
 breaks old rule none (inr b) fed read s = reading_breaks fed (left old) b.1 read b.0 rule (reads_of fed read old none s) b.2 (rw s.peers b.3)
 
-pub refuses_rule : (old new : Reader) (fault : Fault) → refusal old ≡ None → fault.number ≡ old.records → next.Breaks (source old) fault.rule → refusal new ≡ Some fault → new.records ≡ old.records → new.skipped ≡ old.skipped → peers new ≡ peers old → Refuses old fault new
+pub refuses_rule : (old new : Reader) (fault : Fault) → refusal old ≡ None → fault.number ≡ old.records → next.BreaksRule (source old) fault.rule → refusal new ≡ Some fault → new.records ≡ old.records → new.skipped ≡ old.skipped → peers new ≡ peers old → Refuses old fault new
 refuses_rule old new fault none number b kept n k p = record {
   refuses = kept;
+  peers = p;
+  records = n;
+  skipped = k;
   tells = λ fed read s. (number ∙ sym s.records, stops fed read fault.rule (breaks old fault.rule none b fed read s));
   stands = λ fed read s. record {
     peers = s.peers ∙ sym p;
@@ -133,3 +134,6 @@ nothing_next (Some fault) comes e used = absurd cc
 pub tells : (r : Reader) (result : Result (Unit {0}) Malformed) → refusal r ≡ None → framing.refusal r.framer ≡ None → framing.count r.framer ≡ r.records → IsUsedUp r → answer_of (λ x. x) result ≡ framing.end_of r.framer → Tells r result
 tells r result none going counts used gives =
     ended r (record_at (left r)) none (nothing_next (refusal r) _ none used) result (rw (going, counts) at gives) refl
+
+pub ends_as : (r : Reader) (result : Result (Unit {0}) Malformed) → refusal r ≡ None → framing.refusal r.framer ≡ None → framing.count r.framer ≡ r.records → answer_of (λ x. x) result ≡ framing.end_of r.framer → answer_of (λ x. x) result ≡ end_of r
+ends_as r result none going counts gives = rw none (rw (going, counts) at gives)

@@ -1,6 +1,7 @@
 -- One record of a framer, read behind a peer table.
-use Rattle.std.specs.Prelude.{◌≡◌, ℕ, ◌+◌, ◌<◌, ◌⊎◌, List, length, Option, Some, None, Result, Ok, Err}
-use Rattle.std.specs.declared.vec.Vec.{Vec}
+use Rattle.std.specs.Prelude.{◌≡◌, ℕ, ◌+◌, ◌<◌, ◌⊎◌, List, length, map, Option, Some, None, Result, Ok, Err}
+use Rattle.route_model.specs.Events.{Event}
+use Rattle.reading_model.specs.Rules.{header_cut, body_cut, too_long}
 use Rattle.reading_model.specs.Record.{Record, record_at}
 use Rattle.reading_model.specs.Input.{record_in}
 use Rattle.mrt_frame.specs.Framing.{left, count, refusal}
@@ -8,19 +9,26 @@ use Rattle.mrt_frame.specs.declared.Framer.{Framer}
 use Rattle.mrt_records.specs.declared.table.PeerTable.{PeerTable}
 use Rattle.wire_fields.specs.declared.refusal.Refusal.{Refusal}
 use Rattle.wire_fields.specs.declared.refusal.Refusal.TheVariants.{Rule, NoMemory}
-use Rattle.fib_prefix.specs.declared.event.Event.{Event}
-use Rattle.mrt_read.specs.Seen.{peers_in, read_as}
+use Rattle.fib_prefix.specs.Seen.{event_as}
+use Rattle.mrt_read.specs.Seen.{peers_in}
+use Rattle.mrt_read.specs.declared.reader.Told.{Told}
+use Rattle.mrt_read.specs.declared.reader.Told.TheVariants.{Events, Skipped}
 
 -- the framer and the latest peer table
 pub record Source : Type 0 where
   pub framer : Framer
   pub table : Option PeerTable
 
+-- the events of a record, or none where it is skipped
+abbrev pub events_of : Told → Option (List Event)
+events_of (Events events) = Some (map event_as events.items)
+events_of Skipped = None
+
 -- the next record was read
-pub record Reads {A : Type 0} (old : Source) (told : Option (Vec Event A)) (new : Source) : Type 0 where
+pub record ReadsRecord (old : Source) (told : Told) (new : Source) : Type 0 where
   pub read : Record
   pub front : record_at (left old.framer) ≡ Ok (read, left new.framer)
-  pub says : record_in (peers_in old.table) read ≡ Ok (read_as new.table told)
+  pub says : record_in (peers_in old.table) read ≡ Ok (peers_in new.table, events_of told)
   pub shorter : length (left new.framer) < length (left old.framer)
   pub counts : count new.framer ≡ count old.framer + 1
   pub refuses : refusal new.framer ≡ None
@@ -33,15 +41,16 @@ pub record Stays (old new : Source) : Type 0 where
   pub table : new.table ≡ old.table
 
 -- the next record breaks this rule
-abbrev pub Breaks : Source → ℕ → Type 0
-Breaks old rule = ((record_at (left old.framer) ≡ Err 3) × (rule ≡ 3)) ⊎ ((read : Record) × (after : List ℕ) × (record_at (left old.framer) ≡ Ok (read, after)) × (record_in (peers_in old.table) read ≡ Err rule))
+abbrev pub BreaksRule : Source → ℕ → Type 0
+BreaksRule old rule = ((record_at (left old.framer) ≡ Err too_long) × (rule ≡ too_long)) ⊎ ((read : Record) × (after : List ℕ) × (record_at (left old.framer) ≡ Ok (read, after)) × (record_in (peers_in old.table) read ≡ Err rule))
 
 -- why nothing was read
 abbrev pub Fails : Source → Refusal → Source → Type 0
-Fails old (Rule rule) new = Breaks old rule × (new.table ≡ old.table)
+Fails old (Rule rule) new = BreaksRule old rule × (new.table ≡ old.table)
 Fails old NoMemory new = Stays old new
 
-abbrev pub Goes : {A : Type 0} → Source → Result (Option (Option (Vec Event A))) Refusal → Source → Type 0
-Goes old (Ok (Some told)) new = Reads old told new
-Goes old (Ok None) new = Stays old new × ((record_at (left old.framer) ≡ Err 1) ⊎ (record_at (left old.framer) ≡ Err 2))
+-- what was read of the source, and how it stands then
+abbrev pub Goes : Source → Result (Option Told) Refusal → Source → Type 0
+Goes old (Ok (Some told)) new = ReadsRecord old told new
+Goes old (Ok None) new = Stays old new × ((record_at (left old.framer) ≡ Err header_cut) ⊎ (record_at (left old.framer) ≡ Err body_cut))
 Goes old (Err why) new = Fails old why new

@@ -4,7 +4,7 @@ ghost use Rattle.std.specs.Prelude.{◌≡◌, ◌≤◌, None, OnErr, OnOk, []}
 ghost use Rattle.std.specs.Option.{ForNone};
 ghost use Rattle.mrt_frame.specs.Framing as framing;
 ghost use Rattle.mrt_frame.specs.Framing.{count};
-ghost use Rattle.mrt_read.specs.Next.{Goes, Source};
+ghost use Rattle.mrt_read.specs.Next.{Goes};
 ghost use Rattle.reading_model.specs.Input.{start};
 
 use crate::records::read_record;
@@ -25,12 +25,21 @@ pub enum ReadError {
     NoMemory,
 }
 
-/// What the next whole record says, or `None` where there is none; `Some(None)` where it is skipped.
+/// What the next whole record says.
+#[derive(Drop)]
+enum Told {
+    /// Its events.
+    Events(Vec<Event>),
+    /// It is skipped.
+    Skipped,
+}
+
+/// What the next whole record says, or `None` where there is none.
 fn read_next(
     alloc: Global,
     framer: &mut Framer,
     table: &mut Option<PeerTable>,
-) -> Result<Option<Option<Vec<Event>>>, Refusal>
+) -> Result<Option<Told>, Refusal>
     requires { framing.refusal framer.old ≡ None }
     ensures { Goes (record { framer = framer.old; table = table.old }) result (record { framer = framer.new; table = table.new }) }
 {
@@ -38,7 +47,8 @@ fn read_next(
         Err(malformed) => Err(Refusal::Rule(malformed.rule)),
         Ok(None) => Ok(None),
         Ok(Some(framed)) => match read_record(alloc, table, &framed) {
-            Ok(told) => Ok(Some(told)),
+            Ok(Some(events)) => Ok(Some(Told::Events(events))),
+            Ok(None) => Ok(Some(Told::Skipped)),
             Err(Refusal::Rule(rule)) => Err(Refusal::Rule(rule)),
             Err(Refusal::NoMemory) => {
                 framer.again();
@@ -62,7 +72,8 @@ pub struct Reader {
 }
 
 impl Reader {
-    ghost use Rattle.mrt_read.specs.Standing.{Answers, Feeds, IsUnchanged, IsUsedUp, left, next_of, refusal, Stands, Tells, Took};
+    ghost use Rattle.mrt_read.specs.Standing.{Answers, end_of, Feeds, IsUnchanged, IsUsedUp, left, next_of, records_of, refusal, skipped_of, Stands, Tells, Took};
+    ghost use Rattle.mrt_frame.specs.Records.{answer_of};
 
     /// A reader that was fed nothing.
     pub fn new(alloc: Global) -> Reader
@@ -102,11 +113,11 @@ impl Reader {
         }
         match read_next(self.alloc, &mut self.framer, &mut self.table) {
             Ok(None) => Ok(None),
-            Ok(Some(Some(events))) => {
+            Ok(Some(Told::Events(events))) => {
                 self.records += 1;
                 Ok(Some(events))
             }
-            Ok(Some(None)) => {
+            Ok(Some(Told::Skipped)) => {
                 self.records += 1;
                 self.skipped += 1;
                 Ok(Some(Vec::new(self.alloc)))
@@ -125,10 +136,12 @@ impl Reader {
 
     /// Whether the input may end here: the refusal that is kept, or rule 1 or 2 where a header or a body is cut.
     ///
-    /// It is asked once `take_events` gives no further events.
+    /// It may be asked only once `take_events` gives no further events, or a refusal: a whole record that is left would be
+    /// passed over.
     pub fn finish(&self) -> Result<(), Malformed>
         requires { IsUsedUp self.now }
-        ensures { Tells self.now result }
+        ensures gives { answer_of (λ x. x) result ≡ end_of self.now }
+        ensures tells { Tells self.now result }
     {
         if let Some(refused) = self.refused {
             return Err(refused);
@@ -136,16 +149,16 @@ impl Reader {
         self.framer.finish()
     }
 
-    /// How many whole records were read, skipped ones too.
+    /// How many whole records were read, skipped ones too, the refused one not.
     pub fn records(&self) -> u64
-        ensures { result ≡ self.now.records }
+        ensures { result ≡ records_of self.now }
     {
         self.records
     }
 
-    /// How many records were skipped.
+    /// How many of them were skipped.
     pub fn skipped(&self) -> u64
-        ensures { result ≡ self.now.skipped }
+        ensures { result ≡ skipped_of self.now }
     {
         self.skipped
     }

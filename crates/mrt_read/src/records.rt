@@ -1,10 +1,10 @@
 //! Records, by their types.
 
-ghost use Rattle.std.specs.Prelude.{◌≡◌, ◌||◌, map, OnErr};
+ghost use Rattle.std.specs.Prelude.{◌≡◌, map, option_copied, OnErr};
 ghost use Rattle.fib_prefix.specs.Seen.{event_as};
 ghost use Rattle.mrt_frame.specs.Records.{record_of};
 ghost use Rattle.wire_fields.specs.Gives.{GivesInMemory};
-ghost use Rattle.reading_model.specs.Input.{is_session, record_in, rib_behind};
+ghost use Rattle.reading_model.specs.Input.{record_in, rib_behind};
 ghost use Rattle.mrt_read.specs.Seen.{peers_in, read_as};
 
 use fib_prefix::{Event, Family};
@@ -25,21 +25,14 @@ const RIB_IPV4_UNICAST: u16 = 2;
 
 const RIB_IPV6_UNICAST: u16 = 4;
 
-/// Whether the record tells of a session: a state change or a message, in plain or extended-timestamp form.
-fn is_session(framed: &Framed<'_>) -> bool
-    ensures { result ≡ is_session (record_of framed.now) }
-{
-    matches!(framed.kind, BGP4MP | BGP4MP_ET) && matches!(framed.sub, 0 | 1 | 4 | 5 | 6 | 7)
-}
-
 /// The events of a RIB record behind this peer table.
 fn rib_events(
     alloc: Global,
-    table: &Option<PeerTable>,
+    table: Option<&PeerTable>,
     body: &[u8],
     family: Family,
 ) -> Result<Vec<Event>, Refusal>
-    ensures { GivesInMemory (λ events. map event_as events.items) result (rib_behind (peers_in table.now) family body.now) }
+    ensures { GivesInMemory (λ events. map event_as events.items) result (rib_behind (peers_in (option_copied table.entry)) family body.now) }
 {
     match table {
         Some(table) => read_rib(alloc, body, table, family),
@@ -63,17 +56,13 @@ pub fn read_record(
             Ok(Some(Vec::new(alloc)))
         }
         (TABLE_DUMP_V2, RIB_IPV4_UNICAST) => {
-            Ok(Some(rib_events(alloc, table, framed.body, Family::V4)?))
+            Ok(Some(rib_events(alloc, table.as_ref(), framed.body, Family::V4)?))
         }
         (TABLE_DUMP_V2, RIB_IPV6_UNICAST) => {
-            Ok(Some(rib_events(alloc, table, framed.body, Family::V6)?))
+            Ok(Some(rib_events(alloc, table.as_ref(), framed.body, Family::V6)?))
         }
-        (kind, sub) if is_session(framed) => read_bgp4mp(
-            alloc,
-            framed.body,
-            sub,
-            kind == BGP4MP_ET,
-        ),
+        (BGP4MP, sub) => read_bgp4mp(alloc, framed.body, sub, false),
+        (BGP4MP_ET, sub) => read_bgp4mp(alloc, framed.body, sub, true),
         _ => Ok(None),
     }
 }

@@ -1,6 +1,5 @@
 //! AS numbers.
 
-ghost use Rattle.std.specs.Prelude.{◌≡◌};
 ghost use Rattle.octet_fields.specs.Field.{number_at};
 ghost use Rattle.octet_fields.specs.Gives.{Gives};
 ghost use Rattle.reading_model.specs.Path.{as_size};

@@ -13,11 +13,11 @@ use octet_fields::{octet, octets, u16_at};
 use std::alloc::Global;
 use wire_fields::{Refusal, address, rule};
 
-/// Set in a Peer Type where the peer's address is IPv6.
-const IS_IPV6: u8 = 1;
+/// Set in a Peer Type where the peer's address is IPv6: the bit I of RFC 6396, section 4.3.1.
+const IS_IPV6: u8 = 0b01;
 
-/// Set in a Peer Type where the peer's AS has four octets.
-const HAS_WIDE_AS: u8 = 2;
+/// Set in a Peer Type where the peer's AS has four octets: the bit A.
+const HAS_WIDE_AS: u8 = 0b10;
 
 /// The peer at the front, and what follows it.
 #[tactic(auto, unfolding(reading_model::specs::Rib::peer_at))]

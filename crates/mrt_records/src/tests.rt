@@ -1,7 +1,9 @@
-//! A peer table, RIB records of both families, an UPDATE, a state change, and records that are skipped or refused.
+//! A peer table, RIB records of both families, an UPDATE and a state change of each subtype, and records that are skipped or
+//! refused.
 
 use super::*;
 use fib_prefix::{Addr, Event, Family, Peer, Prefix};
+use std::alloc::{AllocError, Global};
 use std::test::Fail;
 
 /// A table of one peer, 192.0.2.1 of AS 64500.
@@ -24,12 +26,28 @@ const MESSAGE_AS4: &[u8] =
     \xff\xff\xff\xff\xff\xff\xff\xff\xff\xff\xff\xff\xff\xff\xff\xff\x00\x2f\x02\x00\x02\x08\x0a\x00\x14\
     \x40\x01\x01\x00\x40\x02\x06\x02\x01\x00\x00\xfb\xf4\x40\x03\x04\xc0\x00\x02\x01\x08\x0a";
 
+/// The same with AS numbers of two octets.
+const MESSAGE: &[u8] = b"\xfb\xf4\xfb\xff\x00\x00\x00\x01\xc0\x00\x02\x01\xc0\x00\x02\xfe\
+    \xff\xff\xff\xff\xff\xff\xff\xff\xff\xff\xff\xff\xff\xff\xff\xff\x00\x2d\x02\x00\x02\x08\x0a\x00\x12\
+    \x40\x01\x01\x00\x40\x02\x04\x02\x01\xfb\xf4\x40\x03\x04\xc0\x00\x02\x01\x08\x0a";
+
 /// A session that is lost.
 const LOST_AS4: &[u8] =
     b"\x00\x00\xfb\xf4\x00\x00\xfb\xff\x00\x00\x00\x01\xc0\x00\x02\x01\xc0\x00\x02\xfe\x00\x06\x00\x01";
 
+/// The same with AS numbers of two octets.
+const LOST: &[u8] =
+    b"\xfb\xf4\xfb\xff\x00\x00\x00\x01\xc0\x00\x02\x01\xc0\x00\x02\xfe\x00\x06\x00\x01";
+
 /// A session of family 3, and nothing more.
 const OTHER_AS4: &[u8] = b"\x00\x00\xfb\xf4\x00\x00\xfb\xff\x00\x00\x00\x03";
+
+/// The octets, and one more.
+fn longer(alloc: Global, octets: &[u8]) -> Result<Vec<u8>, AllocError> {
+    let mut longer = Vec::from_slice(alloc, octets)?;
+    longer.push(0)?;
+    Ok(longer)
+}
 
 #[test]
 fn tells_what_the_records_say(rt: HostRuntime) -> Result<(), Fail> {
@@ -61,15 +79,36 @@ fn tells_what_the_records_say(rt: HostRuntime) -> Result<(), Fail> {
         Event::Announce(peer, ten, 1, v4),
     ];
     let lost = [Event::Down(peer)];
+    let long = longer(alloc, LOST_AS4)?;
     for (body, sub, expected) in [
-        (MESSAGE_AS4, 4, Some(both.as_slice())),
-        (LOST_AS4, 5, Some(lost.as_slice())),
-        (OTHER_AS4, 4, None),
+        (LOST, 0, Ok(Some(lost.as_slice()))),
+        (MESSAGE, 1, Ok(Some(both.as_slice()))),
+        (MESSAGE_AS4, 4, Ok(Some(both.as_slice()))),
+        (LOST_AS4, 5, Ok(Some(lost.as_slice()))),
+        (MESSAGE, 6, Ok(Some(both.as_slice()))),
+        (MESSAGE_AS4, 7, Ok(Some(both.as_slice()))),
+        (MESSAGE_AS4, 8, Ok(None)),
+        (OTHER_AS4, 4, Ok(None)),
+        (&long, 5, Err(Refusal::Rule(12))),
+        (&LOST_AS4[..23], 5, Err(Refusal::Rule(12))),
     ] {
-        match read_bgp4mp(alloc, body, sub, false)? {
-            Some(events) => assert_eq!(rt; Some(events.as_slice()), expected, "subtype {sub}"),
-            None => assert!(rt; expected.is_none(), "subtype {sub}"),
+        match read_bgp4mp(alloc, body, sub, false) {
+            Ok(Some(events)) => {
+                assert_eq!(rt; Ok(Some(events.as_slice())), expected, "subtype {sub}")
+            }
+            Ok(None) => assert_eq!(rt; Ok(None), expected, "subtype {sub}"),
+            Err(refusal) => assert_eq!(rt; Err(refusal), expected, "subtype {sub}"),
         }
     }
+    let peers = longer(alloc, PEERS)?;
+    assert_eq!(rt;
+        PeerTable::read(alloc, &peers).err(),
+        Some(Refusal::Rule(4))
+    );
+    let rib = longer(alloc, RIB_V4)?;
+    assert_eq!(rt;
+        read_rib(alloc, &rib, &table, Family::V4).err(),
+        Some(Refusal::Rule(8))
+    );
     Ok(())
 }

@@ -11,6 +11,7 @@ abbrev pub ◌>>=◌ : {A B F : Type 0} → Result A F → (A → Result B F) �
 abbrev pub refuse : {F : Type 0} → F → Bool → Result Bool F
 refuse fault test = if test then Err fault else Ok true
 
+-- one octet
 abbrev pub octet_at : {F : Type 0} → F → List ℕ → Result (ℕ × List ℕ) F
 octet_at fault [] = Err fault
 octet_at fault (b ∷ octets) = Ok (b, octets)

@@ -27,10 +27,7 @@ pub fn octets<E: Drop>(fault: E, count: usize, bytes: &[u8]) -> Result<(&[u8], &
     ensures value { Gives (λ x. (x.0.now, x.1.now)) result (octets_at fault count bytes.now) }
     ensures parts { IfOk result (λ x. length x.0.now + length x.1.now ≡ length bytes.now) }
 {
-    if bytes.len() < count {
-        return Err(fault);
-    }
-    Ok(bytes.split_at(count))
+    bytes.split_at_checked(count).ok_or(fault)
 }
 
 /// A number of two octets.

@@ -1,6 +1,7 @@
 -- What a path inherits.
-use Rattle.std.proofs.Common.{◌≡◌, ◌≢◌, ℕ, ◌-◌, ◌/◌, ◌^◌, List, [], Bool, true, false, refl, sym, ap, ◌∙◌, Option, None, Box}
-use Rattle.std.specs.Prelude.{bit_and}
+use Rattle.std.proofs.Common.{◌≡◌, ◌≢◌, ℕ, ◌-◌, List, Bool, true, false, sym, ap, ◌∙◌, Option, None, Box}
+use Rattle.std.specs.Prelude.{nat_eq}
+use Rattle.std.specs.Int.{bit_at}
 use Rattle.std.specs.Option.{unwrap_or}
 use Rattle.std.specs.declared.alloc.Global.{Global}
 use Rattle.address_model.specs.Bits.{bits_of}
@@ -15,14 +16,11 @@ use Rattle.orig_tree.proofs.Paths.{no_bits, first_one, first_zero}
 use Rattle.orig_tree.proofs.Steps.{given_is, behind_none}
 use Rattle.orig_tree.proofs.Places.{family_is}
 
-above_nil : (p : List Bool) (h : ℕ) → above p [] h ≡ h
-above_nil p h = refl
-
 pub above_here : (L : Table) (left q h : ℕ) → left ≡ 0 → h ≡ above (bits_of left q) L h
 above_here L left q h e = sym (ap (λ p. above p L h) (no_bits left q e) ∙ ap (λ x. hop_or h (longest x)) (none_above L))
 
 pub above_high : (route entry : Option ℕ) (low high node : Walks) (left q h hop out : ℕ) →
-    walks_of route entry low high ≡ node → left ≢ 0 → bit_and (q / 2 ^ (left - 1)) 1 ≡ 1 → hop ≡ unwrap_or entry h →
+    walks_of route entry low high ≡ node → left ≢ 0 → true ≡ nat_eq (bit_at q (left - 1)) 1 → hop ≡ unwrap_or entry h →
     out ≡ above (bits_of (left - 1) q) high.entries hop → out ≡ above (bits_of left q) node.entries h
 above_high route entry low high node left q h hop out w e b k o =
     let p = bits_of (left - 1) q in
@@ -32,7 +30,7 @@ above_high route entry low high node left q h hop out w e b k o =
     ∙ ap (λ x. above p high.entries x) (ap (λ y. inherit y h) (root_join entry low.entries high.entries) ∙ (given_is entry h ∙ sym k))))))
 
 pub above_low : (route entry : Option ℕ) (low high node : Walks) (left q h hop out : ℕ) →
-    walks_of route entry low high ≡ node → left ≢ 0 → bit_and (q / 2 ^ (left - 1)) 1 ≢ 1 → hop ≡ unwrap_or entry h →
+    walks_of route entry low high ≡ node → left ≢ 0 → false ≡ nat_eq (bit_at q (left - 1)) 1 → hop ≡ unwrap_or entry h →
     out ≡ above (bits_of (left - 1) q) low.entries hop → out ≡ above (bits_of left q) node.entries h
 above_low route entry low high node left q h hop out w e b k o =
     let p = bits_of (left - 1) q in
@@ -45,12 +43,12 @@ no_entries : (link : Option (Box Walks Global)) (p : List Bool) (hop : ℕ) → 
 no_entries link p hop e = sym (ap (λ (n : Walks). above p n.entries hop) (behind_none link e))
 
 pub above_no_high : (route entry : Option ℕ) (low : Walks) (high : Option (Box Walks Global)) (node : Walks) (left q h hop : ℕ) →
-    walks_of route entry low (behind high) ≡ node → left ≢ 0 → bit_and (q / 2 ^ (left - 1)) 1 ≡ 1 → hop ≡ unwrap_or entry h → high ≡ None →
+    walks_of route entry low (behind high) ≡ node → left ≢ 0 → true ≡ nat_eq (bit_at q (left - 1)) 1 → hop ≡ unwrap_or entry h → high ≡ None →
     hop ≡ above (bits_of left q) node.entries h
 above_no_high route entry low high node left q h hop w e b k o = above_high route entry low (behind high) node left q h hop hop w e b k (no_entries high (bits_of (left - 1) q) hop o)
 
 pub above_no_low : (route entry : Option ℕ) (low : Option (Box Walks Global)) (high : Walks) (node : Walks) (left q h hop : ℕ) →
-    walks_of route entry (behind low) high ≡ node → left ≢ 0 → bit_and (q / 2 ^ (left - 1)) 1 ≢ 1 → hop ≡ unwrap_or entry h → low ≡ None →
+    walks_of route entry (behind low) high ≡ node → left ≢ 0 → false ≡ nat_eq (bit_at q (left - 1)) 1 → hop ≡ unwrap_or entry h → low ≡ None →
     hop ≡ above (bits_of left q) node.entries h
 above_no_low route entry low high node left q h hop w e b k o = above_low route entry (behind low) high node left q h hop hop w e b k (no_entries low (bits_of (left - 1) q) hop o)
 

@@ -1,6 +1,6 @@
 -- One level of the recursions that keep covers, and of the one that reads them.
-use Rattle.std.proofs.Common.{◌≡◌, ◌≢◌, ℕ, zero, suc, ◌-◌, ◌/◌, ◌^◌, ◌≤◌, List, [], ◌∷◌, length, Bool, true, false, ◌&&◌, not, cond, nat_eq, refl, sym, ap, ◌∙◌, subst, arith, Option, Some, None, Box}
-use Rattle.std.specs.Prelude.{bit_and}
+use Rattle.std.proofs.Common.{◌≡◌, ◌≢◌, ℕ, zero, suc, ◌-◌, ◌≤◌, List, [], ◌∷◌, length, Bool, true, false, ◌&&◌, not, cond, nat_eq, refl, sym, ap, ◌∙◌, subst, arith, Option, Some, None, Box}
+use Rattle.std.specs.Int.{bit_at}
 use Rattle.std.specs.Option.{unwrap_or}
 use Rattle.std.specs.declared.alloc.Global.{Global}
 use Rattle.std.proofs.lemmas.Bool.{eqb-true, eqb-false}
@@ -80,14 +80,14 @@ same_hops : (label : Label) (route entry new_route new_entry : Slot) (low high :
 same_hops Route route entry new_route new_entry low high t = ap (λ x. walks_of x new_entry.hop low high) t.0 ∙ ap (λ s. walks_of route.hop s.hop low high) t.2
 same_hops Entry route entry new_route new_entry low high t = ap (λ x. walks_of new_route.hop x low high) t.0 ∙ ap (λ s. walks_of s.hop entry.hop low high) t.2
 
-pub told_high : (label : Label) (h own : Option ℕ) (route entry new_route new_entry : Slot) (low high node after : Walks) (left q : ℕ) → left ≢ 0 → bit_and (q / 2 ^ (left - 1)) 1 ≡ 1 → walks_of route.hop entry.hop low high ≡ node →
+pub told_high : (label : Label) (h own : Option ℕ) (route entry new_route new_entry : Slot) (low high node after : Walks) (left q : ℕ) → left ≢ 0 → true ≡ nat_eq (bit_at q (left - 1)) 1 → walks_of route.hop entry.hop low high ≡ node →
     own ≡ picked label route.hop entry.hop → after ≡ edited label (bits_of (left - 1) q) h high → Retold label own route entry new_route new_entry low after →
     walks_of new_route.hop new_entry.hop low after ≡ edited label (bits_of left q) h node
 told_high label h own route entry new_route new_entry low high node after left q e b w o a t =
     same_hops label route entry new_route new_entry low after (subst (λ (x : Option ℕ). Retold label x route entry new_route new_entry low after) o t)
     ∙ assign_high label h route.hop entry.hop low high node after left q e b w a
 
-pub told_low : (label : Label) (h own : Option ℕ) (route entry new_route new_entry : Slot) (low high node after : Walks) (left q : ℕ) → left ≢ 0 → bit_and (q / 2 ^ (left - 1)) 1 ≢ 1 → walks_of route.hop entry.hop low high ≡ node →
+pub told_low : (label : Label) (h own : Option ℕ) (route entry new_route new_entry : Slot) (low high node after : Walks) (left q : ℕ) → left ≢ 0 → false ≡ nat_eq (bit_at q (left - 1)) 1 → walks_of route.hop entry.hop low high ≡ node →
     own ≡ picked label route.hop entry.hop → after ≡ edited label (bits_of (left - 1) q) h low → Retold label own route entry new_route new_entry after high →
     walks_of new_route.hop new_entry.hop after high ≡ edited label (bits_of left q) h node
 told_low label h own route entry new_route new_entry low high node after left q e b w o a t =
@@ -148,7 +148,7 @@ uniform_high n h label low high p None (a, b, la, lb, pa, pb, d) = (true ∷ a, 
 uniform_high n h label low high p (Some k) u = high_all n h label low high p k u
 
 module _ (label : Label) (route entry : Option ℕ) (low high node : Walks) (left q inherited hop : ℕ) (result : Option ℕ) where
-  pub uniform_high_step : walks_of route entry low high ≡ node → left ≢ 0 → bit_and (q / 2 ^ (left - 1)) 1 ≡ 1 → hop ≡ unwrap_or (picked label route entry) inherited →
+  pub uniform_high_step : walks_of route entry low high ≡ node → left ≢ 0 → true ≡ nat_eq (bit_at q (left - 1)) 1 → hop ≡ unwrap_or (picked label route entry) inherited →
       ((n : ℕ) → left - 1 ≤ n → Fits n (rows_of label high) → IsUniform n (rows_of label high) hop (bits_of (left - 1) q) result) →
       (n : ℕ) → left ≤ n → Fits n (rows_of label node) → IsUniform n (rows_of label node) inherited (bits_of left q) result
   uniform_high_step w e b o u zero l f = absurd (omega arith)
@@ -161,7 +161,7 @@ module _ (label : Label) (route entry : Option ℕ) (low high node : Walks) (lef
       subst (λ (p : List Bool). IsUniform (suc n) (rows_of label node) inherited p result) (sym (first_one left q e b))
       (subst (λ (r : Table). IsUniform (suc n) r inherited (true ∷ bits_of (left - 1) q) result) (sym (ap (rows_of label) (sym w) ∙ rows_level label route entry low high)) s)
 
-  pub uniform_low_step : walks_of route entry low high ≡ node → left ≢ 0 → bit_and (q / 2 ^ (left - 1)) 1 ≢ 1 → hop ≡ unwrap_or (picked label route entry) inherited →
+  pub uniform_low_step : walks_of route entry low high ≡ node → left ≢ 0 → false ≡ nat_eq (bit_at q (left - 1)) 1 → hop ≡ unwrap_or (picked label route entry) inherited →
       ((n : ℕ) → left - 1 ≤ n → Fits n (rows_of label low) → IsUniform n (rows_of label low) hop (bits_of (left - 1) q) result) →
       (n : ℕ) → left ≤ n → Fits n (rows_of label node) → IsUniform n (rows_of label node) inherited (bits_of left q) result
   uniform_low_step w e b o u zero l f = absurd (omega arith)
@@ -178,11 +178,11 @@ uniform_bare : (label : Label) (link : Option (Box Walks Global)) (hop left q : 
 uniform_bare label link hop left q e n l f a la b = ap (λ r. lpm r a hop) (ap (rows_of label) (behind_none link e) ∙ rows_nothing label)
 
 module _ (label : Label) (route entry : Option ℕ) (node : Walks) (left q inherited hop : ℕ) where
-  pub uniform_no_high : (low : Walks) (high : Option (Box Walks Global)) → walks_of route entry low (behind high) ≡ node → left ≢ 0 → bit_and (q / 2 ^ (left - 1)) 1 ≡ 1 → hop ≡ unwrap_or (picked label route entry) inherited → high ≡ None →
+  pub uniform_no_high : (low : Walks) (high : Option (Box Walks Global)) → walks_of route entry low (behind high) ≡ node → left ≢ 0 → true ≡ nat_eq (bit_at q (left - 1)) 1 → hop ≡ unwrap_or (picked label route entry) inherited → high ≡ None →
       (n : ℕ) → left ≤ n → Fits n (rows_of label node) → IsUniform n (rows_of label node) inherited (bits_of left q) (Some hop)
   uniform_no_high low high w e b o g = uniform_high_step label route entry low (behind high) node left q inherited hop (Some hop) w e b o (uniform_bare label high hop (left - 1) q g)
 
-  pub uniform_no_low : (low : Option (Box Walks Global)) (high : Walks) → walks_of route entry (behind low) high ≡ node → left ≢ 0 → bit_and (q / 2 ^ (left - 1)) 1 ≢ 1 → hop ≡ unwrap_or (picked label route entry) inherited → low ≡ None →
+  pub uniform_no_low : (low : Option (Box Walks Global)) (high : Walks) → walks_of route entry (behind low) high ≡ node → left ≢ 0 → false ≡ nat_eq (bit_at q (left - 1)) 1 → hop ≡ unwrap_or (picked label route entry) inherited → low ≡ None →
       (n : ℕ) → left ≤ n → Fits n (rows_of label node) → IsUniform n (rows_of label node) inherited (bits_of left q) (Some hop)
   uniform_no_low low high w e b o g = uniform_low_step label route entry (behind low) high node left q inherited hop (Some hop) w e b o (uniform_bare label low hop (left - 1) q g)
 

@@ -7,3 +7,4 @@ pub mod Places
 pub mod Telling
 pub mod Above
 pub mod Asked
+pub mod Trimming

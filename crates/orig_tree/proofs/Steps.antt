@@ -1,6 +1,7 @@
 -- One level of each walk down the tree.
-use Rattle.std.proofs.Common.{◌≡◌, ◌≢◌, ℕ, ◌-◌, ◌/◌, ◌^◌, List, [], ◌∷◌, ◌++◌, map, Bool, true, false, ◌||◌, refl, sym, ap, ◌∙◌, subst, Option, Some, None, Box}
-use Rattle.std.specs.Prelude.{bit_and}
+use Rattle.std.proofs.Common.{◌≡◌, ◌≢◌, ℕ, ◌-◌, List, [], ◌∷◌, ◌++◌, map, Bool, true, false, ◌||◌, refl, sym, ap, ◌∙◌, Option, Some, None, Box}
+use Rattle.std.specs.Prelude.{nat_eq}
+use Rattle.std.specs.Int.{bit_at}
 use Rattle.std.specs.Option.{unwrap_or}
 use Rattle.std.specs.declared.alloc.Global.{Global}
 use Rattle.address_model.specs.Bits.{bits_of, same_bits}
@@ -36,7 +37,7 @@ answer_here label route entry low high node left q inherited hop w e h =
     ∙ lpm_join_end (picked label route entry) (rows_of label low) (rows_of label high) inherited)
 
 pub answer_high : (label : Label) (route entry : Option ℕ) (low high node : Walks) (left q inherited hop out : ℕ) →
-    walks_of route entry low high ≡ node → left ≢ 0 → bit_and (q / 2 ^ (left - 1)) 1 ≡ 1 → hop ≡ unwrap_or (picked label route entry) inherited →
+    walks_of route entry low high ≡ node → left ≢ 0 → true ≡ nat_eq (bit_at q (left - 1)) 1 → hop ≡ unwrap_or (picked label route entry) inherited →
     out ≡ lpm (rows_of label high) (bits_of (left - 1) q) hop →
     out ≡ lpm (rows_of label node) (bits_of left q) inherited
 answer_high label route entry low high node left q inherited hop out w e b h o =
@@ -47,7 +48,7 @@ answer_high label route entry low high node left q inherited hop out w e b h o =
     ∙ lpm_join_high (picked label route entry) (rows_of label low) (rows_of label high) (bits_of (left - 1) q) inherited)
 
 pub answer_low : (label : Label) (route entry : Option ℕ) (low high node : Walks) (left q inherited hop out : ℕ) →
-    walks_of route entry low high ≡ node → left ≢ 0 → bit_and (q / 2 ^ (left - 1)) 1 ≢ 1 → hop ≡ unwrap_or (picked label route entry) inherited →
+    walks_of route entry low high ≡ node → left ≢ 0 → false ≡ nat_eq (bit_at q (left - 1)) 1 → hop ≡ unwrap_or (picked label route entry) inherited →
     out ≡ lpm (rows_of label low) (bits_of (left - 1) q) hop →
     out ≡ lpm (rows_of label node) (bits_of left q) inherited
 answer_low label route entry low high node left q inherited hop out w e b h o =
@@ -114,13 +115,13 @@ pub behind_none : (link : Option (Box Walks Global)) → link ≡ None → behin
 behind_none link e = ap behind e
 
 pub miss_high : (label : Label) (route entry : Option ℕ) (low : Walks) (high : Option (Box Walks Global)) (node : Walks) (left q inherited hop : ℕ) →
-    walks_of route entry low (behind high) ≡ node → left ≢ 0 → bit_and (q / 2 ^ (left - 1)) 1 ≡ 1 → hop ≡ unwrap_or (picked label route entry) inherited →
+    walks_of route entry low (behind high) ≡ node → left ≢ 0 → true ≡ nat_eq (bit_at q (left - 1)) 1 → hop ≡ unwrap_or (picked label route entry) inherited →
     high ≡ None → hop ≡ lpm (rows_of label node) (bits_of left q) inherited
 miss_high label route entry low high node left q inherited hop w e b h o =
     answer_high label route entry low (behind high) node left q inherited hop hop w e b h (lpm_nothing label (behind high) _ hop (behind_none high o))
 
 pub miss_low : (label : Label) (route entry : Option ℕ) (low : Option (Box Walks Global)) (high : Walks) (node : Walks) (left q inherited hop : ℕ) →
-    walks_of route entry (behind low) high ≡ node → left ≢ 0 → bit_and (q / 2 ^ (left - 1)) 1 ≢ 1 → hop ≡ unwrap_or (picked label route entry) inherited →
+    walks_of route entry (behind low) high ≡ node → left ≢ 0 → false ≡ nat_eq (bit_at q (left - 1)) 1 → hop ≡ unwrap_or (picked label route entry) inherited →
     low ≡ None → hop ≡ lpm (rows_of label node) (bits_of left q) inherited
 miss_low label route entry low high node left q inherited hop w e b h o =
     answer_low label route entry (behind low) high node left q inherited hop hop w e b h (lpm_nothing label (behind low) _ hop (behind_none low o))
@@ -141,27 +142,27 @@ pub assign_entry : (label : Label) (h route entry : Option ℕ) (low high node :
 assign_entry label h route entry low high node left q e l w =
     sym (ap (λ n. edited label (bits_of left q) h n) (sym w) ∙ ap (λ p. edited label p h (walks_of route entry low high)) (no_bits left q e) ∙ ap (λ k. edited k [] h (walks_of route entry low high)) l ∙ edited_own_entry h route entry low high)
 
-pub assign_high : (label : Label) (h route entry : Option ℕ) (low high node after : Walks) (left q : ℕ) → left ≢ 0 → bit_and (q / 2 ^ (left - 1)) 1 ≡ 1 → walks_of route entry low high ≡ node →
+pub assign_high : (label : Label) (h route entry : Option ℕ) (low high node after : Walks) (left q : ℕ) → left ≢ 0 → true ≡ nat_eq (bit_at q (left - 1)) 1 → walks_of route entry low high ≡ node →
     after ≡ edited label (bits_of (left - 1) q) h high →
     walks_of route entry low after ≡ edited label (bits_of left q) h node
 assign_high label h route entry low high node after left q e b w a =
     ap (walks_of route entry low) a
     ∙ sym (ap (λ n. edited label (bits_of left q) h n) (sym w) ∙ ap (λ p. edited label p h (walks_of route entry low high)) (first_one left q e b) ∙ edited_high label (bits_of (left - 1) q) h route entry low high)
 
-pub assign_low : (label : Label) (h route entry : Option ℕ) (low high node after : Walks) (left q : ℕ) → left ≢ 0 → bit_and (q / 2 ^ (left - 1)) 1 ≢ 1 → walks_of route entry low high ≡ node →
+pub assign_low : (label : Label) (h route entry : Option ℕ) (low high node after : Walks) (left q : ℕ) → left ≢ 0 → false ≡ nat_eq (bit_at q (left - 1)) 1 → walks_of route entry low high ≡ node →
     after ≡ edited label (bits_of (left - 1) q) h low →
     walks_of route entry after high ≡ edited label (bits_of left q) h node
 assign_low label h route entry low high node after left q e b w a =
     ap (λ n. walks_of route entry n high) a
     ∙ sym (ap (λ n. edited label (bits_of left q) h n) (sym w) ∙ ap (λ p. edited label p h (walks_of route entry low high)) (first_zero left q e b) ∙ edited_low label (bits_of (left - 1) q) h route entry low high)
 
-pub allowed_high : (h route entry : Option ℕ) (low high node : Walks) (left q : ℕ) → left ≢ 0 → bit_and (q / 2 ^ (left - 1)) 1 ≡ 1 → walks_of route entry low high ≡ node →
+pub allowed_high : (h route entry : Option ℕ) (low high node : Walks) (left q : ℕ) → left ≢ 0 → true ≡ nat_eq (bit_at q (left - 1)) 1 → walks_of route entry low high ≡ node →
     Allowed (bits_of left q) h node.nodes → Allowed (bits_of (left - 1) q) h high.nodes
 allowed_high None route entry low high node left q e b w a = tt
 allowed_high (Some h) route entry low high node left q e b w a =
     sym (has_high (bits_of (left - 1) q) route entry low high) ∙ ap (λ p. has_node p (walks_of route entry low high).nodes) (sym (first_one left q e b)) ∙ ap (λ n. has_node (bits_of left q) n.nodes) w ∙ a
 
-pub allowed_low : (h route entry : Option ℕ) (low high node : Walks) (left q : ℕ) → left ≢ 0 → bit_and (q / 2 ^ (left - 1)) 1 ≢ 1 → walks_of route entry low high ≡ node →
+pub allowed_low : (h route entry : Option ℕ) (low high node : Walks) (left q : ℕ) → left ≢ 0 → false ≡ nat_eq (bit_at q (left - 1)) 1 → walks_of route entry low high ≡ node →
     Allowed (bits_of left q) h node.nodes → Allowed (bits_of (left - 1) q) h low.nodes
 allowed_low None route entry low high node left q e b w a = tt
 allowed_low (Some h) route entry low high node left q e b w a =
@@ -173,27 +174,15 @@ edited_nothing Route None p a = refl
 edited_nothing Entry None p a = refl
 edited_nothing label (Some h) p a = cc
 
-pub assign_no_high : (label : Label) (h route entry : Option ℕ) (low : Walks) (high : Option (Box Walks Global)) (node : Walks) (left q : ℕ) → left ≢ 0 → bit_and (q / 2 ^ (left - 1)) 1 ≡ 1 → walks_of route entry low (behind high) ≡ node →
-    Allowed (bits_of left q) h node.nodes → high ≡ None → walks_of route entry low (behind high) ≡ edited label (bits_of left q) h node
-assign_no_high label h route entry low high node left q e b w a o =
-    assign_high label h route entry low (behind high) node (behind high) left q e b w
-    (behind_none high o ∙ edited_nothing label h (bits_of (left - 1) q) (subst (λ (n : Walks). Allowed (bits_of (left - 1) q) h n.nodes) (behind_none high o) (allowed_high h route entry low (behind high) node left q e b w a)) ∙ ap (λ n. edited label (bits_of (left - 1) q) h n) (sym (behind_none high o)))
-
-pub assign_no_low : (label : Label) (h route entry : Option ℕ) (low : Option (Box Walks Global)) (high : Walks) (node : Walks) (left q : ℕ) → left ≢ 0 → bit_and (q / 2 ^ (left - 1)) 1 ≢ 1 → walks_of route entry (behind low) high ≡ node →
-    Allowed (bits_of left q) h node.nodes → low ≡ None → walks_of route entry (behind low) high ≡ edited label (bits_of left q) h node
-assign_no_low label h route entry low high node left q e b w a o =
-    assign_low label h route entry (behind low) high node (behind low) left q e b w
-    (behind_none low o ∙ edited_nothing label h (bits_of (left - 1) q) (subst (λ (n : Walks). Allowed (bits_of (left - 1) q) h n.nodes) (behind_none low o) (allowed_low h route entry (behind low) high node left q e b w a)) ∙ ap (λ n. edited label (bits_of (left - 1) q) h n) (sym (behind_none low o)))
-
 -- rooms
 pub room_here : (node : Walks) (route entry : Option ℕ) (low high : Walks) (left q : ℕ) → left ≡ 0 → walks_of route entry low high ≡ node → has_node (bits_of left q) node.nodes ≡ true
 unfolding same_bits
 room_here node route entry low high left q e w = ap (λ n. has_node (bits_of left q) n.nodes) (sym w) ∙ ap (λ p. has_node p (walks_of route entry low high).nodes) (no_bits left q e)
 
-pub room_high : (route entry : Option ℕ) (low high : Walks) (left q : ℕ) → left ≢ 0 → bit_and (q / 2 ^ (left - 1)) 1 ≡ 1 → has_node (bits_of (left - 1) q) high.nodes ≡ has_node (bits_of left q) (walks_of route entry low high).nodes
+pub room_high : (route entry : Option ℕ) (low high : Walks) (left q : ℕ) → left ≢ 0 → true ≡ nat_eq (bit_at q (left - 1)) 1 → has_node (bits_of (left - 1) q) high.nodes ≡ has_node (bits_of left q) (walks_of route entry low high).nodes
 room_high route entry low high left q e b = sym (ap (λ p. has_node p (walks_of route entry low high).nodes) (first_one left q e b) ∙ has_high (bits_of (left - 1) q) route entry low high)
 
-pub room_low : (route entry : Option ℕ) (low high : Walks) (left q : ℕ) → left ≢ 0 → bit_and (q / 2 ^ (left - 1)) 1 ≢ 1 → has_node (bits_of (left - 1) q) low.nodes ≡ has_node (bits_of left q) (walks_of route entry low high).nodes
+pub room_low : (route entry : Option ℕ) (low high : Walks) (left q : ℕ) → left ≢ 0 → false ≡ nat_eq (bit_at q (left - 1)) 1 → has_node (bits_of (left - 1) q) low.nodes ≡ has_node (bits_of left q) (walks_of route entry low high).nodes
 room_low route entry low high left q e b = sym (ap (λ p. has_node p (walks_of route entry low high).nodes) (first_zero left q e b) ∙ has_low (bits_of (left - 1) q) route entry low high)
 
 pub kept_high : (route entry : Option ℕ) (low high after node : Walks) → walks_of route entry low high ≡ node → ((p : List Bool) → has_node p high.nodes ≡ true → has_node p after.nodes ≡ true) →

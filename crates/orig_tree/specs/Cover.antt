@@ -11,12 +11,13 @@ abbrev pub Shows : Table → List Bool → Option ℕ → Type 0
 Shows L a None = (h : ℕ) → lpm L a h ≡ h
 Shows L a (Some g) = (h : ℕ) → lpm L a h ≡ g
 
--- the cover allows for an address that gets what is inherited, or this hop
+-- the hops have this one
 abbrev pub Allows : Hops → ℕ → Type 0
 Allows Zero g = ⊥
 Allows (One x) g = g ≡ x
 Allows Many g = Unit {0}
 
+-- the cover allows for an address that gets what is inherited, or this hop
 abbrev pub Within : Cover → Option ℕ → Type 0
 Within c None = c.passes ≡ true
 Within c (Some g) = Allows c.hops g

@@ -5,3 +5,4 @@ pub mod Seen
 pub mod Cover
 pub mod Slots
 pub mod Uniform
+pub mod Trims

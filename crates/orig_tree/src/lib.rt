@@ -2,7 +2,7 @@
 //! of its entry.
 //!
 //! A look-up, a change, the making of room and the question whether a whole prefix gets one hop walk down the prefix's bits,
-//! 128 nodes at most. Contracts see two lists of entries in the order of prefixes. A node takes 56 octets.
+//! 129 nodes at most, the root among them. Contracts see two lists of entries in the order of prefixes. A node takes 56 octets.
 #![tactic(auto)]
 
 mod answers;
@@ -12,7 +12,7 @@ mod path;
 mod tree;
 
 pub use answers::{EntriesOf, RoutesOf};
-pub use node::{Label, Node};
+pub use node::{Label, Node, push_entry};
 pub use path::path_bits;
 pub use tree::Tree;
 

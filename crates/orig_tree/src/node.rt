@@ -1,6 +1,7 @@
 //! Nodes of the tree, with a cover beside each label, which each change on a path tells again on its way up.
 
-ghost use Rattle.std.specs.Prelude.{◌≡◌, ◌≤◌, ◌-◌, ℕ, OnOk, OnErr, IsOk, List, Bool, true, [], map, ◌++◌};
+ghost use Rattle.std.specs.Prelude.{◌≡◌, ◌≤◌, ◌-◌, ℕ, OnOk, OnErr, IsOk, List, Bool, true, false, [], map, ◌++◌, ◌||◌};
+ghost use Rattle.std.specs.Option.{is_some};
 ghost use Rattle.address_model.specs.Bits.{bits_of};
 ghost use Rattle.address_model.specs.Width.{width};
 ghost use Rattle.table_model.specs.Table.{lpm, root, half, here};
@@ -12,9 +13,10 @@ ghost use Rattle.orig_tree.specs.Seen.{Fits};
 ghost use Rattle.orig_tree.specs.Cover.{IsCover};
 ghost use Rattle.orig_tree.specs.Slots.{Retold};
 ghost use Rattle.orig_tree.specs.Uniform.{IsUniform};
+ghost use Rattle.orig_tree.specs.Trims.{IsTrimmed, bare, has_labels};
 
 use crate::cover::{Cover, Slot};
-use fib_prefix::{Entry, Hop, Prefix};
+use fib_prefix::{Entry, Hop, Prefix, bit_at};
 use std::alloc::{AllocError, Global};
 use std::marker::Model;
 
@@ -89,7 +91,7 @@ pub(crate) fn answer(node: &Node, label: Label, q: u128, left: u8, inherited: u1
         return hop;
     }
     let at = left - 1;
-    if (q >> at) & 1 == 1 {
+    if bit_at(q, at) {
         match &node.high {
             None => hop,
             Some(high) => answer(high, label, q, at, hop),
@@ -113,7 +115,7 @@ pub(crate) fn inherited(node: &Node, q: u128, left: u8, hop: u16) -> u16
     }
     let hop = node.entry.hop.unwrap_or(hop);
     let at = left - 1;
-    if (q >> at) & 1 == 1 {
+    if bit_at(q, at) {
         match &node.high {
             None => hop,
             Some(high) => inherited(high, q, at, hop),
@@ -142,7 +144,7 @@ pub(crate) fn room(alloc: Global, node: &mut Node, q: u128, left: u8) -> Result<
         return Ok(());
     }
     let at = left - 1;
-    if (q >> at) & 1 == 1 {
+    if bit_at(q, at) {
         room_behind(alloc, &mut node.high, q, at)?;
     } else {
         room_behind(alloc, &mut node.low, q, at)?;
@@ -237,7 +239,7 @@ pub(crate) fn assign(node: &mut Node, label: Label, q: u128, left: u8, hop: Opti
     }
     let at = left - 1;
     let own = pick(label, node.route.hop, node.entry.hop);
-    if (q >> at) & 1 == 1 {
+    if bit_at(q, at) {
         assign_behind(&mut node.high, label, q, at, hop);
         retell(
             label,
@@ -283,7 +285,7 @@ pub(crate) fn uniform(node: &Node, label: Label, q: u128, left: u8, inherited: u
     }
     let hop = pick(label, node.route.hop, node.entry.hop).unwrap_or(inherited);
     let at = left - 1;
-    if (q >> at) & 1 == 1 {
+    if bit_at(q, at) {
         match &node.high {
             None => Some(hop),
             Some(high) => uniform(high, label, q, at, hop),
@@ -296,80 +298,101 @@ pub(crate) fn uniform(node: &Node, label: Label, q: u128, left: u8, inherited: u
     }
 }
 
-/// Whether a node has no labels and nothing below it.
-fn is_bare(node: &Node) -> bool
-    ensures { result ≡ true → (node.now.routes ≡ []) × (node.now.entries ≡ []) }
+/// Whether one of a node's labels has a hop.
+fn has_label(route: &Slot, entry: &Slot) -> bool
+    ensures { result ≡ (is_some route.now.hop || is_some entry.now.hop) }
 {
-    node.route.hop.is_none()
-        && node.entry.hop.is_none()
-        && node.low.is_none()
-        && node.high.is_none()
+    route.hop.is_some() || entry.hop.is_some()
 }
 
-/// Drops the nodes below a node that have no label at or below them. It changes no table.
+/// Drops the nodes below a node that have no label at or below them, and tells whether it has one at or below itself. It
+/// changes no table.
 #[cycle(prune)]
-fn prune(node: &mut Node)
+fn prune(node: &mut Node) -> bool
     ensures routes { node.new.routes ≡ node.old.routes }
     ensures entries { node.new.entries ≡ node.old.entries }
+    ensures trimmed { IsTrimmed [] node.old node.new }
+    ensures labels { result ≡ true → has_labels node.new ≡ true }
+    ensures bare { result ≡ false → node.new ≡ bare }
 {
-    prune_behind(&mut node.low);
-    prune_behind(&mut node.high);
+    let low = prune_behind(&mut node.low);
+    let high = prune_behind(&mut node.high);
+    let below = low || high;
+    below || has_label(&node.route, &node.entry)
 }
 
 #[cycle(prune)]
-fn prune_behind(link: &mut Option<Box<Node>>)
+fn prune_behind(link: &mut Option<Box<Node>>) -> bool
     ensures routes { (behind link.new).routes ≡ (behind link.old).routes }
     ensures entries { (behind link.new).entries ≡ (behind link.old).entries }
+    ensures trimmed { IsTrimmed [] (behind link.old) (behind link.new) }
+    ensures labels { result ≡ true → has_labels (behind link.new) ≡ true }
+    ensures none { result ≡ false → behind link.new ≡ nothing }
 {
     match link.take() {
-        None => {}
+        None => false,
         Some(mut node) => {
-            prune(&mut node);
-            if !is_bare(&node) {
+            let stays = prune(&mut node);
+            if stays {
                 *link = Some(node);
             }
+            stays
         }
     }
 }
 
-/// Drops the nodes on a path and below it that have no label at or below them. It changes no table.
+/// Drops the nodes of a path and below it that have no label at or below them, and those on the way to it that then have
+/// none and nothing below them, but not the node itself; and tells whether the node has something left. It changes no table.
 #[cycle(trim)]
-pub(crate) fn trim(node: &mut Node, q: u128, left: u8)
+pub(crate) fn trim(node: &mut Node, q: u128, left: u8) -> bool
     requires { left ≤ 128 }
     ensures routes { node.new.routes ≡ node.old.routes }
     ensures entries { node.new.entries ≡ node.old.entries }
+    ensures trimmed { IsTrimmed (bits_of left q) node.old node.new }
+    ensures labels { left ≡ 0 → result ≡ true → has_labels node.new ≡ true }
+    ensures bare { result ≡ false → node.new ≡ bare }
 {
     if left == 0 {
-        prune(node);
-        return;
+        return prune(node);
     }
     let at = left - 1;
-    if (q >> at) & 1 == 1 {
-        trim_behind(&mut node.high, q, at);
+    if bit_at(q, at) {
+        let stays = trim_behind(&mut node.high, q, at);
+        stays || node.low.is_some() || has_label(&node.route, &node.entry)
     } else {
-        trim_behind(&mut node.low, q, at);
+        let stays = trim_behind(&mut node.low, q, at);
+        stays || node.high.is_some() || has_label(&node.route, &node.entry)
     }
 }
 
 #[cycle(trim)]
-fn trim_behind(link: &mut Option<Box<Node>>, q: u128, left: u8)
+fn trim_behind(link: &mut Option<Box<Node>>, q: u128, left: u8) -> bool
     requires { left ≤ 128 }
     ensures routes { (behind link.new).routes ≡ (behind link.old).routes }
     ensures entries { (behind link.new).entries ≡ (behind link.old).entries }
+    ensures trimmed { IsTrimmed (bits_of left q) (behind link.old) (behind link.new) }
+    ensures labels { left ≡ 0 → has_node [] (behind link.new).nodes ≡ true → has_labels (behind link.new) ≡ true }
+    ensures none { result ≡ false → behind link.new ≡ nothing }
 {
     match link.take() {
-        None => {}
+        None => false,
         Some(mut node) => {
-            trim(&mut node, q, left);
-            if !is_bare(&node) {
+            let stays = trim(&mut node, q, left);
+            if stays {
                 *link = Some(node);
             }
+            stays
         }
     }
 }
 
+/// Adds the entry of a prefix with this hop, if it has one.
+///
+/// # Errors
+///
+/// No memory.
 #[tactic(auto, using(crate::proofs::Telling::told_here, crate::proofs::Telling::told_none))]
-fn tell_own(prefix: Prefix, hop: Option<u16>, out: &mut Vec<Entry>) -> Result<(), AllocError>
+pub fn push_entry(prefix: Prefix, hop: Option<u16>, out: &mut Vec<Entry>) -> Result<(), AllocError>
     ensures { OnOk result (map entry_as out.new.items ≡ map entry_as out.old.items ++ of_table prefix.family (lift (prefix_as prefix).bits (here hop))) }
 {
     match hop {
@@ -395,7 +418,7 @@ pub(crate) fn tell(
     requires { Fits (width prefix.family - prefix.len) (rows_of label node.now) }
     ensures { OnOk result (map entry_as out.new.items ≡ map entry_as out.old.items ++ of_table prefix.family (lift (prefix_as prefix).bits (rows_of label node.now))) }
 {
-    tell_own(prefix, pick(label, node.route.hop, node.entry.hop), out)?;
+    push_entry(prefix, pick(label, node.route.hop, node.entry.hop), out)?;
     if prefix.len == prefix.family.width() {
         return Ok(());
     }

@@ -67,3 +67,19 @@ fn routes_and_entries_are_apart(rt: HostRuntime) -> Result<(), AllocError> {
     assert_eq!(rt; tree.uniform_entry(&prefix(0, 0)), Some(Hop::NONE));
     Ok(())
 }
+
+#[test]
+fn room_that_nothing_uses_is_given_back(rt: HostRuntime) -> Result<(), AllocError> {
+    let mut tree = Tree::new(rt.alloc(), Family::V4);
+    let upper = prefix(0x8000_0000, 1);
+    tree.room(&upper)?;
+    tree.room(&prefix(0x4000_0000, 2))?;
+    assert!(rt; tree.root().half(true).is_some());
+    tree.trim(&upper);
+    assert!(rt; tree.root().half(true).is_none());
+    assert!(rt; tree.root().half(false).is_some());
+    tree.set_route(&upper, Hop(1))?;
+    tree.trim(&upper);
+    assert!(rt; tree.root().half(true).is_some());
+    Ok(())
+}

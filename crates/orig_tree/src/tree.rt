@@ -10,6 +10,7 @@ ghost use Rattle.fib_prefix.specs.Uniform.{AllGet, TwoDiffer};
 ghost use Rattle.address_model.specs.Width.{width};
 ghost use Rattle.orig_tree.specs.Walk.{has_node, rows_of};
 ghost use Rattle.orig_tree.specs.Seen.{InPlace, Fits};
+ghost use Rattle.orig_tree.specs.Trims.{AreTrimmed};
 
 use crate::node::{Label, Node, answer, assign, inherited, leaf, room, tell, trim, uniform};
 use crate::path::path_bits;
@@ -48,9 +49,8 @@ fn listed(
     requires { Fits (width family) (rows_of label root.now) }
     ensures { IfOk result (λ v. map entry_as v.items ≡ of_table family (rows_of label root.now)) }
 {
-    let first = Addr { family, bits: 0 };
     let mut list = Vec::new(alloc);
-    tell(root, label, Prefix::new(&first, 0), &mut list)?;
+    tell(root, label, Prefix::whole(family), &mut list)?;
     Ok(list)
 }
 
@@ -84,7 +84,8 @@ impl Tree {
 
     /// The tree's family.
     pub fn family(&self) -> Family
-        ensures { result ≡ self.now.family }
+        ensures family { result ≡ self.now.family }
+        ensures order { InPlace self.now.routes × InPlace self.now.entries }
     {
         self.family
     }
@@ -119,15 +120,17 @@ impl Tree {
         room(self.alloc, &mut self.root, q, prefix.len)
     }
 
-    /// Drops the nodes on the prefix's path and below it that have no route and no entry at or below them.
+    /// Drops the nodes at the prefix and within it that have no route and no entry at them or within them, and those on its
+    /// path that then have none of their own and nothing below them. The node of the whole space stays.
     pub fn trim(&mut self, prefix: &Prefix)
         requires { prefix.now.family ≡ self.old.family }
         ensures family { self.new.family ≡ self.old.family }
         ensures routes { self.new.routes ≡ self.old.routes }
         ensures entries { self.new.entries ≡ self.old.entries }
+        ensures nodes { AreTrimmed (prefix_as prefix.now).bits (of_family self.old.family self.old.routes) (of_family self.old.family self.old.entries) self.old.nodes self.new.nodes }
     {
         let q = path_bits(prefix);
-        trim(&mut self.root, q, prefix.len)
+        trim(&mut self.root, q, prefix.len);
     }
 
     /// Longest match among the routes: the hop of the longest route whose prefix the address begins with, or none.

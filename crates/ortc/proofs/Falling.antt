@@ -1,37 +1,29 @@
 -- The downward pass.
-use Rattle.std.proofs.Common.{◌≡◌, ℕ, zero, suc, ◌-◌, List, [], ◌∷◌, ◌++◌, Bool, true, false, cond, Option, Some, None, length, map, nat_eq, refl, sym, ap, ◌∙◌, arith, subst, append_assoc, inl, inr, ◌||◌}
+use Rattle.std.proofs.Common.{◌≡◌, ℕ, zero, suc, ◌-◌, List, [], ◌∷◌, ◌++◌, Bool, true, false, cond, Option, Some, None, length, nat_eq, refl, sym, ap, ◌∙◌, arith, subst, append_assoc, inl, inr, ◌||◌}
 use Rattle.std.proofs.lemmas.Bool.{ne_eqb, eqb-true, eq-eqb, cases_Bool}
 use Rattle.address_model.specs.Address.{Prefix}
 use Rattle.address_model.specs.Bits.{bits_of}
 use Rattle.address_model.specs.Width.{width}
 use Rattle.address_model.specs.declared.family.Family.{Family}
-use Rattle.fib_prefix.specs.Seen.{entry_as, prefix_as}
+use Rattle.fib_prefix.specs.Seen.{prefix_as}
 use Rattle.fib_prefix.proofs.Parts.{length_prefix}
 use Rattle.fib_prefix.specs.Regions.{half_of}
 use Rattle.fib_prefix.specs.declared.prefix.Prefix as code
-use Rattle.fib_prefix.specs.declared.entry.Entry as code_entry
 use Rattle.table_model.specs.Table.{Table, root, half, here, inherit, lpm, cut}
 use Rattle.table_model.specs.Entries.{Entries, of_family, of_table}
 use Rattle.table_model.proofs.Cut.{entry}
 use Rattle.least_model.specs.Regions.{lift, join}
 use Rattle.least_model.specs.Sets.{side, set_of, k_of, own, pick, agg, answers}
 use Rattle.cert_model.specs.Rows.{one_answer}
-use Rattle.least_model.specs.Least.{aggregate, Least}
+use Rattle.least_model.specs.Least.{aggregate, Least, LeastWithin}
 use Rattle.least_model.proofs.Sets.{filled, in_first, in_single, in_pick, same_own}
 use Rattle.least_model.proofs.Cost.{set_uniform, set_filled}
-use Rattle.least_model.proofs.Laws.{fresh_law}
+use Rattle.least_model.proofs.Laws.{fresh_law, aggregate_least}
 use Rattle.orig_tree.proofs.Places.{family_is}
 use Rattle.orig_tree.proofs.Telling as telling
 use Rattle.ortc.specs.declared.region.Region.{Region}
 use Rattle.ortc.specs.Hops.{SameHops}
 use Rattle.ortc.specs.Stands.{Stands}
-
-pub told_own : (p : code.Prefix) (h : ℕ) (e : code_entry.Entry) (o : Option ℕ) (xs ys : List code_entry.Entry) → o ≡ Some h → e.prefix ≡ p → e.hop.0 ≡ h → ys ≡ xs ++ e ∷ [] →
-    map entry_as ys ≡ map entry_as xs ++ of_table p.family (lift (prefix_as p).bits (here o))
-told_own = telling.told_here
-
-pub told_none : (p : code.Prefix) (o : Option ℕ) (E : Entries) → o ≡ None → E ≡ E ++ of_table p.family (lift (prefix_as p).bits (here o))
-told_none = telling.told_none
 
 -- ---- a uniform region
 
@@ -166,6 +158,14 @@ within_told p f h R E X W region m x s t =
     ∙ (ap (λ z. z ++ of_table p.family (lift P (agg (width p.family - p.len) (answers R P) (cut P E) h))) x
     ∙ (ap (λ z. of_table z (lift P (agg (width p.family - p.len) (answers R P) (cut P E) h))) m
     ∙ ap (λ z. of_table f (lift P (agg z (answers R P) (cut P E) h))) l))
+
+-- and a least table of the region
+pub within_least : (p : code.Prefix) (f : Family) (h : ℕ) (R E : Table) (W : Entries) → p.family ≡ f
+    → W ≡ of_table f (aggregate (width f) R (prefix_as p).bits h E) → LeastWithin (width f) R (prefix_as p).bits h (of_family f W)
+within_least p f h R E W m e =
+    let P = (prefix_as p).bits in
+    subst (λ (T : Table). LeastWithin (width f) R P h T) (sym (ap (of_family f) e ∙ family_is f (aggregate (width f) R P h E)))
+    (aggregate_least (width f) R P h E (omega (arith, ap width m, length_prefix (width p.family) p.len p.bits p.fits, p.fits)))
 
 -- ---- the whole space
 

@@ -1,7 +1,7 @@
 -- The upward pass: regions that stand for answers.
-use Rattle.std.proofs.Common.{◌≡◌, ◌≢◌, ℕ, zero, suc, ◌+◌, ◌-◌, ◌/◌, ◌^◌, List, [], ◌∷◌, ◌++◌, Bool, true, false, Option, Some, None, length, nat_eq, cond, IsTrue, ◌↔◌, refl, sym, ap, ◌∙◌, arith, subst, inl, inr}
-use Rattle.std.specs.Prelude.{bit_and}
-use Rattle.std.proofs.lemmas.Bool.{eqb-true, eq-eqb, ne_eqb, cases_Bool}
+use Rattle.std.proofs.Common.{◌≡◌, ◌≢◌, ℕ, zero, suc, ◌+◌, ◌-◌, List, [], ◌∷◌, ◌++◌, Bool, true, false, Option, Some, None, length, nat_eq, cond, IsTrue, ◌↔◌, refl, sym, ap, ◌∙◌, arith, subst}
+use Rattle.std.specs.Int.{bit_at}
+use Rattle.std.proofs.lemmas.Bool.{ne_eqb}
 use Rattle.address_model.specs.Bits.{bits_of}
 use Rattle.table_model.specs.Table.{Table, root, half, inherit, lpm, cut}
 use Rattle.table_model.proofs.Cut.{lpm_nil, lpm_cut}
@@ -10,7 +10,7 @@ use Rattle.least_model.proofs.Sets.{same_joint}
 use Rattle.least_model.proofs.Cost.{set_uniform, set_more, set_alike, k_uniform, k_more, k_alike}
 use Rattle.cert_model.specs.Rows.{one_answer, same_hop}
 use Rattle.cert_model.proofs.Answers.{one_answer_from}
-use Rattle.orig_tree.proofs.Paths.{no_bits, first_one, first_zero}
+use Rattle.orig_tree.proofs.Paths.{no_bits, first_bit}
 use Rattle.ortc.specs.Hops.{SameHops}
 use Rattle.ortc.specs.declared.region.Region.{Region}
 use Rattle.ortc.specs.declared.region.Region.TheVariants.{Leaf, Join'}
@@ -129,14 +129,6 @@ no_leaf low high d f L n s t =
 
 -- ---- the way down to a prefix
 
-next_bit : (left q : ℕ) → left ≢ 0 → bits_of left q ≡ nat_eq (bit_and (q / 2 ^ (left - 1)) 1) 1 ∷ bits_of (left - 1) q
-next_bit left q h =
-    let x = bit_and (q / 2 ^ (left - 1)) 1 in
-    elim (cases_Bool (nat_eq x 1)) [
-      | inl e ↦ first_one left q h (eqb-true x 1 e) ∙ ap (λ b. b ∷ bits_of (left - 1) q) (sym e)
-      | inr e ↦ first_zero left q h (λ k. let z : nat_eq x 1 ≡ true = eq-eqb x 1 k in cc) ∙ ap (λ b. b ∷ bits_of (left - 1) q) (sym e)
-    ]
-
 -- what stands for the region p of the routes R and the entries E under h
 abbrev StandsAt : Region → ℕ → Table → ℕ → Table → List Bool → Type 0
 StandsAt r d R h E p = Stands r d (λ a. lpm R (p ++ a) h) (cut p E)
@@ -144,11 +136,11 @@ StandsAt r d R h E p = Stands r d (λ a. lpm R (p ++ a) h) (cut p E)
 pub at_prefix : (r : Region) (d left q h : ℕ) (R E : Table) → left ≡ 0 → Stands r d (λ a. lpm R a h) E → Stands r d (λ a. lpm R (bits_of left q ++ a) h) (cut (bits_of left q) E)
 at_prefix r d left q h R E e s = subst (λ (p : List Bool). StandsAt r d R h E p) (sym (no_bits left q e)) s
 
-pub down_half : (r : Region) (d left q h hop : ℕ) (b : Bool) (R E A C : Table) → left ≢ 0 → b ≡ nat_eq (bit_and (q / 2 ^ (left - 1)) 1) 1 → A ≡ half b R → C ≡ half b E → hop ≡ inherit (root R) h
+pub down_half : (r : Region) (d left q h hop : ℕ) (b : Bool) (R E A C : Table) → left ≢ 0 → b ≡ nat_eq (bit_at q (left - 1)) 1 → A ≡ half b R → C ≡ half b E → hop ≡ inherit (root R) h
     → Stands r d (λ a. lpm A (bits_of (left - 1) q ++ a) hop) (cut (bits_of (left - 1) q) C) → Stands r d (λ a. lpm R (bits_of left q ++ a) h) (cut (bits_of left q) E)
 down_half r d left q h hop b R E A C n t m k e s =
     let p = bits_of (left - 1) q in
-    subst (λ (x : List Bool). StandsAt r d R h E x) (ap (λ z. z ∷ p) t ∙ sym (next_bit left q n))
+    subst (λ (x : List Bool). StandsAt r d R h E x) (sym (first_bit left q b n t))
     (stands_alike r d (λ a. lpm A (p ++ a) hop) (λ a. lpm R ((b ∷ p) ++ a) h) (cut p C) (cut (b ∷ p) E)
     (λ a l. ap (λ z. lpm z (p ++ a) hop) m ∙ (ap (lpm (half b R) (p ++ a)) e ∙ sym (lpm_cut R b (p ++ a) h))) (ap (cut p) k) s)
 
@@ -157,7 +149,7 @@ cut_nil [] = refl
 cut_nil (b ∷ p) = cut_nil p
 
 -- where there is no node, there are no routes and no entries
-pub no_half : (d left q h hop : ℕ) (b : Bool) (R E A C : Table) → left ≢ 0 → b ≡ nat_eq (bit_and (q / 2 ^ (left - 1)) 1) 1 → A ≡ half b R → C ≡ half b E → hop ≡ inherit (root R) h
+pub no_half : (d left q h hop : ℕ) (b : Bool) (R E A C : Table) → left ≢ 0 → b ≡ nat_eq (bit_at q (left - 1)) 1 → A ≡ half b R → C ≡ half b E → hop ≡ inherit (root R) h
     → A ≡ [] → C ≡ [] → Stands (Leaf None hop) d (λ a. lpm R (bits_of left q ++ a) h) (cut (bits_of left q) E)
 no_half d left q h hop b R E A C n t m k e x y =
     let p = bits_of (left - 1) q in

@@ -3,13 +3,13 @@
 //! A region gets an entry where what it inherits isn't in its set: of the old entry's hop where the set has it, else of the
 //! least hop. Entries are met in the order of prefixes.
 
-ghost use Rattle.std.specs.Prelude.{◌≡◌, ℕ, ◌-◌, ◌++◌, List, Bool, [], map, cond, nat_eq, Some, None, IfOk, OnOk};
+ghost use Rattle.std.specs.Prelude.{◌≡◌, ℕ, ◌-◌, ◌++◌, List, Bool, map, cond, nat_eq, Some, None, IfOk, OnOk};
 ghost use Rattle.address_model.specs.Width.{width};
 ghost use Rattle.table_model.specs.Table.{Table, here};
 ghost use Rattle.table_model.specs.Entries.{of_family, of_table};
 ghost use Rattle.least_model.specs.Regions.{lift};
 ghost use Rattle.least_model.specs.Sets.{agg};
-ghost use Rattle.least_model.specs.Least.{Least, aggregate};
+ghost use Rattle.least_model.specs.Least.{Least, LeastWithin, aggregate};
 ghost use Rattle.least_model.specs.Both.{aggregate_in};
 ghost use Rattle.cert_model.specs.Rows.{family_rows};
 ghost use Rattle.fib_prefix.specs.Seen.{entry_as, prefix_as};
@@ -21,25 +21,9 @@ use crate::hop_set::own_hop;
 use crate::region::{Region, below, region_of};
 use crate::rows::prove;
 use crate::table::Fresh;
-use fib_prefix::{Addr, Entry, Hop, Prefix};
-use orig_tree::Tree;
+use fib_prefix::{Entry, Hop, Prefix};
+use orig_tree::{Tree, push_entry};
 use std::alloc::{AllocError, Global};
-
-#[tactic(auto, using(crate::proofs::Falling::told_own, crate::proofs::Falling::told_none))]
-fn push_own(prefix: Prefix, own: Option<u16>, out: &mut Vec<Entry>) -> Result<(), AllocError>
-    ensures { OnOk result (map entry_as out.new.items ≡ map entry_as out.old.items ++ of_table prefix.family (lift (prefix_as prefix).bits (here own))) }
-{
-    match own {
-        None => Ok(()),
-        Some(hop) => {
-            out.push(Entry {
-                prefix,
-                hop: Hop(hop),
-            })?;
-            Ok(())
-        }
-    }
-}
 
 /// The hop of a leaf's own entry, if it gets one.
 fn leaf_hop(hop: u16, inherited: u16) -> Option<u16>
@@ -59,16 +43,21 @@ pub fn descend(
         map entry_as out.new.items ≡ map entry_as out.old.items ++ of_table prefix.family (lift (prefix_as prefix).bits (agg (width prefix.family - prefix.len) f L inherited))) }
 {
     match region {
-        Region::Leaf(_, hop) => {
-            push_own(prefix, leaf_hop(*hop, inherited), out)?;
+        Region::Leaf { hop, .. } => {
+            push_entry(prefix, leaf_hop(*hop, inherited), out)?;
         }
-        Region::Join(old, set, _, halves) => {
+        Region::Join {
+            old,
+            set,
+            halves,
+            ..
+        } => {
             if prefix.len == prefix.family.width() {
                 return Ok(());
             }
             let own = own_hop(set, *old, inherited);
             let hop = below(own, inherited);
-            push_own(prefix, own, out)?;
+            push_entry(prefix, own, out)?;
             descend(&halves.low, hop, prefix.half(false), out)?;
             descend(&halves.high, hop, prefix.half(true), out)?;
         }
@@ -78,7 +67,8 @@ pub fn descend(
 
 /// The least table of a prefix's region under a hop that is inherited from above: of the tables that, under it, give the
 /// region's addresses the answers of the tree's routes, the one that the best hops fix, with the tree's entries as the
-/// old table. It costs the prefix's length and the nodes within the prefix.
+/// old table. It costs the prefix's length, and the nodes within the
+/// prefix with their sets of hops.
 ///
 /// # Errors
 ///
@@ -90,7 +80,8 @@ pub fn within(
     inherited: Hop,
 ) -> Result<Vec<Entry>, AllocError>
     requires { prefix.now.family ≡ tree.now.family }
-    ensures { IfOk result (λ v. map entry_as v.items ≡ of_table tree.now.family (aggregate (width tree.now.family) (of_family tree.now.family tree.now.routes) (prefix_as prefix.now).bits inherited.0 (of_family tree.now.family tree.now.entries))) }
+    ensures aggregate { IfOk result (λ v. map entry_as v.items ≡ of_table tree.now.family (aggregate (width tree.now.family) (of_family tree.now.family tree.now.routes) (prefix_as prefix.now).bits inherited.0 (of_family tree.now.family tree.now.entries))) }
+    ensures least { IfOk result (λ v. LeastWithin (width tree.now.family) (of_family tree.now.family tree.now.routes) (prefix_as prefix.now).bits inherited.0 (of_family tree.now.family (map entry_as v.items))) }
 {
     let region = region_of(alloc, tree, prefix)?;
     let mut table = Vec::new(alloc);
@@ -110,11 +101,7 @@ pub fn fresh(alloc: Global, tree: &Tree) -> Result<Fresh, AllocError>
     ensures proof { IfOk result (λ v. map row_as v.proof.items ≡ family_rows tree.now.family tree.now.routes) }
     ensures certificate { IfOk result (λ v. ProveLeast tree.now.family tree.now.routes (map entry_as v.table.items) (map row_as v.proof.items)) }
 {
-    let first = Addr {
-        family: tree.family(),
-        bits: 0,
-    };
-    let whole = Prefix::new(&first, 0);
+    let whole = Prefix::whole(tree.family());
     let region = region_of(alloc, tree, &whole)?;
     let mut table = Vec::new(alloc);
     descend(&region, Hop::NONE.0, whole, &mut table)?;

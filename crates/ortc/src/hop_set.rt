@@ -1,7 +1,7 @@
 //! Sets of hops.
 //!
 //! A set is a sorted list of hop numbers. Most sets hold one to three hops: up to eight are kept in place, more in an
-//! allocation. Two sets are merged in one pass over both.
+//! allocation. Two sets are merged in one pass over both, or in two where they have no hop in common.
 
 ghost use Rattle.std.specs.Prelude.{◌≡◌, ◌++◌, ◌↔◌, [], IfOk, IsTrue};
 ghost use Rattle.least_model.specs.Sets.{common, joint, is_in, smallest, own};

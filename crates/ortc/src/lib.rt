@@ -11,7 +11,6 @@ mod rows;
 mod table;
 
 pub use down::{fresh, within};
-pub use hop_set::{HopSet, Joint};
 pub use table::Fresh;
 
 #[cfg(test)]

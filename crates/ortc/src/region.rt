@@ -18,7 +18,7 @@ ghost use Rattle.ortc.specs.Hops.{Ascending};
 ghost use Rattle.ortc.specs.Stands.{Stands, hops_of, k_in, hop_in};
 
 use crate::hop_set::HopSet;
-use fib_prefix::Prefix;
+use fib_prefix::{Prefix, bit_at};
 use orig_tree::{Label, Node, Tree, path_bits};
 use std::alloc::{AllocError, Global};
 use std::slice;
@@ -28,9 +28,17 @@ use std::slice;
 #[cycle(halving)]
 pub enum Region {
     /// A region whose addresses all get one hop.
-    Leaf(Option<u16>, u16),
+    Leaf {
+        old: Option<u16>,
+        hop: u16,
+    },
     /// A region of two halves, its set, and its k: what it costs under a hop of its set, in entries.
-    Join(Option<u16>, HopSet, u64, Box<Halves>),
+    Join {
+        old: Option<u16>,
+        set: HopSet,
+        k: u64,
+        halves: Box<Halves>,
+    },
 }
 
 /// The halves of a region, whose next bit is 0 and 1.
@@ -49,8 +57,8 @@ pub fn hops_of(region: &Region) -> &[u16]
     ensures order { Ascending result.now }
 {
     match region {
-        Region::Leaf(_, hop) => slice::from_ref(hop),
-        Region::Join(_, set, _, _) => set.as_slice(),
+        Region::Leaf { hop, .. } => slice::from_ref(hop),
+        Region::Join { set, .. } => set.as_slice(),
     }
 }
 
@@ -59,8 +67,8 @@ pub fn k_in(region: &Region) -> u64
     ensures { result ≡ k_in region.now }
 {
     match region {
-        Region::Leaf(_, _) => 0,
-        Region::Join(_, _, k, _) => *k,
+        Region::Leaf { .. } => 0,
+        Region::Join { k, .. } => *k,
     }
 }
 
@@ -76,12 +84,9 @@ fn one_hop(low: &Region, high: &Region) -> Option<u16>
     ensures some { IfSome result (λ h. (hop_in low.now ≡ Some h) × (hop_in high.now ≡ Some h)) }
     ensures none { (h : ℕ) → hop_in low.now ≡ Some h → hop_in high.now ≡ Some h → IsSome result }
 {
-    match low {
-        Region::Leaf(_, a) => match high {
-            Region::Leaf(_, b) => { if *a == *b { Some(*a) } else { None } }
-            Region::Join(_, _, _, _) => None,
-        },
-        Region::Join(_, _, _, _) => None,
+    match (low, high) {
+        (Region::Leaf { hop, .. }, Region::Leaf { hop: same, .. }) if hop == same => Some(*hop),
+        _ => None,
     }
 }
 
@@ -106,7 +111,12 @@ fn join_halves(
     let joint = HopSet::joint(alloc, hops_of(&low), hops_of(&high))?;
     let k = joint_k(k_in(&low), k_in(&high), joint.apart)?;
     let halves = Box::new(alloc, Halves { low, high })?;
-    Ok(Region::Join(old, joint.set, k, halves))
+    Ok(Region::Join {
+        old,
+        set: joint.set,
+        k,
+        halves,
+    })
 }
 
 /// The region of two halves: a leaf where both are leaves of one hop.
@@ -115,20 +125,16 @@ fn joined(alloc: Global, old: Option<u16>, low: Region, high: Region) -> Result<
     ensures stands { IfOk result (λ r. (d : ℕ) (f : List Bool → ℕ) (L : Table) → root L ≡ old → Stands low d (side false f) (half false L) → Stands high d (side true f) (half true L) → Stands r (suc d) f L) }
 {
     if let Some(hop) = one_hop(&low, &high) {
-        return Ok(Region::Leaf(old, hop));
+        return Ok(Region::Leaf { old, hop });
     }
-    let region = join_halves(alloc, old, low, high)?;
-    Ok(region)
+    join_halves(alloc, old, low, high)
 }
 
 /// What is inherited from a label, or without one from above.
 pub fn below(label: Option<u16>, inherited: u16) -> u16
     ensures { result ≡ inherit label inherited }
 {
-    match label {
-        Some(hop) => hop,
-        None => inherited,
-    }
+    label.unwrap_or(inherited)
 }
 
 /// The region of a node, whose prefix is `depth` bits shorter than addresses are.
@@ -139,12 +145,11 @@ fn rise(alloc: Global, node: &Node, inherited: u16, depth: u8) -> Result<Region,
     let hop = below(node.hop(Label::Route), inherited);
     let old = node.hop(Label::Entry);
     if depth == 0 {
-        return Ok(Region::Leaf(old, hop));
+        return Ok(Region::Leaf { old, hop });
     }
     let low = rise_link(alloc, node.half(false), hop, depth - 1)?;
     let high = rise_link(alloc, node.half(true), hop, depth - 1)?;
-    let region = joined(alloc, old, low, high)?;
-    Ok(region)
+    joined(alloc, old, low, high)
 }
 
 #[cycle(rising)]
@@ -157,11 +162,11 @@ fn rise_link(
     ensures { IfOk result (λ r. Stands r depth (λ a. lpm (behind link.now).routes a inherited) (behind link.now).entries) }
 {
     match link {
-        Some(node) => {
-            let region = rise(alloc, node, inherited, depth)?;
-            Ok(region)
-        }
-        None => Ok(Region::Leaf(None, inherited)),
+        Some(node) => rise(alloc, node, inherited, depth),
+        None => Ok(Region::Leaf {
+            old: None,
+            hop: inherited,
+        }),
     }
 }
 
@@ -179,17 +184,13 @@ fn rise_below(
     ensures { IfOk result (λ r. Stands r depth (λ a. lpm node.now.routes (bits_of left q ++ a) inherited) (cut (bits_of left q) node.now.entries)) }
 {
     if left == 0 {
-        let region = rise(alloc, node, inherited, depth)?;
-        return Ok(region);
+        return rise(alloc, node, inherited, depth);
     }
     let hop = below(node.hop(Label::Route), inherited);
     let at = left - 1;
-    match node.half((q >> at) & 1 == 1) {
-        Some(half) => {
-            let region = rise_below(alloc, half, q, at, hop, depth)?;
-            Ok(region)
-        }
-        None => Ok(Region::Leaf(None, hop)),
+    match node.half(bit_at(q, at)) {
+        Some(half) => rise_below(alloc, half, q, at, hop, depth),
+        None => Ok(Region::Leaf { old: None, hop }),
     }
 }
 
@@ -200,6 +201,5 @@ pub fn region_of(alloc: Global, tree: &Tree, prefix: &Prefix) -> Result<Region, 
 {
     let depth = prefix.family.width() - prefix.len;
     let path = path_bits(prefix);
-    let region = rise_below(alloc, tree.root(), path, prefix.len, 0, depth)?;
-    Ok(region)
+    rise_below(alloc, tree.root(), path, prefix.len, 0, depth)
 }

@@ -24,10 +24,10 @@ fn list_rows(region: &Region, prefix: Prefix, out: &mut Vec<Row>) -> Result<(), 
         map row_as out.new.items ≡ map row_as out.old.items ++ region_rows (width prefix.family - prefix.len) f (prefix_as prefix)) }
 {
     match region {
-        Region::Leaf(_, hop) => {
+        Region::Leaf { hop, .. } => {
             out.push(Row::Leaf(prefix, Hop(*hop)))?;
         }
-        Region::Join(_, _, k, halves) => {
+        Region::Join { k, halves, .. } => {
             if prefix.len == prefix.family.width() {
                 return Ok(());
             }

@@ -5,6 +5,7 @@ ghost use Rattle.std.specs.Prelude.{◌≡◌, IfOk};
 ghost use Rattle.address_model.specs.declared.family.Family.TheVariants.{V4};
 
 use super::*;
+use crate::hop_set::HopSet;
 use fib_prefix::{Addr, Entry, Family, Hop, Prefix};
 use orig_tree::Tree;
 use std::alloc::{AllocError, Global};

@@ -1,6 +1,6 @@
 -- Printed rows have no more hops than what they print, so their text is read as them.
 use Rattle.std.proofs.Common.{◌≡◌, ℕ, zero, suc, ◌<◌, ◌≤◌, List, [], ◌∷◌, ◌++◌, Bool, true, false, cond, Option, Some, None, Ok, length, nat_eq, map, refl, sym, ap, subst, ◌∙◌, arith}
-use Rattle.std.specs.Prelude.{◌||◌, flat_map, fold, slice_get}
+use Rattle.std.specs.Prelude.{◌||◌, flat_map, fold, slice_get, option_to_list}
 use Rattle.std.specs.Cmp.{IsEquivalence, both_ways}
 use Rattle.std.specs.List.{AllByRecursion, IsDistinct, list_any, position_or_len}
 use Rattle.std.proofs.lemmas.Bool.{eqb-true, ne_eqb}
@@ -12,10 +12,10 @@ use Rattle.octet_fields.specs.Field.{◌>>=◌}
 use Rattle.address_model.specs.Address.{Address, same_address}
 use Rattle.address_model.proofs.Same.{same_address_is, same_address_itself}
 use Rattle.table_model.specs.Entries.{Entries}
-use Rattle.fib_prefix.specs.Hops.{hop_at, with_hop}
+use Rattle.fib_prefix.specs.Hops.{hop_at, with_hop, most_hops}
 use Rattle.cert_model.specs.Rows.{CertRow, leaf_row, join_row, bound_row}
 use Rattle.printed_model.specs.Rows.{PrintedRow, IsRow, text_of}
-use Rattle.printed_model.specs.Texts.{numbered_hop, hop_list, hops_in, most_hops}
+use Rattle.printed_model.specs.Texts.{numbered_hop, hops_in}
 use Rattle.printed_model.specs.Used.{used_of, printed_in}
 use Rattle.printed_model.specs.Numbered.{route_by, of_route, of_least, of_cert, IsOther, rows_with}
 use Rattle.printed_model.proofs.Hops.{passes_within, place_holds}
@@ -43,10 +43,10 @@ both_among : (hops xs ys : List Address) → AllByRecursion (IsAmong hops) xs �
 both_among hops [] ys a b = b
 both_among hops (x ∷ xs) ys a b = (a.0, both_among hops xs ys a.1 b)
 
-listed_among : (hops : List Address) (n : ℕ) → AllByRecursion (IsAmong hops) (hop_list (hop_at hops n))
+listed_among : (hops : List Address) (n : ℕ) → AllByRecursion (IsAmong hops) (option_to_list (hop_at hops n))
 listed_among hops n = by_hop (hop_at hops n) refl
   where
-    by_hop : (o : Option Address) → hop_at hops n ≡ o → AllByRecursion (IsAmong hops) (hop_list o)
+    by_hop : (o : Option Address) → hop_at hops n ≡ o → AllByRecursion (IsAmong hops) (option_to_list o)
     by_hop None e = tt
     by_hop (Some a) e = (number_is_among hops n a e, tt)
 
@@ -62,11 +62,11 @@ routes_among hops (e ∷ R) =
 
 least_among : (hops : List Address) (T : Entries) → AllByRecursion (IsAmong hops) (flat_map numbered_hop (map (of_least hops) T))
 least_among hops [] = tt
-least_among hops (e ∷ T) = both_among hops (hop_list (hop_at hops e.1)) (flat_map numbered_hop (map (of_least hops) T)) (listed_among hops e.1) (least_among hops T)
+least_among hops (e ∷ T) = both_among hops (option_to_list (hop_at hops e.1)) (flat_map numbered_hop (map (of_least hops) T)) (listed_among hops e.1) (least_among hops T)
 
 cert_among : (hops : List Address) (C : List CertRow) → AllByRecursion (IsAmong hops) (flat_map numbered_hop (map (of_cert hops) C))
 cert_among hops [] = tt
-cert_among hops (leaf_row p h ∷ C) = both_among hops (hop_list (hop_at hops h)) (flat_map numbered_hop (map (of_cert hops) C)) (listed_among hops h) (cert_among hops C)
+cert_among hops (leaf_row p h ∷ C) = both_among hops (option_to_list (hop_at hops h)) (flat_map numbered_hop (map (of_cert hops) C)) (listed_among hops h) (cert_among hops C)
 cert_among hops (join_row p k ∷ C) = cert_among hops C
 cert_among hops (bound_row f n ∷ C) = cert_among hops C
 

@@ -1,6 +1,6 @@
 -- The numbers of hops stay as rows are read.
 use Rattle.std.proofs.Common.{◌≡◌, ℕ, suc, ◌+◌, ◌<◌, List, [], ◌∷◌, ◌++◌, Bool, true, false, cond, not, Option, Some, None, length, refl, sym, ap, ◌∙◌, arith, length-append, append-nil}
-use Rattle.std.specs.Prelude.{◌||◌, nat_lt, option_map, unwrap_or, flat_map, fold, slice_get}
+use Rattle.std.specs.Prelude.{◌||◌, nat_lt, option_map, unwrap_or, flat_map, fold, slice_get, option_to_list}
 use Rattle.std.specs.List.{AllByRecursion, list_any, position_or_len}
 use Rattle.std.proofs.lemmas.Bool.{ltb-true, lt-ltb, ne_eqb, cond-false}
 use Rattle.std.proofs.lemmas.Grind.{flat_map-append}
@@ -11,7 +11,7 @@ use Rattle.address_model.proofs.Same.{same_address_is, same_address_itself}
 use Rattle.fib_prefix.specs.Hops.{number_of, hop_at, with_hop}
 use Rattle.cert_model.specs.Rows.{leaf_row}
 use Rattle.printed_model.specs.Rows.{PrintedRow, route_row, least_row, cert_leaf_row}
-use Rattle.printed_model.specs.Texts.{numbered_hop, hop_list, hops_in}
+use Rattle.printed_model.specs.Texts.{numbered_hop, hops_in}
 use Rattle.printed_model.specs.Used.{hop_number, route_entry, least_entry, cert_part}
 
 -- the number that a place gives
@@ -93,7 +93,7 @@ same_number : (hops more : List Address) (a : Address) → IsHeld hops a → hop
 unfolding IsHeld
 same_number hops more a h = ap (λ o. unwrap_or o 0) (folded_stays hops more a h.0 h.1 ∙ sym h.1)
 
-same_hop : (hops more : List Address) (hop : Option Address) → AllByRecursion (IsHeld hops) (hop_list hop) → hop_number (fold with_hop hops more) hop ≡ hop_number hops hop
+same_hop : (hops more : List Address) (hop : Option Address) → AllByRecursion (IsHeld hops) (option_to_list hop) → hop_number (fold with_hop hops more) hop ≡ hop_number hops hop
 same_hop hops more None h = refl
 same_hop hops more (Some a) h = same_number hops more a h.0
 

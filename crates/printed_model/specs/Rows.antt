@@ -67,9 +67,12 @@ fields_of (cert_join_row p k) = codes "cert" ∷ codes "join" ∷ prefix_text p 
 fields_of (cert_bound_row f n) = codes "cert" ∷ codes "bound" ∷ family_name f ∷ decimal n ∷ []
 fields_of (report_row count n) = codes "report" ∷ count_name count ∷ decimal n ∷ []
 
--- a line: the fields with commas between them, and a line feed
+-- a line: its fields with commas between them, and a line feed
+abbrev pub line : List (List ℕ) → List ℕ
+line fields = join_with_byte 44 fields ++ 10 ∷ []
+
 abbrev pub line_of : PrintedRow → List ℕ
-line_of row = join_with_byte 44 (fields_of row) ++ 10 ∷ []
+line_of row = line (fields_of row)
 
 -- a text: a line for each row
 abbrev pub text_of : List PrintedRow → List ℕ

@@ -1,9 +1,9 @@
 -- A whole printed text: its rows, or its first bad line and why.
-use Rattle.std.specs.Prelude.{ℕ, ◌+◌, List, [], ◌∷◌, ◌++◌, Option, Some, None, Result, Ok, Err, map, flat_map, length, nat_lt, ◌==◌, if◌then◌else◌}
+use Rattle.std.specs.Prelude.{ℕ, ◌+◌, List, [], ◌∷◌, ◌++◌, option_to_list, Result, Ok, Err, map, flat_map, length, nat_lt, ◌==◌, if◌then◌else◌}
 use Rattle.octet_fields.specs.Field.{◌>>=◌}
 use Rattle.bstr.specs.Text.{without_terminator}
 use Rattle.address_model.specs.Address.{Address}
-use Rattle.fib_prefix.specs.Hops.{hops_of}
+use Rattle.fib_prefix.specs.Hops.{hops_of, most_hops}
 use Rattle.printed_model.specs.Rows.{PrintedRow, route_row, least_row, cert_leaf_row}
 use Rattle.printed_model.specs.Reading.{too_many_hops, line_in}
 
@@ -25,15 +25,11 @@ line_texts text = map without_terminator (lines_of text)
 
 -- ---- the hops that get numbers
 
-abbrev pub hop_list : Option Address → List Address
-hop_list None = []
-hop_list (Some a) = a ∷ []
-
 -- the hop of a row that gets a number: of a route, an entry of the least table, and a leaf
 abbrev pub numbered_hop : PrintedRow → List Address
 numbered_hop (route_row p a) = a ∷ []
-numbered_hop (least_row p hop) = hop_list hop
-numbered_hop (cert_leaf_row p hop) = hop_list hop
+numbered_hop (least_row p hop) = option_to_list hop
+numbered_hop (cert_leaf_row p hop) = option_to_list hop
 numbered_hop row = []
 
 -- the different hops of rows, in the order of their first use
@@ -46,10 +42,6 @@ hops_in rows = hops_of (flat_map numbered_hop rows)
 pub record BadLine : Type 0 where
   pub line : ℕ
   pub why : ℕ
-
--- the most hops that have numbers
-abbrev pub most_hops : ℕ
-most_hops = 65534
 
 -- the rows with one more, which a line of this number has; it is bad where they have more hops than have numbers
 abbrev pub with_row : ℕ → List PrintedRow → Result PrintedRow ℕ → Result (List PrintedRow) BadLine

@@ -10,10 +10,10 @@ ghost use Rattle.address_model.specs.Address.{Address, IsAddress, IsPrefix, same
 ghost use Rattle.table_model.specs.Entries.{Entries};
 ghost use Rattle.cert_model.specs.Rows.{CertRow};
 ghost use Rattle.cert_model.specs.Right.{IsCertificate};
-ghost use Rattle.fib_prefix.specs.Hops.{hop_at, with_hop};
+ghost use Rattle.fib_prefix.specs.Hops.{hop_at, with_hop, most_hops};
 ghost use Rattle.printed_model.specs.Rows.{PrintedRow, IsRow, fields_of, text_of};
 ghost use Rattle.printed_model.specs.Reading.{row_in};
-ghost use Rattle.printed_model.specs.Texts.{BadLine, hops_in, line_texts, most_hops, numbered_hop, rows_in};
+ghost use Rattle.printed_model.specs.Texts.{BadLine, hops_in, line_texts, numbered_hop, rows_in};
 ghost use Rattle.printed_model.specs.Numbered.{IsCertRow, IsOther, HaveHops, Proves, rows_with};
 ghost use Rattle.printed_model.specs.Used.{hop_number, printed_in, used_of};
 ghost use Rattle.printed_model.specs.Whole.{HaveRows, IsFirstBad};
@@ -31,7 +31,7 @@ pub fn reading_law()
     ensures bad { (text : List ℕ) (bad : BadLine) → rows_in text ≡ Err bad ↔ IsFirstBad (line_texts text) bad }
 {}
 
-/// The hop of each row that numbers it has a number, which is that hop's.
+/// Each hop that a route, least or leaf row brings has a number, and that number stands for it.
 pub fn numbers_law()
     ensures { (rows : List PrintedRow) → AllByRecursion (λ a. hop_at (hops_in rows) (hop_number (hops_in rows) (Some a)) ≡ Some a) (flat_map numbered_hop rows) }
 {}

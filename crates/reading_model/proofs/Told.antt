@@ -1,4 +1,4 @@
--- What is read is of peers, prefixes and next hops that there are.
+-- What is read is well formed: addresses and prefixes have no more bits than their families.
 use Rattle.std.proofs.Common.{◌≡◌, ℕ, zero, suc, ◌*◌, ◌≤◌, Bool, true, false, List, [], ◌∷◌, ◌++◌, length, take, drop, Option, Some, None, Result, Ok, Err, refl, sym, ap, subst, ◌∙◌, arith, append_assoc, append-nil, length-append}
 use Rattle.std.specs.Prelude.{nat_lt, slice_get, not, ◌==◌, if◌then◌else◌, IfOk, IfSome, MatchResult}
 use Rattle.std.specs.List.{AllByRecursion}
@@ -15,10 +15,12 @@ use Rattle.route_model.proofs.Elems.{all_more}
 use Rattle.octet_fields.specs.Field.{◌>>=◌, refuse, octet_at, octets_at, number_at, all_read, one_more, times, steps, until_end}
 use Rattle.reading_model.specs.declared.place.Place.{Place}
 use Rattle.reading_model.specs.declared.place.Place.TheVariants.{Rib, Update}
+use Rattle.reading_model.specs.declared.session.Session.{Session}
+use Rattle.reading_model.specs.declared.session.Session.TheVariants.{StateChange, Message}
 use Rattle.reading_model.specs.Wire.{octets_for, address_at, prefix_at, prefixes, family_of, family_at}
 use Rattle.reading_model.specs.Attribute.{Reached, Unreached, Found, nothing, hop_of, is_hop_length, next_hop_at, is_of, full_hop, rib_hop, reach_of_rib, reach_in, unreach_in, keep_first, with_path, ipv4_in, with_hop, with_reach, with_unreach, with_value, is_second, attribute_at, Listed, attributes}
 use Rattle.reading_model.specs.Rib.{peer_at, peer_table, entry_hop, event_of, indexed, entry_at, rib}
-use Rattle.reading_model.specs.Update.{withdrawn, routes, unreach_events, reach_events, update, message, is_lost, state_change, is_change, is_wide_sub, session, bgp4mp}
+use Rattle.reading_model.specs.Update.{withdrawn, routes, unreach_events, reach_events, update, message, is_lost, state_change, session_of, session_events, session_behind, session_in, bgp4mp}
 use Rattle.reading_model.specs.Record.{Record, record_at}
 use Rattle.reading_model.specs.Input.{Progress, Stopped, start, rib_behind, is_dump, is_session, record_in, counted, or_stop, read_record, input}
 use Rattle.reading_model.specs.Reading.{Reads}
@@ -156,10 +158,13 @@ rib_hop_meets family (zero ∷ rest) = full_hop_meets family (0 ∷ rest)
 rib_hop_meets family (suc n ∷ rest) = next_hop_meets family (suc n ∷ rest)
 
 abbrev IsReached : Reached → Type 0
-IsReached reach = IsAddress reach.hop
+IsReached reach = IsAddress reach.hop × AllByRecursion IsPrefix reach.nlri
+
+abbrev IsUnreached : Unreached → Type 0
+IsUnreached unreach = AllByRecursion IsPrefix unreach.nlri
 
 reach_of_rib_meets : (family : Family) (hop : Result (Address × List ℕ) ℕ) → IfOk hop (λ x. IsAddress x.0) → IfSome (reach_of_rib family hop) IsReached
-reach_of_rib_meets family (Ok hop) h = h
+reach_of_rib_meets family (Ok hop) h = (h, tt)
 reach_of_rib_meets family (Err rule) h = tt
 
 reach_in_meets : (family : Option Family) (octets : List ℕ) → IfOk (reach_in family octets) (λ x. IfSome x IsReached)
@@ -168,11 +173,16 @@ reach_in_meets None octets = tt
 reach_in_meets (Some family) octets =
     then_meets (next_hop_at family octets) _ (λ x. IsAddress x.0) _ (next_hop_meets family octets) (λ hop h.
     then_any (octet_at 10 hop.1) _ _ (λ reserved.
-    then_any (prefixes 10 family reserved.1) _ _ (λ nlri. h)))
+    then_meets (prefixes 10 family reserved.1) _ (AllByRecursion IsPrefix) _ (prefixes_meet 10 family reserved.1) (λ nlri n. (h, n))))
 
--- what stood in a list so far has next hops that are addresses
+unreach_in_meets : (family : Option Family) (octets : List ℕ) → IfOk (unreach_in family octets) (λ x. IfSome x IsUnreached)
+unfolding unreach_in
+unreach_in_meets None octets = tt
+unreach_in_meets (Some family) octets = then_meets (prefixes 10 family octets) _ (AllByRecursion IsPrefix) _ (prefixes_meet 10 family octets) (λ nlri n. n)
+
+-- what stood in a list so far has next hops that are addresses, and prefixes
 abbrev IsFound : Found → Type 0
-IsFound found = IfSome found.hop IsAddress × IfSome found.reach IsReached
+IsFound found = IfSome found.hop IsAddress × IfSome found.reach IsReached × IfSome found.unreach IsUnreached
 
 keep_first_meets : {A : Type 0} (P : A → Type 0) (old : Option A) (read : Result A ℕ) → IfSome old P → IfOk read P → IfOk (keep_first old read) (λ x. IfSome x P)
 keep_first_meets P (Some x) read p r = p
@@ -191,19 +201,21 @@ with_path_meets place found value h = then_any (keep_first found.path _) _ _ (λ
 
 with_hop_meets : (found : Found) (value : List ℕ) → IsFound found → IfOk (with_hop found value) IsFound
 unfolding with_hop
-with_hop_meets found value h = then_meets (keep_first found.hop (ipv4_in value)) _ (λ x. IfSome x IsAddress) _ (keep_first_meets IsAddress found.hop (ipv4_in value) h.0 (ipv4_meets value)) (λ hop p. (p, h.1))
+with_hop_meets found value h = then_meets (keep_first found.hop (ipv4_in value)) _ (λ x. IfSome x IsAddress) _ (keep_first_meets IsAddress found.hop (ipv4_in value) h.0 (ipv4_meets value)) (λ hop p. (p, h.1, h.2))
 
 with_reach_meets : (place : Place) (found : Found) (value : List ℕ) → IsFound found → IfOk (with_reach place found value) IsFound
 unfolding with_reach
-with_reach_meets (Rib family) found value h = (h.0, reach_of_rib_meets family (rib_hop family value) (rib_hop_meets family value))
+with_reach_meets (Rib family) found value h = (h.0, reach_of_rib_meets family (rib_hop family value) (rib_hop_meets family value), h.2)
 with_reach_meets (Update wide) found value h =
     then_any (family_at value) _ _ (λ family.
-    then_meets (reach_in family.0 family.1) _ (λ x. IfSome x IsReached) _ (reach_in_meets family.0 family.1) (λ reach p. (h.0, p)))
+    then_meets (reach_in family.0 family.1) _ (λ x. IfSome x IsReached) _ (reach_in_meets family.0 family.1) (λ reach p. (h.0, p, h.2)))
 
 with_unreach_meets : (place : Place) (found : Found) (value : List ℕ) → IsFound found → IfOk (with_unreach place found value) IsFound
 unfolding with_unreach
 with_unreach_meets (Rib family) found value h = h
-with_unreach_meets (Update wide) found value h = then_any (family_at value) _ _ (λ family. then_any (unreach_in family.0 family.1) _ _ (λ unreach. h))
+with_unreach_meets (Update wide) found value h =
+    then_any (family_at value) _ _ (λ family.
+    then_meets (unreach_in family.0 family.1) _ (λ x. IfSome x IsUnreached) _ (unreach_in_meets family.0 family.1) (λ unreach p. (h.0, h.1, p)))
 
 either : {A F : Type 0} (b : Bool) (r s : Result A F) (P : A → Type 0) → IfOk r P → IfOk s P → IfOk (if b then r else s) P
 either true r s P p q = p
@@ -228,11 +240,11 @@ attribute_meets place found octets h =
     then_meets (with_value place found kind.0 value.0) _ IsFound _ (with_value_meets place found kind.0 value.0 h) (λ next p. p))))))
 
 abbrev IsListed : Listed → Type 0
-IsListed list = IfSome list.hop IsAddress × IfSome list.reach IsReached
+IsListed list = IfSome list.hop IsAddress × IfSome list.reach IsReached × IfSome list.unreach IsUnreached
 
 attributes_meet : (place : Place) (octets : List ℕ) → IfOk (attributes place octets) IsListed
 unfolding attributes
-attributes_meet place octets = then_meets (until_end (attribute_at place) nothing octets) _ IsFound _ (until_end_meets (attribute_at place) IsFound (attribute_meets place) nothing octets (tt, tt)) (λ found p. p)
+attributes_meet place octets = then_meets (until_end (attribute_at place) nothing octets) _ IsFound _ (until_end_meets (attribute_at place) IsFound (attribute_meets place) nothing octets (tt, tt, tt)) (λ found p. p)
 
 -- ---- RIB records
 
@@ -264,9 +276,9 @@ entry_hop_meets family list h = by_family family list.hop list.reach h.0 h.1
   where
     by_family : (family : Family) (hop : Option Address) (reach : Option Reached) → IfSome hop IsAddress → IfSome reach IsReached → IfSome (entry_hop family (record { path = list.path; hop = hop; reach = reach; unreach = list.unreach })) IsAddress
     by_family V4 (Some hop) reach p q = p
-    by_family V4 None (Some reach) p q = q
+    by_family V4 None (Some reach) p q = q.0
     by_family V4 None None p q = tt
-    by_family V6 hop (Some reach) p q = q
+    by_family V6 hop (Some reach) p q = q.0
     by_family V6 (Some hop) None p q = p
     by_family V6 None None p q = tt
 
@@ -305,13 +317,13 @@ routes_meet : (peer : Peer) (path : ℕ) (hop : Option Address) (nlri : List Pre
 routes_meet peer path hop [] p h a = tt
 routes_meet peer path hop (x ∷ nlri) p h a = (event_meets peer path hop x p h a.0, routes_meet peer path hop nlri p h a.1)
 
-unreach_meets : (peer : Peer) (unreach : Option Unreached) → IsPeer peer → IfOk (unreach_events peer unreach) (AllByRecursion IsEvent)
-unreach_meets peer None p = tt
-unreach_meets peer (Some unreach) p = then_meets (prefixes 10 unreach.family unreach.nlri) _ (AllByRecursion IsPrefix) _ (prefixes_meet 10 unreach.family unreach.nlri) (λ gone a. withdrawn_meet peer gone p a)
+unreach_meets : (peer : Peer) (unreach : Option Unreached) → IsPeer peer → IfSome unreach IsUnreached → AllByRecursion IsEvent (unreach_events peer unreach)
+unreach_meets peer None p h = tt
+unreach_meets peer (Some unreach) p h = withdrawn_meet peer unreach.nlri p h
 
-reach_meets : (peer : Peer) (path : ℕ) (reach : Option Reached) → IsPeer peer → IfSome reach IsReached → IfOk (reach_events peer path reach) (AllByRecursion IsEvent)
+reach_meets : (peer : Peer) (path : ℕ) (reach : Option Reached) → IsPeer peer → IfSome reach IsReached → AllByRecursion IsEvent (reach_events peer path reach)
 reach_meets peer path None p h = tt
-reach_meets peer path (Some reach) p h = then_meets (prefixes 10 reach.family reach.nlri) _ (AllByRecursion IsPrefix) _ (prefixes_meet 10 reach.family reach.nlri) (λ nlri a. routes_meet peer path (Some reach.hop) nlri p h a)
+reach_meets peer path (Some reach) p h = routes_meet peer path (Some reach.hop) reach.nlri p h.0 h.1
 
 update_meets : (wide : Bool) (peer : Peer) (octets : List ℕ) → IsPeer peer → IfOk (update wide peer octets) (AllByRecursion IsEvent)
 unfolding update
@@ -323,11 +335,10 @@ update_meets wide peer octets p =
     then_any (octets_at 14 list_len.0 list_len.1) _ _ (λ area.
     then_meets (attributes (Update wide) area.0) _ IsListed _ (attributes_meet (Update wide) area.0) (λ list h.
     then_meets (prefixes 14 V4 area.1) _ (AllByRecursion IsPrefix) _ (prefixes_meet 14 V4 area.1) (λ nlri n.
-    then_meets (unreach_events peer list.unreach) _ (AllByRecursion IsEvent) _ (unreach_meets peer list.unreach p) (λ unreached u.
-    then_meets (reach_events peer list.path list.reach) _ (AllByRecursion IsEvent) _ (reach_meets peer list.path list.reach p h.1) (λ reached r.
     let own : AllByRecursion IsEvent (routes peer list.path list.hop nlri) = routes_meet peer list.path list.hop nlri p h.0 n in
-    let gone_events = all_more IsEvent (withdrawn peer gone) unreached (withdrawn_meet peer gone p g) u in
-    all_more IsEvent (withdrawn peer gone ++ unreached ++ routes peer list.path list.hop nlri) reached (all_more IsEvent (withdrawn peer gone ++ unreached) (routes peer list.path list.hop nlri) gone_events own) r)))))))))
+    let all_gone = all_more IsEvent (withdrawn peer gone) (unreach_events peer list.unreach) (withdrawn_meet peer gone p g) (unreach_meets peer list.unreach p h.2) in
+    let before = all_more IsEvent (withdrawn peer gone ++ unreach_events peer list.unreach) (routes peer list.path list.hop nlri) all_gone own in
+    all_more IsEvent (withdrawn peer gone ++ unreach_events peer list.unreach ++ routes peer list.path list.hop nlri) (reach_events peer list.path list.reach) before (reach_meets peer list.path list.reach p h.1))))))))
 
 message_meets : (wide : Bool) (peer : Peer) (octets : List ℕ) → IsPeer peer → IfOk (message wide peer octets) (AllByRecursion IsEvent)
 unfolding message
@@ -352,24 +363,32 @@ state_change_meets peer octets p =
     then_any (number_at 12 2 old.1) _ _ (λ new.
     all_read_meets 12 (AllByRecursion IsEvent) ((if is_lost old.0 new.0 then Down peer ∷ [] else []), new.1) (lost_meets peer (is_lost old.0 new.0) p)))
 
-session_meets : (sub asn : ℕ) (family : Option Family) (octets : List ℕ) → IfOk (session sub asn family octets) (λ x. IfSome x (AllByRecursion IsEvent))
-unfolding session
-session_meets sub asn None octets = tt
-session_meets sub asn (Some family) octets =
+session_events_meet : (session : Session) (peer : Peer) (octets : List ℕ) → IsPeer peer → IfOk (session_events session peer octets) (AllByRecursion IsEvent)
+session_events_meet (StateChange wide) peer octets p = state_change_meets peer octets p
+session_events_meet (Message wide) peer octets p = message_meets wide peer octets p
+
+session_behind_meets : (session : Session) (asn : ℕ) (family : Option Family) (octets : List ℕ) → IfOk (session_behind session asn family octets) (λ x. IfSome x (AllByRecursion IsEvent))
+unfolding session_behind
+session_behind_meets session asn None octets = tt
+session_behind_meets session asn (Some family) octets =
     then_meets (address_at 12 family octets) _ (λ x. IsAddress x.0) _ (address_meets 12 family octets) (λ addr p.
     then_any (address_at 12 family addr.1) _ _ (λ local.
-    then_meets (if is_change sub then state_change (record { addr = addr.0; asn = asn }) local.1 else message (is_wide_sub sub) (record { addr = addr.0; asn = asn }) local.1) _ (AllByRecursion IsEvent) _
-    (either (is_change sub) _ _ _ (state_change_meets (record { addr = addr.0; asn = asn }) local.1 p) (message_meets (is_wide_sub sub) (record { addr = addr.0; asn = asn }) local.1 p)) (λ events e. e)))
+    then_meets (session_events session (record { addr = addr.0; asn = asn }) local.1) _ (AllByRecursion IsEvent) _ (session_events_meet session (record { addr = addr.0; asn = asn }) local.1 p) (λ events e. e)))
 
-bgp4mp_meets : (sub : ℕ) (micro : Bool) (body : List ℕ) → IfOk (bgp4mp sub micro body) (λ x. IfSome x (AllByRecursion IsEvent))
-unfolding bgp4mp
-bgp4mp_meets sub micro body =
+session_in_meets : (session : Option Session) (micro : Bool) (body : List ℕ) → IfOk (session_in session micro body) (λ x. IfSome x (AllByRecursion IsEvent))
+unfolding session_in
+session_in_meets None micro body = tt
+session_in_meets (Some session) micro body =
     then_any (octets_at 12 _ body) _ _ (λ time.
     then_any (number_at 12 _ time.1) _ _ (λ asn.
     then_any (octets_at 12 _ asn.1) _ _ (λ local.
     then_any (octets_at 12 2 local.1) _ _ (λ interface.
     then_any (number_at 12 2 interface.1) _ _ (λ afi.
-    session_meets sub asn.0 (family_of afi.0) afi.1)))))
+    session_behind_meets session asn.0 (family_of afi.0) afi.1)))))
+
+bgp4mp_meets : (sub : ℕ) (micro : Bool) (body : List ℕ) → IfOk (bgp4mp sub micro body) (λ x. IfSome x (AllByRecursion IsEvent))
+unfolding bgp4mp
+bgp4mp_meets sub micro body = session_in_meets (session_of sub) micro body
 
 -- ---- the input
 

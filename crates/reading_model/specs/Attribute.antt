@@ -2,24 +2,25 @@
 use Rattle.std.specs.Prelude.{ℕ, zero, suc, List, [], ◌∷◌, length, take, Option, Some, None, unwrap_or, Result, Ok, Err, Bool, true, false, not, bit_and, ◌==◌, ◌||◌, ◌&&◌, if◌then◌else◌}
 use Rattle.address_model.specs.declared.family.Family.{Family}
 use Rattle.address_model.specs.declared.family.Family.TheVariants.{V4, V6}
-use Rattle.address_model.specs.Address.{Address, same_family}
+use Rattle.address_model.specs.Address.{Address, Prefix, same_family}
 use Rattle.address_model.specs.Bits.{octet_bits}
 use Rattle.octet_fields.specs.Field.{◌>>=◌, refuse, octet_at, octets_at, number_at, until_end}
 use Rattle.reading_model.specs.declared.place.Place.{Place}
 use Rattle.reading_model.specs.declared.place.Place.TheVariants.{Rib, Update}
+use Rattle.reading_model.specs.Rules.{attribute_cut, attribute_value, second_mp}
 use Rattle.reading_model.specs.Wire.{family_at, prefixes}
 use Rattle.reading_model.specs.Path.{as_size, path_of}
 
--- what MP_REACH_NLRI gives: a next hop for the prefixes in these octets
+-- what MP_REACH_NLRI gives: a next hop for these prefixes
 pub record Reached : Type 0 where
   pub family : Family
   pub hop : Address
-  pub nlri : List ℕ
+  pub nlri : List Prefix
 
--- what MP_UNREACH_NLRI gives: the prefixes in these octets are withdrawn
+-- what MP_UNREACH_NLRI gives: these prefixes are withdrawn
 pub record Unreached : Type 0 where
   pub family : Family
-  pub nlri : List ℕ
+  pub nlri : List Prefix
 
 -- what stood in an attribute list so far
 pub record Found : Type 0 where
@@ -39,6 +40,7 @@ nothing = record { path = None; hop = None; has_reach = false; reach = None; has
 abbrev pub hop_of : List ℕ → Address
 hop_of octets = if length octets == 4 then record { family = V4; bits = octet_bits octets } else record { family = V6; bits = octet_bits (take 16 octets) }
 
+-- the lengths of a next hop: 4 for IPv4 (RFC 4271, 5.1.3); 16, or 32 with a link-local address behind it, for IPv6 (RFC 2545, 3), and for IPv4 prefixes with an IPv6 next hop (RFC 8950, 3)
 abbrev pub is_hop_length : Family → ℕ → Bool
 is_hop_length V4 n = n == 4 || n == 16 || n == 32
 is_hop_length V6 n = n == 16 || n == 32
@@ -46,25 +48,27 @@ is_hop_length V6 n = n == 16 || n == 32
 -- Length of Next Hop, Next Hop (RFC 4760, 3)
 unfoldable pub next_hop_at : Family → List ℕ → Result (Address × List ℕ) ℕ
 next_hop_at family octets = do
-  len ← octet_at 10 octets
-  known ← refuse 10 (not (is_hop_length family len.0))
-  hop ← octets_at 10 len.0 len.1
+  len ← octet_at attribute_value octets
+  known ← refuse attribute_value (not (is_hop_length family len.0))
+  hop ← octets_at attribute_value len.0 len.1
   Ok (hop_of hop.0, hop.1)
 
--- ---- MP_REACH_NLRI of a RIB entry (RFC 6396, 4.3.4): AFI and SAFI stand before the next hop where its first octet is 0
+-- ---- MP_REACH_NLRI of a RIB entry (RFC 6396, 4.3.4)
 
 abbrev pub is_of : Family → Option Family → Bool
 is_of family None = false
 is_of family (Some other) = same_family family other
 
+-- AFI and SAFI of this family, then the next hop
 unfoldable pub full_hop : Family → List ℕ → Result (Address × List ℕ) ℕ
 full_hop family value = do
   other ← family_at value
-  known ← refuse 10 (not (is_of family other.0))
+  known ← refuse attribute_value (not (is_of family other.0))
   next_hop_at family other.1
 
+-- RFC 6396 has the next hop's length and the next hop alone. A value that begins with 0 is RFC 4760's full form, as some daemons write it: no next hop has length 0, and AFI 1 and 2 begin with 0.
 unfoldable pub rib_hop : Family → List ℕ → Result (Address × List ℕ) ℕ
-rib_hop family [] = Err 10
+rib_hop family [] = Err attribute_value
 rib_hop family (zero ∷ rest) = full_hop family (0 ∷ rest)
 rib_hop family (suc n ∷ rest) = next_hop_at family (suc n ∷ rest)
 
@@ -80,16 +84,16 @@ unfoldable pub reach_in : Option Family → List ℕ → Result (Option Reached)
 reach_in None octets = Ok None
 reach_in (Some family) octets = do
   hop ← next_hop_at family octets
-  reserved ← octet_at 10 hop.1
-  nlri ← prefixes 10 family reserved.1
-  Ok (Some (record { family = family; hop = hop.0; nlri = reserved.1 }))
+  reserved ← octet_at attribute_value hop.1
+  nlri ← prefixes attribute_value family reserved.1
+  Ok (Some (record { family = family; hop = hop.0; nlri = nlri }))
 
 -- MP_UNREACH_NLRI (RFC 4760, 4): withdrawn routes to the end; another family is passed over
 unfoldable pub unreach_in : Option Family → List ℕ → Result (Option Unreached) ℕ
 unreach_in None octets = Ok None
 unreach_in (Some family) octets = do
-  nlri ← prefixes 10 family octets
-  Ok (Some (record { family = family; nlri = octets }))
+  nlri ← prefixes attribute_value family octets
+  Ok (Some (record { family = family; nlri = nlri }))
 
 -- ---- the values, each as it changes what stood before it
 
@@ -98,7 +102,7 @@ abbrev pub is_wide : Place → Bool
 is_wide (Rib family) = true
 is_wide (Update wide) = wide
 
--- of repeated attributes the first counts, and the others are unread
+-- of repeated attributes the first counts, and the others are unread (RFC 7606, 3 (g))
 abbrev pub keep_first : {A : Type 0} → Option A → Result A ℕ → Result (Option A) ℕ
 keep_first (Some x) read = Ok (Some x)
 keep_first None read = read >>= λ x. Ok (Some x)
@@ -110,7 +114,7 @@ with_path place found value = do
 
 -- exactly four octets
 abbrev pub ipv4_in : List ℕ → Result Address ℕ
-ipv4_in value = if length value == 4 then Ok (record { family = V4; bits = octet_bits value }) else Err 10
+ipv4_in value = if length value == 4 then Ok (record { family = V4; bits = octet_bits value }) else Err attribute_value
 
 unfoldable pub with_hop : Found → List ℕ → Result Found ℕ
 with_hop found value = do
@@ -142,18 +146,18 @@ with_value place found kind value =
 
 -- ---- the list
 
--- a second MP_REACH_NLRI, or a second MP_UNREACH_NLRI where the list uses it
+-- a second MP_REACH_NLRI, or a second MP_UNREACH_NLRI where the list uses it (RFC 7606, 3 (g))
 abbrev pub is_second : Found → ℕ → Bool
 is_second found kind = (found.has_reach && kind == 14) || (found.has_unreach && kind == 15)
 
--- An attribute (RFC 4271, 4.3): flags, type, rule 11, a length of two octets where flag 16 is set and else of one, the value.
+-- An attribute (RFC 4271, 4.3): flags, a type, which isn't that of a second MP attribute, a length of two octets where flag 16 is set and else of one, the value.
 unfoldable pub attribute_at : Place → Found → List ℕ → Result (Found × List ℕ) ℕ
 attribute_at place found octets = do
-  flags ← octet_at 9 octets
-  kind ← octet_at 9 flags.1
-  first ← refuse 11 (is_second found kind.0)
-  len ← number_at 9 (if bit_and flags.0 16 == 0 then 1 else 2) kind.1
-  value ← octets_at 9 len.0 len.1
+  flags ← octet_at attribute_cut octets
+  kind ← octet_at attribute_cut flags.1
+  first ← refuse second_mp (is_second found kind.0)
+  len ← number_at attribute_cut (if bit_and flags.0 16 == 0 then 1 else 2) kind.1
+  value ← octets_at attribute_cut len.0 len.1
   next ← with_value place found kind.0 value.0
   Ok (next, value.1)
 

@@ -4,6 +4,7 @@ use Rattle.address_model.specs.declared.family.Family.{Family}
 use Rattle.address_model.specs.declared.family.Family.TheVariants.{V4, V6}
 use Rattle.route_model.specs.Events.{Peer, Event}
 use Rattle.octet_fields.specs.Field.{◌>>=◌, until_end}
+use Rattle.reading_model.specs.Rules.{no_peer_table}
 use Rattle.reading_model.specs.Record.{Record, Fault, record_at}
 use Rattle.reading_model.specs.Rib.{peer_table, rib}
 use Rattle.reading_model.specs.Update.{bgp4mp}
@@ -18,18 +19,18 @@ pub record Progress : Type 0 where
 abbrev pub start : Progress
 start = record { peers = None; events = []; records = 0; skipped = 0 }
 
--- rule 5: a RIB record stands behind no peer table
+-- a RIB record behind the latest peer table
 abbrev pub rib_behind : Option (List Peer) → Family → List ℕ → Result (List Event) ℕ
 rib_behind (Some peers) family body = rib peers family body
-rib_behind None family body = Err 5
+rib_behind None family body = Err no_peer_table
 
 -- TABLE_DUMP_V2 (type 13) of this subtype (RFC 6396, 4.3)
 abbrev pub is_dump : ℕ → Record → Bool
 is_dump subtype r = r.kind == 13 && r.subtype == subtype
 
--- BGP4MP (16) or BGP4MP_ET (17), and STATE_CHANGE (0), MESSAGE (1), MESSAGE_AS4 (4), STATE_CHANGE_AS4 (5), MESSAGE_LOCAL (6) or MESSAGE_AS4_LOCAL (7) (RFC 6396, 4.4)
+-- BGP4MP (type 16) or BGP4MP_ET (17) (RFC 6396, 4.4 and 3)
 abbrev pub is_session : Record → Bool
-is_session r = (r.kind == 16 || r.kind == 17) && (r.subtype == 0 || r.subtype == 1 || r.subtype == 4 || r.subtype == 5 || r.subtype == 6 || r.subtype == 7)
+is_session r = r.kind == 16 || r.kind == 17
 
 -- The peer table after a record, and the record's events, or none where it is skipped.
 unfoldable pub record_in : Option (List Peer) → Record → Result (Option (List Peer) × Option (List Event)) ℕ

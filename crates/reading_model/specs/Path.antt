@@ -1,6 +1,7 @@
--- AS_PATH (RFC 4271, 4.3 and 5.1.2; RFC 5065, 3): how long a path is.
+-- AS_PATH (RFC 4271, 4.3; RFC 5065, 3): how long a path is (RFC 4271, 9.1.2.2 a; RFC 5065, 5.3).
 use Rattle.std.specs.Prelude.{ℕ, ◌+◌, ◌*◌, List, Result, Ok, Bool, nat_lt, ◌==◌, ◌||◌, if◌then◌else◌}
 use Rattle.octet_fields.specs.Field.{◌>>=◌, refuse, octet_at, octets_at, until_end}
+use Rattle.reading_model.specs.Rules.{attribute_value}
 
 -- What a segment counts: an AS_SEQUENCE (2) each of its AS numbers, an AS_SET (1) that isn't empty one; confederation segments (3 and 4) nothing.
 abbrev pub weight : ℕ → ℕ → ℕ
@@ -9,10 +10,10 @@ weight kind count = if kind == 2 then count else (if kind == 1 then (if count ==
 -- type, count, AS numbers of so many octets each; the length so far grows by what the segment counts
 unfoldable pub segment_at : ℕ → ℕ → List ℕ → Result (ℕ × List ℕ) ℕ
 segment_at size so_far octets = do
-  kind ← octet_at 10 octets
-  known ← refuse 10 (nat_lt kind.0 1 || nat_lt 4 kind.0)
-  count ← octet_at 10 kind.1
-  numbers ← octets_at 10 (count.0 * size) count.1
+  kind ← octet_at attribute_value octets
+  known ← refuse attribute_value (nat_lt kind.0 1 || nat_lt 4 kind.0)
+  count ← octet_at attribute_value kind.1
+  numbers ← octets_at attribute_value (count.0 * size) count.1
   Ok (so_far + weight kind.0 count.0, numbers.1)
 
 -- the octets of an AS number

@@ -2,6 +2,7 @@
 use Rattle.std.specs.Prelude.{◌≡◌, ℕ, ◌<◌, List, [], ◌∷◌, ◌++◌, length, Ok, Err}
 use Rattle.octet_fields.specs.Field.{until_end}
 use Rattle.reading_model.specs.Record.{Record, Fault, record_at, next_record, cut}
+use Rattle.reading_model.specs.Rules.{too_long}
 
 -- Of the octets fed these records were taken, and the octets left follow them, whatever comes after.
 pub record Takes (fed : List ℕ) (taken : List Record) (left : List ℕ) : Type 0 where
@@ -25,7 +26,7 @@ TakesOn = (fed left after : List ℕ) (taken : List Record) (r : Record) → Tak
 
 -- a Length over the limit stays refused
 abbrev pub StaysTooLong : Type 0
-StaysTooLong = (fed left : List ℕ) (taken : List Record) → Takes fed taken left → record_at left ≡ Err 3 → Breaks fed (record { number = length taken; rule = 3 })
+StaysTooLong = (fed left : List ℕ) (taken : List Record) → Takes fed taken left → record_at left ≡ Err too_long → Breaks fed (record { number = length taken; rule = too_long })
 
 -- what is refused stays so where more is fed
 abbrev pub StaysBroken : Type 0

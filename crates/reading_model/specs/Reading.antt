@@ -2,6 +2,7 @@
 use Rattle.std.specs.Prelude.{◌≡◌, ℕ, ◌<◌, List, [], ◌++◌, length, Option, Ok, Err}
 use Rattle.route_model.specs.Events.{Peer, Event}
 use Rattle.octet_fields.specs.Field.{until_end}
+use Rattle.reading_model.specs.Rules.{too_long}
 use Rattle.reading_model.specs.Record.{Record, record_at}
 use Rattle.reading_model.specs.Input.{Progress, Stopped, start, record_in, counted, read_record, input}
 
@@ -31,7 +32,7 @@ ReadingBreaks = (fed left after : List ℕ) (read : Progress) (r : Record) (rule
 
 -- a Length over the limit stays refused
 abbrev pub ReadingTooLong : Type 0
-ReadingTooLong = (fed left : List ℕ) (read : Progress) → Reads fed read left → record_at left ≡ Err 3 → ReadsNo fed (record { read = read; rule = 3 })
+ReadingTooLong = (fed left : List ℕ) (read : Progress) → Reads fed read left → record_at left ≡ Err too_long → ReadsNo fed (record { read = read; rule = too_long })
 
 -- what is refused stays so where more is fed
 abbrev pub ReadingStays : Type 0

@@ -1,6 +1,7 @@
 -- MRT records (RFC 6396, 2).
 use Rattle.std.specs.Prelude.{ℕ, List, [], ◌∷◌, ◌++◌, length, Result, Ok, Err, nat_lt}
 use Rattle.octet_fields.specs.Field.{◌>>=◌, refuse, octets_at, number_at, until_end}
+use Rattle.reading_model.specs.Rules.{header_cut, body_cut, too_long}
 
 pub record Record : Type 0 where
   pub kind : ℕ
@@ -11,16 +12,16 @@ pub record Record : Type 0 where
 abbrev pub most_length : ℕ
 most_length = 16777216
 
--- Timestamp, Type, Subtype, Length, and so many octets. Rule 1: the header is cut; 3: Length is over the limit; 2: the body is cut.
+-- Timestamp, Type, Subtype, Length, and so many octets.
 unfoldable pub record_at : List ℕ → Result (Record × List ℕ) ℕ
 record_at octets = do
-  whole ← refuse 1 (nat_lt (length octets) 12)
-  time ← octets_at 1 4 octets
-  kind ← number_at 1 2 time.1
-  subtype ← number_at 1 2 kind.1
-  len ← number_at 1 4 subtype.1
-  allowed ← refuse 3 (nat_lt most_length len.0)
-  body ← octets_at 2 len.0 len.1
+  whole ← refuse header_cut (nat_lt (length octets) 12)
+  time ← octets_at header_cut 4 octets
+  kind ← number_at header_cut 2 time.1
+  subtype ← number_at header_cut 2 kind.1
+  len ← number_at header_cut 4 subtype.1
+  allowed ← refuse too_long (nat_lt most_length len.0)
+  body ← octets_at body_cut len.0 len.1
   Ok (record { kind = kind.0; subtype = subtype.0; body = body.0 }, body.1)
 
 -- a broken rule with the number of its record in the input, from 0

@@ -1,9 +1,11 @@
 //! The model of reading: MRT input as functions on lists of octets, by cases in the order of the fields.
 //!
-//! The definitions stand in `specs/`. The function here is a law: it does nothing, and its clauses hold for all values.
+//! The definitions stand in `specs/`. Each function here is a law: it does nothing, and its clauses hold for all values.
+//! `Place` and `Session` are declared here since the definitions speak of them.
 #![tactic(auto)]
 
 mod place;
+mod session;
 
 ghost use Rattle.std.specs.Prelude.{◌≡◌, ℕ, List, Ok, Err};
 ghost use Rattle.std.specs.List.{AllByRecursion};
@@ -13,6 +15,7 @@ ghost use Rattle.reading_model.specs.Pieces.{StartsSo, FeedsOn, TakesOn, StaysTo
 ghost use Rattle.reading_model.specs.Reading.{Reads, ReadingStarts, ReadingFeeds, ReadingTakes, ReadingBreaks, ReadingTooLong, ReadingStays, ReadingEndsCut, ReadingEnds};
 
 pub use place::Place;
+pub use session::Session;
 
 /// An input may come in pieces: what was taken of it and what is left determine what it is, however it was cut.
 pub fn in_pieces()
@@ -38,7 +41,8 @@ pub fn reading_in_pieces()
     ensures ends { ReadingEnds }
 {}
 
-/// What is read are events of peers, prefixes and next hops that there are, also where reading stops or goes on.
+/// What is read is well formed, also where reading stops or goes on: each address has as many bits as its family, each
+/// prefix at most as many.
 pub fn events_law()
     ensures read { (octets : List ℕ) (read : Progress) → input octets ≡ Ok read → AllByRecursion IsEvent read.events }
     ensures stopped { (octets : List ℕ) (stopped : Stopped) → input octets ≡ Err stopped → AllByRecursion IsEvent stopped.read.events }

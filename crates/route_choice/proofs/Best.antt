@@ -18,7 +18,7 @@ use Rattle.fib_prefix.specs.declared.event.Peer.{Peer}
 use Rattle.route_model.specs.Events as events
 use Rattle.route_model.specs.Events.{same_peer, peer_cmp}
 use Rattle.route_model.specs.Choice as model
-use Rattle.route_model.specs.Choice.{Place, Candidates, AreCandidates, IsHeld, IsPlace, same_place, after_elem, beats, chosen_for, offered, is_about}
+use Rattle.route_model.specs.Choice.{Place, Candidates, IsHeld, same_place, beats}
 use Rattle.route_model.proofs.Places.{peer_key}
 use Rattle.route_model.proofs.Choices.{beats_flipped}
 use Rattle.route_choice.specs.declared.keys.Seat.{Seat}

@@ -15,9 +15,9 @@ use Rattle.fib_prefix.specs.declared.event.Peer.{Peer}
 use Rattle.fib_prefix.specs.declared.event.Elem.{Elem}
 use Rattle.fib_prefix.specs.declared.event.Elem.TheVariants as elem
 use Rattle.route_model.specs.Events as events
-use Rattle.route_model.specs.Events.{same_peer, peer_cmp}
+use Rattle.route_model.specs.Events.{same_peer}
 use Rattle.route_model.specs.Choice as model
-use Rattle.route_model.specs.Choice.{Place, Candidates, AreCandidates, IsHeld, same_place, after_elem, beats, chosen_for, offered, is_about}
+use Rattle.route_model.specs.Choice.{Place, Candidates, AreCandidates, IsHeld, same_place, after_elem, beats, chosen_for, offered}
 use Rattle.route_model.proofs.Places.{place_key, peer_key}
 use Rattle.route_model.proofs.Choices.{chosen_for-best, chosen_for-none, not_itself, not_back, not_beaten}
 use Rattle.route_model.proofs.Said.{candidates_after, offer_after}
@@ -30,7 +30,8 @@ use Rattle.route_choice.specs.Orders.{rank_cmp}
 use Rattle.fib_prefix.specs.Order.{code_peer_cmp}
 use Rattle.route_choice.specs.Seats.{Seats, place_as, held_in, offer_at, IsIndexed, seat_in, offer_in}
 use Rattle.route_choice.specs.Walks.{ranks_of, first_in, better_of}
-use Rattle.route_choice.specs.Held.{IsChoice, prefix_of}
+use Rattle.route_model.specs.Events.{prefix_of}
+use Rattle.route_choice.specs.Held.{IsChoice}
 use Rattle.route_choice.proofs.Orders.{peer_is}
 use Rattle.route_choice.proofs.Views.{offer_as, are_candidates, at_seat, about_is, offered_is, is_elem}
 use Rattle.route_choice.proofs.Best.{IsBestOf, out_as, candidate_as, best_is}

@@ -12,6 +12,9 @@ use Rattle.address_model.specs.declared.family.Family.{Family}
 use Rattle.address_model.specs.declared.family.Family.TheVariants.{V4, V6}
 use Rattle.address_model.specs.contracts.family.Family.{the_type}
 use Rattle.address_model.specs.contracts.family.FamilyOrd.TheImpl as family_ord
+use Rattle.fib_prefix.specs.contracts.event.PeerPartialEq.TheImpl as peer_same
+use Rattle.fib_prefix.specs.contracts.prefix.PrefixPartialEq.TheImpl as prefix_same
+use Rattle.std.specs.Option.{option_eq}
 use Rattle.fib_prefix.specs.Order.{code_cmp}
 use Rattle.fib_prefix.specs.declared.prefix.Prefix as code
 use Rattle.fib_prefix.specs.declared.event.Peer.{Peer}
@@ -56,10 +59,6 @@ peer_eq p q =
     ∙ (ap (λ b. (is_eq f && is_eq (nat_cmp p.addr.bits q.addr.bits)) && b) (number_eq p.asn q.asn)
     ∙ (ap (λ b. b && is_eq (nat_cmp p.asn q.asn)) (sym (then_eq f (nat_cmp p.addr.bits q.addr.bits))) ∙ sym (then_eq (ordering_then f (nat_cmp p.addr.bits q.addr.bits)) (nat_cmp p.asn q.asn)))))
 
-and_regroup : (a b c : Bool) → (a && (b && c)) ≡ ((a && b) && c)
-and_regroup true b c = refl
-and_regroup false b c = refl
-
 pub prefix_eq : (p q : code.Prefix) → (sameb the_type p.family q.family && (nat_eq p.bits q.bits && nat_eq p.len q.len)) ≡ is_eq (code_cmp p q)
 prefix_eq p q =
     let f = (family_ord.ghosts).cmp p.family q.family in
@@ -68,9 +67,37 @@ prefix_eq p q =
     ∙ (ap (λ b. is_eq f && (is_eq (nat_cmp p.bits q.bits) && b)) (number_eq p.len q.len)
     ∙ (ap (λ b. is_eq f && b) (sym (then_eq (nat_cmp p.bits q.bits) (nat_cmp p.len q.len))) ∙ sym (then_eq f (ordering_then (nat_cmp p.bits q.bits) (nat_cmp p.len q.len))))))
 
+-- and so do its tests of what there may be
+module _ (but : Option Peer) (p q : Peer) (b : Bool) (test : b ≡ not (option_eq (peer_same.ghosts).eq but (Some p))) (own : p ≡ q) where
+  ne_out : (o : Option Peer) → not (option_eq (peer_same.ghosts).eq o (Some p)) ≡ not (is_out o q)
+  ne_out None = refl
+  ne_out (Some r) = ap not (peer_eq r p ∙ ap (λ x. is_eq (code_peer_cmp r x)) own)
+
+  pub stays_in : b ≡ true → is_out but q ≡ false
+  stays_in t = not-true _ (sym (test ∙ ne_out but) ∙ t)
+
+  pub left_out : b ≡ false → is_out but q ≡ true
+  left_out t = not-false _ (sym (test ∙ ne_out but) ∙ t)
+
+-- whether this is the prefix that came last
+abbrev pub last_is : Option code.Prefix → code.Prefix → Bool
+last_is None p = false
+last_is (Some last) p = is_eq (code_cmp last p)
+
+module _ (last : Option code.Prefix) (p q : code.Prefix) (b : Bool) (test : b ≡ not (option_eq (prefix_same.ghosts).eq last (Some p))) (own : p ≡ q) where
+  ne_last : (o : Option code.Prefix) → not (option_eq (prefix_same.ghosts).eq o (Some p)) ≡ not (last_is o q)
+  ne_last None = refl
+  ne_last (Some r) = ap not (prefix_eq r p ∙ ap (λ x. is_eq (code_cmp r x)) own)
+
+  pub comes_new : b ≡ true → last_is last q ≡ false
+  comes_new t = not-true _ (sym (test ∙ ne_last last) ∙ t)
+
+  pub comes_again : b ≡ false → last_is last q ≡ true
+  comes_again t = not-false _ (sym (test ∙ ne_last last) ∙ t)
+
 -- ---- parts of lists
 
-filter_congr : {K : Type 0} (p q : K → Bool) (ks : List K) → ((k : K) → p k ≡ q k) → filter p ks ≡ filter q ks
+pub filter_congr : {K : Type 0} (p q : K → Bool) (ks : List K) → ((k : K) → p k ≡ q k) → filter p ks ≡ filter q ks
 filter_congr p q [] h = refl
 filter_congr {K = K} p q (k ∷ ks) h = ap (λ b. cond b (k ∷ filter p ks) (filter p ks)) (h k) ∙ ap (λ (xs : List K). cond (q k) (k ∷ xs) xs) (filter_congr p q ks h)
 

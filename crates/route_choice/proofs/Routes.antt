@@ -1,6 +1,6 @@
 -- The walk over all ranks gives the routes.
-use Rattle.std.proofs.Common.{◌≡◌, List, [], ◌∷◌, ◌++◌, Bool, true, false, cond, Option, Some, None, refl, sym, ap, ◌∙◌, append-nil}
-use Rattle.std.specs.Prelude.{map, ◌||◌, if◌then◌else◌, option_map}
+use Rattle.std.proofs.Common.{◌≡◌, List, [], ◌∷◌, ◌++◌, Bool, true, false, cond, Option, Some, None, refl, sym, ap, subst, ◌∙◌, append-nil}
+use Rattle.std.specs.Prelude.{map, filter, ◌||◌, if◌then◌else◌, option_map}
 use Rattle.std.specs.List.{AllByRecursion, list_any}
 use Rattle.std.specs.List.Sorted.{IsStrictlySortedBy}
 use Rattle.std.specs.Map.{lookup, keys_of}
@@ -18,29 +18,36 @@ use Rattle.fib_prefix.specs.declared.prefix.Prefix as code
 use Rattle.fib_prefix.proofs.Ordering.{cmp_is}
 use Rattle.route_model.specs.Choice as model
 use Rattle.route_model.specs.Choice.{Place, Candidates, IsPlace, IsHeld, chosen_for, chosen_in, routes_of, is_chosen}
-use Rattle.route_model.proofs.Keyed.{same_entries, lookup-below, all_filter}
+use Rattle.route_model.proofs.Keyed.{same_entries, all_filter}
 use Rattle.route_model.proofs.Places.{prefix_key}
 use Rattle.route_model.proofs.Choices.{routes_sorted, chosen_for-none}
 use Rattle.route_choice.specs.declared.keys.Rank.{Rank}
+use Rattle.route_choice.specs.declared.keys.Offer.{Offer}
+use Rattle.route_choice.specs.declared.keys.Candidate.{Candidate}
 use Rattle.route_choice.specs.Orders.{rank_cmp}
 use Rattle.fib_prefix.specs.Order.{code_peer_cmp}
 use Rattle.route_choice.specs.Seats.{Seats, held_in, rank_at, IsIndexed}
-use Rattle.route_choice.specs.Walks.{last_is, route_as}
+use Rattle.route_choice.specs.Walks.{route_as, offer_ranked, or_next, first_in, ranks_of}
 use Rattle.route_choice.proofs.Orders.{prefix_same, is_prefix}
 use Rattle.route_choice.proofs.Views.{are_candidates}
 use Rattle.route_choice.proofs.Best.{code_of, same_rank}
+use Rattle.route_choice.proofs.Choose.{chosen_is}
+use Rattle.route_choice.proofs.Finds.{last_is, filter_congr, nothing_in}
 
 abbrev Routes : Type 0
 Routes = List (Prefix × Address)
 
-abbrev pub route_or : Prefix → Option Address → Routes → Routes
-route_or p None routes = routes
-route_or p (Some hop) routes = (p, hop) ∷ routes
+-- the routes of the prefixes of which an offer comes, each by the first
+abbrev pub hop_of : Option Candidate → Option Address
+hop_of o = option_map (λ c. addr_as c.offer.hop) o
 
--- the routes of the prefixes that come, each once
-pub walked : Candidates → Option code.Prefix → List Rank → Routes
-walked held last [] = []
-walked held last (r ∷ ranks) = if last_is last r.prefix then walked held last ranks else route_or (prefix_as r.prefix) (chosen_for held (prefix_as r.prefix)) (walked held (Some r.prefix) ranks)
+abbrev pub walked_on : code.Prefix → Option Offer → Routes → Routes → Routes
+walked_on p None same next = same
+walked_on p (Some offer) same next = (prefix_as p, addr_as offer.hop) ∷ next
+
+pub walked : Seats → Option code.Prefix → List Rank → Routes
+walked seats last [] = []
+walked seats last (r ∷ ranks) = if last_is last r.prefix then walked seats last ranks else walked_on r.prefix (offer_ranked seats r) (walked seats last ranks) (walked seats (Some r.prefix) ranks)
 
 -- ---- their order
 
@@ -65,38 +72,40 @@ all_less : (p q : Prefix) (routes : Routes) → prefix_cmp p q ≡ Less → AllB
 all_less p q [] l a = tt
 all_less p q (e ∷ routes) l a = (prefix_key.total.trans p q e.0 l a.0, all_less p q routes l a.1)
 
-walked_above : (held : Candidates) (p : code.Prefix) (ranks : List Rank) → IsStrictlySortedBy rank_cmp ranks → From p ranks → AllByRecursion (λ k. prefix_cmp (prefix_as p) k ≡ Less) (keys_of (walked held (Some p) ranks))
+walked_above : (seats : Seats) (p : code.Prefix) (ranks : List Rank) → IsStrictlySortedBy rank_cmp ranks → From p ranks → AllByRecursion (λ k. prefix_cmp (prefix_as p) k ≡ Less) (keys_of (walked seats (Some p) ranks))
 unfolding IsStrictlySortedBy walked
-walked_above held p [] s f = tt
-walked_above held p (r ∷ ranks) s f = by_last (is_eq (code_cmp p r.prefix)) refl (chosen_for held (prefix_as r.prefix)) (walked_above held p ranks s.1 f.1) (walked_above held r.prefix ranks s.1 (from_first r ranks s.0))
+walked_above seats p [] s f = tt
+walked_above seats p (r ∷ ranks) s f = by_last (is_eq (code_cmp p r.prefix)) refl (offer_ranked seats r) (walked_above seats p ranks s.1 f.1) (walked_above seats r.prefix ranks s.1 (from_first r ranks s.0))
   where
-    by_last : (b : Bool) → is_eq (code_cmp p r.prefix) ≡ b → (o : Option Address) → AllByRecursion (λ k. prefix_cmp (prefix_as p) k ≡ Less) (keys_of (walked held (Some p) ranks)) → AllByRecursion (λ k. prefix_cmp (prefix_as r.prefix) k ≡ Less) (keys_of (walked held (Some r.prefix) ranks))
-        → AllByRecursion (λ k. prefix_cmp (prefix_as p) k ≡ Less) (keys_of (if b then walked held (Some p) ranks else route_or (prefix_as r.prefix) o (walked held (Some r.prefix) ranks)))
+    by_last : (b : Bool) → is_eq (code_cmp p r.prefix) ≡ b → (o : Option Offer) → AllByRecursion (λ k. prefix_cmp (prefix_as p) k ≡ Less) (keys_of (walked seats (Some p) ranks)) → AllByRecursion (λ k. prefix_cmp (prefix_as r.prefix) k ≡ Less) (keys_of (walked seats (Some r.prefix) ranks))
+        → AllByRecursion (λ k. prefix_cmp (prefix_as p) k ≡ Less) (keys_of (if b then walked seats (Some p) ranks else walked_on r.prefix o (walked seats (Some p) ranks) (walked seats (Some r.prefix) ranks)))
     by_last true e o here next = here
-    by_last false e None here next = all_less (prefix_as p) (prefix_as r.prefix) (walked held (Some r.prefix) ranks) (sym (cmp_is p r.prefix) ∙ less_of (code_cmp p r.prefix) f.0 e) next
-    by_last false e (Some hop) here next =
+    by_last false e None here next = here
+    by_last false e (Some offer) here next =
         let l : prefix_cmp (prefix_as p) (prefix_as r.prefix) ≡ Less = sym (cmp_is p r.prefix) ∙ less_of (code_cmp p r.prefix) f.0 e in
-        (l, all_less (prefix_as p) (prefix_as r.prefix) (walked held (Some r.prefix) ranks) l next)
+        (l, all_less (prefix_as p) (prefix_as r.prefix) (walked seats (Some r.prefix) ranks) l next)
 
-walked_sorted : (held : Candidates) (last : Option code.Prefix) (ranks : List Rank) → IsStrictlySortedBy rank_cmp ranks → IsStrictlySortedBy prefix_cmp (keys_of (walked held last ranks))
+walked_sorted : (seats : Seats) (last : Option code.Prefix) (ranks : List Rank) → IsStrictlySortedBy rank_cmp ranks → IsStrictlySortedBy prefix_cmp (keys_of (walked seats last ranks))
 unfolding IsStrictlySortedBy walked
-walked_sorted held last [] s = tt
-walked_sorted held last (r ∷ ranks) s = by_last (last_is last r.prefix) (chosen_for held (prefix_as r.prefix)) (walked_sorted held last ranks s.1) (walked_sorted held (Some r.prefix) ranks s.1)
+walked_sorted seats last [] s = tt
+walked_sorted seats last (r ∷ ranks) s = by_last (last_is last r.prefix) (offer_ranked seats r) (walked_sorted seats last ranks s.1) (walked_sorted seats (Some r.prefix) ranks s.1)
   where
-    by_last : (b : Bool) (o : Option Address) → IsStrictlySortedBy prefix_cmp (keys_of (walked held last ranks)) → IsStrictlySortedBy prefix_cmp (keys_of (walked held (Some r.prefix) ranks)) → IsStrictlySortedBy prefix_cmp (keys_of (if b then walked held last ranks else route_or (prefix_as r.prefix) o (walked held (Some r.prefix) ranks)))
+    by_last : (b : Bool) (o : Option Offer) → IsStrictlySortedBy prefix_cmp (keys_of (walked seats last ranks)) → IsStrictlySortedBy prefix_cmp (keys_of (walked seats (Some r.prefix) ranks))
+        → IsStrictlySortedBy prefix_cmp (keys_of (if b then walked seats last ranks else walked_on r.prefix o (walked seats last ranks) (walked seats (Some r.prefix) ranks)))
     by_last true o here next = here
-    by_last false None here next = next
-    by_last false (Some hop) here next = (walked_above held r.prefix ranks s.1 (from_first r ranks s.0), next)
+    by_last false None here next = here
+    by_last false (Some offer) here next = (walked_above seats r.prefix ranks s.1 (from_first r ranks s.0), next)
 
-walked_prefixes : (held : Candidates) (last : Option code.Prefix) (ranks : List Rank) → AllByRecursion IsPrefix (keys_of (walked held last ranks))
+walked_prefixes : (seats : Seats) (last : Option code.Prefix) (ranks : List Rank) → AllByRecursion IsPrefix (keys_of (walked seats last ranks))
 unfolding walked
-walked_prefixes held last [] = tt
-walked_prefixes held last (r ∷ ranks) = by_last (last_is last r.prefix) (chosen_for held (prefix_as r.prefix)) (walked_prefixes held last ranks) (walked_prefixes held (Some r.prefix) ranks)
+walked_prefixes seats last [] = tt
+walked_prefixes seats last (r ∷ ranks) = by_last (last_is last r.prefix) (offer_ranked seats r) (walked_prefixes seats last ranks) (walked_prefixes seats (Some r.prefix) ranks)
   where
-    by_last : (b : Bool) (o : Option Address) → AllByRecursion IsPrefix (keys_of (walked held last ranks)) → AllByRecursion IsPrefix (keys_of (walked held (Some r.prefix) ranks)) → AllByRecursion IsPrefix (keys_of (if b then walked held last ranks else route_or (prefix_as r.prefix) o (walked held (Some r.prefix) ranks)))
+    by_last : (b : Bool) (o : Option Offer) → AllByRecursion IsPrefix (keys_of (walked seats last ranks)) → AllByRecursion IsPrefix (keys_of (walked seats (Some r.prefix) ranks))
+        → AllByRecursion IsPrefix (keys_of (if b then walked seats last ranks else walked_on r.prefix o (walked seats last ranks) (walked seats (Some r.prefix) ranks)))
     by_last true o here next = here
-    by_last false None here next = next
-    by_last false (Some hop) here next = (is_prefix r.prefix, next)
+    by_last false None here next = here
+    by_last false (Some offer) here next = (is_prefix r.prefix, next)
 
 -- ---- what they hold
 
@@ -108,35 +117,33 @@ last_as : (last : Option code.Prefix) (p : code.Prefix) → last_is last p ≡ i
 last_as None p = refl
 last_as (Some last) p = prefix_same last p
 
-walked_lookup : (held : Candidates) (p : Prefix) (last : Option code.Prefix) (ranks : List Rank) → IsStrictlySortedBy rank_cmp ranks → is_prefix_last last p ≡ false → lookup (same_prefix p) (walked held last ranks) ≡ cond (list_any (λ r. same_prefix p (prefix_as r.prefix)) ranks) (chosen_for held p) None
-unfolding IsStrictlySortedBy walked
-walked_lookup held p last [] s n = refl
-walked_lookup held p last (r ∷ ranks) s n = by_tests (last_is last r.prefix) refl (same_prefix p (prefix_as r.prefix)) refl (λ l m. walked_lookup held p l ranks s.1 m)
+-- the ranks of a prefix, told by what it stands for
+abbrev ranks_at : Prefix → List Rank → List Rank
+ranks_at p ranks = filter (λ r. same_prefix p (prefix_as r.prefix)) ranks
+
+walked_lookup : (seats : Seats) (p : Prefix) (last : Option code.Prefix) (ranks : List Rank) → is_prefix_last last p ≡ false → lookup (same_prefix p) (walked seats last ranks) ≡ hop_of (first_in seats None (ranks_at p ranks))
+unfolding walked first_in
+walked_lookup seats p last [] n = refl
+walked_lookup seats p last (r ∷ ranks) n = by_tests (last_is last r.prefix) refl (same_prefix p (prefix_as r.prefix)) refl (offer_ranked seats r) refl (λ l m. walked_lookup seats p l ranks m)
   where
-    there : Bool
-    there = list_any (λ t. same_prefix p (prefix_as t.prefix)) ranks
-
-    -- at the prefix itself
-    here : (o : Option Address) → p ≡ prefix_as r.prefix → chosen_for held (prefix_as r.prefix) ≡ o → lookup (same_prefix p) (route_or (prefix_as r.prefix) o (walked held (Some r.prefix) ranks)) ≡ chosen_for held p
-    here (Some hop) e h = ap (λ q. cond (same_prefix q (prefix_as r.prefix)) (Some hop) (lookup (same_prefix p) (walked held (Some r.prefix) ranks))) e ∙ (ap (λ b. cond b (Some hop) (lookup (same_prefix p) (walked held (Some r.prefix) ranks))) (same_prefix_itself (prefix_as r.prefix)) ∙ (sym h ∙ ap (chosen_for held) (sym e)))
-    here None e h = ap (λ q. lookup (same_prefix q) (walked held (Some r.prefix) ranks)) e ∙ (lookup-below prefix_key (prefix_as r.prefix) (walked held (Some r.prefix) ranks) (walked_above held r.prefix ranks s.1 (from_first r ranks s.0)) ∙ (sym h ∙ ap (chosen_for held) (sym e)))
-
-    past : (o : Option Address) → same_prefix p (prefix_as r.prefix) ≡ false → lookup (same_prefix p) (route_or (prefix_as r.prefix) o (walked held (Some r.prefix) ranks)) ≡ lookup (same_prefix p) (walked held (Some r.prefix) ranks)
-    past None e = refl
-    past (Some hop) e = ap (λ b. cond b (Some hop) (lookup (same_prefix p) (walked held (Some r.prefix) ranks))) e
-
     other : same_prefix p (prefix_as r.prefix) ≡ false → (b : Bool) → same_prefix (prefix_as r.prefix) p ≡ b → b ≡ false
     other e true t = let x : p ≡ prefix_as r.prefix = sym (same_prefix_is (prefix_as r.prefix) p t) in let y : same_prefix p (prefix_as r.prefix) ≡ true = ap (λ q. same_prefix q (prefix_as r.prefix)) x ∙ same_prefix_itself (prefix_as r.prefix) in absurd cc
     other e false t = refl
 
-    by_tests : (b : Bool) → last_is last r.prefix ≡ b → (m : Bool) → same_prefix p (prefix_as r.prefix) ≡ m
-        → ((l : Option code.Prefix) → is_prefix_last l p ≡ false → lookup (same_prefix p) (walked held l ranks) ≡ cond there (chosen_for held p) None)
-        → lookup (same_prefix p) (if b then walked held last ranks else route_or (prefix_as r.prefix) (chosen_for held (prefix_as r.prefix)) (walked held (Some r.prefix) ranks)) ≡ cond (m || there) (chosen_for held p) None
-    by_tests true l true m ih =
+    -- what comes of the ranks of p where this one is one of them
+    rank_first : (o : Option Offer) → offer_ranked seats r ≡ o → first_in seats None (r ∷ ranks_at p ranks) ≡ or_next r.peer o (first_in seats None (ranks_at p ranks))
+    rank_first o e = ap (λ x. or_next r.peer x (first_in seats None (ranks_at p ranks))) e
+
+    by_tests : (b : Bool) → last_is last r.prefix ≡ b → (m : Bool) → same_prefix p (prefix_as r.prefix) ≡ m → (o : Option Offer) → offer_ranked seats r ≡ o
+        → ((l : Option code.Prefix) → is_prefix_last l p ≡ false → lookup (same_prefix p) (walked seats l ranks) ≡ hop_of (first_in seats None (ranks_at p ranks)))
+        → lookup (same_prefix p) (if b then walked seats last ranks else walked_on r.prefix o (walked seats last ranks) (walked seats (Some r.prefix) ranks)) ≡ hop_of (first_in seats None (cond m (r ∷ ranks_at p ranks) (ranks_at p ranks)))
+    by_tests true l true m o e ih =
         let x : is_prefix_last last p ≡ true = ap (is_prefix_last last) (same_prefix_is p (prefix_as r.prefix) m) ∙ (sym (last_as last r.prefix) ∙ l) in absurd cc
-    by_tests true l false m ih = ih last n
-    by_tests false l true m ih = here (chosen_for held (prefix_as r.prefix)) (same_prefix_is p (prefix_as r.prefix) m) refl
-    by_tests false l false m ih = past (chosen_for held (prefix_as r.prefix)) m ∙ ih (Some r.prefix) (other m (same_prefix (prefix_as r.prefix) p) refl)
+    by_tests true l false m o e ih = ih last n
+    by_tests false l true m None e ih = ih last n ∙ sym (ap hop_of (rank_first None e))
+    by_tests false l false m None e ih = ih last n
+    by_tests false l true m (Some offer) e ih = ap (λ b. cond b (Some (addr_as offer.hop)) (lookup (same_prefix p) (walked seats (Some r.prefix) ranks))) m ∙ sym (ap hop_of (rank_first (Some offer) e))
+    by_tests false l false m (Some offer) e ih = ap (λ b. cond b (Some (addr_as offer.hop)) (lookup (same_prefix p) (walked seats (Some r.prefix) ranks))) m ∙ ih (Some r.prefix) (other m (same_prefix (prefix_as r.prefix) p) refl)
 
 any_implied : {K : Type 0} (f g : K → Bool) (ks : List K) → ((k : K) → f k ≡ true → g k ≡ true) → list_any f ks ≡ true → list_any g ks ≡ true
 any_implied f g [] h a = a
@@ -163,17 +170,42 @@ prefixes_of : (cs : Candidates) → AllByRecursion IsPlace (keys_of cs) → AllB
 prefixes_of [] a = tt
 prefixes_of (c ∷ cs) a = (a.0.0, prefixes_of cs a.1)
 
-pub walked_is : (seats : Seats) (ranks : List Rank) → IsIndexed seats ranks → IsStrictlySortedBy rank_cmp ranks → walked (held_in seats) None ranks ≡ routes_of (held_in seats)
+none_at_all : (p : Prefix) (ranks : List Rank) → list_any (λ r. same_prefix p (prefix_as r.prefix)) ranks ≡ false → ranks_at p ranks ≡ []
+none_at_all p [] e = refl
+none_at_all p (r ∷ ranks) e = by_test (same_prefix p (prefix_as r.prefix)) e (none_at_all p ranks)
+  where
+    by_test : (b : Bool) → (b || list_any (λ r. same_prefix p (prefix_as r.prefix)) ranks) ≡ false → (list_any (λ r. same_prefix p (prefix_as r.prefix)) ranks ≡ false → ranks_at p ranks ≡ []) → cond b (r ∷ ranks_at p ranks) (ranks_at p ranks) ≡ []
+    by_test true e ih = absurd cc
+    by_test false e ih = ih e
+
+one_at : (p : Prefix) (ranks : List Rank) → list_any (λ r. same_prefix p (prefix_as r.prefix)) ranks ≡ true → (r : Rank) × (same_prefix p (prefix_as r.prefix) ≡ true)
+one_at p [] e = absurd cc
+one_at p (r ∷ ranks) e = by_test (same_prefix p (prefix_as r.prefix)) refl e (one_at p ranks)
+  where
+    by_test : (b : Bool) → same_prefix p (prefix_as r.prefix) ≡ b → (b || list_any (λ r. same_prefix p (prefix_as r.prefix)) ranks) ≡ true
+        → (list_any (λ r. same_prefix p (prefix_as r.prefix)) ranks ≡ true → (r : Rank) × (same_prefix p (prefix_as r.prefix) ≡ true)) → (r : Rank) × (same_prefix p (prefix_as r.prefix) ≡ true)
+    by_test true t e ih = (r, t)
+    by_test false t e ih = ih e
+
+pub walked_is : (seats : Seats) (ranks : List Rank) → IsIndexed seats ranks → IsStrictlySortedBy rank_cmp ranks → walked seats None ranks ≡ routes_of (held_in seats)
 walked_is seats ranks i s =
-    same_entries prefix_key (walked held None ranks) (routes_of held) (walked_sorted held None ranks s) (routes_sorted held (are_candidates seats)) (walked_prefixes held None ranks) (prefixes_of (chosen_in held) (all_filter (is_chosen held) IsPlace held (are_candidates seats).0))
-    (λ p. walked_lookup held p None ranks s refl ∙ by_any p (list_any (λ r. same_prefix p (prefix_as r.prefix)) ranks) refl)
+    same_entries prefix_key (walked seats None ranks) (routes_of held) (walked_sorted seats None ranks s) (routes_sorted held (are_candidates seats)) (walked_prefixes seats None ranks) (prefixes_of (chosen_in held) (all_filter (is_chosen held) IsPlace held (are_candidates seats).0))
+    (λ p. walked_lookup seats p None ranks refl ∙ by_any p (list_any (λ r. same_prefix p (prefix_as r.prefix)) ranks) refl)
   where
     held : Candidates
     held = held_in seats
 
-    by_any : (p : Prefix) (b : Bool) → list_any (λ r. same_prefix p (prefix_as r.prefix)) ranks ≡ b → cond b (chosen_for held p) None ≡ chosen_for held p
-    by_any p true t = refl
-    by_any p false t = sym (chosen_for-none held p (are_candidates seats) (λ d h. by_test d h (same_prefix p d.0.prefix) refl))
+    by_any : (p : Prefix) (b : Bool) → list_any (λ r. same_prefix p (prefix_as r.prefix)) ranks ≡ b → hop_of (first_in seats None (ranks_at p ranks)) ≡ chosen_for held p
+    by_any p true t =
+        let one = one_at p ranks t in
+        let q = one.0.prefix in
+        let e : p ≡ prefix_as q = same_prefix_is p (prefix_as q) one.1 in
+        ap (λ x. hop_of (first_in seats None (ranks_at x ranks))) e
+        ∙ (ap (λ rs. hop_of (first_in seats None rs)) (filter_congr (λ r. same_prefix (prefix_as q) (prefix_as r.prefix)) (λ r. is_eq (code_cmp q r.prefix)) ranks (λ r. sym (prefix_same q r.prefix)))
+        ∙ (chosen_is seats ranks q (first_in seats None (ranks_of q ranks)) i s refl ∙ ap (chosen_for held) (sym e)))
+    by_any p false t =
+        ap (λ rs. hop_of (first_in seats None rs)) (none_at_all p ranks t)
+        ∙ (ap hop_of (nothing_in seats None) ∙ sym (chosen_for-none held p (are_candidates seats) (λ d h. by_test d h (same_prefix p d.0.prefix) refl)))
       where
         by_test : (d : Place × model.Offer) → IsHeld held d → (m : Bool) → same_prefix p d.0.prefix ≡ m → m ≡ false
         by_test d h true m = let x : list_any (λ r. same_prefix p (prefix_as r.prefix)) ranks ≡ true = prefix_there seats ranks p d i h m in absurd cc
@@ -181,46 +213,42 @@ walked_is seats ranks i s =
 
 -- ---- the walk's steps
 
-route_more : (held : Candidates) (r : Rank) (rest : List Rank) (all : Routes) (last : Option code.Prefix) (it : List Rank) (routes more : List (code.Prefix × Addr)) (hop : Addr) → it ≡ r ∷ rest → (b : Bool) → b ≡ last_is last r.prefix → b ≡ false → (o : Option Addr) → option_map addr_as o ≡ chosen_for held (prefix_as r.prefix) → o ≡ Some hop → more ≡ routes ++ ((r.prefix, hop) ∷ [])
-    → map route_as routes ++ walked held last it ≡ all → map route_as more ++ walked held (Some r.prefix) rest ≡ all
+-- what the walk has told and what is left of it
+abbrev pub Told : Seats → Option code.Prefix → List Rank → List (code.Prefix × Addr) → Routes → Type 0
+Told seats last it routes all = map route_as routes ++ walked seats last it ≡ all
+
+module _ (seats : Seats) (r : Rank) (rest it : List Rank) (last : Option code.Prefix) (routes : List (code.Prefix × Addr)) (all : Routes) (step : it ≡ r ∷ rest) (told : Told seats last it routes all) where
+  here : Told seats last (r ∷ rest) routes all
+  here = subst (λ (x : List Rank). Told seats last x routes all) step told
+
+  -- at the first offer of a prefix
+  pub told_more : (more : List (code.Prefix × Addr)) (offer : Offer) → last_is last r.prefix ≡ false → offer_ranked seats r ≡ Some offer → more ≡ routes ++ ((r.prefix, offer.hop) ∷ []) → Told seats (Some r.prefix) rest more all
+  unfolding walked
+  told_more more offer n o m =
+      let y : walked seats last (r ∷ rest) ≡ (prefix_as r.prefix, addr_as offer.hop) ∷ walked seats (Some r.prefix) rest =
+      ap (λ z. if z then walked seats last rest else walked_on r.prefix (offer_ranked seats r) (walked seats last rest) (walked seats (Some r.prefix) rest)) n ∙ ap (λ z. walked_on r.prefix z (walked seats last rest) (walked seats (Some r.prefix) rest)) o in
+      ap (λ z. map route_as z ++ walked seats (Some r.prefix) rest) m ∙ (pushed routes ∙ (ap (λ z. map route_as routes ++ z) (sym y) ∙ here))
+    where
+      pushed : (xs : List (code.Prefix × Addr)) → map route_as (xs ++ ((r.prefix, offer.hop) ∷ [])) ++ walked seats (Some r.prefix) rest ≡ map route_as xs ++ ((prefix_as r.prefix, addr_as offer.hop) ∷ walked seats (Some r.prefix) rest)
+      pushed [] = refl
+      pushed (x ∷ xs) = ap (λ z. route_as x ∷ z) (pushed xs)
+
+  -- at a rank that offers nothing
+  pub told_none : last_is last r.prefix ≡ false → offer_ranked seats r ≡ None → Told seats last rest routes all
+  unfolding walked
+  told_none n o =
+      let y : walked seats last (r ∷ rest) ≡ walked seats last rest =
+      ap (λ z. if z then walked seats last rest else walked_on r.prefix (offer_ranked seats r) (walked seats last rest) (walked seats (Some r.prefix) rest)) n ∙ ap (λ z. walked_on r.prefix z (walked seats last rest) (walked seats (Some r.prefix) rest)) o in
+      ap (λ z. map route_as routes ++ z) (sym y) ∙ here
+
+  -- at a further rank of a prefix
+  pub told_again : last_is last r.prefix ≡ true → Told seats last rest routes all
+  unfolding walked
+  told_again n =
+      let y : walked seats last (r ∷ rest) ≡ walked seats last rest =
+      ap (λ z. if z then walked seats last rest else walked_on r.prefix (offer_ranked seats r) (walked seats last rest) (walked seats (Some r.prefix) rest)) n in
+      ap (λ z. map route_as routes ++ z) (sym y) ∙ here
+
+pub routes_done : (seats : Seats) (all : Routes) (last : Option code.Prefix) (it : List Rank) (routes : List (code.Prefix × Addr)) → it ≡ [] → Told seats last it routes all → map route_as routes ≡ all
 unfolding walked
-route_more held r rest all last it routes more hop e b t u o c d m h =
-    let x : Some (addr_as hop) ≡ chosen_for held (prefix_as r.prefix) = ap (option_map addr_as) (sym d) ∙ c in
-    let y : walked held last it ≡ (prefix_as r.prefix, addr_as hop) ∷ walked held (Some r.prefix) rest =
-    ap (walked held last) e ∙ (ap (λ z. if z then walked held last rest else route_or (prefix_as r.prefix) (chosen_for held (prefix_as r.prefix)) (walked held (Some r.prefix) rest)) (sym t ∙ u) ∙ ap (λ z. route_or (prefix_as r.prefix) z (walked held (Some r.prefix) rest)) (sym x)) in
-    ap (λ z. map route_as z ++ walked held (Some r.prefix) rest) m ∙ (pushed routes ∙ (ap (λ z. map route_as routes ++ z) (sym y) ∙ h))
-  where
-    pushed : (xs : List (code.Prefix × Addr)) → map route_as (xs ++ ((r.prefix, hop) ∷ [])) ++ walked held (Some r.prefix) rest ≡ map route_as xs ++ ((prefix_as r.prefix, addr_as hop) ∷ walked held (Some r.prefix) rest)
-    pushed [] = refl
-    pushed (x ∷ xs) = ap (λ z. route_as x ∷ z) (pushed xs)
-
-route_none : (held : Candidates) (r : Rank) (rest : List Rank) (all : Routes) (last : Option code.Prefix) (it : List Rank) (routes : List (code.Prefix × Addr)) → it ≡ r ∷ rest → (b : Bool) → b ≡ last_is last r.prefix → b ≡ false → (o : Option Addr) → option_map addr_as o ≡ chosen_for held (prefix_as r.prefix) → o ≡ None
-    → map route_as routes ++ walked held last it ≡ all → map route_as routes ++ walked held (Some r.prefix) rest ≡ all
-unfolding walked
-route_none held r rest all last it routes e b t u o c d h =
-    let x : None ≡ chosen_for held (prefix_as r.prefix) = ap (option_map addr_as) (sym d) ∙ c in
-    let y : walked held last it ≡ walked held (Some r.prefix) rest =
-    ap (walked held last) e ∙ (ap (λ z. if z then walked held last rest else route_or (prefix_as r.prefix) (chosen_for held (prefix_as r.prefix)) (walked held (Some r.prefix) rest)) (sym t ∙ u) ∙ ap (λ z. route_or (prefix_as r.prefix) z (walked held (Some r.prefix) rest)) (sym x)) in
-    ap (λ z. map route_as routes ++ z) (sym y) ∙ h
-
-pub route_again : (held : Candidates) (r : Rank) (rest : List Rank) (all : Routes) (last : Option code.Prefix) (it : List Rank) (routes : List (code.Prefix × Addr)) → it ≡ r ∷ rest → (b : Bool) → b ≡ last_is last r.prefix → b ≡ true
-    → map route_as routes ++ walked held last it ≡ all → map route_as routes ++ walked held last rest ≡ all
-unfolding walked
-route_again held r rest all last it routes e b t u h =
-    let y : walked held last it ≡ walked held last rest = ap (walked held last) e ∙ ap (λ z. if z then walked held last rest else route_or (prefix_as r.prefix) (chosen_for held (prefix_as r.prefix)) (walked held (Some r.prefix) rest)) (sym t ∙ u) in
-    ap (λ z. map route_as routes ++ z) (sym y) ∙ h
-
-pub routes_done : (held : Candidates) (all : Routes) (last : Option code.Prefix) (it : List Rank) (routes : List (code.Prefix × Addr)) → it ≡ [] → map route_as routes ++ walked held last it ≡ all → map route_as routes ≡ all
-unfolding walked
-routes_done held all last it routes e h = sym (append-nil (map route_as routes)) ∙ (ap (λ z. map route_as routes ++ walked held last z) (sym e) ∙ h)
-
--- the same with the prefix as the code reads it
-pub more_at : (held : Candidates) (r : Rank) (rest : List Rank) (all : Routes) (last : Option code.Prefix) (it : List Rank) (routes more : List (code.Prefix × Addr)) (hop : Addr) (p : code.Prefix) → p ≡ r.prefix → it ≡ r ∷ rest → (b : Bool) → b ≡ last_is last p → b ≡ false → (o : Option Addr) → option_map addr_as o ≡ chosen_for held (prefix_as p) → o ≡ Some hop → more ≡ routes ++ ((p, hop) ∷ [])
-    → map route_as routes ++ walked held last it ≡ all → map route_as more ++ walked held (Some p) rest ≡ all
-more_at held r rest all last it routes more hop p s e b t u o c d m h =
-    ap (λ q. map route_as more ++ walked held (Some q) rest) s ∙ route_more held r rest all last it routes more hop e b (t ∙ ap (last_is last) s) u o (c ∙ ap (λ q. chosen_for held (prefix_as q)) s) d (m ∙ ap (λ q. routes ++ ((q, hop) ∷ [])) s) h
-
-pub none_at : (held : Candidates) (r : Rank) (rest : List Rank) (all : Routes) (last : Option code.Prefix) (it : List Rank) (routes : List (code.Prefix × Addr)) (p : code.Prefix) → p ≡ r.prefix → it ≡ r ∷ rest → (b : Bool) → b ≡ last_is last p → b ≡ false → (o : Option Addr) → option_map addr_as o ≡ chosen_for held (prefix_as p) → o ≡ None
-    → map route_as routes ++ walked held last it ≡ all → map route_as routes ++ walked held (Some p) rest ≡ all
-none_at held r rest all last it routes p s e b t u o c d h =
-    ap (λ q. map route_as routes ++ walked held (Some q) rest) s ∙ route_none held r rest all last it routes e b (t ∙ ap (last_is last) s) u o (c ∙ ap (λ q. chosen_for held (prefix_as q)) s) d h
+routes_done seats all last it routes e h = sym (append-nil (map route_as routes)) ∙ (ap (λ z. map route_as routes ++ walked seats last z) (sym e) ∙ h)

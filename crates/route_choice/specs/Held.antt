@@ -1,8 +1,7 @@
 -- What clauses see of candidates.
 use Rattle.std.specs.Prelude.{◌≡◌, Option, Some, option_map}
-use Rattle.address_model.specs.Address.{Prefix}
 use Rattle.fib_prefix.specs.Seen.{addr_as, prefix_as, elem_as}
-use Rattle.route_model.specs.Events.{Elem, Put, Cut}
+use Rattle.route_model.specs.Events.{Elem, prefix_of}
 use Rattle.route_model.specs.Choice.{Candidates, after_elem, chosen_for}
 use Rattle.route_choice.specs.declared.choice.Choice.{Choice}
 use Rattle.route_choice.specs.declared.choice.Pick.{Pick}
@@ -12,12 +11,7 @@ pub record Held : Type 0 where
   pub candidates : Candidates
   pub room : Option Elem
 
--- the prefix that an elementary event is about
-abbrev pub prefix_of : Elem → Prefix
-prefix_of (Put peer prefix path hop) = prefix
-prefix_of (Cut peer prefix) = prefix
-
--- the chosen hop of that prefix before the event and after it
+-- the chosen hop of the prefix that an elementary event is about, before the event and after it
 pub record IsChoice (held : Candidates) (elem : Elem) (choice : Choice) : Type 0 where
   pub prefix : prefix_as choice.prefix ≡ prefix_of elem
   pub before : option_map addr_as choice.before ≡ chosen_for held (prefix_of elem)

@@ -62,10 +62,5 @@ unfoldable pub cuts_in : Peer → Seats → List Elem
 cuts_in q [] = []
 cuts_in q (e ∷ seats) = cut_or q e.0 e.1 (cuts_in q seats)
 
--- whether this is the prefix that came last
-abbrev pub last_is : Option code.Prefix → code.Prefix → Bool
-last_is None p = false
-last_is (Some last) p = is_eq (code_cmp last p)
-
 abbrev pub route_as : code.Prefix × Addr → Prefix × Address
 route_as r = (prefix_as r.0, addr_as r.1)

@@ -10,7 +10,7 @@ ghost use Rattle.route_choice.specs.Orders.{seat_cmp, rank_cmp};
 ghost use Rattle.route_choice.specs.Seats.{held_in, IsIndexed, HasRoom, has_rank, seat_in, offer_in};
 ghost use Rattle.route_choice.specs.Seats.{offer_at as offered};
 ghost use Rattle.route_choice.specs.Held.{Held, IsChoice, IsPlanned, picked};
-ghost use Rattle.route_choice.specs.Walks.{offer_ranked as ranked, is_out, first_in, better_of, last_is, cuts_in, route_as, ranks_of, seats_of};
+ghost use Rattle.route_choice.specs.Walks.{offer_ranked as ranked, first_in, better_of, cuts_in, route_as, ranks_of, seats_of};
 
 use crate::choice::{Choice, Pick};
 use crate::keys::{Candidate, Offer, Rank, Seat};
@@ -80,16 +80,6 @@ fn offer_ranked(seats: &BTreeMap<Seat, Option<Offer>>, rank: &Rank) -> Option<Of
     }
 }
 
-/// Whether this is the peer that is left out.
-fn is_left_out(but: Option<Peer>, peer: &Peer) -> bool
-    ensures { result ≡ is_out but peer.now }
-{
-    match but {
-        Some(out) => out == *peer,
-        None => false,
-    }
-}
-
 /// The best candidate of a prefix, that of a peer left out.
 fn best_but(
     seats: &BTreeMap<Seat, Option<Offer>>,
@@ -104,7 +94,7 @@ fn best_but(
         if *prefix != rank.prefix() {
             return None;
         }
-        if !is_left_out(but, &rank.peer()) {
+        if but != Some(rank.peer()) {
             if let Some(offer) = offer_ranked(seats, rank) {
                 return Some(Candidate {
                     peer: rank.peer(),
@@ -114,16 +104,6 @@ fn best_but(
         }
     }
     None
-}
-
-/// Whether this is the prefix that came last.
-fn is_last(last: Option<Prefix>, prefix: &Prefix) -> bool
-    ensures { result ≡ last_is last prefix.now }
-{
-    match last {
-        Some(last) => last == *prefix,
-        None => false,
-    }
 }
 
 /// The hop of the better of what a peer offers and the best candidate of the others.
@@ -271,7 +251,7 @@ fn make_room_for(
 impl Candidates {
     /// No candidates.
     pub fn new(alloc: Global) -> Candidates
-        ensures candidates { result.candidates ≡ [] }
+        ensures { result ≡ record { candidates = []; room = None } }
     {
         Candidates {
             alloc,
@@ -281,8 +261,11 @@ impl Candidates {
         }
     }
 
-    /// The event as elementary events: a cut for each candidate of a peer that is lost, in the order of prefixes. An `Err`
-    /// is a lack of memory.
+    /// The event as elementary events: a cut for each candidate of a peer that is lost, in the order of prefixes.
+    ///
+    /// # Errors
+    ///
+    /// No memory.
     pub fn elementary(&self, event: &Event) -> Result<Vec<Elem>, AllocError>
         ensures { IfOk result (λ elems. map elem_as elems.items ≡ elems_of self.now.candidates (event_as event.now)) }
     {
@@ -313,6 +296,7 @@ impl Candidates {
     fn take_room(&mut self, elem: &Elem) -> Result<(), AllocError>
         ensures candidates { self.new.candidates ≡ self.old.candidates }
         ensures room { OnOk result (self.new.room ≡ Some (elem_as elem.now)) }
+        ensures err { OnErr result (self.new.room ≡ None) }
     {
         give_back(&mut self.seats, &mut self.ranks, self.room);
         self.room = None;
@@ -321,12 +305,17 @@ impl Candidates {
         Ok(())
     }
 
-    /// Makes room for an elementary event and tells the choice that it will make. Changes no candidate; an `Err` is a
-    /// lack of memory. What was planned before is no longer.
+    /// Makes room for an elementary event and tells the choice that it will make. It changes no candidate. An earlier plan is
+    /// void.
+    ///
+    /// # Errors
+    ///
+    /// No memory; then no candidate has changed, and nothing is planned.
     pub fn plan(&mut self, elem: &Elem) -> Result<Pick, AllocError>
         ensures candidates { self.new.candidates ≡ self.old.candidates }
         ensures elem { IfOk result (λ pick. picked pick ≡ elem_as elem.now) }
         ensures planned { IfOk result (IsPlanned self.new) }
+        ensures err { OnErr result (self.new.room ≡ None) }
     {
         self.take_room(elem)?;
         Ok(Pick {
@@ -339,6 +328,7 @@ impl Candidates {
     pub fn commit(&mut self, pick: Pick) -> Choice
         requires { IsPlanned self.old pick }
         ensures candidates { self.new.candidates ≡ after_elem self.old.candidates (picked pick) }
+        ensures room { self.new.room ≡ None }
         ensures choice { IsChoice self.old.candidates (picked pick) result }
     {
         carry_out(&mut self.seats, &mut self.ranks, &pick.elem);
@@ -346,10 +336,15 @@ impl Candidates {
         pick.choice
     }
 
-    /// Carries out an elementary event. An `Err` is a lack of memory and changes nothing.
+    /// Carries out an elementary event. An earlier plan is void.
+    ///
+    /// # Errors
+    ///
+    /// No memory; then no candidate has changed.
     pub fn apply(&mut self, elem: &Elem) -> Result<Choice, AllocError>
         ensures candidates { OnOk result (self.new.candidates ≡ after_elem self.old.candidates (elem_as elem.now)) }
         ensures choice { IfOk result (IsChoice self.old.candidates (elem_as elem.now)) }
+        ensures room { self.new.room ≡ None }
         ensures err { OnErr result (self.new.candidates ≡ self.old.candidates) }
     {
         let pick = self.plan(elem)?;
@@ -364,7 +359,11 @@ impl Candidates {
         Some(best.offer.hop())
     }
 
-    /// Each prefix that has a candidate with its chosen hop, in the order of prefixes. An `Err` is a lack of memory.
+    /// Each prefix that has a candidate with its chosen hop, in the order of prefixes.
+    ///
+    /// # Errors
+    ///
+    /// No memory.
     pub fn routes(&self) -> Result<Vec<(Prefix, Addr)>, AllocError>
         ensures routes { IfOk result (λ routes. map route_as routes.items ≡ routes_of self.now.candidates) }
         ensures held { AreCandidates self.now.candidates }
@@ -373,10 +372,10 @@ impl Candidates {
         let mut last = None;
         for rank in self.ranks.iter() {
             let prefix = rank.prefix();
-            if !is_last(last, &prefix) {
-                last = Some(prefix);
-                if let Some(hop) = self.chosen(&prefix) {
-                    routes.push((prefix, hop))?;
+            if last != Some(prefix) {
+                if let Some(offer) = offer_ranked(&self.seats, rank) {
+                    last = Some(prefix);
+                    routes.push((prefix, offer.hop()))?;
                 }
             }
         }

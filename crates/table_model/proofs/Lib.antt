@@ -1,5 +1,5 @@
 pub mod Cut
-pub mod Probe
 pub mod Sums
 pub mod Moves
 pub mod Lookups
+pub mod Once

@@ -10,7 +10,7 @@ use Rattle.std.specs.declared.cmp.Ordering.TheVariants.{Less, Equal, Greater}
 use Rattle.address_model.specs.Address.{Prefix, IsPrefix, same_prefix}
 use Rattle.address_model.specs.Order.{prefix_cmp}
 use Rattle.address_model.proofs.Ordered.{equal_are_same}
-use Rattle.table_model.specs.Entries.{Entries, with_entry, in_order}
+use Rattle.table_model.specs.Entries.{Entries, with_entry}
 use Rattle.table_model.specs.Changes.{is_held}
 use Rattle.table_model.proofs.Sums.{all_placed}
 
@@ -54,11 +54,3 @@ held_folded p (e ∷ L) T a b =
     regroup true false c = refl
     regroup false true c = refl
     regroup false false c = refl
-
--- the entries put in order hold a prefix exactly where one of them has it
-pub held_in_order : (p : Prefix) (L : Entries) → AllByRecursion IsPrefix (keys_of L) → is_held p (in_order L) ≡ list_any (same_prefix p) (keys_of L)
-held_in_order p L a = held_folded p L [] a tt ∙ or_false (list_any (same_prefix p) (keys_of L))
-  where
-    or_false : (b : Bool) → (b || false) ≡ b
-    or_false true = refl
-    or_false false = refl

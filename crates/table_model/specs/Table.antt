@@ -49,11 +49,12 @@ Alike w L M = (a : List Bool) → length a ≡ w → lpm L a 0 ≡ lpm M a 0
 
 -- ---- a table cut at its first bit
 
--- the hop of the entry at the empty prefix
+-- g where the prefix is empty, else o
 abbrev pub root_of : List Bool → ℕ → Option ℕ → Option ℕ
 root_of [] g o = Some g
 root_of (b ∷ p) g o = o
 
+-- the hop of the entry at the empty prefix
 abbrev pub root : Table → Option ℕ
 root [] = None
 root (e ∷ L) = root_of e.prefix e.hop (root L)

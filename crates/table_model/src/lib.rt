@@ -18,7 +18,7 @@ pub fn cutting_law()
     ensures { (L : Table) (b : Bool) (a : List Bool) (h : ℕ) → lpm L (b ∷ a) h ≡ lpm (half b L) a (inherit (root L) h) }
 {}
 
-/// A table is its entry at the root, if any, and its halves.
+/// A table has as many entries as its entry at the root, if any, and its halves together.
 pub fn parts_law()
     ensures { (L : Table) → Distinct L → length L ≡ length (here (root L)) + length (half false L) + length (half true L) }
 {}

@@ -1,6 +1,6 @@
 //! Families and addresses.
 
-ghost use Rattle.std.specs.Prelude.{◌≡◌, ◌<◌, length, IfOk};
+ghost use Rattle.std.specs.Prelude.{◌≡◌, ◌<◌};
 ghost use Rattle.octet_fields.specs.Gives.{Gives};
 ghost use Rattle.reading_model.specs.Wire as model;
 ghost use Rattle.fib_prefix.specs.Seen.{addr_as};
@@ -8,6 +8,9 @@ ghost use Rattle.fib_prefix.specs.Seen.{addr_as};
 use crate::rule::ATTRIBUTE_VALUE;
 use fib_prefix::{Addr, Family};
 use octet_fields::{octet, octets, u16_at};
+
+/// The SAFI of unicast (RFC 4760, section 6).
+const UNICAST: u8 = 1;
 
 /// The family of an AFI (RFC 4760, section 3), where it is IPv4 or IPv6.
 pub fn family_of(afi: u16) -> Option<Family>
@@ -20,7 +23,7 @@ pub fn family_of(afi: u16) -> Option<Family>
     }
 }
 
-/// The family that AFI and SAFI name where it is unicast of a known one, and what follows them.
+/// The family that AFI and SAFI name, `None` where the AFI is unknown or the SAFI isn't unicast; and what follows them.
 ///
 /// A cut breaks `ATTRIBUTE_VALUE`.
 #[tactic(auto, unfolding(reading_model::specs::Wire::family_at))]
@@ -29,7 +32,11 @@ pub fn family(bytes: &[u8]) -> Result<(Option<Family>, &[u8]), u8>
 {
     let (afi, rest) = u16_at(ATTRIBUTE_VALUE, bytes)?;
     let (safi, rest) = octet(ATTRIBUTE_VALUE, rest)?;
-    let family = if safi == 1 { family_of(afi) } else { None };
+    let family = if safi == UNICAST {
+        family_of(afi)
+    } else {
+        None
+    };
     Ok((family, rest))
 }
 

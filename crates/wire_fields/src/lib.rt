@@ -2,7 +2,7 @@
 //! the rules of reading by name.
 //!
 //! Each reader takes its field from the front, and stands against its definition in `reading_model::specs::Wire`. The
-//! rule that a cut breaks is handed in, since it depends on the place. All cost what they read, and only `prefixes_of` and
+//! rule that a cut breaks is handed in where it depends on the place. All cost what they read, and only `prefixes_of` and
 //! `push_routes` take memory.
 #![tactic(auto)]
 

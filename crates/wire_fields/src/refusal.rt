@@ -10,7 +10,7 @@ use thiserror::Error;
 #[derive(Clone, Copy, Debug, PartialEq, Eq, Error)]
 pub enum Refusal {
     /// Memory ran out.
-    #[error("out of memory")]
+    #[error("no memory")]
     NoMemory,
     /// The octets break this rule (`rule`).
     #[error("rule {0} of reading is broken")]

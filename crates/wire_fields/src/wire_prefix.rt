@@ -1,6 +1,6 @@
 //! A prefix.
 
-ghost use Rattle.std.specs.Prelude.{◌≡◌, ℕ, ◌≤◌, ◌<◌, length, IfOk};
+ghost use Rattle.std.specs.Prelude.{ℕ, ◌≤◌, ◌<◌, length, IfOk};
 ghost use Rattle.octet_fields.specs.Gives.{Gives};
 ghost use Rattle.reading_model.specs.Wire.{prefix_at};
 ghost use Rattle.fib_prefix.specs.Seen.{prefix_as};
@@ -36,7 +36,7 @@ pub fn read_wire_prefix(bytes: &[u8], family: Family) -> Result<(Prefix, usize),
     if family.width() < len {
         return Err(WireFault::TooLong);
     }
-    let count = (usize::from(len) + 7) / 8;
+    let count = usize::from(len).div_ceil(8);
     if rest.len() < count {
         return Err(WireFault::Cut);
     }

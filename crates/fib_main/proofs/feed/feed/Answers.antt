@@ -29,9 +29,9 @@ pub returns-in_err-finish : goal.returns-in_err-finish
 returns-in_err-finish c = λ before s.
     let p = err_from_is_err_and c.from_residual-in_err-finish.result c.from_residual-in_err-finish.ensures.1 in
     let nothing = rw c.in_default.is at c.in_ok-more.ensures.after in
-    rw (p.1, p.2) (refused_end _ before _ c.take_events.new.self _ _ _ (going_still _ before _ _ _ _ _ (c.loop-reader.invariant before s) nothing) c.in_err-finish.ensures)
+    rw (p.1, p.2) (refused_end _ before _ c.take_events.new.self _ _ _ (going_still _ before _ _ _ _ _ (c.loop-reader.invariant before s) nothing) c.in_err-finish.ensures.tells)
 
 pub returns : goal.returns
 returns c = λ before s.
     let nothing = rw c.in_default.is at c.in_ok-more.ensures.after in
-    brings_all _ before _ _ c.take_events.new.self _ _ _ _ (c.loop-reader.invariant before s) nothing c.in_ok-finish.ensures c.records.ensures c.skipped.ensures
+    brings_all _ before _ _ c.take_events.new.self _ _ _ _ (c.loop-reader.invariant before s) nothing c.in_ok-finish.ensures.tells c.records.ensures c.skipped.ensures

@@ -1,5 +1,5 @@
-use Rattle.std.proofs.Common.{refl, ap, Err}
-use Rattle.fib_main.proofs.Steps.{full_here, stands_next, adds_nothing, adds_change, no_change, is_elem}
+use Rattle.std.proofs.Common.{ap, Err}
+use Rattle.fib_main.proofs.Steps.{full_here, stands_next, adds_nothing, adds_change, no_change, none_kept, is_elem}
 use Rattle.fib_main.proofs.state.step.Goals as goal
 
 pub returns-in-Err-HopsFull : goal.returns-in-Err-HopsFull
@@ -8,17 +8,7 @@ returns-in-Err-HopsFull c = λ before done counted s. full_here _ before done _ 
 pub returns-in-Asks : goal.returns-in-Asks
 returns-in-Asks c = λ before done counted s.
     let e = c.in-Ok.ensures in
-    stands_next _ before done _ c.args.state.now _ _ c.in-Ok.choice (is_elem c.args.elem.now) counted s e.candidates e.hops e.few e.choice (adds_nothing _ _ _ _ (rw c.in-Asks.is refl))
-
-pub returns-in-Dump : goal.returns-in-Dump
-returns-in-Dump c = λ before done counted s.
-    let e = c.in-Ok.ensures in
-    stands_next _ before done _ c.args.state.now _ _ c.in-Ok.choice (is_elem c.args.elem.now) counted s e.candidates e.hops e.few e.choice (adds_nothing _ _ _ _ (rw c.in-Dump.is refl))
-
-pub returns-in-Printed : goal.returns-in-Printed
-returns-in-Printed c = λ before done counted s.
-    let e = c.in-Ok.ensures in
-    stands_next _ before done _ c.args.state.now _ _ c.in-Ok.choice (is_elem c.args.elem.now) counted s e.candidates e.hops e.few e.choice (adds_nothing _ _ _ _ (rw c.in-Printed.is refl))
+    stands_next _ before done _ c.args.state.now _ _ c.in-Ok.choice (is_elem c.args.elem.now) counted s e.candidates e.hops e.few e.choice (adds_nothing _ _ _ _ (none_kept _ _ _ c.in-Asks.is))
 
 pub returns-in_ok-push-in-Updates : goal.returns-in_ok-push-in-Updates
 returns-in_ok-push-in-Updates c = λ before done counted s.

@@ -1,4 +1,4 @@
-use Rattle.std.proofs.Common.{◌≡◌, [], ◌++◌, Some, ap, flat_map, map, ◌∙◌}
+use Rattle.std.proofs.Common.{◌++◌, Some, flat_map, map}
 use Rattle.fib_prefix.specs.Seen.{addr_as, entry_as}
 use Rattle.cost_cert.specs.Seen.{row_as}
 use Rattle.fib_report.specs.Rows.{of_answer, of_change, of_table, report_rows}
@@ -10,8 +10,6 @@ use Rattle.fib_report.proofs.rows.text_of_run.Goals as goal
 
 pub returns-clause-text : goal.returns-clause-text
 returns-clause-text c =
-    let made = c.from_writer-out.ensures in
-    let none : c.from_writer-out.result.wtr.inner.items ≡ [] = ap (λ v. v.items) made.wtr ∙ c.new-2.ensures.items in
     let hops = c.args.hops.now.list in
     let routes = flat_map (of_route hops) (map entry_as c.deref.result.now) in
     let changes = map (of_change hops) (map (λ x. (x.0, change_as x.1)) c.deref-2.result.now) in
@@ -21,7 +19,7 @@ returns-clause-text c =
     let cert = map (of_cert hops) (map row_as c.deref-6.result.now) in
     let first = AddsRows-four _ _ _ _ _ _ routes changes answers table c.in_ok-put_routes.ensures.added c.in_ok-put_changes.ensures.added c.in_ok-put_answers.ensures.added c.in_ok-put_table.ensures.added in
     let all = AddsRows-four _ _ _ _ _ _ (routes ++ changes ++ answers ++ table) least cert (report_rows c.args.run.now.report) first c.in_ok-put_least.ensures.added c.in_ok-put_cert.ensures.added c.in_ok-put_report.ensures.added in
-    let rows = text_written-rows _ _ _ _ (rw (none, made.empty)) all in
+    let rows = text_written-rows _ _ _ _ c.row_writer-out.ensures.empty all in
     IfOk-passed (λ v. Some v.items) _ _ c.into_inner.result c.map_err.result _ c.map_err.ensures.cases c.map_err.ensures.variant c.into_inner.ensures.ok
     (rw (c.deref.ensures.value, c.deref-2.ensures.value, c.deref-3.ensures.value, c.deref-4.ensures.value, c.deref-5.ensures.value, c.deref-6.ensures.value) at rows)
 

@@ -8,19 +8,19 @@ pub room-returns-then-left-eq0-clause-ok : goal.room-returns-then-left-eq0-claus
 room-returns-then-left-eq0-clause-ok t c = room_here c.args.node.now c.node.inside.route.hop c.node.inside.entry.hop (behind c.node.inside.low) (behind c.node.inside.high) c.args.left c.args.q c.if-left-eq0.true c.node.view_is
 
 pub room-returns-in_err-room_behind-clause-held : goal.room-returns-in_err-room_behind-clause-held
-room-returns-in_err-room_behind-clause-held t c = λ h. let e : false ≡ true = c.in_err-room_behind.ensures.held (room_high c.node.inside.route.hop c.node.inside.entry.hop (behind c.node.inside.low) (behind c.node.inside.high) c.args.left c.args.q c.if-left-eq0.false c.if-q-at-eq1.true ∙ ap (λ n. has_node (bits_of c.args.left c.args.q) n.nodes) c.node.view_is ∙ h) in cc
+room-returns-in_err-room_behind-clause-held t c = λ h. let e : false ≡ true = c.in_err-room_behind.ensures.held (room_high c.node.inside.route.hop c.node.inside.entry.hop (behind c.node.inside.low) (behind c.node.inside.high) c.args.left c.args.q c.if-left-eq0.false c.if-bit_at.ensures ∙ ap (λ n. has_node (bits_of c.args.left c.args.q) n.nodes) c.node.view_is ∙ h) in cc
 
 pub room-returns-in_err-room_behind-2-clause-held : goal.room-returns-in_err-room_behind-2-clause-held
-room-returns-in_err-room_behind-2-clause-held t c = λ h. let e : false ≡ true = c.in_err-room_behind-2.ensures.held (room_low c.node.inside.route.hop c.node.inside.entry.hop (behind c.node.inside.low) (behind c.node.inside.high) c.args.left c.args.q c.if-left-eq0.false c.if-q-at-eq1.false ∙ ap (λ n. has_node (bits_of c.args.left c.args.q) n.nodes) c.node.view_is ∙ h) in cc
+room-returns-in_err-room_behind-2-clause-held t c = λ h. let e : false ≡ true = c.in_err-room_behind-2.ensures.held (room_low c.node.inside.route.hop c.node.inside.entry.hop (behind c.node.inside.low) (behind c.node.inside.high) c.args.left c.args.q c.if-left-eq0.false c.if-bit_at.ensures ∙ ap (λ n. has_node (bits_of c.args.left c.args.q) n.nodes) c.node.view_is ∙ h) in cc
 
 pub room-returns-in_ok-room_behind-clause-kept : goal.room-returns-in_ok-room_behind-clause-kept
 room-returns-in_ok-room_behind-clause-kept t c = kept_high c.node.inside.route.hop c.node.inside.entry.hop (behind c.node.inside.low) (behind c.node.inside.high) (behind c.room_behind.new.link) c.args.node.now c.node.view_is c.in_ok-room_behind.ensures.kept
 
 pub room-returns-in_ok-room_behind-clause-ok : goal.room-returns-in_ok-room_behind-clause-ok
-room-returns-in_ok-room_behind-clause-ok t c = sym (room_high c.node.inside.route.hop c.node.inside.entry.hop (behind c.node.inside.low) (behind c.room_behind.new.link) c.args.left c.args.q c.if-left-eq0.false c.if-q-at-eq1.true) ∙ c.in_ok-room_behind.ensures.ok
+room-returns-in_ok-room_behind-clause-ok t c = sym (room_high c.node.inside.route.hop c.node.inside.entry.hop (behind c.node.inside.low) (behind c.room_behind.new.link) c.args.left c.args.q c.if-left-eq0.false c.if-bit_at.ensures) ∙ c.in_ok-room_behind.ensures.ok
 
 pub room-returns-in_ok-room_behind-2-clause-kept : goal.room-returns-in_ok-room_behind-2-clause-kept
-room-returns-in_ok-room_behind-2-clause-kept t c = kept_low c.node.inside.route.hop c.node.inside.entry.hop (behind c.node.inside.low) (behind c.node.inside.high) (behind c.room_behind-else-q-at-eq1.new.link) c.args.node.now c.node.view_is c.in_ok-room_behind-2.ensures.kept
+room-returns-in_ok-room_behind-2-clause-kept t c = kept_low c.node.inside.route.hop c.node.inside.entry.hop (behind c.node.inside.low) (behind c.node.inside.high) (behind c.room_behind-else-bit_at.new.link) c.args.node.now c.node.view_is c.in_ok-room_behind-2.ensures.kept
 
 pub room-returns-in_ok-room_behind-2-clause-ok : goal.room-returns-in_ok-room_behind-2-clause-ok
-room-returns-in_ok-room_behind-2-clause-ok t c = sym (room_low c.node.inside.route.hop c.node.inside.entry.hop (behind c.room_behind-else-q-at-eq1.new.link) (behind c.node.inside.high) c.args.left c.args.q c.if-left-eq0.false c.if-q-at-eq1.false) ∙ c.in_ok-room_behind-2.ensures.ok
+room-returns-in_ok-room_behind-2-clause-ok t c = sym (room_low c.node.inside.route.hop c.node.inside.entry.hop (behind c.room_behind-else-bit_at.new.link) (behind c.node.inside.high) c.args.left c.args.q c.if-left-eq0.false c.if-bit_at.ensures) ∙ c.in_ok-room_behind-2.ensures.ok

@@ -7,7 +7,7 @@ use Rattle.orig_tree.proofs.node.+tell.Goals as goal
 pub tell-returns-then-prefix-width : goal.tell-returns-then-prefix-width
 tell-returns-then-prefix-width t c =
     let n = c.node.inside in
-    told_end c.args.prefix c.args.label n.route.hop n.entry.hop c.pick.result (behind n.low) (behind n.high) c.args.node.now _ _ c.node.view_is (c.if-prefix-width.true ∙ c.width.ensures) c.requires c.pick.ensures c.in_ok-tell_own.ensures
+    told_end c.args.prefix c.args.label n.route.hop n.entry.hop c.pick.result (behind n.low) (behind n.high) c.args.node.now _ _ c.node.view_is (c.if-prefix-width.true ∙ c.width.ensures) c.requires c.pick.ensures c.in_ok-push_entry.ensures
 
 pub tell-tell_behind-requires : goal.tell-tell_behind-requires
 tell-tell_behind-requires t c =
@@ -23,5 +23,5 @@ pub tell-returns : goal.tell-returns
 tell-returns t c =
     let n = c.node.inside in
     told_level c.args.prefix c.half.result c.half-2.result c.args.label n.route.hop n.entry.hop c.pick.result (behind n.low) (behind n.high) c.args.node.now
-    (map entry_as c.args.out.now.items) (map entry_as c.tell_own.new.out.items) (map entry_as c.tell_behind.new.out.items) (map entry_as c.tell_behind-2.new.out.items)
-    c.node.view_is c.half.ensures c.half-2.ensures c.pick.ensures c.in_ok-tell_own.ensures c.in_ok-tell_behind.ensures c.in_ok-tell_behind-2.ensures
+    (map entry_as c.args.out.now.items) (map entry_as c.push_entry.new.out.items) (map entry_as c.tell_behind.new.out.items) (map entry_as c.tell_behind-2.new.out.items)
+    c.node.view_is c.half.ensures c.half-2.ensures c.pick.ensures c.in_ok-push_entry.ensures c.in_ok-tell_behind.ensures c.in_ok-tell_behind-2.ensures

@@ -5,4 +5,4 @@ use Rattle.orig_tree.proofs.Telling.{told_whole}
 use Rattle.orig_tree.proofs.tree.listed.Goals as goal
 
 pub returns : goal.returns
-returns c = told_whole c.args.family c.new.result (rows_of c.args.label c.args.root.now) (map entry_as c.new-list.result.items) (map entry_as c.tell.new.out.items) c.new.ensures (ap (map entry_as) c.new-list.ensures.items) c.in_ok-tell.ensures
+returns c = told_whole c.args.family c.whole.result (rows_of c.args.label c.args.root.now) (map entry_as c.new-list.result.items) (map entry_as c.tell.new.out.items) c.whole.ensures (ap (map entry_as) c.new-list.ensures.items) c.in_ok-tell.ensures

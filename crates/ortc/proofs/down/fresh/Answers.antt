@@ -9,12 +9,12 @@ use Rattle.ortc.proofs.down.fresh.Goals as goal
 
 pub returns-clause-aggregate : goal.returns-clause-aggregate
 returns-clause-aggregate c =
-    let p = c.new-whole.result in
+    let p = c.whole-whole.result in
     let f = c.args.tree.now.family in
     let R = of_family f c.args.tree.now.routes in
     let E = of_family f c.args.tree.now.entries in
     let W = map entry_as c.descend.new.out.items in
-    let whole : prefix_as p ≡ record { family = f; bits = [] } = c.new-whole.ensures ∙ ap (λ k. let q : Prefix = record { family = k; bits = [] } in q) c.family.ensures in
+    let whole : prefix_as p ≡ record { family = f; bits = [] } = c.whole-whole.ensures ∙ ap (λ k. let q : Prefix = record { family = k; bits = [] } in q) c.family.ensures.family in
     fresh_told f p 0 R E W whole refl (within_told p f 0 R E (map entry_as c.new-table.result.items) W c.in_ok-region.region (ap (λ (q : Prefix). q.family) whole) (ap (map entry_as) c.new-table.ensures.items) c.in_ok-region.ensures c.in_ok-descend.ensures)
 
 pub returns-clause-least : goal.returns-clause-least
@@ -26,9 +26,9 @@ returns-clause-least c =
 
 pub returns-clause-proof : goal.returns-clause-proof
 returns-clause-proof c =
-    let p = c.new-whole.result in
+    let p = c.whole-whole.result in
     let f = c.args.tree.now.family in
-    let whole : prefix_as p ≡ record { family = f; bits = [] } = c.new-whole.ensures ∙ ap (λ k. let q : Prefix = record { family = k; bits = [] } in q) c.family.ensures in
+    let whole : prefix_as p ≡ record { family = f; bits = [] } = c.whole-whole.ensures ∙ ap (λ k. let q : Prefix = record { family = k; bits = [] } in q) c.family.ensures.family in
     fresh_proved f p c.args.tree.now.routes (of_family f c.args.tree.now.entries) c.in_ok-region.region (map row_as c.in_ok-proof.proof.items) whole c.in_ok-region.ensures c.in_ok-proof.ensures
 
 pub returns-clause-certificate : goal.returns-clause-certificate

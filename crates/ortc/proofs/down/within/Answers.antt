@@ -1,11 +1,17 @@
 use Rattle.std.proofs.Common.{map, ap}
 use Rattle.fib_prefix.specs.Seen.{entry_as}
 use Rattle.table_model.specs.Entries.{of_family}
-use Rattle.ortc.proofs.Falling.{within_told}
+use Rattle.ortc.proofs.Falling.{within_told, within_least}
 use Rattle.ortc.proofs.down.within.Goals as goal
 
-pub returns : goal.returns
-returns c =
+pub returns-clause-aggregate : goal.returns-clause-aggregate
+returns-clause-aggregate c =
     let tree = c.args.tree.now in
     within_told c.args.prefix.now tree.family c.args.inherited.0 (of_family tree.family tree.routes) (of_family tree.family tree.entries) (map entry_as c.new-table.result.items) (map entry_as c.descend.new.out.items) c.in_ok-region.region
     c.requires (ap (map entry_as) c.new-table.ensures.items) c.in_ok-region.ensures c.in_ok-descend.ensures
+
+pub returns-clause-least : goal.returns-clause-least
+returns-clause-least c =
+    let tree = c.args.tree.now in
+    within_least c.args.prefix.now tree.family c.args.inherited.0 (of_family tree.family tree.routes) (of_family tree.family tree.entries) (map entry_as c.descend.new.out.items)
+    c.requires (returns-clause-aggregate c)

@@ -1,25 +1,41 @@
-use Rattle.std.proofs.Common.{refl, sym, ap, ◌∙◌, arith}
-use Rattle.table_model.specs.Table.{inherit}
+use Rattle.std.proofs.Common.{ℕ, ◌-◌, List, Bool, ◌++◌, sym, ap, ◌∙◌, arith}
+use Rattle.std.proofs.lemmas.Result.{IfOk-weaker}
+use Rattle.address_model.specs.Bits.{bits_of}
+use Rattle.table_model.specs.Table.{Table, inherit, lpm, cut}
 use Rattle.orig_tree.specs.Walk.{Walks, behind}
+use Rattle.ortc.specs.declared.region.Region.{Region}
+use Rattle.ortc.specs.Stands.{Stands}
 use Rattle.ortc.proofs.Rising.{at_prefix, down_half, no_half}
 use Rattle.ortc.proofs.region.+rise_below.Goals as goal
 
 pub rise_below-requires : goal.rise_below-requires
 rise_below-requires t c = (omega (arith, c.if-left-eq0.false), omega (arith, c.requires))
 
-pub returns-then-left-eq0 : goal.returns-then-left-eq0
-returns-then-left-eq0 t c = at_prefix c.in_ok-region.region c.args.depth c.args.left c.args.q c.args.inherited c.args.node.now.routes c.args.node.now.entries c.if-left-eq0.true c.in_ok-region.ensures
+-- what stands where the prefix is
+abbrev At : Region → ℕ → Table → ℕ → Table → List Bool → Type 0
+At r d R h E p = Stands r d (λ a. lpm R (p ++ a) h) (cut p E)
 
-pub returns-in_ok-region-in-Some : goal.returns-in_ok-region-in-Some
-returns-in_ok-region-in-Some t c =
-    down_half c.in_ok-region-in-Some.region c.args.depth c.args.left c.args.q c.args.inherited c.below-hop.result _ c.args.node.now.routes c.args.node.now.entries c.deref.result.now.routes c.deref.result.now.entries
-    c.if-left-eq0.false refl
+pub returns-then-left-eq0 : goal.returns-then-left-eq0
+returns-then-left-eq0 t c =
+    let R = c.args.node.now.routes in
+    let E = c.args.node.now.entries in
+    IfOk-weaker c.rise.result (λ r. Stands r c.args.depth (λ a. lpm R a c.args.inherited) E) (λ r. At r c.args.depth R c.args.inherited E (bits_of c.args.left c.args.q))
+    (λ r s. at_prefix r c.args.depth c.args.left c.args.q c.args.inherited R E c.if-left-eq0.true s) c.rise.ensures
+
+pub returns-in-Some : goal.returns-in-Some
+returns-in-Some t c =
+    let R = c.args.node.now.routes in
+    let E = c.args.node.now.entries in
+    let p = bits_of (c.args.left - 1) c.args.q in
+    IfOk-weaker c.rise_below.result (λ r. At r c.args.depth c.deref.result.now.routes c.below-hop.result c.deref.result.now.entries p) (λ r. At r c.args.depth R c.args.inherited E (bits_of c.args.left c.args.q))
+    (λ r s. down_half r c.args.depth c.args.left c.args.q c.args.inherited c.below-hop.result c.bit_at.result R E c.deref.result.now.routes c.deref.result.now.entries
+    c.if-left-eq0.false c.bit_at.ensures
     (ap (λ (z : Walks). z.routes) c.deref.ensures ∙ (ap (λ z. (behind z).routes) (sym c.in-Some.is) ∙ c.half.ensures.routes))
     (ap (λ (z : Walks). z.entries) c.deref.ensures ∙ (ap (λ z. (behind z).entries) (sym c.in-Some.is) ∙ c.half.ensures.entries))
-    (c.below-hop.ensures ∙ ap (λ o. inherit o c.args.inherited) c.hop.ensures) c.in_ok-region-in-Some.ensures
+    (c.below-hop.ensures ∙ ap (λ o. inherit o c.args.inherited) c.hop.ensures) s) c.rise_below.ensures
 
 pub returns-in-None : goal.returns-in-None
 returns-in-None t c =
-    no_half c.args.depth c.args.left c.args.q c.args.inherited c.below-hop.result _ c.args.node.now.routes c.args.node.now.entries (behind c.half.result.now).routes (behind c.half.result.now).entries
-    c.if-left-eq0.false refl c.half.ensures.routes c.half.ensures.entries (c.below-hop.ensures ∙ ap (λ o. inherit o c.args.inherited) c.hop.ensures)
+    no_half c.args.depth c.args.left c.args.q c.args.inherited c.below-hop.result c.bit_at.result c.args.node.now.routes c.args.node.now.entries (behind c.half.result.now).routes (behind c.half.result.now).entries
+    c.if-left-eq0.false c.bit_at.ensures c.half.ensures.routes c.half.ensures.entries (c.below-hop.ensures ∙ ap (λ o. inherit o c.args.inherited) c.hop.ensures)
     (ap (λ z. (behind z).routes) c.in-None.is) (ap (λ z. (behind z).entries) c.in-None.is)

@@ -1,7 +1,8 @@
 use Rattle.std.proofs.Common.{ap, ◌∙◌, refl}
 use Rattle.route_model.specs.Choice.{after_elem, chosen_for}
 use Rattle.fib_prefix.specs.Seen.{elem_as}
-use Rattle.route_choice.specs.Held.{Held, prefix_of}
+use Rattle.route_model.specs.Events.{prefix_of}
+use Rattle.route_choice.specs.Held.{Held}
 use Rattle.route_choice.proofs.Choose.{choice_by}
 use Rattle.route_choice.proofs.candidates.Candidates.choice_of.Goals as goal
 

@@ -1,7 +1,8 @@
-use Rattle.std.proofs.Common.{ap}
-use Rattle.route_choice.specs.Seats.{held_in}
+use Rattle.std.proofs.Common.{ap, None}
+use Rattle.route_choice.specs.Held.{Held}
+use Rattle.route_choice.specs.Seats.{Seats, held_in}
 use Rattle.route_choice.proofs.candidates.Candidates.new.Goals as goal
 
 pub returns : goal.returns
 unfolding held_in
-returns c = record { candidates = ap held_in c.new.ensures.empty }
+returns c = ap (λ (seats : Seats). let h : Held = record { candidates = held_in seats; room = None } in h) c.new.ensures.empty

@@ -1,0 +1,30 @@
+//! What MP_REACH_NLRI and MP_UNREACH_NLRI give (RFC 4760, sections 3 and 4).
+
+ghost use Rattle.std.specs.Prelude.{◌≡◌, true};
+ghost use Rattle.std.specs.Result.{is_ok};
+ghost use Rattle.reading_model.specs.Rules.{attribute_value};
+ghost use Rattle.reading_model.specs.Wire.{prefixes};
+
+use fib_prefix::{Addr, Family};
+
+/// What MP_REACH_NLRI gives: a next hop for the prefixes in these octets.
+#[derive(Clone, Copy, Debug)]
+pub struct Reach<'a> {
+    /// The family of the prefixes.
+    pub family: Family,
+    /// The next hop.
+    pub hop: Addr,
+    /// The prefixes, as octets that `wire_fields::prefixes_of` reads without a fault; empty in a RIB entry.
+    pub nlri: &'a [u8],
+    pub ghost filled: { is_ok (prefixes attribute_value family nlri.now) ≡ true },
+}
+
+/// What MP_UNREACH_NLRI gives: the prefixes in these octets are withdrawn.
+#[derive(Clone, Copy, Debug)]
+pub struct Unreach<'a> {
+    /// The family of the prefixes.
+    pub family: Family,
+    /// The prefixes, as octets that `wire_fields::prefixes_of` reads without a fault.
+    pub nlri: &'a [u8],
+    pub ghost filled: { is_ok (prefixes attribute_value family nlri.now) ≡ true },
+}
