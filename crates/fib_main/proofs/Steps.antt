@@ -62,7 +62,7 @@ full_hop hops a len none =
 pub full_put : (hops : List Address) (elem : code_elem.Elem) (q : code_peer.Peer) (p : code_prefix.Prefix) (path : ℕ) (hop : Addr) → elem ≡ code_variant.Put q p path hop → (length hops ≡ most_hops) × (number_of hops (addr_as hop) ≡ None) → most_hops < length (hops_after hops (elem_as elem ∷ []))
 full_put hops elem q p path hop is full = rw is (full_hop hops (addr_as hop) full.0 full.1)
 
-abbrev refused : HopError → Result Choice HopError
+abbrev refused : HopError → Result (Unit {0}) HopError
 refused e = Err e
 
 pub same_error : (e f : HopError) → refused e ≡ refused f → e ≡ f
@@ -152,11 +152,11 @@ all_push : (P : Elem → Type 0) (xs : List Elem) (x : Elem) → AllByRecursion 
 all_push P [] x a p = (p, tt)
 all_push P (y ∷ xs) x a p = (a.0, all_push P xs x a.1 p)
 
-pub stands_next : (which : Which) (before done : List Elem) (elem : Elem) (old new : State) (event : ℕ) (choice : Choice) → IsElem elem → event ≡ length (done ++ elem ∷ []) → Stands which before done old
-    → new.candidates.candidates ≡ after_elem old.candidates.candidates elem → new.hops.list ≡ hops_after old.hops.list (elem ∷ []) → (length old.hops.list ≤ most_hops → length new.hops.list ≤ most_hops) → IsChoice old.candidates.candidates elem choice
-    → Adds which event (change_of new.hops.list (prefix_as choice.prefix) (option_map addr_as choice.before) (option_map addr_as choice.after)) (changes_as old.changes.items) (changes_as new.changes.items)
+pub stands_after : (which : Which) (before done : List Elem) (elem : Elem) (old new : State) (event : ℕ) → IsElem elem → event ≡ length (done ++ elem ∷ []) → Stands which before done old
+    → new.candidates.candidates ≡ after_elem old.candidates.candidates elem → new.hops.list ≡ hops_after old.hops.list (elem ∷ []) → (length old.hops.list ≤ most_hops → length new.hops.list ≤ most_hops)
+    → Adds which event (change_by new.hops.list old.candidates.candidates elem) (changes_as old.changes.items) (changes_as new.changes.items)
     → Stands which before (done ++ elem ∷ []) new
-stands_next which before done elem old new event choice is counted s held more few chosen adds = record {
+stands_after which before done elem old new event is counted s held more few adds = record {
   candidates = candidates;
   hops = hops;
   few = few s.few;
@@ -165,12 +165,11 @@ stands_next which before done elem old new event choice is counted s held more f
   changes = λ later.
       let all : hops_after old.hops.list (elem ∷ later) ≡ hops_after new.hops.list later = hops_more old.hops.list (elem ∷ []) later ∙ ap (λ hs. hops_after hs later) (sym more) in
       let here : after_elems (after_elems [] before) done ≡ old.candidates.candidates = sym (fold-append after_elem [] before done) ∙ sym s.candidates in
-      let now : change_of new.hops.list (prefix_as choice.prefix) (option_map addr_as choice.before) (option_map addr_as choice.after) ≡ change_by new.hops.list old.candidates.candidates elem = rw (chosen.prefix, chosen.before, chosen.after) refl in
       let stays : change_by (hops_after new.hops.list later) old.candidates.candidates elem ≡ change_by new.hops.list old.candidates.candidates elem = change_stays new.hops.list old.candidates.candidates elem later numbered in
       let n : event ≡ 1 + length done = omega (arith, counted, length-append done (elem ∷ [])) in
       adds.added
-      ∙ (ap (λ cs. cs ++ kept_one which event (change_of new.hops.list (prefix_as choice.prefix) (option_map addr_as choice.before) (option_map addr_as choice.after))) (s.changes (elem ∷ later) ∙ ap (λ hs. kept which hs (after_elems [] before) done) all)
-      ∙ (ap (λ cs. kept which (hops_after new.hops.list later) (after_elems [] before) done ++ kept_one which event cs) (now ∙ sym stays ∙ ap (λ h. change_by (hops_after new.hops.list later) h elem) (sym here))
+      ∙ (ap (λ cs. cs ++ kept_one which event (change_by new.hops.list old.candidates.candidates elem)) (s.changes (elem ∷ later) ∙ ap (λ hs. kept which hs (after_elems [] before) done) all)
+      ∙ (ap (λ cs. kept which (hops_after new.hops.list later) (after_elems [] before) done ++ kept_one which event cs) (sym stays ∙ ap (λ h. change_by (hops_after new.hops.list later) h elem) (sym here))
       ∙ (ap (λ m. kept which (hops_after new.hops.list later) (after_elems [] before) done ++ kept_one which m (change_by (hops_after new.hops.list later) (after_elems (after_elems [] before) done) elem)) n
       ∙ sym (kept_push which (hops_after new.hops.list later) (after_elems [] before) done elem))));
 } where
@@ -187,6 +186,15 @@ stands_next which before done elem old new event choice is counted s held more f
   numbered =
       let at : AreNumbered (hops_after [] (before ++ (done ++ elem ∷ []))) (after_elems [] (before ++ (done ++ elem ∷ []))) = routes_numbered (before ++ (done ++ elem ∷ [])) in
       subst (λ h. AreNumbered new.hops.list h) (sym candidates ∙ held) (subst (λ hs. AreNumbered hs (after_elems [] (before ++ (done ++ elem ∷ [])))) (sym hops) at)
+
+-- the same where the event's choice is told
+pub stands_next : (which : Which) (before done : List Elem) (elem : Elem) (old new : State) (event : ℕ) (choice : Choice) → IsElem elem → event ≡ length (done ++ elem ∷ []) → Stands which before done old
+    → new.candidates.candidates ≡ after_elem old.candidates.candidates elem → new.hops.list ≡ hops_after old.hops.list (elem ∷ []) → (length old.hops.list ≤ most_hops → length new.hops.list ≤ most_hops) → IsChoice old.candidates.candidates elem choice
+    → Adds which event (change_of new.hops.list (prefix_as choice.prefix) (option_map addr_as choice.before) (option_map addr_as choice.after)) (changes_as old.changes.items) (changes_as new.changes.items)
+    → Stands which before (done ++ elem ∷ []) new
+stands_next which before done elem old new event choice is counted s held more few chosen adds =
+    let now : change_of new.hops.list (prefix_as choice.prefix) (option_map addr_as choice.before) (option_map addr_as choice.after) ≡ change_by new.hops.list old.candidates.candidates elem = rw (chosen.prefix, chosen.before, chosen.after) refl in
+    stands_after which before done elem old new event is counted s held more few (subst (λ cs. Adds which event cs (changes_as old.changes.items) (changes_as new.changes.items)) now adds)
 
 -- ---- events
 

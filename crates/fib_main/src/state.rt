@@ -118,36 +118,32 @@ fn change_of(hops: &HopTable, choice: Choice) -> Option<Change>
     }
 }
 
-/// Takes an elementary event: its hop gets a number, and the candidates change.
-fn take_elem(
-    candidates: &mut Candidates,
-    hops: &mut HopTable,
-    elem: &Elem,
-) -> Result<Choice, HopError>
-    ensures candidates { OnOk result (candidates.new.candidates ≡ after_elem candidates.old.candidates (elem_as elem.now)) }
+/// Gives the next hop of an elementary event a number.
+fn number_hop(hops: &mut HopTable, elem: &Elem) -> Result<(), HopError>
     ensures hops { OnOk result (hops.new.list ≡ hops_after hops.old.list (elem_as elem.now ∷ [])) }
     ensures few { OnOk result (length hops.old.list ≤ most_hops → length hops.new.list ≤ most_hops) }
-    ensures choice { IfOk result (IsChoice candidates.old.candidates (elem_as elem.now)) }
     ensures full { IsErrOf result HopError.HopsFull → most_hops < length (hops_after hops.old.list (elem_as elem.now ∷ [])) }
 {
     if let Elem::Put(_, _, _, hop) = elem {
         hops.number(hop)?;
     }
-    candidates.apply(elem).map_err(|_| HopError::NoMemory)
+    Ok(())
 }
 
-/// Takes the elementary event of this number, and of updates keeps the change that it makes.
+/// Takes the elementary event of this number: its hop gets a number, and the candidates change. Of updates it keeps the change
+/// that it makes; of a dump nobody asks for it.
 fn step(state: &mut State, which: Which, event: u64, elem: &Elem) -> Result<(), FeedError>
     ensures { Takes which event (elem_as elem.now ∷ []) state.old result state.new }
 {
-    let choice = match take_elem(&mut state.candidates, &mut state.hops, elem) {
-        Ok(choice) => choice,
+    match number_hop(&mut state.hops, elem) {
+        Ok(()) => {}
         Err(HopError::HopsFull) => return Err(FeedError::HopsFull(event)),
         Err(HopError::NoMemory) => return Err(FeedError::NoMemory),
-    };
+    }
     match which {
-        Which::Asks | Which::Dump | Which::Printed => {}
+        Which::Asks | Which::Dump | Which::Printed => state.candidates.load(elem)?,
         Which::Updates => {
+            let choice = state.candidates.apply(elem)?;
             if let Some(change) = change_of(&state.hops, choice) {
                 state.changes.push((event, change))?;
             }

@@ -142,18 +142,18 @@ room_is seats ranks (Some f) e h i = same_room seats ranks f e (same_elem (elem_
 
 -- ---- after it was carried out
 
--- what is offered elsewhere keeps its rank, and what is offered there has room
-pub indexed_after : (old new : Seats) (ranks : List Rank) (e : Elem) → HasRoom old ranks (Some e) → ((s : Seat) → offer_at new s ≡ cond (is_eq (seat_cmp (seat_in e) s)) (offer_in e) (offer_at old s)) → IsIndexed old ranks → IsIndexed new ranks
-indexed_after old new ranks e r h i = λ s offer f. by_test s offer (is_eq (seat_cmp (seat_in e) s)) refl (sym (h s) ∙ f)
+-- what is offered elsewhere keeps its rank, and what is offered here has one
+pub indexed_here : (old new : Seats) (ranks : List Rank) (here : Seat) (o : Option Offer) → ((offer : Offer) → o ≡ Some offer → has_rank ranks (rank_at here offer.path) ≡ true) → ((s : Seat) → offer_at new s ≡ cond (is_eq (seat_cmp here s)) o (offer_at old s)) → IsIndexed old ranks → IsIndexed new ranks
+indexed_here old new ranks here o r h i = λ s offer f. by_test s offer (is_eq (seat_cmp here s)) refl (sym (h s) ∙ f)
   where
-    by_test : (s : Seat) (offer : Offer) (d : Bool) → is_eq (seat_cmp (seat_in e) s) ≡ d → cond d (offer_in e) (offer_at old s) ≡ Some offer → has_rank ranks (rank_at s offer.path) ≡ true
+    by_test : (s : Seat) (offer : Offer) (d : Bool) → is_eq (seat_cmp here s) ≡ d → cond d o (offer_at old s) ≡ Some offer → has_rank ranks (rank_at s offer.path) ≡ true
     by_test s offer false g f = i s offer f
     by_test s offer true g f =
-        let x = seat_parts (seat_in e) s (is_equal (seat_cmp (seat_in e) s) g) in
-        let k : Rank = rank_at (seat_in e) offer.path in
+        let x = seat_parts here s (is_equal (seat_cmp here s) g) in
+        let k : Rank = rank_at here offer.path in
         let l : Rank = rank_at s offer.path in
-        let rank : rank_cmp k l ≡ Equal = ap (λ w. ordering_then w (ordering_then (nat_cmp offer.path offer.path) (code_peer_cmp (seat_in e).peer s.peer))) x.1 ∙ (ap (λ w. ordering_then w (code_peer_cmp (seat_in e).peer s.peer)) (tied_itself nat_cmp_total offer.path) ∙ x.0) in
-        sym (any_by_test (is_at (rank_cmp k)) (is_at (rank_cmp l)) ranks (λ u. ap is_eq (rank_total.congr k l u rank))) ∙ room_rank old ranks e r offer f
+        let rank : rank_cmp k l ≡ Equal = ap (λ w. ordering_then w (ordering_then (nat_cmp offer.path offer.path) (code_peer_cmp here.peer s.peer))) x.1 ∙ (ap (λ w. ordering_then w (code_peer_cmp here.peer s.peer)) (tied_itself nat_cmp_total offer.path) ∙ x.0) in
+        sym (any_by_test (is_at (rank_cmp k)) (is_at (rank_cmp l)) ranks (λ u. ap is_eq (rank_total.congr k l u rank))) ∙ r offer f
       where
         both_equal : (a b : Ordering) → ordering_then a b ≡ Equal → (a ≡ Equal) × (b ≡ Equal)
         both_equal Less b w = cc
@@ -162,6 +162,25 @@ indexed_after old new ranks e r h i = λ s offer f. by_test s offer (is_eq (seat
 
         seat_parts : (s t : Seat) → seat_cmp s t ≡ Equal → (code_peer_cmp s.peer t.peer ≡ Equal) × (code_cmp s.prefix t.prefix ≡ Equal)
         seat_parts s t w = both_equal (code_peer_cmp s.peer t.peer) (code_cmp s.prefix t.prefix) w
+
+pub indexed_after : (old new : Seats) (ranks : List Rank) (e : Elem) → HasRoom old ranks (Some e) → ((s : Seat) → offer_at new s ≡ cond (is_eq (seat_cmp (seat_in e) s)) (offer_in e) (offer_at old s)) → IsIndexed old ranks → IsIndexed new ranks
+indexed_after old new ranks e r h i = indexed_here old new ranks (seat_in e) (offer_in e) (room_rank old ranks e r) h i
+
+-- an offer whose rank was put
+pub indexed_put : (old new : Seats) (before ranks : List Rank) (here : Seat) (offer : Offer) (path : ℕ) (r : Rank) → path ≡ offer.path → r ≡ rank_at here path → ((q : Rank) → has_rank ranks q ≡ cond (is_eq (rank_cmp r q)) true (has_rank before q)) → ((s : Seat) → offer_at new s ≡ cond (is_eq (seat_cmp here s)) (Some offer) (offer_at old s)) → IsIndexed old before → IsIndexed new ranks
+indexed_put old new before ranks here offer path r p e put h i = indexed_here old new ranks here (Some offer) own h (more_ranks old before ranks r put i)
+  where
+    same_value : (v w : Offer) → Some v ≡ Some w → v ≡ w
+    same_value v w f = cc
+
+    own : (o : Offer) → Some offer ≡ Some o → has_rank ranks (rank_at here o.path) ≡ true
+    own o f =
+        let same : r ≡ rank_at here o.path = e ∙ ap (rank_at here) (p ∙ ap (λ (v : Offer). v.path) (same_value offer o f)) in
+        ap (has_rank ranks) (sym same) ∙ (put r ∙ ap (λ w. cond (is_eq w) true (has_rank before r)) (tied_itself rank_total r))
+
+-- nothing is offered there any longer
+pub indexed_cut : (old new : Seats) (ranks : List Rank) (here : Seat) → ((s : Seat) → offer_at new s ≡ cond (is_eq (seat_cmp here s)) None (offer_at old s)) → IsIndexed old ranks → IsIndexed new ranks
+indexed_cut old new ranks here h i = indexed_here old new ranks here None (λ offer e. absurd cc) h i
 
 -- ---- an offer set
 

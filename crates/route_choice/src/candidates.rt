@@ -248,6 +248,42 @@ fn make_room_for(
     }
 }
 
+/// Offers something at a seat. An `Err` leaves all offers as they were.
+fn put_offer(
+    seats: &mut BTreeMap<Seat, Option<Offer>>,
+    ranks: &mut BTreeSet<Rank>,
+    seat: &Seat,
+    offer: Offer,
+) -> Result<(), AllocError>
+    ensures ok { OnOk result ((s : Seat) → offered seats.new.entries s ≡ cond (is_eq (seat_cmp seat.now s)) (Some offer) (offered seats.old.entries s)) }
+    ensures err { OnErr result ((s : Seat) → offered seats.new.entries s ≡ offered seats.old.entries s) }
+    ensures indexed { IsIndexed seats.old.entries ranks.old.keys → IsIndexed seats.new.entries ranks.new.keys }
+{
+    let rank = seat.rank(offer.path());
+    ranks.insert(rank)?;
+    let old = match seats.insert(*seat, Some(offer)) {
+        Ok(old) => old.flatten(),
+        Err(failed) => {
+            prune_rank(seats, ranks, &rank);
+            return Err(AllocError::from(failed));
+        }
+    };
+    if let Some(old) = old {
+        prune_rank(seats, ranks, &seat.rank(old.path()));
+    }
+    Ok(())
+}
+
+/// Ends what is offered at a seat.
+fn cut_offer(seats: &mut BTreeMap<Seat, Option<Offer>>, ranks: &mut BTreeSet<Rank>, seat: &Seat)
+    ensures offers { (s : Seat) → offered seats.new.entries s ≡ cond (is_eq (seat_cmp seat.now s)) None (offered seats.old.entries s) }
+    ensures indexed { IsIndexed seats.old.entries ranks.old.keys → IsIndexed seats.new.entries ranks.new.keys }
+{
+    if let Some(old) = seats.remove(seat).flatten() {
+        prune_rank(seats, ranks, &seat.rank(old.path()));
+    }
+}
+
 impl Candidates {
     /// No candidates.
     pub fn new(alloc: Global) -> Candidates
@@ -347,8 +383,30 @@ impl Candidates {
         ensures room { self.new.room ≡ None }
         ensures err { OnErr result (self.new.candidates ≡ self.old.candidates) }
     {
-        let pick = self.plan(elem)?;
-        Ok(self.commit(pick))
+        let choice = self.choice_of(elem);
+        self.load(elem)?;
+        Ok(choice)
+    }
+
+    /// Carries out an elementary event of which nobody asks what it chooses, at a fraction of what `apply` costs. An earlier
+    /// plan is void.
+    ///
+    /// # Errors
+    ///
+    /// No memory; then no candidate has changed.
+    pub fn load(&mut self, elem: &Elem) -> Result<(), AllocError>
+        ensures candidates { OnOk result (self.new.candidates ≡ after_elem self.old.candidates (elem_as elem.now)) }
+        ensures room { self.new.room ≡ None }
+        ensures err { OnErr result (self.new.candidates ≡ self.old.candidates) }
+    {
+        give_back(&mut self.seats, &mut self.ranks, self.room);
+        self.room = None;
+        let seat = seat_of(elem);
+        match offer_of(elem) {
+            Some(offer) => put_offer(&mut self.seats, &mut self.ranks, &seat, offer)?,
+            None => cut_offer(&mut self.seats, &mut self.ranks, &seat),
+        }
+        Ok(())
     }
 
     /// The chosen hop of a prefix, if it has a candidate.

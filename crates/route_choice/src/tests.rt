@@ -84,5 +84,13 @@ fn the_shortest_path_is_chosen(rt: HostRuntime) -> Result<(), AllocError> {
     assert_eq!(rt; pick.choice().after, Some(hop(4)));
     assert_eq!(rt; held.commit(pick).before, None);
     assert_eq!(rt; held.chosen(&narrow), Some(hop(4)));
+    // what is loaded is held as what is applied
+    held.load(&Elem::Put(peer(1), wide, 1, hop(7)))?;
+    held.load(&Elem::Put(peer(1), wide, 8, hop(8)))?;
+    held.load(&Elem::Put(peer(2), wide, 7, hop(2)))?;
+    held.load(&Elem::Cut(peer(4), narrow))?;
+    assert_eq!(rt; held.routes()?.as_slice(), [(wide, hop(2))].as_slice());
+    held.load(&Elem::Cut(peer(2), wide))?;
+    assert_eq!(rt; held.chosen(&wide), Some(hop(8)));
     Ok(())
 }

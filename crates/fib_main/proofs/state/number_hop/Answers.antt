@@ -1,7 +1,7 @@
 use Rattle.std.proofs.Common.{ap, Err}
 use Rattle.std.proofs.lemmas.Result.{err_from_is_err_and}
 use Rattle.fib_main.proofs.Steps.{full_put, same_error}
-use Rattle.fib_main.proofs.state.take_elem.Goals as goal
+use Rattle.fib_main.proofs.state.number_hop.Goals as goal
 
 pub returns-in_err-number-clause-full : goal.returns-in_err-number-clause-full
 returns-in_err-number-clause-full c e =
