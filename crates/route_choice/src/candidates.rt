@@ -383,9 +383,8 @@ impl Candidates {
         ensures room { self.new.room ≡ None }
         ensures err { OnErr result (self.new.candidates ≡ self.old.candidates) }
     {
-        let choice = self.choice_of(elem);
-        self.load(elem)?;
-        Ok(choice)
+        let pick = self.plan(elem)?;
+        Ok(self.commit(pick))
     }
 
     /// Carries out an elementary event of which nobody asks what it chooses, at a fraction of what `apply` costs. An earlier
