@@ -3,7 +3,7 @@ use Rattle.std.specs.Prelude.{ℕ, List, [], option_map}
 use Rattle.std.specs.Result.{result_unwrap_or}
 use Rattle.address_model.specs.declared.family.Family.{Family}
 use Rattle.address_model.specs.Address.{Prefix}
-use Rattle.fib_prefix.specs.Seen.{addr_as}
+use Rattle.fib_addr.specs.Seen.{addr_as}
 use Rattle.reading_model.specs.Rules.{attribute_value}
 use Rattle.reading_model.specs.Wire.{prefixes}
 use Rattle.reading_model.specs.Attribute.{Reached, Unreached, Found, Listed}

@@ -11,7 +11,7 @@ use crate::hops::next_hop;
 use crate::multiprotocol::{Reach, Unreach};
 use crate::path::path_length;
 use crate::reach::{reach_in_rib, reach_in_update, unreach_in_update};
-use fib_prefix::Addr;
+use fib_addr::Addr;
 use octet_fields::{octet, octets, u16_at};
 use reading_model::Place;
 use wire_fields::{family, rule};

@@ -5,7 +5,7 @@ ghost use Rattle.std.specs.Result.{is_ok};
 ghost use Rattle.reading_model.specs.Rules.{attribute_value};
 ghost use Rattle.reading_model.specs.Wire.{prefixes};
 
-use fib_prefix::{Addr, Family};
+use fib_addr::{Addr, Family};
 
 /// What MP_REACH_NLRI gives: a next hop for the prefixes in these octets.
 #[derive(Clone, Copy, Debug)]

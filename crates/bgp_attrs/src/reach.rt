@@ -7,7 +7,7 @@ ghost use Rattle.bgp_attrs.specs.Views.{reached, unreached};
 
 use crate::hops::{next_hop_in_rib, next_hop_of};
 use crate::multiprotocol::{Reach, Unreach};
-use fib_prefix::Family;
+use fib_addr::Family;
 use octet_fields::octet;
 use wire_fields::{check_prefixes, rule};
 

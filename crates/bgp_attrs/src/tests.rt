@@ -1,7 +1,7 @@
 //! Attribute lists, hostile ones too: their path length, or the rule of their first wrong field.
 
 use super::*;
-use fib_prefix::Family;
+use fib_addr::Family;
 use std::test::Fail;
 
 const RIB: Place = Place::Rib(Family::V4);

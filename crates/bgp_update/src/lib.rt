@@ -4,9 +4,11 @@
 //! events. Reading costs the message's octets, in memory too.
 #![tactic(auto)]
 
+mod event;
 mod message;
 mod update;
 
+pub use event::{event_of, push_routes};
 pub use message::read_message;
 pub use wire_fields::{Refusal, WireFault, read_wire_prefix};
 

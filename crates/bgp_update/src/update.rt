@@ -1,16 +1,18 @@
 //! UPDATE messages.
 
 ghost use Rattle.std.specs.Prelude.{map, ◌≡◌, ◌++◌, IfErr, IfOk, OnOk, option_map};
-ghost use Rattle.fib_prefix.specs.Seen.{prefix_as, peer_as, event_as};
+ghost use Rattle.fib_addr.specs.Seen.{prefix_as};
+ghost use Rattle.fib_prefix.specs.Seen.{peer_as, event_as};
 ghost use Rattle.reading_model.specs.Update.{reach_events, routes, unreach_events, update, withdrawn};
 ghost use Rattle.bgp_attrs.specs.Views.{listed_as, reached, unreached};
 ghost use Rattle.wire_fields.specs.Gives.{GivesInMemory};
 
+use crate::event::push_routes;
 use bgp_attrs::{Attrs, Place, Reach, Unreach, read_attrs};
 use fib_prefix::{Event, Family, Peer, Prefix};
 use octet_fields::{octets, u16_at};
 use std::alloc::Global;
-use wire_fields::{Refusal, prefixes_of, push_routes, rule};
+use wire_fields::{Refusal, prefixes_of, rule};
 
 /// Adds the events of MP_UNREACH_NLRI. It fails for want of memory alone, since the octets hold prefixes.
 fn push_unreached(

@@ -18,9 +18,9 @@ use Rattle.least_model.specs.Sets.{answers}
 use Rattle.cert_model.specs.Verdict.{all_get}
 use Rattle.cert_model.proofs.Regions.{get_bits, get_all}
 use Rattle.cert_model.proofs.Reading.{all_get_is, all_get_from}
-use Rattle.fib_prefix.specs.declared.prefix.Prefix.{Prefix}
-use Rattle.fib_prefix.specs.Seen.{prefix_as}
-use Rattle.fib_prefix.proofs.Parts.{length_prefix}
+use Rattle.fib_addr.specs.declared.prefix.Prefix.{Prefix}
+use Rattle.fib_addr.specs.Seen.{prefix_as}
+use Rattle.fib_addr.proofs.Parts.{length_prefix}
 use Rattle.cert_check.specs.declared.runs.Run.{Run}
 use Rattle.cert_check.specs.Runs.{run_at, last_hop, AreRuns, IsBegun, Tells}
 use Rattle.cert_check.proofs.Sweeps.{from_run, from_append, before_all}

@@ -12,11 +12,11 @@ use Rattle.address_model.specs.Order.{prefix_cmp}
 use Rattle.address_model.proofs.Same.{same_prefix_is, same_prefix_itself}
 use Rattle.address_model.proofs.Ordered.{equal_are_same, prefix_total}
 use Rattle.cert_model.specs.Verdict.{twice}
-use Rattle.fib_prefix.specs.declared.prefix.Prefix as code
-use Rattle.fib_prefix.specs.declared.entry.Entry.{Entry}
-use Rattle.fib_prefix.specs.Seen.{prefix_as, entry_as}
-use Rattle.fib_prefix.specs.Order.{code_cmp}
-use Rattle.fib_prefix.proofs.Ordering.{cmp_is}
+use Rattle.fib_addr.specs.declared.prefix.Prefix as code
+use Rattle.fib_addr.specs.declared.entry.Entry.{Entry}
+use Rattle.fib_addr.specs.Seen.{prefix_as, entry_as}
+use Rattle.fib_addr.specs.Order.{code_cmp}
+use Rattle.fib_addr.proofs.Ordering.{cmp_is}
 use Rattle.std.proofs.Common.{drop-cons}
 use Rattle.cert_check.proofs.Holding.{prefix_short, same_tests}
 

@@ -1,7 +1,7 @@
 -- What a clause sees of answers.
 use Rattle.cert_model.specs.Verdict.{No}
 use Rattle.cert_model.specs.Verdict as model
-use Rattle.fib_prefix.specs.Seen.{addr_as, prefix_as}
+use Rattle.fib_addr.specs.Seen.{addr_as, prefix_as}
 use Rattle.cert_check.specs.declared.alike.Differ.{Differ}
 use Rattle.cert_check.specs.declared.refusal.CheckError.{CheckError}
 use Rattle.cert_check.specs.declared.refusal.CheckError.TheVariants as check_error

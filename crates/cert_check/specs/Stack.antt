@@ -11,7 +11,7 @@ use Rattle.cert_model.specs.Rows.{CertRow, join_row, bound_row, whole}
 use Rattle.cert_model.specs.Right.{IsRight, leaf_item, join_item, joint_k}
 use Rattle.cert_model.specs.Right.{Item as ModelItem}
 use Rattle.cert_model.specs.Verdict.{No, Shape, LeafWrong, JoinWrong, all_get, are_halves, wrong_row}
-use Rattle.fib_prefix.specs.Seen.{prefix_as}
+use Rattle.fib_addr.specs.Seen.{prefix_as}
 use Rattle.cert_check.specs.declared.rows.Item.{Item}
 use Rattle.cert_check.specs.declared.rows.Runs.{Runs}
 use Rattle.cert_check.specs.Runs.{Tells, AreRuns, Below}

@@ -4,13 +4,13 @@ ghost use Rattle.std.specs.Prelude.{◌≡◌, ◌↔◌, ◌<◌, ◌^◌, None
 ghost use Rattle.address_model.specs.Width.{width};
 ghost use Rattle.table_model.specs.Entries.{Entries, match_in, AlikeInBoth};
 ghost use Rattle.cert_model.specs.Verdict.{IsLeastDiffering, not_same, not_same_in};
-ghost use Rattle.fib_prefix.specs.Seen.{addr_as, entry_as};
+ghost use Rattle.fib_addr.specs.Seen.{addr_as, entry_as};
 ghost use Rattle.cert_check.specs.Runs.{AreRuns, Below, Tells};
 ghost use Rattle.cert_check.specs.Apart.{next_apart, no_of, IsFirstApart};
 ghost use Rattle.cert_check.specs.Seen.{differ_as};
 
 use crate::runs::{Run, runs_of};
-use fib_prefix::{Addr, Entry, Family, Hop};
+use fib_addr::{Addr, Entry, Family, Hop};
 use std::alloc::{AllocError, Global};
 use std::cmp::Ordering;
 

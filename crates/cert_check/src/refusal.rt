@@ -3,7 +3,7 @@
 ghost use Rattle.std.specs.Prelude.{◌≡◌};
 ghost use Rattle.cert_check.specs.declared.refusal.CheckError.TheVariants as check_error;
 
-use fib_prefix::{Addr, Family, Hop, Prefix};
+use fib_addr::{Addr, Family, Hop, Prefix};
 use std::alloc::AllocError;
 use thiserror::Error;
 

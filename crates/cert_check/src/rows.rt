@@ -10,8 +10,8 @@ ghost use Rattle.table_model.specs.Entries.{Entries};
 ghost use Rattle.cert_model.specs.Rows.{bound_row, half_at, whole};
 ghost use Rattle.cert_model.specs.Right.{bound_by};
 ghost use Rattle.cert_model.specs.Verdict.{wrong_row};
-ghost use Rattle.fib_prefix.specs.Seen.{prefix_as};
-ghost use Rattle.cost_cert.specs.Seen.{row_as};
+ghost use Rattle.fib_addr.specs.Seen.{prefix_as};
+ghost use Rattle.cert_rows.specs.Seen.{row_as};
 ghost use Rattle.cert_check.specs.Marks.{AreMarks};
 ghost use Rattle.cert_check.specs.Runs.{Tells};
 ghost use Rattle.cert_check.specs.Seen.{no_as};
@@ -20,8 +20,8 @@ ghost use Rattle.cert_check.specs.Stack.{item_as, stack_as, weight, TellsBoth, A
 use crate::refusal::No;
 use crate::runs::{Run, holds};
 use crate::sets::{common_hops, one_if_none, or_all};
-use cost_cert::Row;
-use fib_prefix::{Family, Hop, Prefix};
+use cert_rows::Row;
+use fib_addr::{Family, Hop, Prefix};
 use std::alloc::{AllocError, Global};
 
 /// What the addresses of both families get from the routes.

@@ -11,10 +11,10 @@ ghost use Rattle.address_model.specs.Width.{width};
 ghost use Rattle.table_model.specs.Table.{root, half};
 ghost use Rattle.table_model.specs.Entries.{Entries, of_family};
 ghost use Rattle.cert_model.specs.Verdict.{all_get};
-ghost use Rattle.fib_prefix.specs.Seen.{entry_as, prefix_as};
+ghost use Rattle.fib_addr.specs.Seen.{entry_as, prefix_as};
 ghost use Rattle.cert_check.specs.Runs.{part_as, table_of, Noted, Swept, AreRuns, Tells, IsBegun, last_hop};
 
-use fib_prefix::{Entry, Family, Prefix, bit_at};
+use fib_addr::{Entry, Family, Prefix, bit_at};
 use std::alloc::{AllocError, Global};
 
 /// A first address, and the hop of the addresses from there to the next run.

@@ -4,8 +4,8 @@ ghost use Rattle.std.specs.Prelude.{◌≡◌, ◌≤◌};
 ghost use Rattle.address_model.specs.declared.family.Family.TheVariants.{V4};
 
 use super::*;
-use cost_cert::Row;
-use fib_prefix::{Addr, Entry, Family, Hop, Prefix};
+use cert_rows::Row;
+use fib_addr::{Addr, Entry, Family, Hop, Prefix};
 use std::alloc::AllocError;
 
 fn prefix(bits: u32, len: u8) -> Prefix

@@ -8,8 +8,8 @@ ghost use Rattle.least_model.specs.Both.{LeastInBoth};
 ghost use Rattle.cert_model.specs.Right.{IsCertificate};
 ghost use Rattle.cert_model.specs.Verdict.{Twice, twice, wrong_row, too_many_in, verdict};
 ghost use Rattle.cert_model.specs.Verdict.{not_same as model_not_same};
-ghost use Rattle.fib_prefix.specs.Seen.{entry_as};
-ghost use Rattle.cost_cert.specs.Seen.{row_as};
+ghost use Rattle.fib_addr.specs.Seen.{entry_as};
+ghost use Rattle.cert_rows.specs.Seen.{row_as};
 ghost use Rattle.cert_check.specs.Seen.{differ_as, no_as, IfNo};
 ghost use Rattle.cert_check.specs.Stack.{TellsBoth, AreOfBoth, bound_in};
 
@@ -19,8 +19,8 @@ use crate::repeats::first_twice;
 use crate::rows::{Reading, Runs, read_rows};
 use crate::runs::runs_of;
 use crate::sets::no_marks;
-use cost_cert::Row;
-use fib_prefix::{Entry, Family};
+use cert_rows::Row;
+use fib_addr::{Entry, Family};
 use std::alloc::{AllocError, Global};
 
 fn runs_in_both(alloc: Global, entries: &[Entry]) -> Result<Runs, AllocError>

@@ -8,7 +8,7 @@ use Rattle.bstr.specs.Text.{without_terminator, lines_of as cut_lines}
 use Rattle.address_model.specs.Address.{Address}
 use Rattle.table_model.specs.Entries.{Entries}
 use Rattle.cert_model.specs.Rows.{CertRow}
-use Rattle.fib_prefix.specs.Hops.{most_hops}
+use Rattle.fib_addr.specs.Hops.{most_hops}
 use Rattle.printed_model.specs.Rows.{PrintedRow}
 use Rattle.printed_model.specs.Reading.{line_in}
 use Rattle.printed_model.specs.Texts.{BadLine, lines_of, hops_in, with_row, rows_after, rows_in}

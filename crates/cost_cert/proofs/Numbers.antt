@@ -9,9 +9,9 @@ use Rattle.std.proofs.lemmas.Bool.{ne_eqb}
 use Rattle.std.proofs.lemmas.Fmt.{decimal_is_IsNumeral, IsAscii-decimal}
 use Rattle.std.proofs.lemmas.Str.{IsUtf8-from_ascii}
 use Rattle.std.proofs.lemmas.Str.Parse.{digit_from_value}
-use Rattle.fib_prefix.specs.Text.{number_in}
-use Rattle.fib_prefix.proofs.Texts.{bytes_eq_is, bytes_eq_refl}
-use Rattle.fib_prefix.proofs.Numbers.{no_number}
+use Rattle.fib_addr.specs.Text.{number_in}
+use Rattle.fib_addr.proofs.Texts.{bytes_eq_is, bytes_eq_refl}
+use Rattle.fib_addr.proofs.Numbers.{no_number}
 use Rattle.printed_model.proofs.Numbers.{number_written}
 
 number_is_utf8 : (text : List ℕ) (n : ℕ) → text ≡ decimal n → n < 2 ^ 64 → IsUtf8 text

@@ -3,11 +3,11 @@ use Rattle.std.proofs.Common.{◌≡◌, ◌≤◌, List, [], ◌∷◌, ◌++�
 use Rattle.std.specs.Prelude.{◌↔◌, unwrap_or, IfOk, OnOk, IsErrOf}
 use Rattle.std.proofs.lemmas.Bool.{cond-false}
 use Rattle.address_model.specs.Address.{Address}
-use Rattle.fib_prefix.specs.Hops.{number_of, with_hop, most_hops}
-use Rattle.fib_prefix.specs.declared.entry.Hop.{Hop}
-use Rattle.fib_prefix.specs.declared.hops.HopError.{HopError}
-use Rattle.fib_prefix.specs.declared.hops.HopError.TheVariants as hop_error
-use Rattle.fib_prefix.proofs.HopLemmas.{new_is_not}
+use Rattle.fib_addr.specs.Hops.{number_of, with_hop, most_hops}
+use Rattle.fib_addr.specs.declared.entry.Hop.{Hop}
+use Rattle.fib_addr.specs.declared.hops.HopError.{HopError}
+use Rattle.fib_addr.specs.declared.hops.HopError.TheVariants as hop_error
+use Rattle.fib_addr.proofs.HopLemmas.{new_is_not}
 use Rattle.printed_model.specs.Used.{hop_number}
 use Rattle.cost_cert.specs.Steps.{Numbers}
 

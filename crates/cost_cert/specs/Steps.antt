@@ -1,9 +1,9 @@
 -- What one more row or line makes of what was read.
 use Rattle.std.specs.Prelude.{◌≡◌, ◌<◌, ◌≤◌, ℕ, List, ◌++◌, Option, Result, Ok, Err, fold, length, option_to_list}
 use Rattle.address_model.specs.Address.{Address}
-use Rattle.fib_prefix.specs.Hops.{with_hop, most_hops}
-use Rattle.fib_prefix.specs.declared.hops.HopError.{HopError}
-use Rattle.fib_prefix.specs.declared.hops.HopError.TheVariants as hop_error
+use Rattle.fib_addr.specs.Hops.{with_hop, most_hops}
+use Rattle.fib_addr.specs.declared.hops.HopError.{HopError}
+use Rattle.fib_addr.specs.declared.hops.HopError.TheVariants as hop_error
 use Rattle.printed_model.specs.Rows.{PrintedRow}
 use Rattle.printed_model.specs.Reading.{too_many_hops}
 use Rattle.printed_model.specs.Texts.{numbered_hop}

@@ -2,15 +2,15 @@
 
 ghost use Rattle.std.specs.Prelude.{◌≡◌, ◌^◌, bytes_eq, option_map};
 ghost use Rattle.octet_fields.specs.Gives.{Gives};
-ghost use Rattle.fib_prefix.specs.Seen.{addr_as, prefix_as};
-ghost use Rattle.fib_prefix.specs.Text.{number_in};
+ghost use Rattle.fib_addr.specs.Seen.{addr_as, prefix_as};
+ghost use Rattle.fib_addr.specs.Text.{number_in};
 ghost use Rattle.printed_model.specs.Reading.{address_field, count_field, family_field, hop_field, next_field, number_field, one_field, prefix_field, two_fields};
 ghost use Rattle.cost_cert.specs.Printed.{count_as};
 
 use crate::printed_row::Count;
 use crate::why;
 use bstr::Split;
-use fib_prefix::{Addr, Family, Prefix, read_addr, read_prefix};
+use fib_addr::{Addr, Family, Prefix, read_addr, read_prefix};
 use itoa::Buffer;
 use std::str;
 

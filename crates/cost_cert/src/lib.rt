@@ -12,12 +12,11 @@ mod error;
 mod fields;
 mod printed;
 mod printed_row;
-mod row;
 #[cfg(test)]
 mod tests;
 pub mod why;
 
+pub use cert_rows::Row;
 pub use error::{BadRow, PrintedError};
 pub use printed::{Printed, read_printed};
 pub use printed_row::{Count, PrintedRow, read_row};
-pub use row::Row;

@@ -1,8 +1,8 @@
 //! Whole printed texts.
 
 ghost use Rattle.std.specs.Prelude.{◌≡◌, ◌≤◌, [], length, option_map};
-ghost use Rattle.fib_prefix.specs.Hops.{most_hops};
-ghost use Rattle.fib_prefix.specs.Seen.{addr_as};
+ghost use Rattle.fib_addr.specs.Hops.{most_hops};
+ghost use Rattle.fib_addr.specs.Seen.{addr_as};
 ghost use Rattle.printed_model.specs.Reading.{line_in};
 ghost use Rattle.printed_model.specs.Used.{hop_number, printed_in, used_of};
 ghost use Rattle.cost_cert.specs.Printed.{IsRead, printed_as, printed_row_as};
@@ -11,10 +11,10 @@ ghost use Rattle.cost_cert.specs.Steps.{Numbers, TakesLine, hops_after, hops_wit
 
 use crate::error::{BadRow, PrintedError};
 use crate::printed_row::{PrintedRow, read_row};
-use crate::row::Row;
 use crate::why;
 use bstr::ByteSlice;
-use fib_prefix::{Addr, Entry, Hop, HopError, HopTable};
+use cert_rows::Row;
+use fib_addr::{Addr, Entry, Hop, HopError, HopTable};
 use std::alloc::Global;
 
 /// What a checker uses of a printed text. Each list keeps the order of its rows, and hops are numbered in the order of their

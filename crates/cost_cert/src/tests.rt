@@ -1,7 +1,7 @@
 //! Texts and the first bad line of each, one text read whole, and the most hops.
 
 use crate::{BadRow, PrintedError, Row, read_printed};
-use fib_prefix::{Addr, Entry, Family, Hop, MOST_TEXT, Prefix, write_addr};
+use fib_addr::{Addr, Entry, Family, Hop, MOST_TEXT, Prefix, write_addr};
 use std::test::Fail;
 
 /// Texts, and the first line of each that is no row, with its why.

@@ -17,7 +17,7 @@ use Rattle.address_model.proofs.Same.{same_address_itself}
 use Rattle.table_model.specs.Changes.{Add, Replace}
 use Rattle.route_model.specs.Events.{Elem, Put, Cut, prefix_of}
 use Rattle.route_model.specs.Choice.{Place, Offer, Candidates, same_place, place_cmp, after_elem, after_elems, is_chosen, chosen_in, routes_of, chosen_for}
-use Rattle.fib_prefix.specs.Hops.{number_of, with_hop}
+use Rattle.fib_addr.specs.Hops.{number_of, with_hop}
 use Rattle.feed_model.specs.Feed.{brought, hops_after, most_hops, full_at, number_in, entries_of, change_of, change_by, IsNumbered, AreNumbered}
 use Rattle.feed_model.proofs.Tables.{numbered}
 

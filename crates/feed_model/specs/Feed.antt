@@ -6,7 +6,7 @@ use Rattle.table_model.specs.Entries.{Entries}
 use Rattle.table_model.specs.Changes.{Change, Add, Replace, Remove, additions}
 use Rattle.route_model.specs.Events.{Elem, Put, Cut, prefix_of}
 use Rattle.route_model.specs.Choice.{Candidates, after_elem, chosen_for, routes_of}
-use Rattle.fib_prefix.specs.Hops.{number_of, with_hop}
+use Rattle.fib_addr.specs.Hops.{number_of, with_hop}
 
 -- ---- the numbers of next hops
 

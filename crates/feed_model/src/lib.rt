@@ -9,7 +9,7 @@ ghost use Rattle.address_model.specs.Address.{Address, Prefix};
 ghost use Rattle.table_model.specs.Changes.{after_changes, sum_of};
 ghost use Rattle.route_model.specs.Events.{Elem};
 ghost use Rattle.route_model.specs.Choice.{Candidates, AreCandidates, IsElem, after_elem, after_elems, chosen_for};
-ghost use Rattle.fib_prefix.specs.Hops.{number_of};
+ghost use Rattle.fib_addr.specs.Hops.{number_of};
 ghost use Rattle.feed_model.specs.Feed.{hops_after, most_hops, full_at, IsNumbered, AreNumbered, change_by, changes_from, changes_in, entries_of, load_changes};
 
 /// The changes of the load add up to the table of its routes, and those of later elementary events lead from there to the

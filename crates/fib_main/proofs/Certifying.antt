@@ -20,8 +20,8 @@ use Rattle.least_model.proofs.Laws.{fresh_law}
 use Rattle.cert_model.specs.Rows.{CertRow, bound_row, certificate_of, family_rows, region_rows, whole}
 use Rattle.cert_model.specs.Right.{IsCertificate}
 use Rattle.cert_model.proofs.Postorder.{completeness_law}
-use Rattle.cost_cert.specs.Seen.{row_as}
-use Rattle.cost_cert.specs.declared.row.Row as code
+use Rattle.cert_rows.specs.Seen.{row_as}
+use Rattle.cert_rows.specs.declared.row.Row as code
 use Rattle.fib_main.specs.declared.trees.Trees.{Trees}
 use Rattle.fib_main.specs.Held.{AreBoth, Hold, tree_of}
 use Rattle.fib_main.proofs.Looking.{least_in_both}

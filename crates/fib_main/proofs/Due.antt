@@ -15,8 +15,8 @@ use Rattle.fib_main.specs.declared.state.State.{State}
 use Rattle.fib_main.specs.Stops.{Stop, Untold, Refused, Is, Fails}
 use Rattle.fib_main.specs.Due.{Feed, feed_at, printed, told_at, text_of, with_text}
 use Rattle.fib_main.specs.Ends.{OneRose, ReadsBy, after, feeds_named}
-use Rattle.fib_prefix.specs.declared.addr.Addr.{Addr}
-use Rattle.fib_prefix.specs.declared.prefix.Prefix.{Prefix}
+use Rattle.fib_addr.specs.declared.addr.Addr.{Addr}
+use Rattle.fib_addr.specs.declared.prefix.Prefix.{Prefix}
 use Rattle.fib_main.specs.declared.report.Fed.{Fed}
 use Rattle.fib_main.specs.Seen.{changes_as, route_as}
 use Rattle.fib_main.specs.Standing.{Stands, Has, IsFed}

@@ -5,8 +5,8 @@ use Rattle.std.specs.List.{AllByRecursion, filter}
 use Rattle.octet_fields.specs.Field.{◌>>=◌}
 use Rattle.address_model.specs.Address.{Address, Prefix, IsPrefix}
 use Rattle.cert_model.specs.Verdict.{RowFits}
-use Rattle.fib_prefix.specs.Text.{prefix_in}
-use Rattle.fib_prefix.proofs.PrefixLaws.{read_is_prefix}
+use Rattle.fib_addr.specs.Text.{prefix_in}
+use Rattle.fib_addr.proofs.PrefixLaws.{read_is_prefix}
 use Rattle.printed_model.specs.Rows.{PrintedRow}
 use Rattle.printed_model.specs.Reading.{or_why, bad_prefix, line_in, row_in, named_in, route_in, change_in, signed_in, answer_in, visits_in, cert_in, part_in, join_in, bound_in, report_in, entry_in, next_field, one_field, two_fields, prefix_field, address_field, number_field, hop_field, count_field, family_field}
 use Rattle.printed_model.specs.Texts.{BadLine, hops_in, line_texts, rows_in}

@@ -15,7 +15,7 @@ use Rattle.route_model.proofs.Elems.{candidates_stay}
 use Rattle.route_model.proofs.Said.{none_yet}
 use Rattle.feed_model.specs.Feed.{IsNumbered, brought, entries_of, hops_after, number_in}
 use Rattle.feed_model.proofs.Numbers.{routes_numbered}
-use Rattle.fib_prefix.specs.Hops.{most_hops}
+use Rattle.fib_addr.specs.Hops.{most_hops}
 use Rattle.printed_model.specs.Rows.{PrintedRow, IsRow, text_of as rows_text}
 use Rattle.printed_model.specs.Numbered.{of_route, of_least, of_cert, IsOther, HaveHops, Proves, rows_with}
 use Rattle.printed_model.specs.Used.{printed_in, used_of}

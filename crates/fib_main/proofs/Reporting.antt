@@ -4,9 +4,9 @@ use Rattle.std.specs.Prelude.{get_or}
 use Rattle.std.proofs.lemmas.List.{map_push}
 use Rattle.address_model.specs.Address.{Address}
 use Rattle.table_model.specs.Entries.{Entries, match_in}
-use Rattle.fib_prefix.specs.declared.addr.Addr.{Addr}
-use Rattle.fib_prefix.specs.declared.entry.Hop.{Hop}
-use Rattle.fib_prefix.specs.Seen.{addr_as}
+use Rattle.fib_addr.specs.declared.addr.Addr.{Addr}
+use Rattle.fib_addr.specs.declared.entry.Hop.{Hop}
+use Rattle.fib_addr.specs.Seen.{addr_as}
 use Rattle.fib_main.specs.Due.{answers_to}
 use Rattle.fib_main.specs.Seen.{answers_as}
 use Rattle.fib_main.proofs.Steps.{take_next}

@@ -3,7 +3,7 @@ use Rattle.std.proofs.Common.{◌≡◌, ℕ, suc, ◌+◌, ◌<◌, ◌≤◌, 
 use Rattle.std.specs.Prelude.{option_map, get_or, ◌⊎◌}
 use Rattle.std.proofs.Math.Seq.{drop-cons}
 use Rattle.std.proofs.lemmas.List.{take_all, take_more, take-append-drop, map-append}
-use Rattle.fib_prefix.specs.declared.hops.HopError.{HopError}
+use Rattle.fib_addr.specs.declared.hops.HopError.{HopError}
 use Rattle.fib_main.specs.declared.state.FeedError.{FeedError}
 use Rattle.fib_main.specs.declared.state.FeedError.TheVariants.{Malformed, HopsFull, NoMemory}
 use Rattle.std.proofs.lemmas.Bool.{lt-ltb, le-ltb}
@@ -14,24 +14,25 @@ use Rattle.address_model.specs.Width.{width}
 use Rattle.address_model.proofs.BitLaws.{length-bits_of}
 use Rattle.std.proofs.lemmas.List.Sums.{fold-append}
 use Rattle.address_model.specs.Address.{Address, IsPrefix, Prefix, same_address}
-use Rattle.fib_prefix.proofs.Parts.{length_prefix}
+use Rattle.fib_addr.proofs.Parts.{length_prefix}
 use Rattle.table_model.specs.Changes.{Change, Replace}
 use Rattle.route_model.specs.Events.{Elem, Event}
 use Rattle.route_model.specs.Choice.{Candidates, IsElem, after_elem, after_elems, elems_of, elems_after}
 use Rattle.route_model.proofs.Elems.{elems_more}
 use Rattle.feed_model.specs.Feed.{AreNumbered, hops_after, full_at, change_of, change_by, changes_from, at_event, number_in}
 use Rattle.feed_model.proofs.Numbers.{hops_more, full_in_front, full_behind, routes_numbered, change_stays}
-use Rattle.fib_prefix.specs.Hops.{number_of, with_hop, most_hops}
-use Rattle.fib_prefix.specs.Seen.{addr_as}
-use Rattle.fib_prefix.specs.declared.addr.Addr.{Addr}
-use Rattle.fib_prefix.proofs.HopLemmas.{new_is_not}
+use Rattle.fib_addr.specs.Hops.{number_of, with_hop, most_hops}
+use Rattle.fib_addr.specs.Seen.{addr_as}
+use Rattle.fib_addr.specs.declared.addr.Addr.{Addr}
+use Rattle.fib_addr.proofs.HopLemmas.{new_is_not}
 use Rattle.fib_report.specs.declared.run.Change as code_change
 use Rattle.fib_report.specs.Seen.{change_as}
 use Rattle.route_choice.specs.Held.{IsChoice}
 use Rattle.route_choice.specs.declared.choice.Choice.{Choice}
-use Rattle.fib_prefix.specs.Seen.{prefix_as, elem_as}
+use Rattle.fib_addr.specs.Seen.{prefix_as}
+use Rattle.fib_prefix.specs.Seen.{elem_as}
 use Rattle.fib_prefix.specs.declared.event.Peer as code_peer
-use Rattle.fib_prefix.specs.declared.prefix.Prefix as code_prefix
+use Rattle.fib_addr.specs.declared.prefix.Prefix as code_prefix
 use Rattle.fib_prefix.specs.declared.event.Elem as code_elem
 use Rattle.fib_prefix.specs.declared.event.Elem.TheVariants as code_variant
 use Rattle.fib_main.specs.declared.outcome.Which.{Which}

@@ -9,17 +9,17 @@ use Rattle.table_model.specs.Entries.{Entries}
 use Rattle.table_model.specs.Changes.{additions}
 use Rattle.least_model.specs.Both.{aggregate_in_both}
 use Rattle.cert_model.specs.Rows.{certificate_of}
-use Rattle.cost_cert.specs.Seen.{row_as}
+use Rattle.cert_rows.specs.Seen.{row_as}
 use Rattle.route_model.specs.Events.{Elem}
 use Rattle.route_model.specs.Choice.{Candidates, AreCandidates, after_elems, routes_of}
 use Rattle.route_model.proofs.Choices.{routes_sorted}
 use Rattle.route_model.proofs.Elems.{candidates_stay}
 use Rattle.route_model.proofs.Said.{none_yet}
 use Rattle.feed_model.specs.Feed.{hops_after, entries_of, load_changes, changes_from, at_event, number_in}
-use Rattle.fib_prefix.specs.declared.addr.Addr.{Addr}
-use Rattle.fib_prefix.specs.declared.prefix.Prefix.{Prefix}
-use Rattle.fib_prefix.specs.declared.entry.Entry.{Entry}
-use Rattle.fib_prefix.specs.Seen.{addr_as, entry_as}
+use Rattle.fib_addr.specs.declared.addr.Addr.{Addr}
+use Rattle.fib_addr.specs.declared.prefix.Prefix.{Prefix}
+use Rattle.fib_addr.specs.declared.entry.Entry.{Entry}
+use Rattle.fib_addr.specs.Seen.{addr_as, entry_as}
 use Rattle.fib_report.specs.declared.run.Change.{Change}
 use Rattle.fib_report.specs.declared.run.Report.{Report}
 use Rattle.fib_report.specs.Seen.{Told}

@@ -2,7 +2,7 @@
 use Rattle.std.specs.Prelude.{ℕ, ◌+◌, List, [], ◌∷◌, Option, Some, None, Result, Ok, Err}
 use Rattle.octet_fields.specs.Field.{◌>>=◌}
 use Rattle.address_model.specs.Address.{Address}
-use Rattle.fib_prefix.specs.Text.{address_in}
+use Rattle.fib_addr.specs.Text.{address_in}
 use Rattle.printed_model.specs.Texts.{line_texts}
 
 -- the address in front of more, or the number of its line where it is none

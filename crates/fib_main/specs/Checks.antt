@@ -2,8 +2,8 @@
 use Rattle.std.specs.Prelude.{List, ℕ, [], ◌∷◌, codes, decimal, Option, Some, None}
 use Rattle.address_model.specs.Address.{Address}
 use Rattle.cert_model.specs.Verdict.{No, Twice, NotSame, Shape, LeafWrong, JoinWrong, NotLeast, verdict}
-use Rattle.fib_prefix.specs.Hops.{hop_at}
-use Rattle.fib_prefix.specs.Text.{address_text, prefix_text}
+use Rattle.fib_addr.specs.Hops.{hop_at}
+use Rattle.fib_addr.specs.Text.{address_text, prefix_text}
 use Rattle.printed_model.specs.Rows.{family_name, hop_text, line}
 use Rattle.printed_model.specs.Used.{Used}
 

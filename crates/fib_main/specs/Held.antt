@@ -7,9 +7,9 @@ use Rattle.address_model.specs.declared.family.Family.TheVariants.{V4, V6}
 use Rattle.table_model.specs.Entries.{Entries, of_family, in_order}
 use Rattle.least_model.specs.Both.{aggregate_in_both}
 use Rattle.cert_model.specs.Rows.{certificate_of}
-use Rattle.cost_cert.specs.Seen.{row_as}
+use Rattle.cert_rows.specs.Seen.{row_as}
 use Rattle.orig_tree.specs.Seen.{Labels}
-use Rattle.fib_prefix.specs.Seen.{entry_as}
+use Rattle.fib_addr.specs.Seen.{entry_as}
 use Rattle.ortc.specs.declared.table.Fresh.{Fresh}
 use Rattle.fib_main.specs.declared.trees.Trees.{Trees}
 use Rattle.fib_main.specs.declared.report.Looked.{Looked}

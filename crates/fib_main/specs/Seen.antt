@@ -3,10 +3,10 @@ use Rattle.std.specs.Prelude.{ℕ, ◌+◌, List, map, option_map}
 use Rattle.address_model.specs.Address.{Address, Prefix}
 use Rattle.table_model.specs.Changes.{Change}
 use Rattle.feed_model.specs.Feed.{number_in}
-use Rattle.fib_prefix.specs.declared.addr.Addr as code_addr
-use Rattle.fib_prefix.specs.declared.prefix.Prefix as code_prefix
-use Rattle.fib_prefix.specs.declared.entry.Hop as code_hop
-use Rattle.fib_prefix.specs.Seen.{addr_as, prefix_as}
+use Rattle.fib_addr.specs.declared.addr.Addr as code_addr
+use Rattle.fib_addr.specs.declared.prefix.Prefix as code_prefix
+use Rattle.fib_addr.specs.declared.entry.Hop as code_hop
+use Rattle.fib_addr.specs.Seen.{addr_as, prefix_as}
 use Rattle.fib_report.specs.declared.run.Change as code_change
 use Rattle.fib_report.specs.declared.run.Report.{Report}
 use Rattle.fib_report.specs.Seen.{change_as}

@@ -6,7 +6,7 @@ use Rattle.table_model.specs.Changes.{Change}
 use Rattle.route_model.specs.Events.{Elem, Event}
 use Rattle.route_model.specs.Choice.{Candidates, IsElem, after_elems, elems_after, routes_of}
 use Rattle.feed_model.specs.Feed.{hops_after, full_at, changes_from}
-use Rattle.fib_prefix.specs.Hops.{most_hops}
+use Rattle.fib_addr.specs.Hops.{most_hops}
 use Rattle.fib_main.specs.declared.outcome.Which.{Which}
 use Rattle.fib_main.specs.declared.outcome.Which.TheVariants.{Asks, Dump, Updates, Printed}
 use Rattle.fib_main.specs.declared.outcome.Outcome.{Outcome}

@@ -3,8 +3,8 @@
 ghost use Rattle.std.specs.Prelude.{◌≡◌, ◌∷◌, [], codes, decimal, option_map, IfOk, Some};
 ghost use Rattle.cert_check.specs.Seen.{no_as};
 ghost use Rattle.cost_cert.specs.Printed.{printed_as};
-ghost use Rattle.fib_prefix.specs.Seen.{addr_as, prefix_as};
-ghost use Rattle.fib_prefix.specs.Text.{address_text, prefix_text};
+ghost use Rattle.fib_addr.specs.Seen.{addr_as, prefix_as};
+ghost use Rattle.fib_addr.specs.Text.{address_text, prefix_text};
 ghost use Rattle.printed_model.specs.Rows.{family_name, line};
 ghost use Rattle.printed_model.specs.Used.{printed_in};
 ghost use Rattle.fib_main.specs.Checks.{hop_field, no_fields, verdict_of, verdict_text};

@@ -3,7 +3,7 @@
 ghost use Rattle.std.specs.Prelude.{◌≡◌, List, [], Some, None, map, IfOk, OnOk, option_to_list};
 ghost use Rattle.std.specs.String.{string_bytes};
 ghost use Rattle.fib_io.specs.Causes.{Rose};
-ghost use Rattle.fib_prefix.specs.Seen.{addr_as};
+ghost use Rattle.fib_addr.specs.Seen.{addr_as};
 ghost use Rattle.fib_main.specs.Due.{asks_at, checked, due, feed_at, input_at, output_at, reply_at, run_at, told_at, used_at, with_reply, with_text};
 ghost use Rattle.fib_main.specs.Ends.{feeds_named, OneRose, reads, reads_asked, reads_named, ReadsFor};
 ghost use Rattle.fib_main.specs.Proves.{ChecksYes, IfRan, IsRun, PrintsYes};

@@ -10,7 +10,7 @@ ghost use Rattle.address_model.specs.Order.{prefix_cmp};
 ghost use Rattle.table_model.specs.Entries.{Entries};
 ghost use Rattle.table_model.specs.Changes.{additions};
 ghost use Rattle.feed_model.specs.Feed.{at_event};
-ghost use Rattle.fib_prefix.specs.Seen.{addr_as, entry_as};
+ghost use Rattle.fib_addr.specs.Seen.{addr_as, entry_as};
 ghost use Rattle.fib_main.specs.Due.{answers_to, Feed, printed, text_of};
 ghost use Rattle.fib_report.specs.Seen.{run_as};
 ghost use Rattle.fib_main.specs.Standing.{IsFed};

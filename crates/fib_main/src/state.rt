@@ -1,11 +1,12 @@
 //! What the inputs bring: candidates, the numbers of next hops, and the changes that updates make.
 
 ghost use Rattle.std.specs.Prelude.{◌≡◌, ◌≤◌, ◌<◌, ◌∷◌, [], length, map, option_map, IfOk, OnOk, IsErrOf, option_to_list};
-ghost use Rattle.fib_prefix.specs.Seen.{addr_as, elem_as, event_as, prefix_as};
+ghost use Rattle.fib_addr.specs.Seen.{addr_as, prefix_as};
+ghost use Rattle.fib_prefix.specs.Seen.{elem_as, event_as};
 ghost use Rattle.route_model.specs.Choice.{after_elem};
 ghost use Rattle.route_choice.specs.Held.{IsChoice};
 ghost use Rattle.feed_model.specs.Feed.{change_of, hops_after, number_in};
-ghost use Rattle.fib_prefix.specs.Hops.{most_hops};
+ghost use Rattle.fib_addr.specs.Hops.{most_hops};
 ghost use Rattle.fib_report.specs.Seen.{change_as};
 ghost use Rattle.fib_main.specs.Standing.{of_read, Takes, TakesAll};
 ghost use Rattle.fib_main.specs.declared.state.FeedError.TheVariants.{Malformed as IsMalformed, NoMemory as IsNoMemory};

@@ -2,7 +2,7 @@
 
 ghost use Rattle.std.specs.Prelude.{◌≡◌, [], ◌∷◌, ◌++◌, IfOk, OnOk, map};
 ghost use Rattle.table_model.specs.Entries.{Entries, match_in, with_entry};
-ghost use Rattle.fib_prefix.specs.Seen.{addr_as, entry_as};
+ghost use Rattle.fib_addr.specs.Seen.{addr_as, entry_as};
 ghost use Rattle.fib_main.specs.Held.{AreBoth, Given, Hold, IsFresh};
 
 use fib_prefix::{Addr, Entry, Family, Hop};

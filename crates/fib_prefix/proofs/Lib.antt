@@ -1,16 +1,1 @@
-pub mod Parts
-pub mod Texts
-pub mod TextLaws
-pub mod Octets
-pub mod GroupBits
-pub mod GroupTexts
-pub mod GroupLaws
-pub mod RegionLemmas
-pub mod Numbers
-pub mod HopLemmas
-pub mod PrefixTexts
-pub mod PrefixLaws
-pub mod Ordering
-pub mod Fronts
 pub mod Peers
-pub mod UniformLemmas

@@ -1,7 +1,6 @@
 //! What peers say of prefixes.
 
-use crate::addr::Addr;
-use crate::prefix::Prefix;
+use fib_addr::{Addr, Prefix};
 
 /// A peer: its address and its AS number. Peers are ordered by address, IPv4 before IPv6, then by AS number.
 #[derive(Clone, Copy, Debug, PartialEq, Eq, PartialOrd, Ord, Hash)]

@@ -7,10 +7,10 @@ use Rattle.std.proofs.lemmas.List.{take_more, map-append}
 use Rattle.address_model.specs.Address.{Address, IsAddress, IsPrefix, Prefix as Model}
 use Rattle.address_model.specs.Width.{width}
 use Rattle.address_model.proofs.BitLaws.{length-bits_of}
-use Rattle.fib_prefix.specs.declared.addr.Addr.{Addr}
-use Rattle.fib_prefix.specs.declared.prefix.Prefix.{Prefix}
-use Rattle.fib_prefix.specs.Seen.{addr_as, prefix_as}
-use Rattle.fib_prefix.proofs.Parts.{length_prefix}
+use Rattle.fib_addr.specs.declared.addr.Addr.{Addr}
+use Rattle.fib_addr.specs.declared.prefix.Prefix.{Prefix}
+use Rattle.fib_addr.specs.Seen.{addr_as, prefix_as}
+use Rattle.fib_addr.proofs.Parts.{length_prefix}
 use Rattle.printed_model.specs.Rows.{PrintedRow, IsHop, IsRow, route_row}
 use Rattle.printed_model.specs.Numbered.{route_by}
 

@@ -2,7 +2,7 @@
 use Rattle.std.specs.Prelude.{ℕ, List, [], ◌∷◌, ◌++◌, map, flat_map}
 use Rattle.address_model.specs.Address.{Address, Prefix}
 use Rattle.table_model.specs.Changes.{Change, Add, Replace, Remove}
-use Rattle.fib_prefix.specs.Hops.{hop_at}
+use Rattle.fib_addr.specs.Hops.{hop_at}
 use Rattle.printed_model.specs.Rows.{Records, Skipped, Events, Routes, Entries, PrintedRow, add_row, replace_row, remove_row, answer_row, table_row, report_row, text_of}
 use Rattle.printed_model.specs.Numbered.{of_route, of_least, of_cert}
 use Rattle.fib_report.specs.Seen.{Told}

@@ -4,8 +4,8 @@ use Rattle.address_model.specs.Address.{Address}
 use Rattle.table_model.specs.Entries.{Entries}
 use Rattle.table_model.specs.Changes.{Change, Add, Replace, Remove}
 use Rattle.cert_model.specs.Rows.{CertRow}
-use Rattle.fib_prefix.specs.Seen.{addr_as, prefix_as, entry_as}
-use Rattle.cost_cert.specs.Seen.{row_as}
+use Rattle.fib_addr.specs.Seen.{addr_as, prefix_as, entry_as}
+use Rattle.cert_rows.specs.Seen.{row_as}
 use Rattle.fib_report.specs.declared.run.Change as code_change
 use Rattle.fib_report.specs.declared.run.Change.TheVariants as code
 use Rattle.fib_report.specs.declared.run.Report.{Report}

@@ -2,8 +2,8 @@
 //! a row costs its length.
 
 ghost use Rattle.std.specs.Prelude.{◌≤◌, ◌∷◌, [], codes, decimal, length, map, option_map, OnOk};
-ghost use Rattle.fib_prefix.specs.Seen.{addr_as, prefix_as};
-ghost use Rattle.fib_prefix.specs.Text.{address_text, prefix_text};
+ghost use Rattle.fib_addr.specs.Seen.{addr_as, prefix_as};
+ghost use Rattle.fib_addr.specs.Text.{address_text, prefix_text};
 ghost use Rattle.printed_model.specs.Rows.{IsRow, count_name, family_name, hop_text, line_of, line};
 ghost use Rattle.cost_cert.specs.Printed.{count_as, printed_row_as};
 ghost use Rattle.fib_report.specs.Writing.{AddsRows, IsAtRow};
@@ -11,7 +11,7 @@ ghost use Rattle.fib_report.specs.Writing.{AddsRows, IsAtRow};
 use crate::fields::{count_field, family_field, hop_field};
 use cost_cert::{Count, PrintedRow};
 use csv::Writer;
-use fib_prefix::{Addr, Family, MOST_TEXT, Prefix, addr_text, prefix_text};
+use fib_addr::{Addr, Family, MOST_TEXT, Prefix, addr_text, prefix_text};
 use itoa::Buffer;
 use std::alloc::AllocError;
 use std::io::Write;

@@ -17,9 +17,9 @@
 
 ghost use Rattle.std.specs.Prelude.{◌≡◌, ◌≤◌, [], ◌++◌, flat_map, length, map, IfOk, OnOk, OnErr, Some};
 ghost use Rattle.std.specs.List.{AllByRecursion};
-ghost use Rattle.fib_prefix.specs.Seen.{addr_as, entry_as};
+ghost use Rattle.fib_addr.specs.Seen.{addr_as, entry_as};
 ghost use Rattle.cost_cert.specs.Printed.{printed_row_as};
-ghost use Rattle.cost_cert.specs.Seen.{row_as};
+ghost use Rattle.cert_rows.specs.Seen.{row_as};
 ghost use Rattle.printed_model.specs.Rows.{IsRow, text_of, line};
 ghost use Rattle.fib_report.specs.Rows.{of_answer, of_change, of_table, printed_rows, report_rows, run_text};
 ghost use Rattle.printed_model.specs.Numbered.{of_cert, of_least, of_route};
@@ -31,7 +31,7 @@ use crate::printed_row::{put_fields, put_row};
 use crate::run::{Change, Report, Run};
 use cost_cert::{Count, PrintedRow, Row};
 use csv::{QuoteStyle, Writer, WriterBuilder};
-use fib_prefix::{Addr, Entry, Hop, HopTable};
+use fib_addr::{Addr, Entry, Hop, HopTable};
 use std::alloc::{AllocError, Global};
 use std::io::Write;
 

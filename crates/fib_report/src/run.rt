@@ -4,7 +4,7 @@
 //! is given beside the run. `specs/Seen.antt` says what contracts see of it.
 
 use cost_cert::Row;
-use fib_prefix::{Addr, Entry, Hop, Prefix};
+use fib_addr::{Addr, Entry, Hop, Prefix};
 
 /// A change to a table.
 #[derive(Clone, Copy, Debug, PartialEq, Eq)]

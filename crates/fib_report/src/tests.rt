@@ -2,7 +2,7 @@
 
 use crate::{Change, Report, Run, write_run};
 use cost_cert::Row;
-use fib_prefix::{Addr, Entry, Family, Hop, HopTable, Prefix};
+use fib_addr::{Addr, Entry, Family, Hop, HopTable, Prefix};
 use std::test::Fail;
 
 #[test]

@@ -1,8 +1,8 @@
 //! Rows over inputs and sinks in memory: what goes in, and the outcome, the status and all that comes out.
 
+use fib_addr::{Addr, Family, Hop, Prefix};
 use fib_io::{MemInputs, MemSink};
 use fib_main::{No, Outcome, Which, run_fib};
-use fib_prefix::{Addr, Family, Hop, Prefix};
 use std::alloc::Global;
 use std::process::Abort;
 use std::test::Fail;

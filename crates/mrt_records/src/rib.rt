@@ -3,7 +3,8 @@
 ghost use Rattle.std.specs.Prelude.{map, option_map, ◌≡◌, []};
 ghost use Rattle.octet_fields.specs.Field.{one_more, times};
 ghost use Rattle.octet_fields.specs.Gives.{Gives};
-ghost use Rattle.fib_prefix.specs.Seen.{addr_as, prefix_as, peer_as, event_as};
+ghost use Rattle.fib_addr.specs.Seen.{addr_as, prefix_as};
+ghost use Rattle.fib_prefix.specs.Seen.{peer_as, event_as};
 ghost use Rattle.reading_model.specs.Rib.{entry_at, entry_hop, rib};
 ghost use Rattle.bgp_attrs.specs.Views.{listed_as};
 ghost use Rattle.wire_fields.specs.Gives.{GivesInMemory};
@@ -11,10 +12,11 @@ ghost use Rattle.mrt_records.specs.Views.{peers_of};
 
 use crate::table::PeerTable;
 use bgp_attrs::{Attrs, Place, read_attrs};
+use bgp_update::event_of;
 use fib_prefix::{Addr, Event, Family, Peer, Prefix};
 use octet_fields::{octets, u16_at};
 use std::alloc::Global;
-use wire_fields::{Refusal, event_of, prefix, rule};
+use wire_fields::{Refusal, prefix, rule};
 
 /// The next hop of an entry in a record of this family.
 fn hop_of_entry(family: Family, attrs: &Attrs) -> Option<Addr>

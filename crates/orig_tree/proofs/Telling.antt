@@ -10,11 +10,11 @@ use Rattle.table_model.specs.Table.{Table, here}
 use Rattle.table_model.specs.Entries.{Entries, of_table}
 use Rattle.table_model.proofs.Cut.{entry}
 use Rattle.least_model.specs.Regions.{lift, join}
-use Rattle.fib_prefix.specs.Seen.{entry_as, prefix_as}
-use Rattle.fib_prefix.specs.declared.prefix.Prefix as code
-use Rattle.fib_prefix.specs.declared.entry.Entry as code_entry
-use Rattle.fib_prefix.proofs.Parts.{length_prefix}
-use Rattle.fib_prefix.specs.Regions.{half_of}
+use Rattle.fib_addr.specs.Seen.{entry_as, prefix_as}
+use Rattle.fib_addr.specs.declared.prefix.Prefix as code
+use Rattle.fib_addr.specs.declared.entry.Entry as code_entry
+use Rattle.fib_addr.proofs.Parts.{length_prefix}
+use Rattle.fib_addr.specs.Regions.{half_of}
 use Rattle.orig_tree.specs.Walk.{Walks, nothing, walks_of, rows_of, picked}
 use Rattle.orig_tree.specs.declared.node.Label.{Label}
 use Rattle.orig_tree.specs.Seen.{Fits}

@@ -6,7 +6,7 @@ ghost use Rattle.address_model.specs.Bits.{bits_of};
 ghost use Rattle.address_model.specs.Width.{width};
 ghost use Rattle.table_model.specs.Table.{lpm, root, half, here};
 ghost use Rattle.least_model.specs.Regions.{above, lift};
-ghost use Rattle.fib_prefix.specs.Seen.{entry_as, prefix_as};
+ghost use Rattle.fib_addr.specs.Seen.{entry_as, prefix_as};
 ghost use Rattle.orig_tree.specs.Walk.{behind, nothing, walks_of, rows_of, edited, Allowed, picked, has_node};
 ghost use Rattle.table_model.specs.Entries.{of_table};
 ghost use Rattle.orig_tree.specs.Seen.{Fits};
@@ -16,7 +16,7 @@ ghost use Rattle.orig_tree.specs.Uniform.{IsUniform};
 ghost use Rattle.orig_tree.specs.Trims.{IsTrimmed, bare, has_labels};
 
 use crate::cover::{Cover, Slot};
-use fib_prefix::{Entry, Hop, Prefix, bit_at};
+use fib_addr::{Entry, Hop, Prefix, bit_at};
 use std::alloc::{AllocError, Global};
 use std::marker::Model;
 

@@ -4,7 +4,7 @@ ghost use Rattle.std.specs.Prelude.{◌≡◌, ◌≤◌};
 ghost use Rattle.address_model.specs.declared.family.Family.TheVariants.{V4};
 
 use super::*;
-use fib_prefix::{Addr, Answers, Entry, Family, Hop, Prefix};
+use fib_addr::{Addr, Answers, Entry, Family, Hop, Prefix};
 use std::alloc::AllocError;
 
 fn prefix(bits: u32, len: u8) -> Prefix

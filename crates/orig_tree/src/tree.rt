@@ -5,8 +5,8 @@ ghost use Rattle.std.specs.Map.{remove_entry};
 ghost use Rattle.address_model.specs.Address.{same_prefix};
 ghost use Rattle.table_model.specs.Entries.{with_entry, match_in, of_family, of_table};
 ghost use Rattle.least_model.specs.Regions.{above};
-ghost use Rattle.fib_prefix.specs.Seen.{addr_as, prefix_as, entry_as};
-ghost use Rattle.fib_prefix.specs.Uniform.{AllGet, TwoDiffer};
+ghost use Rattle.fib_addr.specs.Seen.{addr_as, prefix_as, entry_as};
+ghost use Rattle.fib_addr.specs.Uniform.{AllGet, TwoDiffer};
 ghost use Rattle.address_model.specs.Width.{width};
 ghost use Rattle.orig_tree.specs.Walk.{has_node, rows_of};
 ghost use Rattle.orig_tree.specs.Seen.{InPlace, Fits};
@@ -14,7 +14,7 @@ ghost use Rattle.orig_tree.specs.Trims.{AreTrimmed};
 
 use crate::node::{Label, Node, answer, assign, inherited, leaf, room, tell, trim, uniform};
 use crate::path::path_bits;
-use fib_prefix::{Addr, Entry, Family, Hop, Prefix};
+use fib_addr::{Addr, Entry, Family, Hop, Prefix};
 use std::alloc::{AllocError, Global};
 use std::marker::Model;
 

@@ -5,10 +5,10 @@ use Rattle.address_model.specs.Address.{Prefix}
 use Rattle.address_model.specs.Bits.{bits_of}
 use Rattle.address_model.specs.Width.{width}
 use Rattle.address_model.specs.declared.family.Family.{Family}
-use Rattle.fib_prefix.specs.Seen.{prefix_as}
-use Rattle.fib_prefix.proofs.Parts.{length_prefix}
-use Rattle.fib_prefix.specs.Regions.{half_of}
-use Rattle.fib_prefix.specs.declared.prefix.Prefix as code
+use Rattle.fib_addr.specs.Seen.{prefix_as}
+use Rattle.fib_addr.proofs.Parts.{length_prefix}
+use Rattle.fib_addr.specs.Regions.{half_of}
+use Rattle.fib_addr.specs.declared.prefix.Prefix as code
 use Rattle.table_model.specs.Table.{Table, root, half, here, inherit, lpm, cut}
 use Rattle.table_model.specs.Entries.{Entries, of_family, of_table}
 use Rattle.table_model.proofs.Cut.{entry}

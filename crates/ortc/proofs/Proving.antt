@@ -4,9 +4,9 @@ use Rattle.std.proofs.lemmas.List.{map-append}
 use Rattle.address_model.specs.Address.{Prefix}
 use Rattle.address_model.specs.Width.{width}
 use Rattle.address_model.specs.declared.family.Family.{Family}
-use Rattle.fib_prefix.specs.Seen.{prefix_as}
-use Rattle.fib_prefix.specs.Regions.{half_of}
-use Rattle.fib_prefix.specs.declared.prefix.Prefix as code
+use Rattle.fib_addr.specs.Seen.{prefix_as}
+use Rattle.fib_addr.specs.Regions.{half_of}
+use Rattle.fib_addr.specs.declared.prefix.Prefix as code
 use Rattle.table_model.specs.Table.{Table, cut}
 use Rattle.table_model.specs.Entries.{Entries, of_family}
 use Rattle.least_model.specs.Sets.{side, set_of, k_of, answers}
@@ -17,8 +17,8 @@ use Rattle.cert_model.specs.Right.{bound_by}
 use Rattle.cert_model.proofs.Answers.{one_answer_from}
 use Rattle.cert_model.proofs.Postorder.{have_bound, few}
 use Rattle.orig_tree.proofs.Telling.{half_longer, whole_len}
-use Rattle.cost_cert.specs.Seen.{row_as}
-use Rattle.cost_cert.specs.declared.row.Row as code_row
+use Rattle.cert_rows.specs.Seen.{row_as}
+use Rattle.cert_rows.specs.declared.row.Row as code_row
 use Rattle.ortc.specs.declared.region.Region.{Region}
 use Rattle.ortc.specs.Stands.{Stands, hops_of, k_in}
 use Rattle.ortc.proofs.Rising.{hops_stand, k_stands}

@@ -12,8 +12,8 @@ ghost use Rattle.least_model.specs.Sets.{agg};
 ghost use Rattle.least_model.specs.Least.{Least, LeastWithin, aggregate};
 ghost use Rattle.least_model.specs.Both.{aggregate_in};
 ghost use Rattle.cert_model.specs.Rows.{family_rows};
-ghost use Rattle.fib_prefix.specs.Seen.{entry_as, prefix_as};
-ghost use Rattle.cost_cert.specs.Seen.{row_as};
+ghost use Rattle.fib_addr.specs.Seen.{entry_as, prefix_as};
+ghost use Rattle.cert_rows.specs.Seen.{row_as};
 ghost use Rattle.ortc.specs.Stands.{Stands};
 ghost use Rattle.ortc.specs.Proved.{ProveLeast};
 
@@ -21,7 +21,7 @@ use crate::hop_set::own_hop;
 use crate::region::{Region, below, region_of};
 use crate::rows::prove;
 use crate::table::Fresh;
-use fib_prefix::{Entry, Hop, Prefix};
+use fib_addr::{Entry, Hop, Prefix};
 use orig_tree::{Tree, push_entry};
 use std::alloc::{AllocError, Global};
 

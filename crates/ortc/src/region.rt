@@ -12,13 +12,13 @@ ghost use Rattle.address_model.specs.Width.{width};
 ghost use Rattle.table_model.specs.Table.{Table, lpm, root, half, inherit, cut};
 ghost use Rattle.table_model.specs.Entries.{of_family};
 ghost use Rattle.least_model.specs.Sets.{side, answers};
-ghost use Rattle.fib_prefix.specs.Seen.{prefix_as};
+ghost use Rattle.fib_addr.specs.Seen.{prefix_as};
 ghost use Rattle.orig_tree.specs.Walk.{behind};
 ghost use Rattle.ortc.specs.Hops.{Ascending};
 ghost use Rattle.ortc.specs.Stands.{Stands, hops_of, k_in, hop_in};
 
 use crate::hop_set::HopSet;
-use fib_prefix::{Prefix, bit_at};
+use fib_addr::{Prefix, bit_at};
 use orig_tree::{Label, Node, Tree, path_bits};
 use std::alloc::{AllocError, Global};
 use std::slice;

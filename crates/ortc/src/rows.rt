@@ -9,13 +9,13 @@ ghost use Rattle.table_model.specs.Table.{Table};
 ghost use Rattle.least_model.specs.Sets.{set_of, k_of};
 ghost use Rattle.cert_model.specs.Rows.{bound_row, region_rows};
 ghost use Rattle.cert_model.specs.Right.{bound_by};
-ghost use Rattle.fib_prefix.specs.Seen.{prefix_as};
-ghost use Rattle.cost_cert.specs.Seen.{row_as};
+ghost use Rattle.fib_addr.specs.Seen.{prefix_as};
+ghost use Rattle.cert_rows.specs.Seen.{row_as};
 ghost use Rattle.ortc.specs.Stands.{Stands, hops_of, k_in};
 
 use crate::region::{Region, hops_of, k_in, sum};
-use cost_cert::Row;
-use fib_prefix::{Hop, Prefix};
+use cert_rows::Row;
+use fib_addr::{Hop, Prefix};
 use std::alloc::{AllocError, Global};
 
 /// The rows of a region, which stands for the prefix, behind those that there are.

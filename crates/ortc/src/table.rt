@@ -1,7 +1,7 @@
 //! What a fresh table comes with.
 
-use cost_cert::Row;
-use fib_prefix::Entry;
+use cert_rows::Row;
+use fib_addr::Entry;
 
 /// A fresh table.
 #[derive(Drop)]

@@ -6,7 +6,7 @@ ghost use Rattle.address_model.specs.declared.family.Family.TheVariants.{V4};
 
 use super::*;
 use crate::hop_set::HopSet;
-use fib_prefix::{Addr, Entry, Family, Hop, Prefix};
+use fib_addr::{Addr, Entry, Family, Hop, Prefix};
 use orig_tree::Tree;
 use std::alloc::{AllocError, Global};
 
@@ -60,13 +60,13 @@ fn listed(alloc: Global, rows: &[Row]) -> Result<Vec<Entry>, AllocError> {
     Ok(list)
 }
 
-fn proof_of(alloc: Global, steps: &[Step]) -> Result<Vec<cost_cert::Row>, AllocError> {
+fn proof_of(alloc: Global, steps: &[Step]) -> Result<Vec<cert_rows::Row>, AllocError> {
     let mut rows = Vec::new(alloc);
     for step in steps {
         rows.push(match step {
-            Step::Leaf(bits, len, hop) => cost_cert::Row::Leaf(prefix(*bits, *len), Hop(*hop)),
-            Step::Join(bits, len, k) => cost_cert::Row::Join(prefix(*bits, *len), *k),
-            Step::Bound(entries) => cost_cert::Row::Bound(Family::V4, *entries),
+            Step::Leaf(bits, len, hop) => cert_rows::Row::Leaf(prefix(*bits, *len), Hop(*hop)),
+            Step::Join(bits, len, k) => cert_rows::Row::Join(prefix(*bits, *len), *k),
+            Step::Bound(entries) => cert_rows::Row::Bound(Family::V4, *entries),
         })?;
     }
     Ok(rows)

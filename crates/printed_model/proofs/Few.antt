@@ -12,7 +12,7 @@ use Rattle.octet_fields.specs.Field.{◌>>=◌}
 use Rattle.address_model.specs.Address.{Address, same_address}
 use Rattle.address_model.proofs.Same.{same_address_is, same_address_itself}
 use Rattle.table_model.specs.Entries.{Entries}
-use Rattle.fib_prefix.specs.Hops.{hop_at, with_hop, most_hops}
+use Rattle.fib_addr.specs.Hops.{hop_at, with_hop, most_hops}
 use Rattle.cert_model.specs.Rows.{CertRow, leaf_row, join_row, bound_row}
 use Rattle.printed_model.specs.Rows.{PrintedRow, IsRow, text_of}
 use Rattle.printed_model.specs.Texts.{numbered_hop, hops_in}

@@ -5,11 +5,11 @@ use Rattle.octet_fields.specs.Field.{◌>>=◌}
 use Rattle.address_model.specs.Address.{Address, Prefix, IsAddress, IsPrefix}
 use Rattle.address_model.specs.declared.family.Family.{Family}
 use Rattle.address_model.specs.declared.family.Family.TheVariants.{V4, V6}
-use Rattle.fib_prefix.specs.Groups.{groups_in}
-use Rattle.fib_prefix.specs.Text.{address_in, address_text, prefix_text}
-use Rattle.fib_prefix.proofs.Texts.{bytes_eq_is, bytes_eq_refl}
-use Rattle.fib_prefix.proofs.TextLaws.{written_is_read}
-use Rattle.fib_prefix.proofs.PrefixLaws.{prefix_written}
+use Rattle.fib_addr.specs.Groups.{groups_in}
+use Rattle.fib_addr.specs.Text.{address_in, address_text, prefix_text}
+use Rattle.fib_addr.proofs.Texts.{bytes_eq_is, bytes_eq_refl}
+use Rattle.fib_addr.proofs.TextLaws.{written_is_read}
+use Rattle.fib_addr.proofs.PrefixLaws.{prefix_written}
 use Rattle.printed_model.specs.Rows.{Count, Records, Skipped, Events, Routes, Entries, Nodes, Leaves, IsHop, IsNumber, count_name, family_name, hop_text}
 use Rattle.printed_model.specs.Reading.{bad_hop, bad_prefix, bad_number, or_why, address_field, prefix_field, number_field, hop_field, count_field, family_field}
 use Rattle.printed_model.proofs.Numbers.{number_written}

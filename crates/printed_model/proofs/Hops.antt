@@ -8,7 +8,7 @@ use Rattle.std.proofs.lemmas.List.Sums.{fold-append}
 use Rattle.std.proofs.lemmas.List.Folds.{list_any-append, position_or_len_push}
 use Rattle.address_model.specs.Address.{Address, same_address}
 use Rattle.address_model.proofs.Same.{same_address_is, same_address_itself}
-use Rattle.fib_prefix.specs.Hops.{number_of, hop_at, with_hop}
+use Rattle.fib_addr.specs.Hops.{number_of, hop_at, with_hop}
 use Rattle.cert_model.specs.Rows.{leaf_row}
 use Rattle.printed_model.specs.Rows.{PrintedRow, route_row, least_row, cert_leaf_row}
 use Rattle.printed_model.specs.Texts.{numbered_hop, hops_in}

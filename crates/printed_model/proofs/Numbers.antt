@@ -4,8 +4,8 @@ use Rattle.std.specs.Prelude.{◌&&◌, nat_lt, bytes_eq}
 use Rattle.std.specs.Str.Parse.{digits_value}
 use Rattle.std.proofs.lemmas.Bool.{and_from, lt-ltb}
 use Rattle.std.proofs.lemmas.Fmt.{decimal_is_IsNumeral}
-use Rattle.fib_prefix.specs.Text.{number_in}
-use Rattle.fib_prefix.proofs.Texts.{bytes_eq_refl}
+use Rattle.fib_addr.specs.Text.{number_in}
+use Rattle.fib_addr.proofs.Texts.{bytes_eq_refl}
 
 pub number_written : (n : ℕ) → n < 2 ^ 64 → number_in (2 ^ 64) (decimal n) ≡ Some n
 number_written n h =

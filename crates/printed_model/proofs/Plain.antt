@@ -11,10 +11,10 @@ use Rattle.address_model.specs.Width.{width}
 use Rattle.address_model.specs.Address.{Address, Prefix, IsPrefix}
 use Rattle.address_model.specs.declared.family.Family.{Family}
 use Rattle.address_model.specs.declared.family.Family.TheVariants.{V4, V6}
-use Rattle.fib_prefix.specs.Groups.{groups_of}
-use Rattle.fib_prefix.specs.Text.{bits_text, address_text, first_address, prefix_text}
-use Rattle.fib_prefix.proofs.TextLaws.{octet_lt}
-use Rattle.fib_prefix.proofs.GroupLaws.{is_mark, none_of_both, none_in_text}
+use Rattle.fib_addr.specs.Groups.{groups_of}
+use Rattle.fib_addr.specs.Text.{bits_text, address_text, first_address, prefix_text}
+use Rattle.fib_addr.proofs.TextLaws.{octet_lt}
+use Rattle.fib_addr.proofs.GroupLaws.{is_mark, none_of_both, none_in_text}
 use Rattle.printed_model.specs.Rows.{Count, Records, Skipped, Events, Routes, Entries, Nodes, Leaves, PrintedRow, route_row, add_row, replace_row, remove_row, answer_row, visits_row, table_row, least_row, cert_leaf_row, cert_join_row, cert_bound_row, report_row, IsNumber, IsRow, fields_of, count_name, family_name, hop_text}
 
 -- the mark doesn't stand in the text

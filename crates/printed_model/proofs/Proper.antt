@@ -5,7 +5,7 @@ use Rattle.std.specs.List.{AllByRecursion}
 use Rattle.std.specs.Map.{keys_of}
 use Rattle.address_model.specs.Address.{Address, IsAddress, IsPrefix}
 use Rattle.table_model.specs.Entries.{Entries}
-use Rattle.fib_prefix.specs.Hops.{hop_at}
+use Rattle.fib_addr.specs.Hops.{hop_at}
 use Rattle.cert_model.specs.Rows.{CertRow, leaf_row, join_row, bound_row}
 use Rattle.printed_model.specs.Rows.{PrintedRow, IsHop, IsRow}
 use Rattle.printed_model.specs.Numbered.{route_by, of_route, of_least, of_cert, IsCertRow, rows_with}

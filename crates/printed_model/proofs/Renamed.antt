@@ -8,7 +8,7 @@ use Rattle.address_model.specs.Address.{Address, Prefix, same_address}
 use Rattle.address_model.proofs.Same.{same_address_itself}
 use Rattle.table_model.specs.Entries.{Entries}
 use Rattle.least_model.specs.Sets.{is_in}
-use Rattle.fib_prefix.specs.Hops.{hop_at}
+use Rattle.fib_addr.specs.Hops.{hop_at}
 use Rattle.cert_model.specs.Rows.{CertRow, leaf_row, join_row, bound_row}
 use Rattle.cert_model.specs.Right.{IsCertificate}
 use Rattle.cert_model.specs.Renamed.{renamed, renamed_row, renamed_rows, hops_of_entries, KeepsApart}

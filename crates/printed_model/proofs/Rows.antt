@@ -2,7 +2,7 @@
 use Rattle.std.proofs.Common.{◌≡◌, ℕ, List, [], ◌∷◌, Option, Result, Ok, decimal, codes, ap, ◌∙◌}
 use Rattle.octet_fields.specs.Field.{◌>>=◌}
 use Rattle.address_model.specs.Address.{Address, Prefix, IsPrefix}
-use Rattle.fib_prefix.specs.Text.{address_text, prefix_text}
+use Rattle.fib_addr.specs.Text.{address_text, prefix_text}
 use Rattle.printed_model.specs.Rows.{PrintedRow, route_row, add_row, replace_row, remove_row, answer_row, visits_row, table_row, least_row, cert_leaf_row, cert_join_row, cert_bound_row, report_row, IsRow, fields_of, count_name, family_name, hop_text}
 use Rattle.printed_model.specs.Reading.{address_field, prefix_field, number_field, hop_field, count_field, family_field, entry_in, route_in, answer_in, visits_in, signed_in, change_in, join_in, bound_in, part_in, cert_in, report_in, named_in, row_in}
 use Rattle.printed_model.proofs.Fields.{address_again, prefix_again, number_again, none_again, drop_again, count_again, family_again}

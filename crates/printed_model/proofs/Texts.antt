@@ -11,8 +11,8 @@ use Rattle.std.proofs.Math.Seq.{take-append_seam}
 use Rattle.octet_fields.specs.Field.{◌>>=◌}
 use Rattle.bstr.specs.Text.{without_terminator, no_cr}
 use Rattle.address_model.specs.Address.{Address, same_address}
-use Rattle.fib_prefix.specs.Hops.{with_hop, most_hops}
-use Rattle.fib_prefix.proofs.GroupLaws.{is_mark, none_of_both}
+use Rattle.fib_addr.specs.Hops.{with_hop, most_hops}
+use Rattle.fib_addr.proofs.GroupLaws.{is_mark, none_of_both}
 use Rattle.printed_model.specs.Rows.{PrintedRow, route_row, add_row, replace_row, remove_row, answer_row, visits_row, table_row, least_row, cert_leaf_row, cert_join_row, cert_bound_row, report_row, IsRow, fields_of, text_of}
 use Rattle.printed_model.specs.Reading.{is_comma, row_in, line_in}
 use Rattle.printed_model.specs.Texts.{in_front, lines_of, line_texts, numbered_hop, hops_in, with_row, rows_after, rows_in}

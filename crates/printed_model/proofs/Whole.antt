@@ -4,7 +4,7 @@ use Rattle.std.specs.Prelude.{◌↔◌, nat_lt}
 use Rattle.std.specs.List.{filter}
 use Rattle.std.proofs.lemmas.Bool.{le-ltb, lt-ltb, ltb-true, ltb-false, cond-true, cond-false}
 use Rattle.octet_fields.specs.Field.{◌>>=◌}
-use Rattle.fib_prefix.specs.Hops.{most_hops}
+use Rattle.fib_addr.specs.Hops.{most_hops}
 use Rattle.printed_model.specs.Rows.{PrintedRow}
 use Rattle.printed_model.specs.Reading.{too_many_hops, line_in}
 use Rattle.printed_model.specs.Texts.{BadLine, hops_in, with_row, rows_after, rows_in, line_texts}

@@ -3,7 +3,7 @@ use Rattle.std.specs.Prelude.{ℕ, ◌≤◌, List, [], ◌∷◌, ◌++◌, Opt
 use Rattle.std.specs.List.{AllByRecursion}
 use Rattle.address_model.specs.Address.{Address, Prefix, IsPrefix}
 use Rattle.table_model.specs.Entries.{Entries}
-use Rattle.fib_prefix.specs.Hops.{hop_at}
+use Rattle.fib_addr.specs.Hops.{hop_at}
 use Rattle.cert_model.specs.Rows.{CertRow, leaf_row, join_row, bound_row}
 use Rattle.cert_model.specs.Right.{IsCertificate}
 use Rattle.printed_model.specs.Rows.{PrintedRow, route_row, least_row, cert_leaf_row, cert_join_row, cert_bound_row, IsNumber}

@@ -4,7 +4,7 @@ use Rattle.std.specs.List.{join_with_byte}
 use Rattle.address_model.specs.Address.{Address, Prefix, IsAddress, IsPrefix}
 use Rattle.address_model.specs.declared.family.Family.{Family}
 use Rattle.address_model.specs.declared.family.Family.TheVariants.{V4, V6}
-use Rattle.fib_prefix.specs.Text.{address_text, prefix_text}
+use Rattle.fib_addr.specs.Text.{address_text, prefix_text}
 
 -- what a run counts
 pub data Count : Type 0 where

@@ -3,7 +3,7 @@ use Rattle.std.specs.Prelude.{ℕ, ◌+◌, List, [], ◌∷◌, ◌++◌, optio
 use Rattle.octet_fields.specs.Field.{◌>>=◌}
 use Rattle.bstr.specs.Text.{without_terminator}
 use Rattle.address_model.specs.Address.{Address}
-use Rattle.fib_prefix.specs.Hops.{hops_of, most_hops}
+use Rattle.fib_addr.specs.Hops.{hops_of, most_hops}
 use Rattle.printed_model.specs.Rows.{PrintedRow, route_row, least_row, cert_leaf_row}
 use Rattle.printed_model.specs.Reading.{too_many_hops, line_in}
 

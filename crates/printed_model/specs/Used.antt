@@ -3,7 +3,7 @@ use Rattle.std.specs.Prelude.{ℕ, List, [], ◌∷◌, Option, Some, None, Resu
 use Rattle.octet_fields.specs.Field.{◌>>=◌}
 use Rattle.address_model.specs.Address.{Address}
 use Rattle.table_model.specs.Entries.{Entries}
-use Rattle.fib_prefix.specs.Hops.{number_of}
+use Rattle.fib_addr.specs.Hops.{number_of}
 use Rattle.cert_model.specs.Rows.{CertRow, leaf_row, join_row, bound_row}
 use Rattle.printed_model.specs.Rows.{PrintedRow, route_row, least_row, cert_leaf_row, cert_join_row, cert_bound_row}
 use Rattle.printed_model.specs.Texts.{BadLine, hops_in, rows_in}

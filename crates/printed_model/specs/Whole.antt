@@ -1,7 +1,7 @@
 -- What a printed text is, as a whole: rows on the lines that aren't empty, or a first bad line.
 use Rattle.std.specs.Prelude.{◌≡◌, ℕ, ◌+◌, ◌<◌, ◌≤◌, List, [], ◌∷◌, ◌++◌, Bool, true, false, Result, Ok, Err, map, length}
 use Rattle.std.specs.List.{filter}
-use Rattle.fib_prefix.specs.Hops.{most_hops}
+use Rattle.fib_addr.specs.Hops.{most_hops}
 use Rattle.printed_model.specs.Rows.{PrintedRow}
 use Rattle.printed_model.specs.Reading.{too_many_hops, line_in}
 use Rattle.printed_model.specs.Texts.{BadLine, hops_in}

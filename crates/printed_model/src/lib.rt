@@ -10,7 +10,7 @@ ghost use Rattle.address_model.specs.Address.{Address, IsAddress, IsPrefix, same
 ghost use Rattle.table_model.specs.Entries.{Entries};
 ghost use Rattle.cert_model.specs.Rows.{CertRow};
 ghost use Rattle.cert_model.specs.Right.{IsCertificate};
-ghost use Rattle.fib_prefix.specs.Hops.{hop_at, with_hop, most_hops};
+ghost use Rattle.fib_addr.specs.Hops.{hop_at, with_hop, most_hops};
 ghost use Rattle.printed_model.specs.Rows.{PrintedRow, IsRow, fields_of, text_of};
 ghost use Rattle.printed_model.specs.Reading.{row_in};
 ghost use Rattle.printed_model.specs.Texts.{BadLine, hops_in, line_texts, numbered_hop, rows_in};

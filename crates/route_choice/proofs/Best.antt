@@ -11,9 +11,10 @@ use Rattle.std.specs.declared.cmp.Ordering.TheVariants.{Less, Equal, Greater}
 use Rattle.std.proofs.lemmas.Cmp.{tied_itself, tied_back, ranked}
 use Rattle.address_model.specs.Address.{Prefix, same_prefix}
 use Rattle.address_model.proofs.Same.{same_prefix_is}
-use Rattle.fib_prefix.specs.Seen.{prefix_as, peer_as}
-use Rattle.fib_prefix.specs.Order.{code_cmp}
-use Rattle.fib_prefix.specs.declared.prefix.Prefix as code
+use Rattle.fib_addr.specs.Seen.{prefix_as}
+use Rattle.fib_prefix.specs.Seen.{peer_as}
+use Rattle.fib_addr.specs.Order.{code_cmp}
+use Rattle.fib_addr.specs.declared.prefix.Prefix as code
 use Rattle.fib_prefix.specs.declared.event.Peer.{Peer}
 use Rattle.route_model.specs.Events as events
 use Rattle.route_model.specs.Events.{same_peer, peer_cmp}

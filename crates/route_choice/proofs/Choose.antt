@@ -9,8 +9,9 @@ use Rattle.std.specs.declared.cmp.Ordering.TheVariants.{Less, Equal, Greater}
 use Rattle.std.proofs.lemmas.Bool.{and_from}
 use Rattle.address_model.specs.Address.{Address, Prefix, same_prefix}
 use Rattle.address_model.proofs.Same.{same_prefix_is, same_prefix_itself}
-use Rattle.fib_prefix.specs.Seen.{addr_as, prefix_as, peer_as, elem_as}
-use Rattle.fib_prefix.specs.declared.prefix.Prefix as code
+use Rattle.fib_addr.specs.Seen.{addr_as, prefix_as}
+use Rattle.fib_prefix.specs.Seen.{peer_as, elem_as}
+use Rattle.fib_addr.specs.declared.prefix.Prefix as code
 use Rattle.fib_prefix.specs.declared.event.Peer.{Peer}
 use Rattle.fib_prefix.specs.declared.event.Elem.{Elem}
 use Rattle.fib_prefix.specs.declared.event.Elem.TheVariants as elem

@@ -9,9 +9,9 @@ use Rattle.std.specs.Ordering.{ordering_then, is_eq}
 use Rattle.std.specs.declared.cmp.Ordering.{Ordering}
 use Rattle.std.specs.declared.cmp.Ordering.TheVariants.{Less, Equal, Greater}
 use Rattle.fib_prefix.specs.Seen.{peer_as, elem_as}
-use Rattle.fib_prefix.specs.Order.{code_cmp}
+use Rattle.fib_addr.specs.Order.{code_cmp}
 use Rattle.fib_prefix.specs.declared.event.Peer.{Peer}
-use Rattle.fib_prefix.proofs.Ordering.{cmp_is}
+use Rattle.fib_addr.proofs.Ordering.{cmp_is}
 use Rattle.route_model.specs.Events.{same_peer, peer_cmp}
 use Rattle.route_model.specs.Choice as model
 use Rattle.route_model.specs.Choice.{Place, Candidates, IsPlace, same_place, place_cmp, cut_of}

@@ -13,10 +13,10 @@ use Rattle.address_model.specs.declared.family.Family.TheVariants.{V4, V6}
 use Rattle.address_model.specs.contracts.family.Family.{the_type}
 use Rattle.address_model.specs.contracts.family.FamilyOrd.TheImpl as family_ord
 use Rattle.fib_prefix.specs.contracts.event.PeerPartialEq.TheImpl as peer_same
-use Rattle.fib_prefix.specs.contracts.prefix.PrefixPartialEq.TheImpl as prefix_same
+use Rattle.fib_addr.specs.contracts.prefix.PrefixPartialEq.TheImpl as prefix_same
 use Rattle.std.specs.Option.{option_eq}
-use Rattle.fib_prefix.specs.Order.{code_cmp}
-use Rattle.fib_prefix.specs.declared.prefix.Prefix as code
+use Rattle.fib_addr.specs.Order.{code_cmp}
+use Rattle.fib_addr.specs.declared.prefix.Prefix as code
 use Rattle.fib_prefix.specs.declared.event.Peer.{Peer}
 use Rattle.fib_prefix.specs.declared.event.Elem.{Elem}
 use Rattle.fib_prefix.specs.declared.event.Elem.TheVariants.{Cut}

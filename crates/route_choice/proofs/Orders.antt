@@ -10,11 +10,12 @@ use Rattle.address_model.specs.Width.{width}
 use Rattle.address_model.specs.Address.{IsPrefix, same_prefix}
 use Rattle.address_model.proofs.BitLaws.{length-bits_of}
 use Rattle.fib_prefix.specs.declared.event.Peer.{Peer}
-use Rattle.fib_prefix.specs.declared.prefix.Prefix as code
-use Rattle.fib_prefix.specs.Seen.{prefix_as, peer_as}
-use Rattle.fib_prefix.specs.Order.{code_cmp}
-use Rattle.fib_prefix.proofs.Parts.{length_prefix}
-use Rattle.fib_prefix.proofs.Ordering.{cmp_is}
+use Rattle.fib_addr.specs.declared.prefix.Prefix as code
+use Rattle.fib_addr.specs.Seen.{prefix_as}
+use Rattle.fib_prefix.specs.Seen.{peer_as}
+use Rattle.fib_addr.specs.Order.{code_cmp}
+use Rattle.fib_addr.proofs.Parts.{length_prefix}
+use Rattle.fib_addr.proofs.Ordering.{cmp_is}
 use Rattle.route_model.specs.Events.{same_peer, IsPeer}
 use Rattle.route_model.specs.Choice.{IsPlace, same_place}
 use Rattle.route_model.proofs.Keyed.{key_test}

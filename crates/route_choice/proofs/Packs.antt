@@ -2,9 +2,9 @@
 use Rattle.std.proofs.Common.{◌≡◌, ℕ, ◌<◌, ◌≤◌, ◌-◌, ◌^◌, ◌%◌, ap, ◌∙◌}
 use Rattle.std.specs.Coded.{le_prop, Coded-set, coded_ℕ}
 use Rattle.address_model.specs.Width.{width}
-use Rattle.fib_prefix.specs.declared.addr.Addr.{Addr}
+use Rattle.fib_addr.specs.declared.addr.Addr.{Addr}
 use Rattle.fib_prefix.specs.declared.event.Peer.{Peer}
-use Rattle.fib_prefix.specs.declared.prefix.Prefix.{Prefix}
+use Rattle.fib_addr.specs.declared.prefix.Prefix.{Prefix}
 use Rattle.route_choice.specs.Keys.{SeatKey, RankKey, OfferKey}
 
 addr_packed : (h : Addr) (b : h.bits < 2 ^ width h.family) → (let r : Addr = record { family = h.family; bits = h.bits; below = b } in r) ≡ h

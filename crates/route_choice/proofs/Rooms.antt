@@ -10,8 +10,9 @@ use Rattle.std.specs.declared.cmp.Ordering.{Ordering}
 use Rattle.std.specs.declared.cmp.Ordering.TheVariants.{Less, Equal, Greater}
 use Rattle.std.proofs.lemmas.Cmp.{nat_cmp_total, tied_itself}
 use Rattle.address_model.specs.Address.{Address, Prefix, same_prefix}
-use Rattle.fib_prefix.specs.Seen.{addr_as, prefix_as, peer_as, elem_as}
-use Rattle.fib_prefix.specs.Order.{code_cmp}
+use Rattle.fib_addr.specs.Seen.{addr_as, prefix_as}
+use Rattle.fib_prefix.specs.Seen.{peer_as, elem_as}
+use Rattle.fib_addr.specs.Order.{code_cmp}
 use Rattle.fib_prefix.specs.declared.event.Elem.{Elem}
 use Rattle.fib_prefix.specs.declared.event.Elem.TheVariants as elem
 use Rattle.route_model.specs.Events as model

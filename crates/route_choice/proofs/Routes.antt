@@ -11,11 +11,11 @@ use Rattle.std.specs.declared.cmp.Ordering.TheVariants.{Less, Equal, Greater}
 use Rattle.address_model.specs.Address.{Address, Prefix, IsPrefix, same_prefix}
 use Rattle.address_model.specs.Order.{prefix_cmp}
 use Rattle.address_model.proofs.Same.{same_prefix_is, same_prefix_itself}
-use Rattle.fib_prefix.specs.Seen.{addr_as, prefix_as}
-use Rattle.fib_prefix.specs.Order.{code_cmp}
-use Rattle.fib_prefix.specs.declared.addr.Addr.{Addr}
-use Rattle.fib_prefix.specs.declared.prefix.Prefix as code
-use Rattle.fib_prefix.proofs.Ordering.{cmp_is}
+use Rattle.fib_addr.specs.Seen.{addr_as, prefix_as}
+use Rattle.fib_addr.specs.Order.{code_cmp}
+use Rattle.fib_addr.specs.declared.addr.Addr.{Addr}
+use Rattle.fib_addr.specs.declared.prefix.Prefix as code
+use Rattle.fib_addr.proofs.Ordering.{cmp_is}
 use Rattle.route_model.specs.Choice as model
 use Rattle.route_model.specs.Choice.{Place, Candidates, IsPlace, IsHeld, chosen_for, chosen_in, routes_of, is_chosen}
 use Rattle.route_model.proofs.Keyed.{same_entries, all_filter}

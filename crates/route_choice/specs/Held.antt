@@ -1,6 +1,7 @@
 -- What clauses see of candidates.
 use Rattle.std.specs.Prelude.{◌≡◌, Option, Some, option_map}
-use Rattle.fib_prefix.specs.Seen.{addr_as, prefix_as, elem_as}
+use Rattle.fib_addr.specs.Seen.{addr_as, prefix_as}
+use Rattle.fib_prefix.specs.Seen.{elem_as}
 use Rattle.route_model.specs.Events.{Elem, prefix_of}
 use Rattle.route_model.specs.Choice.{Candidates, after_elem, chosen_for}
 use Rattle.route_choice.specs.declared.choice.Choice.{Choice}

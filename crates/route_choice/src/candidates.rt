@@ -4,7 +4,8 @@ ghost use Rattle.std.specs.Prelude.{◌≡◌, true, cond, [], map, option_map, 
 ghost use Rattle.std.specs.Ordering.{is_eq};
 ghost use Rattle.std.specs.BTreeMap as tree;
 ghost use Rattle.std.specs.BTreeSet as set;
-ghost use Rattle.fib_prefix.specs.Seen.{addr_as, prefix_as, event_as, elem_as};
+ghost use Rattle.fib_addr.specs.Seen.{addr_as, prefix_as};
+ghost use Rattle.fib_prefix.specs.Seen.{event_as, elem_as};
 ghost use Rattle.route_model.specs.Choice.{AreCandidates, after_elem, elems_of, chosen_for, routes_of};
 ghost use Rattle.route_choice.specs.Orders.{seat_cmp, rank_cmp};
 ghost use Rattle.route_choice.specs.Seats.{held_in, IsIndexed, HasRoom, has_rank, seat_in, offer_in};

@@ -60,7 +60,7 @@ impl PartialEq for Seat {
     ghost use Rattle.std.specs.Cmp.{partial_equiv_from_equiv};
     ghost use Rattle.std.specs.Ordering.{on, then_cmp, eq_by_cmp};
     ghost use Rattle.std.proofs.lemmas.Cmp.{on_total, then_total, eq_by_cmp_equiv};
-    ghost use Rattle.fib_prefix.specs.Order.{code_cmp};
+    ghost use Rattle.fib_addr.specs.Order.{code_cmp};
     ghost use Rattle.fib_prefix.specs.Order.{code_peer_cmp};
     ghost use Rattle.fib_prefix.proofs.Peers.{peer_total, prefix_total};
     ghost use Rattle.route_choice.specs.Keys.{SeatKey};
@@ -87,7 +87,7 @@ impl Ord for Seat {
     ghost use Rattle.std.specs.Ordering.{on, then_cmp};
     ghost use Rattle.std.proofs.Common.{refl};
     ghost use Rattle.std.proofs.lemmas.Cmp.{on_total, then_total};
-    ghost use Rattle.fib_prefix.specs.Order.{code_cmp};
+    ghost use Rattle.fib_addr.specs.Order.{code_cmp};
     ghost use Rattle.fib_prefix.specs.Order.{code_peer_cmp};
     ghost use Rattle.fib_prefix.proofs.Peers.{peer_total, prefix_total};
     ghost use Rattle.route_choice.specs.Keys.{SeatKey};
@@ -112,7 +112,7 @@ impl PartialOrd for Seat {
     ghost use Rattle.std.specs.Ordering.{on, then_cmp, as_partial_cmp};
     ghost use Rattle.std.specs.Cmp.{po};
     ghost use Rattle.std.proofs.Common.{refl};
-    ghost use Rattle.fib_prefix.specs.Order.{code_cmp};
+    ghost use Rattle.fib_addr.specs.Order.{code_cmp};
     ghost use Rattle.fib_prefix.specs.Order.{code_peer_cmp};
     ghost use Rattle.std.proofs.lemmas.Cmp.{on_total, then_total};
     ghost use Rattle.fib_prefix.proofs.Peers.{peer_total, prefix_total};
@@ -177,7 +177,7 @@ impl PartialEq for Rank {
     ghost use Rattle.std.specs.Cmp.{partial_equiv_from_equiv};
     ghost use Rattle.std.specs.Ordering.{nat_cmp, on, then_cmp, eq_by_cmp};
     ghost use Rattle.std.proofs.lemmas.Cmp.{nat_cmp_total, on_total, then_total, eq_by_cmp_equiv};
-    ghost use Rattle.fib_prefix.specs.Order.{code_cmp};
+    ghost use Rattle.fib_addr.specs.Order.{code_cmp};
     ghost use Rattle.fib_prefix.specs.Order.{code_peer_cmp};
     ghost use Rattle.fib_prefix.proofs.Peers.{peer_total, prefix_total};
     ghost use Rattle.route_choice.specs.Keys.{RankKey};
@@ -204,7 +204,7 @@ impl Ord for Rank {
     ghost use Rattle.std.specs.Ordering.{nat_cmp, on, then_cmp};
     ghost use Rattle.std.proofs.Common.{refl};
     ghost use Rattle.std.proofs.lemmas.Cmp.{nat_cmp_total, on_total, then_total};
-    ghost use Rattle.fib_prefix.specs.Order.{code_cmp};
+    ghost use Rattle.fib_addr.specs.Order.{code_cmp};
     ghost use Rattle.fib_prefix.specs.Order.{code_peer_cmp};
     ghost use Rattle.fib_prefix.proofs.Peers.{peer_total, prefix_total};
     ghost use Rattle.route_choice.specs.Keys.{RankKey};
@@ -232,7 +232,7 @@ impl PartialOrd for Rank {
     ghost use Rattle.std.specs.Ordering.{nat_cmp, on, then_cmp, as_partial_cmp};
     ghost use Rattle.std.specs.Cmp.{po};
     ghost use Rattle.std.proofs.Common.{refl};
-    ghost use Rattle.fib_prefix.specs.Order.{code_cmp};
+    ghost use Rattle.fib_addr.specs.Order.{code_cmp};
     ghost use Rattle.fib_prefix.specs.Order.{code_peer_cmp};
     ghost use Rattle.std.proofs.lemmas.Cmp.{nat_cmp_total, on_total, then_total};
     ghost use Rattle.fib_prefix.proofs.Peers.{peer_total, prefix_total};
@@ -373,7 +373,7 @@ impl Offer {
 impl Rank {
     ghost use Rattle.std.specs.Ordering.{is_gt};
     ghost use Rattle.std.specs.declared.cmp.Ordering.TheVariants.{Equal};
-    ghost use Rattle.fib_prefix.specs.Order.{code_cmp};
+    ghost use Rattle.fib_addr.specs.Order.{code_cmp};
     ghost use Rattle.route_choice.specs.Orders.{rank_cmp};
     ghost use Rattle.route_choice.specs.Seats.{seat_of};
 

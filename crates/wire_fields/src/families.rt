@@ -3,10 +3,10 @@
 ghost use Rattle.std.specs.Prelude.{◌≡◌, ◌<◌};
 ghost use Rattle.octet_fields.specs.Gives.{Gives};
 ghost use Rattle.reading_model.specs.Wire as model;
-ghost use Rattle.fib_prefix.specs.Seen.{addr_as};
+ghost use Rattle.fib_addr.specs.Seen.{addr_as};
 
 use crate::rule::ATTRIBUTE_VALUE;
-use fib_prefix::{Addr, Family};
+use fib_addr::{Addr, Family};
 use octet_fields::{octet, octets, u16_at};
 
 /// The SAFI of unicast (RFC 4760, section 6).

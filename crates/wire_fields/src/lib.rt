@@ -2,18 +2,16 @@
 //! the rules of reading by name.
 //!
 //! Each reader takes its field from the front, and stands against its definition in `reading_model::specs::Wire`. The
-//! rule that a cut breaks is handed in where it depends on the place. All cost what they read, and only `prefixes_of` and
-//! `push_routes` take memory.
+//! rule that a cut breaks is handed in where it depends on the place. All cost what they read, and only `prefixes_of` takes
+//! memory.
 #![tactic(auto)]
 
-mod event;
 mod families;
 mod list;
 mod refusal;
 pub mod rule;
 mod wire_prefix;
 
-pub use event::{event_of, push_routes};
 pub use families::{address, family, family_of};
 pub use list::{check_prefixes, prefixes_of};
 pub use refusal::Refusal;

@@ -2,12 +2,12 @@
 
 ghost use Rattle.std.specs.Prelude.{map};
 ghost use Rattle.reading_model.specs.Wire.{prefixes};
-ghost use Rattle.fib_prefix.specs.Seen.{prefix_as};
+ghost use Rattle.fib_addr.specs.Seen.{prefix_as};
 ghost use Rattle.wire_fields.specs.Gives.{GivesInMemory, Passes};
 
 use crate::refusal::Refusal;
 use crate::wire_prefix::prefix;
-use fib_prefix::{Family, Prefix};
+use fib_addr::{Family, Prefix};
 use std::alloc::Global;
 
 /// Whether prefixes fill the octets, or the rule that the first wrong one breaks.

@@ -3,11 +3,11 @@
 ghost use Rattle.std.specs.Prelude.{ℕ, ◌≤◌, ◌<◌, length, IfOk};
 ghost use Rattle.octet_fields.specs.Gives.{Gives};
 ghost use Rattle.reading_model.specs.Wire.{prefix_at};
-ghost use Rattle.fib_prefix.specs.Seen.{prefix_as};
+ghost use Rattle.fib_addr.specs.Seen.{prefix_as};
 ghost use Rattle.wire_fields.specs.Gives.{GivesPrefix};
 
 use crate::rule::PREFIX_LENGTH;
-use fib_prefix::{Family, Prefix};
+use fib_addr::{Family, Prefix};
 use thiserror::Error;
 
 /// What is wrong with a prefix on the wire.

@@ -1,7 +1,7 @@
 use Rattle.std.proofs.Common.{◌≡◌, ◌<◌, ◌-◌, ◌≤◌, ◌∙◌, sym, refl, length, get_or, arith, true, false}
 use Rattle.std.proofs.lemmas.Bool.{not-false, not-true}
 use Rattle.std.specs.BTreeSet as set
-use Rattle.fib_prefix.specs.Order.{code_cmp}
+use Rattle.fib_addr.specs.Order.{code_cmp}
 use Rattle.cert_check.proofs.Later.{later_keys, stands_again, stands_once}
 use Rattle.cert_check.proofs.repeats.first_twice.Goals as goal
 

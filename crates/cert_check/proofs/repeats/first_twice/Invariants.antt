@@ -5,9 +5,9 @@ use Rattle.std.specs.Map.{keys_of}
 use Rattle.std.specs.BTreeSet as set
 use Rattle.address_model.specs.Address.{same_prefix}
 use Rattle.cert_model.specs.Verdict.{twice}
-use Rattle.fib_prefix.specs.Order.{code_cmp}
-use Rattle.fib_prefix.specs.Seen.{entry_as, prefix_as}
-use Rattle.fib_prefix.specs.declared.prefix.Prefix.{Prefix}
+use Rattle.fib_addr.specs.Order.{code_cmp}
+use Rattle.fib_addr.specs.Seen.{entry_as, prefix_as}
+use Rattle.fib_addr.specs.declared.prefix.Prefix.{Prefix}
 use Rattle.cert_check.proofs.repeats.first_twice.Given as goal
 
 abbrev pub invariant-loop-i : goal.invariant-loop-i

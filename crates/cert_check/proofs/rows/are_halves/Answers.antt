@@ -1,7 +1,7 @@
 use Rattle.std.proofs.Common.{◌≡◌, ◌∙◌, length}
 use Rattle.address_model.specs.Width.{width}
-use Rattle.fib_prefix.specs.Seen.{prefix_as}
-use Rattle.fib_prefix.proofs.Parts.{length_prefix}
+use Rattle.fib_addr.specs.Seen.{prefix_as}
+use Rattle.fib_addr.proofs.Parts.{length_prefix}
 use Rattle.cert_check.proofs.Holding.{prefix_short}
 use Rattle.cert_check.proofs.Stacks.{no_halves}
 use Rattle.cert_check.proofs.rows.are_halves.Goals as goal

@@ -1,6 +1,6 @@
 use Rattle.std.proofs.Common.{◌≡◌, ◌∙◌, sym, refl, ap, ◌++◌, ◌∷◌, [], List, ℕ, arith}
 use Rattle.cert_model.specs.Right.{Item}
-use Rattle.fib_prefix.specs.Seen.{prefix_as}
+use Rattle.fib_addr.specs.Seen.{prefix_as}
 use Rattle.cert_check.proofs.Stacks.{push_as}
 use Rattle.cert_check.specs.Stack.{stack_as, weight}
 use Rattle.cert_check.proofs.rows.read_leaf.Goals as goal

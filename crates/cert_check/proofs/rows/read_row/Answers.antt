@@ -1,8 +1,8 @@
 use Rattle.std.proofs.Common.{[], sym, ap, ◌∙◌}
 use Rattle.std.proofs.lemmas.Result.{IfOk-weaker}
 use Rattle.std.specs.Prelude.{option_map}
-use Rattle.fib_prefix.specs.Seen.{prefix_as}
-use Rattle.cost_cert.specs.Seen.{row_as}
+use Rattle.fib_addr.specs.Seen.{prefix_as}
+use Rattle.cert_rows.specs.Seen.{row_as}
 use Rattle.cert_check.specs.Seen.{no_as}
 use Rattle.cert_check.specs.Stack.{stack_as}
 use Rattle.cert_check.proofs.Holding.{prefix_short}

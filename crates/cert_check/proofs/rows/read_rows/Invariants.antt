@@ -2,7 +2,7 @@ use Rattle.std.proofs.Common.{◌≡◌, ◌+◌, ◌≤◌, [], ◌∷◌, map,
 use Rattle.address_model.specs.declared.family.Family.TheVariants.{V4, V6}
 use Rattle.table_model.specs.Entries.{Entries}
 use Rattle.cert_model.specs.Verdict.{wrong_row}
-use Rattle.cost_cert.specs.Seen.{row_as}
+use Rattle.cert_rows.specs.Seen.{row_as}
 use Rattle.cert_check.specs.Marks.{AreMarks}
 use Rattle.cert_check.specs.Stack.{stack_as, due_as, weight, TellsBoth, AllRight, Told}
 use Rattle.cert_check.proofs.rows.read_rows.Given as goal

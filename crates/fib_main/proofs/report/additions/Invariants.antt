@@ -1,7 +1,7 @@
 use Rattle.std.proofs.Common.{◌≡◌, take, map}
 use Rattle.table_model.specs.Changes.{additions}
 use Rattle.feed_model.specs.Feed.{at_event}
-use Rattle.fib_prefix.specs.Seen.{entry_as}
+use Rattle.fib_addr.specs.Seen.{entry_as}
 use Rattle.fib_main.specs.Seen.{changes_as}
 use Rattle.fib_main.proofs.report.additions.Given as goal
 

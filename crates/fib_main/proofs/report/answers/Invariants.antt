@@ -1,6 +1,6 @@
 use Rattle.std.proofs.Common.{◌≡◌, take, map}
 use Rattle.table_model.specs.Entries.{Entries}
-use Rattle.fib_prefix.specs.Seen.{addr_as}
+use Rattle.fib_addr.specs.Seen.{addr_as}
 use Rattle.fib_main.specs.Due.{answers_to}
 use Rattle.fib_main.specs.Held.{Hold}
 use Rattle.fib_main.specs.Seen.{answers_as}

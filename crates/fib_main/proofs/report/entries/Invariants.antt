@@ -1,5 +1,5 @@
 use Rattle.std.proofs.Common.{◌≡◌, take, map}
-use Rattle.fib_prefix.specs.Seen.{entry_as}
+use Rattle.fib_addr.specs.Seen.{entry_as}
 use Rattle.fib_main.specs.Seen.{numbered}
 use Rattle.fib_main.proofs.report.entries.Given as goal
 

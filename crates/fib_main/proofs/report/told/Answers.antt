@@ -4,7 +4,7 @@ use Rattle.std.specs.Map.{keys_of}
 use Rattle.address_model.specs.Order.{prefix_cmp}
 use Rattle.table_model.specs.Changes.{additions}
 use Rattle.feed_model.specs.Feed.{at_event}
-use Rattle.fib_prefix.specs.Seen.{addr_as, entry_as}
+use Rattle.fib_addr.specs.Seen.{addr_as, entry_as}
 use Rattle.fib_main.specs.Held.{IsLooked}
 use Rattle.fib_main.specs.Seen.{numbered, changes_as}
 use Rattle.fib_main.proofs.Telling.{told_is}

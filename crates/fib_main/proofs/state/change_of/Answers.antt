@@ -1,5 +1,5 @@
 use Rattle.std.proofs.Common.{sym, ◌∙◌}
-use Rattle.fib_prefix.proofs.HopLemmas.{same_is}
+use Rattle.fib_addr.proofs.HopLemmas.{same_is}
 use Rattle.fib_main.proofs.Steps.{same_hop, other_hop}
 use Rattle.fib_main.proofs.state.change_of.Goals as goal
 

@@ -1,6 +1,6 @@
 use Rattle.std.proofs.Common.{◌++◌, Some, flat_map, map}
-use Rattle.fib_prefix.specs.Seen.{addr_as, entry_as}
-use Rattle.cost_cert.specs.Seen.{row_as}
+use Rattle.fib_addr.specs.Seen.{addr_as, entry_as}
+use Rattle.cert_rows.specs.Seen.{row_as}
 use Rattle.fib_report.specs.Rows.{of_answer, of_change, of_table, report_rows}
 use Rattle.printed_model.specs.Numbered.{of_cert, of_least, of_route}
 use Rattle.fib_report.specs.Seen.{change_as}

@@ -1,7 +1,8 @@
 use Rattle.std.proofs.Common.{◌≡◌, ◌-◌, []}
 use Rattle.octet_fields.specs.Field.{times, one_more}
 use Rattle.std.specs.Prelude.{map}
-use Rattle.fib_prefix.specs.Seen.{peer_as, event_as, prefix_as}
+use Rattle.fib_addr.specs.Seen.{prefix_as}
+use Rattle.fib_prefix.specs.Seen.{peer_as, event_as}
 use Rattle.reading_model.specs.Rib.{entry_at}
 use Rattle.mrt_records.proofs.rib.entries.Given as goal
 

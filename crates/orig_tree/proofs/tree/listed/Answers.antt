@@ -1,5 +1,5 @@
 use Rattle.std.proofs.Common.{ap, map}
-use Rattle.fib_prefix.specs.Seen.{entry_as}
+use Rattle.fib_addr.specs.Seen.{entry_as}
 use Rattle.orig_tree.specs.Walk.{rows_of}
 use Rattle.orig_tree.proofs.Telling.{told_whole}
 use Rattle.orig_tree.proofs.tree.listed.Goals as goal

@@ -5,7 +5,7 @@ use Rattle.address_model.specs.Width.{width}
 use Rattle.table_model.specs.Table.{lpm, cut}
 use Rattle.table_model.specs.Entries.{of_family}
 use Rattle.least_model.specs.Sets.{answers}
-use Rattle.fib_prefix.specs.Seen.{prefix_as}
+use Rattle.fib_addr.specs.Seen.{prefix_as}
 use Rattle.ortc.specs.Stands.{Stands}
 use Rattle.ortc.proofs.Falling.{region_told}
 use Rattle.ortc.proofs.region.region_of.Goals as goal

@@ -2,7 +2,7 @@ use Rattle.std.proofs.Common.{ap, sym, subst, ◌∙◌, [], ◌∷◌, ◌++◌
 use Rattle.std.specs.Prelude.{map}
 use Rattle.route_model.specs.Choice.{AreCandidates, routes_of}
 use Rattle.route_choice.specs.Held.{Held}
-use Rattle.fib_prefix.specs.declared.prefix.Prefix.{Prefix}
+use Rattle.fib_addr.specs.declared.prefix.Prefix.{Prefix}
 use Rattle.route_choice.specs.Walks.{route_as}
 use Rattle.route_choice.proofs.Finds.{comes_new, comes_again}
 use Rattle.route_choice.proofs.Views.{are_candidates}

@@ -1,6 +1,6 @@
 use Rattle.std.proofs.Common.{ap, ◌∙◌}
 use Rattle.fib_prefix.specs.declared.event.Peer.{Peer}
-use Rattle.fib_prefix.specs.declared.prefix.Prefix.{Prefix}
+use Rattle.fib_addr.specs.declared.prefix.Prefix.{Prefix}
 use Rattle.route_choice.specs.Keys.{SeatKey}
 use Rattle.route_choice.specs.Seats.{rank_at}
 use Rattle.route_choice.proofs.Packs.{rank_packed}

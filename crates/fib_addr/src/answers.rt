@@ -1,0 +1,35 @@
+//! Tables that are asked about whole prefixes.
+
+ghost use Rattle.std.specs.Prelude.{◌≡◌, IfSome, IfNone};
+ghost use Rattle.std.specs.List.{IsDistinct};
+ghost use Rattle.std.specs.Map.{keys_of};
+ghost use Rattle.address_model.specs.Address.{same_prefix};
+ghost use Rattle.address_model.specs.declared.family.Family.{Family};
+ghost use Rattle.table_model.specs.Entries.{Entries};
+ghost use Rattle.fib_addr.specs.Seen.{prefix_as};
+ghost use Rattle.fib_addr.specs.Uniform.{AllGet, TwoDiffer};
+
+use crate::entry::Hop;
+use crate::prefix::Prefix;
+use address_model::Family;
+
+/// A table of one family, which tells whether the addresses of a prefix all get one answer.
+///
+/// Contracts see the entries, each prefix once; an address gets what longest match among them gives, hop 0 where there is none.
+pub trait Answers {
+    ghost entries: { Self → Entries };
+
+    ghost of: { Self → Family };
+
+    /// The family of the addresses that it answers for.
+    fn family(&self) -> Family
+        ensures family { result ≡ of self.now }
+        ensures distinct { IsDistinct same_prefix (keys_of (entries self.now)) };
+
+    /// The hop that every address of the prefix gets, `Hop::NONE` where none gets one; or `None` where two of its addresses
+    /// get different hops.
+    fn uniform(&self, prefix: &Prefix) -> Option<Hop>
+        requires { prefix.now.family ≡ of self.now }
+        ensures one { IfSome result (λ hop. AllGet (entries self.now) (prefix_as prefix.now) hop.0) }
+        ensures differ { IfNone result (TwoDiffer (entries self.now) (prefix_as prefix.now)) };
+}

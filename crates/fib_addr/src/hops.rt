@@ -1,0 +1,160 @@
+//! The numbers of next hops.
+//!
+//! Hops are numbered 1, 2, .. in the order in which they are first brought, and keep their number for good. They are kept
+//! in a hash set in that order: a hop's number is its place there from 1. Asking costs one look-up, and so does numbering a
+//! hop that is held; a new one costs two.
+
+ghost use Rattle.std.specs.Prelude.{◌≡◌, ◌↔◌, ◌+◌, ◌<◌, ◌≤◌, [], length, map, option_map, Some, None, IsOk, IsErr, IsSome, IfOk, OnOk, OnErr, IsErrOf};
+ghost use Rattle.indexmap.specs.IndexSet.{spare};
+ghost use Rattle.fib_addr.specs.Hops.{Hops, most_hops, number_of, hop_at, with_hop};
+ghost use Rattle.fib_addr.specs.Seen.{addr_as};
+ghost use Rattle.fib_addr.specs.declared.hops.HopError.TheVariants as hop_error;
+
+use crate::addr::Addr;
+use crate::entry::Hop;
+use indexmap::IndexSet;
+use std::alloc::{AllocError, AllocFailed, Global};
+use std::marker::Model;
+use thiserror::Error;
+
+/// How many different hops have numbers at most, a limit of this program: one fewer than a `u16` holds beside `Hop::NONE`.
+pub const MOST_HOPS: usize = 65_534;
+
+/// The hop is new, and 65,534 hops are held.
+#[derive(Clone, Copy, Debug, PartialEq, Eq, Error)]
+#[error("more than 65534 different next hops")]
+pub struct HopsFull;
+
+/// Why a hop got no number.
+#[derive(Clone, Copy, Debug, PartialEq, Eq, Error)]
+pub enum HopError {
+    /// The address is new, and 65,534 hops are held.
+    #[error("more than 65534 different next hops")]
+    HopsFull,
+    /// Memory ran out.
+    #[error("no memory")]
+    NoMemory,
+}
+
+impl<T: Drop> From<AllocFailed<T>> for HopError {
+    ghost from_gives = { λ _ e. e ≡ hop_error.NoMemory };
+
+    fn from(_e: AllocFailed<T>) -> HopError {
+        HopError::NoMemory
+    }
+}
+
+impl From<HopsFull> for HopError {
+    ghost from_gives = { λ _ e. e ≡ hop_error.HopsFull };
+
+    fn from(_e: HopsFull) -> HopError {
+        HopError::HopsFull
+    }
+}
+
+/// Next hops with their numbers. Contracts see the list of hops in the order of their numbers, and how many more are
+/// numbered without memory.
+#[derive(Drop)]
+pub struct HopTable {
+    hops: IndexSet<Addr>,
+}
+
+impl Model for HopTable {
+    ghost Value = { Hops };
+
+    ghost view = { λ table. record { list = map addr_as table.hops.keys; spare = spare table.hops } };
+
+    ghost invariant = { λ table. length table.hops.keys ≤ most_hops };
+}
+
+/// The number of the hop at a place.
+fn numbered(place: usize) -> Hop
+    requires { place < MOST_HOPS }
+    ensures { result.0 ≡ place + 1 }
+{
+    Hop(place as u16 + 1)
+}
+
+impl HopTable {
+    /// A table with no hop.
+    pub fn new(alloc: Global) -> HopTable
+        ensures { result.list ≡ [] }
+    {
+        HopTable {
+            hops: IndexSet::new(alloc),
+        }
+    }
+
+    /// Makes room for the next hop, so that it is numbered without memory. The hops stay as they are, and where there is
+    /// room already it takes none.
+    pub fn room(&mut self) -> Result<(), AllocError>
+        ensures list { self.new.list ≡ self.old.list }
+        ensures room { OnOk result (1 ≤ self.new.spare) }
+        ensures spare { self.old.spare ≤ self.new.spare }
+        ensures there { 1 ≤ self.old.spare → IsOk result }
+    {
+        self.hops.reserve(1)
+    }
+
+    /// The hop's number: its own if it is held, else the next. An `Err` changes no hop; `HopsFull` comes exactly where the
+    /// hop is new and 65,534 are held, and a held hop always has its number and changes nothing. Where there is room for one
+    /// more (`room`), `NoMemory` doesn't come.
+    pub fn number(&mut self, addr: &Addr) -> Result<Hop, HopError>
+        ensures number { IfOk result (λ hop. number_of self.new.list (addr_as addr.now) ≡ Some hop.0) }
+        ensures hops { OnOk result (self.new.list ≡ with_hop self.old.list (addr_as addr.now)) }
+        ensures few { OnOk result (length self.new.list ≤ most_hops) }
+
+        ensures known { IsSome (number_of self.old.list (addr_as addr.now)) → IsOk result × (self.new ≡ self.old) }
+        ensures full { IsErrOf result HopError.HopsFull ↔ (length self.old.list ≡ most_hops) × (number_of self.old.list (addr_as addr.now) ≡ None) }
+        ensures err { OnErr result (self.new.list ≡ self.old.list) }
+
+        ensures room { 1 ≤ self.old.spare → ¬ (IsErrOf result HopError.NoMemory) }
+        ensures spare { self.old.spare ≤ self.new.spare + 1 }
+        ensures err_spare { OnErr result (self.old.spare ≤ self.new.spare) }
+    {
+        if let Some(hop) = self.find(addr) {
+            return Ok(hop);
+        }
+        let hop = self.fresh()?;
+        self.hops.insert_full(*addr)?;
+        Ok(hop)
+    }
+
+    /// The number that `number` would give the hop, memory aside. It takes no memory.
+    pub fn next(&self, addr: &Addr) -> Result<Hop, HopsFull>
+        ensures number { IfOk result (λ hop. number_of (with_hop self.now.list (addr_as addr.now)) (addr_as addr.now) ≡ Some hop.0) }
+        ensures full { IsErr result ↔ (length self.now.list ≡ most_hops) × (number_of self.now.list (addr_as addr.now) ≡ None) }
+    {
+        match self.find(addr) {
+            Some(hop) => Ok(hop),
+            None => self.fresh(),
+        }
+    }
+
+    /// The number of the next new hop.
+    fn fresh(&self) -> Result<Hop, HopsFull>
+        ensures number { IfOk result (λ hop. hop.0 ≡ length self.now.list + 1) }
+        ensures full { IsErr result ↔ (length self.now.list ≡ most_hops) }
+    {
+        if self.hops.len() == MOST_HOPS {
+            return Err(HopsFull);
+        }
+        Ok(numbered(self.hops.len()))
+    }
+
+    /// The hop's number, `None` exactly where it isn't held.
+    pub fn find(&self, addr: &Addr) -> Option<Hop>
+        ensures { option_map (λ hop. hop.0) result ≡ number_of self.now.list (addr_as addr.now) }
+    {
+        let place = self.hops.get_index_of(addr)?;
+        Some(numbered(place))
+    }
+
+    /// The hop of a number, `None` exactly where no held hop has it; `Hop::NONE` is no hop's.
+    pub fn addr(&self, hop: Hop) -> Option<Addr>
+        ensures { option_map addr_as result ≡ hop_at self.now.list hop.0 }
+    {
+        let place = usize::from(hop.0).checked_sub(1)?;
+        self.hops.get_index(place).copied()
+    }
+}

@@ -1,0 +1,48 @@
+//! Laws: each function does nothing, and its clauses hold for all values.
+
+ghost use Rattle.std.specs.Prelude.{◌≡◌, ◌<◌, List, ℕ, Some, false, true, length};
+ghost use Rattle.address_model.specs.Address.{Address, IsAddress, Prefix, IsPrefix};
+ghost use Rattle.address_model.specs.Order.{prefix_cmp};
+ghost use Rattle.address_model.specs.Width.{width};
+ghost use Rattle.address_model.specs.declared.family.Family.TheVariants.{V4};
+ghost use Rattle.std.specs.Net.Text.{longest_zero_run};
+ghost use Rattle.fib_addr.specs.Groups.{IsLongestZeroRun};
+ghost use Rattle.table_model.specs.Entries.{Entries};
+ghost use Rattle.fib_addr.specs.Order.{code_cmp};
+ghost use Rattle.fib_addr.specs.Regions.{half_of};
+ghost use Rattle.fib_addr.specs.Seen.{prefix_as};
+ghost use Rattle.fib_addr.specs.Text.{address_in, address_text, prefix_in, prefix_text};
+ghost use Rattle.fib_addr.specs.Uniform.{AllGet, TwoDiffer};
+ghost use Rattle.fib_addr.specs.declared.prefix.Prefix as code_prefix;
+
+/// What is written of an address is read as it, and what is read as an address is one. An IPv4 address has one text alone,
+/// which is its printed one; IPv6 addresses have more. The zero groups that are written `::` are a longest run, and the first
+/// such.
+pub fn text_law()
+    ensures written { (a : Address) → IsAddress a → address_in (address_text a) ≡ Some a }
+    ensures read { (text : List ℕ) (a : Address) → address_in text ≡ Some a → IsAddress a }
+    ensures one_text { (text : List ℕ) (a : Address) → address_in text ≡ Some a → a.family ≡ V4 → text ≡ address_text a }
+    ensures longest { (groups : List ℕ) → IsLongestZeroRun groups (longest_zero_run groups) }
+{}
+
+/// What is written of a prefix is read as it, and what is read as a prefix is one. An IPv4 prefix has one text alone.
+pub fn prefix_text_law()
+    ensures written { (p : Prefix) → IsPrefix p → prefix_in (prefix_text p) ≡ Some p }
+    ensures read { (text : List ℕ) (p : Prefix) → prefix_in text ≡ Some p → IsPrefix p }
+    ensures one_text { (text : List ℕ) (p : Prefix) → prefix_in text ≡ Some p → p.family ≡ V4 → text ≡ prefix_text p }
+{}
+
+/// `cmp` of prefixes is their order: IPv4 before IPv6, then by the bits filled with zeros as a number, then the shorter
+/// first.
+pub fn order_law()
+    ensures prefixes { (p q : code_prefix.Prefix) → code_cmp p q ≡ prefix_cmp (prefix_as p) (prefix_as q) }
+{}
+
+/// A prefix gets one hop exactly where both its halves get it; it gets one hop at most, and none where two of its addresses
+/// differ.
+pub fn uniform_law()
+    ensures halves { (L : Entries) (p : Prefix) (h : ℕ) → AllGet L p h → AllGet L (half_of p false) h × AllGet L (half_of p true) h }
+    ensures joined { (L : Entries) (p : Prefix) (h : ℕ) → length p.bits < width p.family → AllGet L (half_of p false) h → AllGet L (half_of p true) h → AllGet L p h }
+    ensures once { (L : Entries) (p : Prefix) (h k : ℕ) → IsPrefix p → AllGet L p h → AllGet L p k → h ≡ k }
+    ensures apart { (L : Entries) (p : Prefix) (h : ℕ) → AllGet L p h → TwoDiffer L p → ⊥ }
+{}

@@ -1,0 +1,160 @@
+//! The text of addresses and prefixes, read and written.
+//!
+//! An IPv4 address is four decimal numbers with dots between them, an IPv6 address eight hexadecimal groups with colons
+//! between them, of which one run of zeros may be `::`. Both are read by std's parsers, and written digit by digit into the
+//! caller's buffer. No call takes memory; each costs the length of the text.
+
+ghost use Rattle.std.specs.Prelude.{◌≡◌, ◌+◌, ◌≤◌, ◌++◌, codes, decimal, length, take, option_map, position, IfSome};
+ghost use Rattle.std.specs.Net.Text.{ipv4_text};
+ghost use Rattle.fib_addr.specs.Seen.{addr_as, prefix_as};
+ghost use Rattle.fib_addr.specs.Text.{address_in, ipv4_in, is_slash, number_in, prefix_in, address_text, prefix_text};
+
+use crate::addr::Addr;
+use crate::ipv6::{put_ipv6, read_ipv6};
+use crate::prefix::Prefix;
+use address_model::Family;
+use itoa::Buffer;
+use std::net::Ipv4Addr;
+use std::str;
+
+/// The octets of a buffer that holds the text of any address or prefix: the longest takes 39 of an IPv6 address and `/128`.
+pub const MOST_TEXT: usize = 43;
+
+/// Reads an IPv4 address alone, from its first octet to its last: four decimal numbers from 0 to 255 without leading zeros,
+/// with dots between them (`IPv4address` of RFC 3986, section 3.2.2). `None` exactly where the text is anything else.
+pub fn read_ipv4(text: &[u8]) -> Option<Addr>
+    ensures { option_map addr_as result ≡ ipv4_in text.now }
+{
+    match Ipv4Addr::parse_ascii(text) {
+        Ok(addr) => Some(Addr::v4(addr.to_bits())),
+        Err(_) => None,
+    }
+}
+
+/// Reads an address, from its first octet to its last: an IPv4 address as `read_ipv4`; an IPv6 address as eight groups of one
+/// to four hexadecimal digits with colons between them, or as at most seven with one `::` for those that are missing
+/// (RFC 4291, section 2.2), without a dotted part or a zone. `None` exactly where the text is anything else.
+pub fn read_addr(text: &[u8]) -> Option<Addr>
+    ensures { option_map addr_as result ≡ address_in text.now }
+{
+    if text.contains(&b'.') {
+        read_ipv4(text)
+    } else {
+        read_ipv6(text)
+    }
+}
+
+/// Reads a decimal number of at most `most`, without a sign or leading zeros.
+fn read_number(text: &[u8], most: u8) -> Option<u8>
+    ensures value { result ≡ number_in (most + 1) text.now }
+    ensures fits { IfSome result (λ number. number ≤ most) }
+{
+    let number = str::from_utf8(text).ok()?.parse::<u8>().ok()?;
+    let mut digits = Buffer::new();
+    if digits.format(number).as_bytes() != text {
+        return None;
+    }
+    (number <= most).then_some(number)
+}
+
+/// The place of the first slash.
+fn slash_at(text: &[u8]) -> Option<usize>
+    ensures { result ≡ position is_slash text.now }
+{
+    text.iter().position(|b| *b == b'/')
+}
+
+/// Reads a prefix, from its first octet to its last: an address, a slash, and a decimal number without leading zeros of at
+/// most the address's width (RFC 4632, section 3.1; RFC 4291, section 2.3). `None` exactly where the text is anything else,
+/// or a bit past the length isn't 0.
+pub fn read_prefix(text: &[u8]) -> Option<Prefix>
+    ensures { option_map prefix_as result ≡ prefix_in text.now }
+{
+    let slash = slash_at(text)?;
+    let addr = read_addr(&text[..slash])?;
+    let len = read_number(&text[slash + 1..], addr.family.width())?;
+    let prefix = Prefix::new(&addr, len);
+    (prefix.first_addr() == addr).then_some(prefix)
+}
+
+/// Puts a piece at a place of the text, and gives the place after it.
+pub(crate) fn put(out: &mut [u8; MOST_TEXT], at: usize, piece: &[u8]) -> usize
+    requires { at + length piece.now ≤ MOST_TEXT }
+    ensures text { take result out.new ≡ take at out.old ++ piece.now }
+    ensures end { result ≡ at + length piece.now }
+{
+    let end = at + piece.len();
+    out[at..end].copy_from_slice(piece);
+    end
+}
+
+/// Puts a number of at most three digits at a place of the text, and gives the place after it.
+fn put_octet(out: &mut [u8; MOST_TEXT], at: usize, octet: u8) -> usize
+    requires { at + 3 ≤ MOST_TEXT }
+    ensures text { take result out.new ≡ take at out.old ++ decimal octet }
+    ensures end { result ≤ at + 3 }
+{
+    let mut digits = Buffer::new();
+    put(out, at, digits.format(octet).as_bytes())
+}
+
+/// Puts a dot and such a number.
+fn put_dot_octet(out: &mut [u8; MOST_TEXT], at: usize, octet: u8) -> usize
+    requires { at + 4 ≤ MOST_TEXT }
+    ensures text { take result out.new ≡ take at out.old ++ codes "." ++ decimal octet }
+    ensures end { result ≤ at + 4 }
+{
+    let after_dot = put(out, at, b".");
+    put_octet(out, after_dot, octet)
+}
+
+/// Writes four octets as decimal numbers, with dots between them.
+fn put_ipv4(out: &mut [u8; MOST_TEXT], octets: [u8; 4]) -> usize
+    ensures text { take result out.new ≡ ipv4_text octets }
+    ensures end { result ≤ 15 }
+{
+    let [a, b, c, d] = octets;
+    let at = put_octet(out, 0, a);
+    let at = put_dot_octet(out, at, b);
+    let at = put_dot_octet(out, at, c);
+    put_dot_octet(out, at, d)
+}
+
+/// Writes the address at the front of the buffer, IPv4 as `IPv4address` of RFC 3986, section 3.2.2, and IPv6 as RFC 5952,
+/// section 4, has it, without a dotted part, and gives the text's length.
+pub fn write_addr(addr: &Addr, out: &mut [u8; MOST_TEXT]) -> usize
+    ensures text { take result out.new ≡ address_text (addr_as addr.now) }
+    ensures fits { result ≤ 39 }
+{
+    match addr.family {
+        Family::V4 => put_ipv4(out, (addr.bits as u32).to_be_bytes()),
+        Family::V6 => put_ipv6(out, addr.bits),
+    }
+}
+
+/// Writes the prefix at the front of the buffer: its first address, a slash and its length (RFC 4632, section 3.1), and
+/// gives the text's length.
+pub fn write_prefix(prefix: &Prefix, out: &mut [u8; MOST_TEXT]) -> usize
+    ensures text { take result out.new ≡ prefix_text (prefix_as prefix.now) }
+    ensures fits { result ≤ MOST_TEXT }
+{
+    let after_addr = write_addr(&prefix.first_addr(), out);
+    let after_slash = put(out, after_addr, b"/");
+    put_octet(out, after_slash, prefix.len)
+}
+
+/// The address's text, in the buffer.
+pub fn addr_text<'a>(buffer: &'a mut [u8; MOST_TEXT], addr: &Addr) -> &'a [u8]
+    ensures { result.now ≡ address_text (addr_as addr.now) }
+{
+    let len = write_addr(addr, buffer);
+    &buffer[..len]
+}
+
+/// The prefix's text, in the buffer.
+pub fn prefix_text<'a>(buffer: &'a mut [u8; MOST_TEXT], prefix: &Prefix) -> &'a [u8]
+    ensures { result.now ≡ prefix_text (prefix_as prefix.now) }
+{
+    let len = write_prefix(prefix, buffer);
+    &buffer[..len]
+}

@@ -1,6 +1,0 @@
-use Rattle.std.proofs.Common.{ap, nat_eq}
-use Rattle.std.proofs.lemmas.Nat.Bits.{shr_and_one}
-use Rattle.fib_prefix.proofs.prefix.bit_at.Goals as goal
-
-pub returns : goal.returns
-returns c = ap (λ x. nat_eq x 1) (shr_and_one c.args.bits c.args.place)
