@@ -40,4 +40,8 @@ pub fn run_memory(
 }
 
 #[cfg(test)]
+mod records;
+#[cfg(test)]
 mod tests;
+#[cfg(test)]
+mod texts;
