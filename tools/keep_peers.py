@@ -9,10 +9,11 @@ prefixes that none of the peers has go, and records of other types stay.  It rea
 memory than the longest record.
 """
 
+import ipaddress
 import struct
 import sys
 
-from mrt import PEER_INDEX_TABLE, RIB_FAMILY, TABLE_DUMP_V2, header_fields, opened, peers, records
+from mrt import PEER_INDEX_TABLE, RIB_FAMILY, TABLE_DUMP_V2, address, header_fields, opened, peers, records
 
 
 def entries(body):
@@ -47,6 +48,14 @@ def list_peers(name):
         print(f"{addr}  AS {asn}  IPv4 {counts.get((index, 4), 0)}  IPv6 {counts.get((index, 6), 0)}")
 
 
+def as_told(word):
+    """An address as the peer table's are told, however it is written; an AS number as it is."""
+    try:
+        return address(ipaddress.ip_address(word).packed)
+    except ValueError:
+        return word
+
+
 def keep(name, wanted, out):
     chosen, missing = set(), set(wanted)
     with opened(name) as file:
@@ -74,9 +83,11 @@ def main():
         if len(sys.argv) == 2:
             list_peers(sys.argv[1])
         else:
-            keep(sys.argv[1], sys.argv[2:], sys.stdout.buffer)
+            keep(sys.argv[1], [as_told(word) for word in sys.argv[2:]], sys.stdout.buffer)
     except (EOFError, IndexError, struct.error):
         sys.exit("keep_peers.py: a record is cut; fib run names it, and show_record.py shows it")
+    except OSError as error:
+        sys.exit(f"keep_peers.py: {error}")
 
 
 if __name__ == "__main__":

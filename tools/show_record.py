@@ -296,8 +296,11 @@ def show(number, at, octets, lines, broken, skipped):
 def main():
     if len(sys.argv) not in (2, 3):
         sys.exit(__doc__)
-    with open(sys.argv[1], "rb") as file:
-        data = file.read()
+    try:
+        with open(sys.argv[1], "rb") as file:
+            data = file.read()
+    except OSError as error:
+        sys.exit(f"show_record.py: {error}")
     wanted = int(sys.argv[2]) if len(sys.argv) == 3 else None
     at, number, table = 0, 0, None
     while at < len(data):
