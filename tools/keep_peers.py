@@ -1,19 +1,21 @@
 #!/usr/bin/env python3
-"""Lists the peers of a dump, or keeps the routes of some of them.
+"""Lists the peers of a dump or of updates, or keeps what some of them said.
 
-Usage:  keep_peers.py DUMP                  prints a line for each peer: its address, AS number, IPv4 and IPv6 routes
-        keep_peers.py DUMP PEER.. >FILE     writes the dump with the entries of these peers alone, by address or AS number
+Usage:  keep_peers.py FILE                  prints a line for each peer: its address, AS number, IPv4 and IPv6 routes, records
+        keep_peers.py FILE PEER.. >KEPT     writes the file with what these peers said alone, by address or AS number
 
-DUMP is an MRT dump (RFC 6396, section 4.3), also one compressed by bzip2 or gzip.  The peer table stays whole, records of
-prefixes that none of the peers has go, and records of other types stay.  It reads record by record, so it needs no more
+FILE is in MRT format (RFC 6396), also where bzip2 or gzip has compressed it.  Of a dump the peer table stays whole, and entries of
+other peers go; of updates, records of other peers' sessions go.  All else stays.  It reads record by record, so it needs no more
 memory than the longest record.
 """
 
+import collections
 import ipaddress
 import struct
 import sys
 
-from mrt import PEER_INDEX_TABLE, RIB_FAMILY, TABLE_DUMP_V2, address, header_fields, opened, peers, records
+from mrt import (BGP4MP, BGP4MP_ET, MESSAGES, PEER_INDEX_TABLE, RIB_FAMILY, TABLE_DUMP_V2, address, header_fields, opened, peers,
+                 records)
 
 
 def entries(body):
@@ -34,18 +36,39 @@ def entries(body):
     return front, found
 
 
+def session(kind, subtype, body):
+    """The peer of a BGP4MP record (RFC 6396, section 4.4), or None."""
+    if kind not in (BGP4MP, BGP4MP_ET) or subtype not in MESSAGES:
+        return None
+    at = 4 if kind == BGP4MP_ET else 0
+    wide = 4 if "AS4" in MESSAGES[subtype] else 2
+    family = int.from_bytes(body[at + 2 * wide + 2:at + 2 * wide + 4], "big")
+    octets = body[at + 2 * wide + 4:][:{1: 4, 2: 16}.get(family, 0)]
+    return (address(octets), int.from_bytes(body[at:at + wide], "big")) if octets else None
+
+
 def list_peers(name):
-    table, counts = [], {}
+    counts = {}
+
+    def count(peer, what):
+        line = counts.setdefault(peer, collections.Counter())
+        line[what] += what is not None
+
+    table = []
     with opened(name) as file:
         for header, body in records(file):
             _, kind, subtype, _ = header_fields(header)
             if (kind, subtype) == (TABLE_DUMP_V2, PEER_INDEX_TABLE):
                 table = peers(body)
+                for peer in table:
+                    count(peer, None)
             elif kind == TABLE_DUMP_V2 and subtype in RIB_FAMILY:
                 for index, _ in entries(body)[1]:
-                    counts[index, RIB_FAMILY[subtype]] = counts.get((index, RIB_FAMILY[subtype]), 0) + 1
-    for index, (addr, asn, *_) in enumerate(table):
-        print(f"{addr}  AS {asn}  IPv4 {counts.get((index, 4), 0)}  IPv6 {counts.get((index, 6), 0)}")
+                    count(table[index], RIB_FAMILY[subtype])
+            elif peer := session(kind, subtype, body):
+                count(peer, "records")
+    for (addr, asn), line in counts.items():
+        print(f"{addr}  AS {asn}  IPv4 {line[4]}  IPv6 {line[6]}  records {line['records']}")
 
 
 def as_told(word):
@@ -57,23 +80,29 @@ def as_told(word):
 
 
 def keep(name, wanted, out):
-    chosen, missing = set(), set(wanted)
+    """Writes what is kept, and returns those wanted that a peer table doesn't have."""
+    chosen, missing = set(), set()
     with opened(name) as file:
         for header, body in records(file):
             _, kind, subtype, _ = header_fields(header)
             if (kind, subtype) == (TABLE_DUMP_V2, PEER_INDEX_TABLE):
                 table = peers(body)
-                chosen = {index for index, (addr, asn, *_) in enumerate(table) if addr in wanted or str(asn) in wanted}
-                missing -= {word for addr, asn, *_ in table for word in (addr, str(asn))}
+                chosen = {index for index, peer in enumerate(table) if is_wanted(peer, wanted)}
+                missing = {word for word in wanted if not any(is_wanted(peer, [word]) for peer in table)}
             elif kind == TABLE_DUMP_V2 and subtype in RIB_FAMILY:
                 front, found = entries(body)
                 kept = [entry for index, entry in found if index in chosen]
                 if not kept:
                     continue
                 body = front + len(kept).to_bytes(2, "big") + b"".join(kept)
+            elif (peer := session(kind, subtype, body)) and not is_wanted(peer, wanted):
+                continue
             out.write(header[:8] + len(body).to_bytes(4, "big") + body)
-    if missing:
-        sys.exit(f"keep_peers.py: not in the peer table: {' '.join(sorted(missing))}")
+    return missing
+
+
+def is_wanted(peer, wanted):
+    return peer[0] in wanted or str(peer[1]) in wanted
 
 
 def main():
@@ -83,7 +112,9 @@ def main():
         if len(sys.argv) == 2:
             list_peers(sys.argv[1])
         else:
-            keep(sys.argv[1], [as_told(word) for word in sys.argv[2:]], sys.stdout.buffer)
+            missing = keep(sys.argv[1], [as_told(word) for word in sys.argv[2:]], sys.stdout.buffer)
+            if missing:
+                sys.exit(f"keep_peers.py: not in the peer table: {' '.join(sorted(missing))}")
     except (EOFError, IndexError, struct.error):
         sys.exit("keep_peers.py: a record is cut; fib run names it, and show_record.py shows it")
     except OSError as error:

@@ -56,15 +56,14 @@ def address(octets):
 
 
 def peers(body):
-    """The peers of a PEER_INDEX_TABLE's body: address and AS number of each, and where each stands in the body."""
+    """The peers of a PEER_INDEX_TABLE's body: address and AS number of each."""
     at = 6 + int.from_bytes(body[4:6], "big")
     count = int.from_bytes(body[at:at + 2], "big")
     at += 2
     found = []
     for _ in range(count):
-        start, kind = at, body[at]
-        wide = 16 if kind & 1 else 4
-        octets = body[at + 5:at + 5 + wide]
-        at += 5 + wide + (4 if kind & 2 else 2)
-        found.append((address(octets), int.from_bytes(body[start + 5 + wide:at], "big"), start, at))
+        kind, at = body[at], at + 5
+        addr_octets, as_octets = 16 if kind & 1 else 4, 4 if kind & 2 else 2
+        found.append((address(body[at:at + addr_octets]), int.from_bytes(body[at + addr_octets:][:as_octets], "big")))
+        at += addr_octets + as_octets
     return found
