@@ -4,7 +4,7 @@
 Usage:  man_pages.py FOLDER
 
 It knows headings, paragraphs, lists, tables, blocks of code, and code and bold within a line.  A row of a table becomes a tagged
-paragraph: all cells but the last are its tag.
+paragraph: of up to three cells the last is its text and the others its tag, of more the first is its tag.
 """
 
 import os
@@ -43,11 +43,13 @@ def inline(text):
 
 
 def table(rows):
-    """Its rows but the two of the head."""
-    for row in rows[2:]:
-        cells = [inline(cell.strip()) for cell in re.split(r"(?<!\\)\|", row.strip()[1:-1])]
-        *tag, text = cells
-        tag = ", ".join(cell for cell in tag if cell)
+    """Its rows but the two of the head, whose words stand before the cells where there are more than three."""
+    head, _, *rows = [[inline(cell.strip()) for cell in re.split(r"(?<!\\)\|", row.strip()[1:-1])] for row in rows]
+    for row in rows:
+        if len(row) > 3:
+            tag, text = row[0], "; ".join(f"{name}: {cell}" for name, cell in zip(head[1:], row[1:]) if cell)
+        else:
+            tag, text = ", ".join(cell for cell in row[:-1] if cell), row[-1]
         yield f".TP\n{lines_of(tag)}\n{lines_of(text or chr(92) + '&')}"
 
 
