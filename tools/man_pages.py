@@ -16,6 +16,7 @@ PAGES = [
     ("fib", 1, "USAGE.md", "compiles forwarding tables from BGP routes, and checks that a table is least", "fib(5)"),
     ("fib", 5, "FORMATS.md", "what fib reads and prints, and how a run ends", "fib(1)"),
 ]
+CODE = str.maketrans({"\\": "\\e", "-": "\\-", "'": "\\(aq", "`": "\\(ga", "^": "\\(ha", "~": "\\(ti"})
 NAMES = {"docs/USAGE.md": "fib(1)", "docs/FORMATS.md": "fib(5)"}
 
 
@@ -35,10 +36,9 @@ def inline(text):
     parts = re.split(r"`([^`]*)`", text)
     for i, part in enumerate(parts):
         if i % 2:
-            parts[i] = "\\fB" + escaped(part).replace("-", "\\-").replace("'", "\\(aq") + "\\fR"
+            parts[i] = "\\fB" + part.translate(CODE) + "\\fR"
         else:
             parts[i] = re.sub(r"\*\*([^*]*)\*\*", r"\\fB\1\\fR", escaped(part))
-    # Bold that holds code ends with it.
     return "".join(parts)
 
 
@@ -49,13 +49,13 @@ def table(rows):
         if len(row) > 3:
             tag, text = row[0], "; ".join(f"{name}: {cell}" for name, cell in zip(head[1:], row[1:]) if cell)
         else:
-            tag, text = ", ".join(cell for cell in row[:-1] if cell), row[-1]
-        yield f".TP\n{lines_of(tag)}\n{lines_of(text or chr(92) + '&')}"
+            *tags, text = [cell for cell in row if cell]
+            tag = ", ".join(tags)
+        yield f".TP\n{lines_of(tag)}\n{lines_of(text)}"
 
 
 def code(lines):
-    return ".PP\n.RS 4\n.nf\n" + lines_of(escaped("\n".join(lines)).replace("-", "\\-").replace("'", "\\(aq")
-                                             .replace("`", "\\(ga").replace("^", "\\(ha").replace("~", "\\(ti")) + "\n.fi\n.RE"
+    return ".RS 4\n.nf\n" + lines_of("\n".join(lines).translate(CODE)) + "\n.fi\n.RE"
 
 
 def blocks(text):
@@ -95,17 +95,19 @@ def page(name, section, document, what, also):
     if found[0][0] != "head":
         out.append(".SH DESCRIPTION")
     for kind, lines in found:
+        # A section begins a paragraph by itself.
+        start = "" if out[-1].startswith(".S") else ".PP\n"
         if kind == "head":
             marks, words = lines[0].split(" ", 1)
             out.append(f".SH {inline(words).upper()}" if marks == "##" else f".SS {inline(words)}")
         elif kind == "code":
-            out.append(code(lines))
+            out.append(start + code(lines))
         elif kind == "table":
             out += table(lines)
         elif kind == "list":
             out += [".IP \\(bu 2\n" + lines_of(inline("\n".join(item))) for item in items(lines)]
         else:
-            out.append(".PP\n" + lines_of(inline("\n".join(lines))))
+            out.append(start + lines_of(inline("\n".join(lines))))
     return "\n".join(out + [".SH SEE ALSO", f".BR {also[:3]} {also[3:]}"]) + "\n"
 
 
