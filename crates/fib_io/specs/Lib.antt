@@ -4,3 +4,5 @@ pub mod Held
 pub mod Plan
 pub mod MemInputs
 pub mod MemSink
+pub mod Adapters
+pub mod Whole
