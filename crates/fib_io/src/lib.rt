@@ -16,17 +16,19 @@ ghost use Rattle.fib_io.specs.Octets.{Adds, AddsFront, AddsSome, AreAt};
 
 use thiserror::Error;
 
-mod adapters;
+mod files;
 mod memory_inputs;
 mod memory_sinks;
 mod plan;
+mod streams;
 #[cfg(test)]
 mod tests;
 mod whole;
 
-pub use adapters::{FileInputs, StdSink};
+pub use files::{ByName, FileInputs, ReadSeek, SystemFiles};
 pub use memory_inputs::{MemInputs, SureInputs};
 pub use memory_sinks::{MemSink, SureSink};
+pub use streams::{FlushWrite, StdSink};
 pub use whole::{ReadError, read_whole};
 
 /// A read failed. The count of the name that was read rose, unless it stood at the last value of a `u64`.
