@@ -19,7 +19,7 @@ fn words_of<R: Env + Alloc<A = Global>>(rt: &R, alloc: Global) -> io::Result<Vec
 
 fn main(rt: HostRuntime) -> ExitCode {
     let alloc = rt.alloc();
-    let mut inputs = FileInputs::new(&rt);
+    let mut inputs = FileInputs::new(alloc, &rt);
     let mut out = StdSink::new(rt.stdout());
     let mut err = StdSink::new(rt.stderr());
     // Words that can't be read are no command.

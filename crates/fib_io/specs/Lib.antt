@@ -4,3 +4,6 @@ pub mod Held
 pub mod Plan
 pub mod MemInputs
 pub mod MemSink
+pub mod Files
+pub mod Streams
+pub mod Whole

@@ -1,5 +1,7 @@
 //! What no contract says: that the calls succeed, and what the adapters do over files and writers.
 
+ghost use Rattle.std.specs.Prelude.{None};
+
 use super::*;
 use std::alloc::Global;
 use std::cell::Cell;
@@ -28,6 +30,14 @@ impl Write for Pipe<'_> {
         } else {
             Ok(())
         }
+    }
+}
+
+impl FlushWrite for Pipe<'_> {
+    ghost flushed = { λ _. None };
+
+    fn flush_all(&mut self) -> io::Result<()> {
+        self.flush()
     }
 }
 
@@ -90,16 +100,22 @@ fn writes_what_fits(rt: HostRuntime) -> Result<(), Fail> {
 }
 
 #[test]
-fn adapters_count_faults(rt: HostRuntime) -> Result<(), Fail> {
-    let mut inputs = FileInputs::new(&rt);
+fn adapters_keep_files_open_and_count_faults(rt: HostRuntime) -> Result<(), Fail> {
+    let mut inputs = FileInputs::new(rt.alloc(), &rt);
     let mut buf = [0u8; 4];
     fs::write(&rt, "hello.txt", "hello")?;
     assert!(rt; inputs.read("hello.txt", 2, &mut buf) == Ok(3));
     assert!(rt; &buf == b"llo\0");
+
+    // another file takes its place under that name
+    fs::write(&rt, "other.txt", "other")?;
+    fs::rename(&rt, "other.txt", "hello.txt")?;
+    assert!(rt; inputs.read("hello.txt", 0, &mut buf) == Ok(4));
+    assert!(rt; &buf == b"hell", "the file that was opened");
     assert!(rt; inputs.read("hello.txt", 5, &mut buf) == Ok(0), "the end");
     fs::remove_file(&rt, "hello.txt")?;
     assert!(rt;
-        inputs.read("hello.txt", 0, &mut buf) == Err(InFault),
+        inputs.read("other.txt", 0, &mut buf) == Err(InFault),
         "no such file"
     );
     assert!(rt; inputs.read("/", 0, &mut buf) == Err(InFault), "a folder");

@@ -4,7 +4,6 @@ pub mod Completing
 pub mod Due
 pub mod Feeding
 pub mod Fitting
-pub mod Fronts
 pub mod Looking
 pub mod Printing
 pub mod Replies

@@ -9,7 +9,6 @@
 mod asks;
 mod checking;
 mod feed;
-mod inputs;
 mod outcome;
 mod reading;
 mod report;

@@ -4,7 +4,7 @@
 //! Usage, `help`, `--help` and `--version` among them. Names borrow from the words.
 #![tactic(auto)]
 
-ghost use Rattle.std.specs.Prelude.{◌≡◌, ◌≢◌, IfOk, map, option_map};
+ghost use Rattle.std.specs.Prelude.{◌≡◌, ◌≢◌, ◌↔◌, IfOk, map, option_map};
 ghost use Rattle.std.specs.Option.{option_and_then};
 ghost use Rattle.std.specs.String.{string_bytes};
 ghost use Rattle.clap.specs.Words.{app_of, found_of, rows_of, subcommand_rows_of, with_rule};
@@ -123,7 +123,8 @@ fn named<'a>(matches: &ArgMatches<'a>) -> Option<RunWords<'a>>
 
 /// Why clap refused the words.
 fn why(error: &Error) -> WordsError
-    ensures { result ≡ WordsError.Usage → kind_of error.now ≢ ErrorKind.OutOfMemory }
+    ensures usage { result ≡ WordsError.Usage ↔ kind_of error.now ≢ ErrorKind.OutOfMemory }
+    ensures memory { result ≡ WordsError.NoMemory ↔ kind_of error.now ≡ ErrorKind.OutOfMemory }
 {
     match error.kind() {
         ErrorKind::OutOfMemory => WordsError::NoMemory,

@@ -3,7 +3,7 @@ use Rattle.fib_words.proofs.Words.{refused_is, taken_is}
 use Rattle.fib_words.proofs.read_words.Goals as goal
 
 pub returns-in-Err : goal.returns-in-Err
-returns-in-Err c = refused_is _ _ c.in-Err.error c.why.result c.in_ok-command.ensures.same c.in-Err.ensures.kinds c.why.ensures
+returns-in-Err c = refused_is _ _ c.in-Err.error c.why.result c.in_ok-command.ensures.same c.in-Err.ensures.kinds c.why.ensures.usage.0
 
 pub returns-in-Some : goal.returns-in-Some
 returns-in-Some c =

@@ -1,7 +1,7 @@
 use Rattle.std.proofs.Common.{arith, ◌∙◌, rules}
 use Rattle.std.proofs.lemmas.Grind.{common_steps}
-use Rattle.fib_main.proofs.Fronts.{front_next}
-use Rattle.fib_main.proofs.inputs.read_by.Goals as goal
+use Rattle.fib_io.proofs.Fronts.{front_next}
+use Rattle.fib_io.proofs.whole.read_by.Goals as goal
 
 pub loop-octets-preserved : goal.loop-octets-preserved
 loop-octets-preserved g c = record {

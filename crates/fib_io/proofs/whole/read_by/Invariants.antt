@@ -1,6 +1,6 @@
 use Rattle.std.proofs.Common.{◌≡◌, ◌≤◌, ◌+◌, ◌-◌, ◌^◌, length, take}
 use Rattle.std.specs.Prelude.{IfSome}
-use Rattle.fib_main.proofs.inputs.read_by.Given as goal
+use Rattle.fib_io.proofs.whole.read_by.Given as goal
 
 abbrev pub invariant-loop-octets : goal.invariant-loop-octets
 invariant-loop-octets g l = record {

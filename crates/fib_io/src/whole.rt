@@ -3,10 +3,10 @@
 ghost use Rattle.std.specs.Prelude.{◌≡◌, ◌≤◌, ◌<◌, ◌+◌, length, IfOk, IfSome, IsErrOf};
 ghost use Rattle.fib_io.specs.Causes.{HasReadCause};
 ghost use Rattle.fib_io.specs.Octets.{AreAt};
-ghost use Rattle.fib_main.specs.Reads.{IsReadOf};
-ghost use Rattle.fib_main.specs.declared.inputs.ReadError.TheVariants.{Fault, NoMemory};
+ghost use Rattle.fib_io.specs.Whole.{IsReadOf};
+ghost use Rattle.fib_io.specs.declared.whole.ReadError.TheVariants.{Fault, NoMemory};
 
-use fib_io::{InFault, Inputs};
+use crate::{InFault, Inputs};
 use std::alloc::{AllocError, AllocFailed, Global};
 use thiserror::Error;
 

@@ -1,0 +1,215 @@
+//! Inputs over files.
+//!
+//! A name's file is opened at its first read and stays open, so that all that is read of a name is of one file, also
+//! where another takes its place under that name meanwhile. A read goes on where the last one ended, or goes to its place
+//! first; so a pipe can be read once, in order. There is one count of faults, a `u64`, which each error raises.
+//!
+//! What a file holds no contract can say. `ByName` and `ReadSeek` say what a system may tell, and the inputs are proved
+//! over any: a read gives what stands at its place. What is trusted is the calls of the system under `SystemFiles` and
+//! `File`, which tell nothing.
+
+ghost use Rattle.std.specs.Prelude.{◌≡◌, ℕ, ◌+◌, ◌≤◌, ◌<◌, List, Option, Some, None, length, IfOk, IfSome, OnOk};
+ghost use Rattle.std.specs.String.{string_bytes};
+ghost use Rattle.std.specs.Option.{ForSome};
+ghost use Rattle.fib_io.specs.Files.{AllOpen, IsNamed, IsOpen, IsOpened, ReadsOn};
+ghost use Rattle.fib_io.specs.Octets.{AreAt};
+
+use crate::{InFault, Inputs, count_fault};
+use std::alloc::{AllocError, AllocFailed, Global};
+use std::fs::{self, File};
+use std::io::{self, Read, Seek, SeekFrom};
+use std::rt::Files;
+
+/// A reader that goes to any place.
+pub trait ReadSeek: Read + Seek {
+    /// Reads once, from where it stands. Where it tells its octets and its place, these are the octets there, and it
+    /// stands behind them then.
+    fn read_on(&mut self, buf: &mut [u8]) -> io::Result<usize>
+        ensures most { IfOk result (λ n. n ≤ length buf.new) }
+        ensures told { ReadsOn (Self.stream_bytes self.old) (Self.stream_position self.old) (Self.stream_position self.new) buf.new result }
+        ensures same { ForSome (Self.stream_bytes self.old) (λ octets. Self.stream_bytes self.new ≡ Some octets) };
+}
+
+impl ReadSeek for File {
+    fn read_on(&mut self, buf: &mut [u8]) -> io::Result<usize> {
+        self.read(buf)
+    }
+}
+
+/// Octets that are opened by name. `content` is what each name holds, where the type tells it.
+pub trait ByName {
+    type Reader: ReadSeek + Drop;
+
+    ghost content: { Self → List ℕ → Option (List ℕ) };
+
+    /// A reader that stands at the beginning of what the name holds.
+    fn open(&self, name: &str) -> io::Result<Self::Reader>
+        ensures { IfOk result (λ reader. IsOpened (content self.now name.now) (Self.Reader.stream_bytes reader) (Self.Reader.stream_position reader)) };
+}
+
+/// The files of a runtime. They tell no content.
+#[derive(Drop)]
+pub struct SystemFiles<'r, R: Files<File = File>> {
+    rt: &'r R,
+}
+
+impl<R: Files<File = File>> ByName for SystemFiles<'_, R> {
+    type Reader = File;
+
+    ghost content = { λ _ _. None };
+
+    fn open(&self, name: &str) -> io::Result<File> {
+        fs::open(self.rt, name)
+    }
+}
+
+impl From<io::Error> for InFault {
+    fn from(_e: io::Error) -> InFault {
+        InFault
+    }
+}
+
+impl From<AllocError> for InFault {
+    fn from(_e: AllocError) -> InFault {
+        InFault
+    }
+}
+
+impl<T: Drop> From<AllocFailed<T>> for InFault {
+    fn from(_e: AllocFailed<T>) -> InFault {
+        InFault
+    }
+}
+
+/// An input that is open.
+#[derive(Drop)]
+struct OpenInput<R: ReadSeek + Drop> {
+    name: String,
+    reader: R,
+    // where the reader stands, where that is known
+    place: Option<u64>,
+}
+
+impl<R: ReadSeek + Drop> OpenInput<R> {
+    /// Goes to a place, unless it stands there.
+    fn go_to(&mut self, at: u64) -> io::Result<()>
+        ensures name { self.new.name ≡ self.old.name }
+        ensures open { (content : Option (List ℕ)) → IsOpen content (R.stream_bytes self.old.reader) (R.stream_position self.old.reader) self.old.place → IsOpen content (R.stream_bytes self.new.reader) (R.stream_position self.new.reader) self.new.place }
+        ensures at { OnOk result (self.new.place ≡ Some at) }
+    {
+        if self.place != Some(at) {
+            self.reader.seek(SeekFrom::Start(at))?;
+            self.place = Some(at);
+        }
+        Ok(())
+    }
+
+    /// Reads once, from the place on.
+    fn read_at(&mut self, at: u64, buf: &mut [u8]) -> io::Result<usize>
+        ensures most { IfOk result (λ n. n ≤ length buf.new) }
+        ensures name { self.new.name ≡ self.old.name }
+        ensures open { (content : Option (List ℕ)) → IsOpen content (R.stream_bytes self.old.reader) (R.stream_position self.old.reader) self.old.place → IsOpen content (R.stream_bytes self.new.reader) (R.stream_position self.new.reader) self.new.place }
+        ensures told { (octets : List ℕ) → IsOpen (Some octets) (R.stream_bytes self.old.reader) (R.stream_position self.old.reader) self.old.place → IfOk result (λ n. AreAt octets at buf.new n) }
+    {
+        self.go_to(at)?;
+        let n = self.reader.read_on(buf)?;
+        self.place = at.checked_add(n as u64);
+        Ok(n)
+    }
+}
+
+/// The place of the input of this name, if it is open.
+fn place_of<R: ReadSeek + Drop>(inputs: &[OpenInput<R>], name: &str) -> Option<usize>
+    ensures { IfSome result (λ i. IsNamed inputs.now i name.now) }
+{
+    for (i, input) in inputs.iter().enumerate() {
+        if input.name.as_str() == name {
+            return Some(i);
+        }
+    }
+    None
+}
+
+/// Files by name. A file that can't be opened, sought or read is a fault, whatever the cause, an interrupted call and want
+/// of memory too, and all names have one count of faults.
+#[derive(Drop)]
+pub struct FileInputs<N: ByName + Drop> {
+    alloc: Global,
+    files: N,
+    // one for each name that was read
+    open: Vec<OpenInput<N::Reader>>,
+    faults: u64,
+    ghost open_named: { AllOpen (N.content files) N.Reader.stream_bytes N.Reader.stream_position open.items },
+}
+
+impl<'r, R: Files<File = File>> FileInputs<SystemFiles<'r, R>> {
+    /// Reads the files of this runtime. No file is opened before the first read of its name.
+    pub fn new(alloc: Global, rt: &'r R) -> FileInputs<SystemFiles<'r, R>>
+        ensures { ⟦<FileInputs<SystemFiles<'r, R>> as Inputs>⟧.faults result ≡ (λ _. 0) }
+    {
+        FileInputs {
+            alloc,
+            files: SystemFiles { rt },
+            open: Vec::new(alloc),
+            faults: 0,
+        }
+    }
+}
+
+/// Opens what the name holds.
+fn open_input<N: ByName>(
+    alloc: Global,
+    files: &N,
+    name: &str,
+) -> Result<OpenInput<N::Reader>, InFault>
+    ensures named { IfOk result (λ input. string_bytes input.name ≡ name.now) }
+    ensures open { IfOk result (λ input. IsOpen (N.content files.now name.now) (N.Reader.stream_bytes input.reader) (N.Reader.stream_position input.reader) input.place) }
+{
+    Ok(OpenInput {
+        name: String::from_str(alloc, name)?,
+        reader: files.open(name)?,
+        place: Some(0),
+    })
+}
+
+impl<N: ByName + Drop> FileInputs<N> {
+    /// Opens the name, if it isn't open yet, and gives its place among the open inputs.
+    fn open(&mut self, name: &str) -> Result<usize, InFault>
+        ensures files { self.new.files ≡ self.old.files }
+        ensures faults { self.new.faults ≡ self.old.faults }
+        ensures named { IfOk result (λ i. IsNamed self.new.open.items i name.now) }
+    {
+        if let Some(i) = place_of(&self.open, name) {
+            return Ok(i);
+        }
+        let input = open_input(self.alloc, &self.files, name)?;
+        let i = self.open.len();
+        self.open.push(input)?;
+        Ok(i)
+    }
+
+    /// Reads once, from the place on, what stands under the name.
+    fn read_named(&mut self, name: &str, at: u64, buf: &mut [u8]) -> Result<usize, InFault>
+        ensures most { IfOk result (λ n. n ≤ length buf.new) }
+        ensures told { IfOk result (λ n. IfSome (N.content self.old.files name.now) (λ octets. AreAt octets at buf.new n)) }
+        ensures files { self.new.files ≡ self.old.files }
+        ensures faults { self.new.faults ≡ self.old.faults }
+    {
+        let i = self.open(name)?;
+        Ok(self.open[i].read_at(at, buf)?)
+    }
+}
+
+impl<N: ByName + Drop> Inputs for FileInputs<N> {
+    ghost content = { λ s. N.content s.files };
+
+    ghost faults = { λ s _. s.faults };
+
+    fn read(&mut self, name: &str, at: u64, buf: &mut [u8]) -> Result<usize, InFault> {
+        let result = self.read_named(name, at, buf);
+        if result.is_err() {
+            count_fault(&mut self.faults);
+        }
+        result
+    }
+}
