@@ -11,3 +11,4 @@ pub mod Reporting
 pub mod Running
 pub mod Steps
 pub mod Telling
+pub mod Untold
