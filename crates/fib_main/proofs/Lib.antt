@@ -1,3 +1,4 @@
+pub mod Addressed
 pub mod AskLemmas
 pub mod Certifying
 pub mod Completing

@@ -6,7 +6,7 @@ ghost use Rattle.cert_check.specs.Seen.{no_as};
 ghost use Rattle.fib_main.specs.Ends.{Completes, EndsBy, Meets, OneRose, ReadsFrom, TellsOf, text_due, Writes, WritesBy};
 ghost use Rattle.fib_main.specs.Owned.{IsOf};
 ghost use Rattle.fib_main.specs.Proves.{AddsFrontOfYes, AddsYes, Decides, IfChecked, IfRan, IsRun, PrintsYes, YesProves};
-ghost use Rattle.fib_main.specs.Runs.{Answers, Certified, Forwards, HasLeast, IfDue, SumsUp};
+ghost use Rattle.fib_main.specs.Runs.{Answers, Certified, Forwards, HasHops, HasLeast, IfDue, SumsUp};
 ghost use Rattle.fib_main.specs.Untold.{FitsSome};
 ghost use Rattle.fib_main.specs.Words.{asked_by, due_by, read_by};
 
@@ -55,7 +55,7 @@ fn outcome_of<I: Inputs, O: Sink>(
 }
 
 /// Writes the outcome's line to err, where a fault is passed over.
-fn tell<E: Sink>(outcome: Outcome, err: &mut E)
+pub fn tell<E: Sink>(outcome: Outcome, err: &mut E)
     ensures { TellsOf outcome (E.written err.old) (E.written err.new) (E.faults err.old) (E.faults err.new) }
 {
     if outcome != Outcome::Done {
@@ -98,7 +98,7 @@ fn ended<I: Inputs, O: Sink, E: Sink>(
 /// It costs n log n in the octets read and the rows written, and the routes' number times the lengths of their prefixes. In
 /// memory are, at most, one input twice while it is read, the candidates of all peers, the trees of the routes while they are
 /// looked up, and the whole text. A check keeps the text, its routes, least table and certificate, and the runs of both tables.
-#[tactic(auto, using(crate::proofs::Completing::completes, crate::proofs::Running::sums_up, crate::proofs::Running::forwards, crate::proofs::Running::answers, crate::proofs::Running::least, crate::proofs::Running::certified, crate::proofs::Replies::decides, crate::proofs::Replies::yes_proves))]
+#[tactic(auto, using(crate::proofs::Completing::completes, crate::proofs::Running::sums_up, crate::proofs::Running::forwards, crate::proofs::Running::answers, crate::proofs::Running::least, crate::proofs::Running::certified, crate::proofs::Running::addressed, crate::proofs::Replies::decides, crate::proofs::Replies::yes_proves))]
 pub fn run_fib<I: Inputs, O: Sink, E: Sink>(
     alloc: Global,
     words: &[String],
@@ -147,6 +147,10 @@ pub fn run_fib<I: Inputs, O: Sink, E: Sink>(
 
     // The printed rows prove the printed least table least, to whoever trusts the rules of certificates alone.
     ensures certified { IfDue (due_by words.now (I.content inputs.old)) Certified }
+
+    // What is due to be printed has its addresses: different numbers have different hops, each route has a hop and so its row,
+    // and every other number that is told is 0 or has a hop.
+    ensures addressed { IfRan (due_by words.now (I.content inputs.old)) HasHops }
 
     // At Done of a run out has one text more, to which a check says yes: it is read again as rows with a certificate, whatever
     // numbers the reader gives the hops. At a fault of writing it has a front of such a text. Where the inputs tell what they
