@@ -1,20 +1,44 @@
 //! The program: the top call over files, standard output and standard error.
 #![tactic(auto)]
 
-use fib_io::{FileInputs, StdSink};
-use fib_main::run_fib;
+ghost use Rattle.std.specs.Prelude.{◌≡◌, IfErr};
+ghost use Rattle.std.specs.IoError.{error_kind};
+ghost use Rattle.fib_main.specs.Ends.{TellsOf};
+ghost use Rattle.fib.specs.Ends.{EndsBy, words_in};
+
+use fib_io::{FileInputs, Inputs, Sink, StdSink};
+use fib_main::{Outcome, run_fib, tell};
 use std::alloc::Global;
+use std::env;
+use std::io::{self, ErrorKind};
 use std::process::ExitCode;
 use std::rt::Env;
-use std::{env, io};
 
-/// The words of the command line; an error where one of them isn't UTF-8.
+/// The words of the command line; an error where one of them isn't UTF-8, or where memory ran out.
 fn words_of<R: Env + Alloc<A = Global>>(rt: &R, alloc: Global) -> io::Result<Vec<String>> {
-    let mut words = Vec::new(alloc);
-    for word in env::args(rt)? {
-        words.push(word)?;
+    Ok(Vec::from_iter(alloc, env::args(rt)?)?)
+}
+
+/// Does what the words say. Words that couldn't be read are no command, but where memory ran out.
+fn outcome_of<I: Inputs, O: Sink, E: Sink>(
+    alloc: Global,
+    words: io::Result<Vec<String>>,
+    inputs: &mut I,
+    out: &mut O,
+    err: &mut E,
+) -> Outcome
+    ensures ends { EndsBy (words_in words) (I.content inputs.old) (O.written out.old) (O.written out.new) result }
+    ensures tells { TellsOf result (E.written err.old) (E.written err.new) (E.faults err.old) (E.faults err.new) }
+    ensures memory { IfErr words (λ e. error_kind e ≡ ErrorKind.OutOfMemory → result ≡ Outcome.NoMemory) }
+{
+    match words {
+        Ok(words) => run_fib(alloc, &words, inputs, out, err),
+        Err(e) if e.kind() == ErrorKind::OutOfMemory => {
+            tell(Outcome::NoMemory, err);
+            Outcome::NoMemory
+        }
+        Err(_) => run_fib(alloc, &[], inputs, out, err),
     }
-    Ok(words)
 }
 
 fn main(rt: HostRuntime) -> ExitCode {
@@ -22,8 +46,7 @@ fn main(rt: HostRuntime) -> ExitCode {
     let mut inputs = FileInputs::new(alloc, &rt);
     let mut out = StdSink::new(rt.stdout());
     let mut err = StdSink::new(rt.stderr());
-    // Words that can't be read are no command.
-    let words = words_of(&rt, alloc).unwrap_or(Vec::new(alloc));
-    let outcome = run_fib(alloc, &words, &mut inputs, &mut out, &mut err);
+    let words = words_of(&rt, alloc);
+    let outcome = outcome_of(alloc, words, &mut inputs, &mut out, &mut err);
     ExitCode::from(outcome.status())
 }

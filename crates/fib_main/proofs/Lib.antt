@@ -1,3 +1,4 @@
+pub mod Addressed
 pub mod AskLemmas
 pub mod Certifying
 pub mod Completing
@@ -11,3 +12,4 @@ pub mod Reporting
 pub mod Running
 pub mod Steps
 pub mod Telling
+pub mod Untold

@@ -64,12 +64,12 @@ between_other hops told =
 
 -- ---- the hops
 
-none_distinct : IsDistinct same_address []
+pub none_distinct : IsDistinct same_address []
 unfolding IsDistinct
 none_distinct = tt
 
 -- routes whose hops have numbers
-have_hops : (hops : List Address) (routes : List (Prefix × Address)) → AllByRecursion (λ (r : Prefix × Address). IsNumbered hops r.1) routes → HaveHops hops (map (λ (r : Prefix × Address). (r.0, number_in hops r.1)) routes)
+pub have_hops : (hops : List Address) (routes : List (Prefix × Address)) → AllByRecursion (λ (r : Prefix × Address). IsNumbered hops r.1) routes → HaveHops hops (map (λ (r : Prefix × Address). (r.0, number_in hops r.1)) routes)
 have_hops hops [] n = tt
 have_hops hops (r ∷ routes) n =
     let is : number_in hops r.1 ≡ n.0.0 = ap (λ o. unwrap_or o 0) n.0.1 in

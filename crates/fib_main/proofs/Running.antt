@@ -13,14 +13,15 @@ use Rattle.reading_model.specs.Input.{Progress, Stopped, input}
 use Rattle.reading_model.proofs.Told.{read_events}
 use Rattle.feed_model.specs.Feed.{hops_after, full_at, entries_of}
 use Rattle.feed_model.proofs.Tables.{all}
-use Rattle.fib_report.specs.Seen.{Told}
 use Rattle.fib_words.specs.Commands.{Named, Asked, Run, Check, command_of}
 use Rattle.printed_model.specs.Used.{Used}
 use Rattle.fib_main.specs.declared.outcome.Which.{Which}
 use Rattle.fib_main.specs.declared.outcome.Which.TheVariants.{Dump, Updates}
 use Rattle.fib_main.specs.Stops.{Stop, few_hops, whole}
-use Rattle.fib_main.specs.Due.{Feed, printed, input_at, asks_at, feed_at, feed_of, feed_in, elems_in, read_part, told_at, run_at, used_at, output_at, ran, checked, due, usage, answers_to}
-use Rattle.fib_main.specs.Runs.{IfDue, SumsUp, Forwards, Answers, HasLeast, Certified}
+use Rattle.fib_main.specs.Due.{Feed, Printed, printed, input_at, asks_at, feed_at, feed_of, feed_in, elems_in, read_part, told_at, run_at, used_at, output_at, ran, checked, due, usage, answers_to}
+use Rattle.fib_main.specs.Proves.{IfRan}
+use Rattle.fib_main.specs.Runs.{IfDue, SumsUp, Forwards, Answers, HasLeast, Certified, HasHops}
+use Rattle.fib_main.proofs.Addressed.{has_hops}
 use Rattle.fib_main.proofs.Certifying.{certified_least}
 use Rattle.fib_main.proofs.Looking.{least_in_both}
 use Rattle.fib_main.proofs.Telling.{entries_sorted}
@@ -56,63 +57,66 @@ named_proper content which before (Some name) feed p e = by_octets (input_at con
 
 -- ---- whatever is due
 
--- a property of what is told of each dump and each list of updates and of asks
-abbrev pub OfEach : (Told → Type 0) → Type 0
-OfEach P = (load updates : Feed) (asks : List Address) → AllByRecursion IsElem load.elems → AllByRecursion IsElem updates.elems → P (printed load updates asks).told
+-- a property of what is printed of each dump and each list of updates and of asks
+abbrev pub OfEach : (Printed → Type 0) → Type 0
+OfEach P = (load updates : Feed) (asks : List Address) → AllByRecursion IsElem load.elems → AllByRecursion IsElem updates.elems → P (printed load updates asks)
 
-told_due : (P : Told → Type 0) → OfEach P → (content : List ℕ → Option (List ℕ)) (named : Named) (asks : List Address) → IfDue (ran (told_at content named asks)) P
+told_due : (P : Printed → Type 0) → OfEach P → (content : List ℕ → Option (List ℕ)) (named : Named) (asks : List Address) → IfRan (ran (told_at content named asks)) P
 unfolding told_at
 told_due P each content named asks = by_load (feed_at content Dump [] (Some named.dump)) refl
   where
-    by_updates : (load : Feed) → AllByRecursion IsElem load.elems → (u : Result Feed Stop) → feed_at content Updates load.elems named.updates ≡ u → IfDue (ran (u >>= λ updates. Ok (printed load updates asks))) P
+    by_updates : (load : Feed) → AllByRecursion IsElem load.elems → (u : Result Feed Stop) → feed_at content Updates load.elems named.updates ≡ u → IfRan (ran (u >>= λ updates. Ok (printed load updates asks))) P
     by_updates load p (Ok updates) e = each load updates asks p (named_proper content Updates load.elems named.updates updates p e)
     by_updates load p (Err stop) e = tt
 
-    by_load : (l : Result Feed Stop) → feed_at content Dump [] (Some named.dump) ≡ l → IfDue (ran (l >>= λ load. feed_at content Updates load.elems named.updates >>= λ updates. Ok (printed load updates asks))) P
+    by_load : (l : Result Feed Stop) → feed_at content Dump [] (Some named.dump) ≡ l → IfRan (ran (l >>= λ load. feed_at content Updates load.elems named.updates >>= λ updates. Ok (printed load updates asks))) P
     by_load (Ok load) e = by_updates load (named_proper content Dump [] (Some named.dump) load tt e) (feed_at content Updates load.elems named.updates) refl
     by_load (Err stop) e = tt
 
-asks_due : (P : Told → Type 0) → OfEach P → (content : List ℕ → Option (List ℕ)) (named : Named) (r : Result (List Address) Stop) → IfDue (ran (r >>= told_at content named)) P
+asks_due : (P : Printed → Type 0) → OfEach P → (content : List ℕ → Option (List ℕ)) (named : Named) (r : Result (List Address) Stop) → IfRan (ran (r >>= told_at content named)) P
 asks_due P each content named (Err stop) = tt
 asks_due P each content named (Ok asks) = told_due P each content named asks
 
-check_due : (P : Told → Type 0) (u : Result Used Stop) → IfDue (checked u) P
+check_due : (P : Printed → Type 0) (u : Result Used Stop) → IfRan (checked u) P
 check_due P (Ok used) = tt
 check_due P (Err stop) = tt
 
-words_due : (P : Told → Type 0) → OfEach P → (content : List ℕ → Option (List ℕ)) (o : Option Asked) → IfDue (usage o >>= output_at content) P
+words_due : (P : Printed → Type 0) → OfEach P → (content : List ℕ → Option (List ℕ)) (o : Option Asked) → IfRan (usage o >>= output_at content) P
 unfolding output_at run_at
 words_due P each content None = tt
 words_due P each content (Some (Run named)) = asks_due P each content named (asks_at content named.asks)
 words_due P each content (Some (Check name)) = check_due P (used_at content name)
 
-each_due : (P : Told → Type 0) → OfEach P → (words : List (List ℕ)) (content : List ℕ → Option (List ℕ)) → IfDue (due words content) P
+each_due : (P : Printed → Type 0) → OfEach P → (words : List (List ℕ)) (content : List ℕ → Option (List ℕ)) → IfRan (due words content) P
 unfolding due
 each_due P each words content = words_due P each content (command_of words)
 
 pub sums_up : (words : List (List ℕ)) (content : List ℕ → Option (List ℕ)) → IfDue (due words content) SumsUp
-sums_up = each_due SumsUp (λ load updates asks p q.
+sums_up = each_due (λ p. SumsUp p.told) (λ load updates asks p q.
     let hops : List Address = hops_after [] (load.elems ++ updates.elems) in
     all hops (after_elems [] load.elems) updates.elems (candidates_stay [] load.elems none_yet p) q ∙ ap (λ held. Some (entries_of hops held)) (sym (fold-append after_elem [] load.elems updates.elems)))
 
 pub forwards : (words : List (List ℕ)) (content : List ℕ → Option (List ℕ)) → IfDue (due words content) Forwards
-forwards = each_due Forwards (λ load updates asks p q a is. refl)
+forwards = each_due (λ p. Forwards p.told) (λ load updates asks p q a is. refl)
 
 all_answer : (routes : Entries) (asks : List Address) → AllByRecursion (λ (a : Address × ℕ). a.1 ≡ match_in routes a.0) (answers_to routes asks)
 all_answer routes [] = tt
 all_answer routes (a ∷ asks) = (refl, all_answer routes asks)
 
 pub answers : (words : List (List ℕ)) (content : List ℕ → Option (List ℕ)) → IfDue (due words content) Answers
-answers = each_due Answers (λ load updates asks p q. all_answer (entries_of (hops_after [] (load.elems ++ updates.elems)) (after_elems [] (load.elems ++ updates.elems))) asks)
+answers = each_due (λ p. Answers p.told) (λ load updates asks p q. all_answer (entries_of (hops_after [] (load.elems ++ updates.elems)) (after_elems [] (load.elems ++ updates.elems))) asks)
 
 pub least : (words : List (List ℕ)) (content : List ℕ → Option (List ℕ)) → IfDue (due words content) HasLeast
-least = each_due HasLeast (λ load updates asks p q.
+least = each_due (λ p. HasLeast p.told) (λ load updates asks p q.
     let routes : Entries = entries_of (hops_after [] (load.elems ++ updates.elems)) (after_elems [] (load.elems ++ updates.elems)) in
     least_in_both routes routes)
 
 pub certified : (words : List (List ℕ)) (content : List ℕ → Option (List ℕ)) → IfDue (due words content) Certified
-certified = each_due Certified (λ load updates asks p q.
+certified = each_due (λ p. Certified p.told) (λ load updates asks p q.
     let hops : List Address = hops_after [] (load.elems ++ updates.elems) in
     let held : Candidates = after_elems [] (load.elems ++ updates.elems) in
     let are : AreCandidates held = subst AreCandidates (sym (fold-append after_elem [] load.elems updates.elems)) (candidates_stay (after_elems [] load.elems) updates.elems (candidates_stay [] load.elems none_yet p) q) in
     certified_least (entries_of hops held) (entries_of hops held) (entries_sorted hops held are))
+
+pub addressed : (words : List (List ℕ)) (content : List ℕ → Option (List ℕ)) → IfRan (due words content) HasHops
+addressed = each_due HasHops (λ load updates asks p q. has_hops load updates asks)

@@ -83,6 +83,10 @@ abbrev pub ReadsBy : Type 0 → (List ℕ → ℕ) → (List ℕ → ℕ) → Ou
 ReadsBy cause before now ReadFault = cause
 ReadsBy cause before now outcome = now ≡ before
 
+-- the same, where the cause is that the count of one of these names rose
+abbrev pub ReadsFrom : List (List ℕ) → (List ℕ → ℕ) → (List ℕ → ℕ) → Outcome → Type 0
+ReadsFrom names before now outcome = ReadsBy (OneRose names before now) before now outcome
+
 -- the same of a call that gives something
 abbrev pub ReadsFor : {X : Type 0} → Type 0 → (List ℕ → ℕ) → (List ℕ → ℕ) → Result X Outcome → Type 0
 ReadsFor cause before now (Ok x) = now ≡ before

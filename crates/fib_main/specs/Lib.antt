@@ -9,3 +9,6 @@ pub mod Ends
 pub mod Reads
 pub mod Runs
 pub mod Proves
+pub mod Owned
+pub mod Untold
+pub mod Words

@@ -1,6 +1,6 @@
 -- What a check's yes says, and the text of a run, to which a check says yes.
 use Rattle.std.specs.Prelude.{◌≡◌, ◌↔◌, ℕ, List, Option, Some, None, Result, Ok, Err}
-use Rattle.fib_io.specs.Octets.{Adds}
+use Rattle.fib_io.specs.Octets.{Adds, AddsSome}
 use Rattle.least_model.specs.Both.{LeastInBoth}
 use Rattle.cert_model.specs.Right.{IsCertificate}
 use Rattle.printed_model.specs.Used.{Used, printed_in}
@@ -49,3 +49,7 @@ IsRun None = ⊥
 -- a text that a check says yes to was added, where out tells it
 abbrev pub AddsYes : Option (List ℕ) → Option (List ℕ) → Type 0
 AddsYes old new = (text : List ℕ) × Adds old new text × ChecksYes text
+
+-- a front of such a text was added
+abbrev pub AddsFrontOfYes : Option (List ℕ) → Option (List ℕ) → Type 0
+AddsFrontOfYes old new = (text : List ℕ) × AddsSome old new text × ChecksYes text

@@ -1,5 +1,5 @@
 -- What a reading of asks and a check of a text give.
-use Rattle.std.specs.Prelude.{◌≡◌, ℕ, List, Result, Ok, Err}
+use Rattle.std.specs.Prelude.{◌≡◌, ℕ, Result, Ok, Err}
 use Rattle.printed_model.specs.Texts.{BadLine}
 use Rattle.printed_model.specs.Used.{Used}
 use Rattle.cost_cert.specs.Printed.{bad_as}

@@ -1,15 +1,17 @@
 -- What holds of what a run prints.
-use Rattle.std.specs.Prelude.{◌≡◌, Some, Result, ℕ}
-use Rattle.std.specs.List.{AllByRecursion}
-use Rattle.address_model.specs.Address.{Address}
+use Rattle.std.specs.Prelude.{◌≡◌, ◌≤◌, Some, Result, ℕ, List, length}
+use Rattle.std.specs.List.{AllByRecursion, IsDistinct}
+use Rattle.address_model.specs.Address.{Address, Prefix, same_address}
 use Rattle.table_model.specs.Entries.{match_in, AlikeInBoth}
-use Rattle.table_model.specs.Changes.{sum_of}
+use Rattle.table_model.specs.Changes.{Change, Add, Replace, Remove, sum_of}
 use Rattle.least_model.specs.Both.{LeastInBoth}
 use Rattle.cert_model.specs.Right.{IsCertificate}
+use Rattle.cert_model.specs.Rows.{CertRow, leaf_row, join_row, bound_row}
+use Rattle.printed_model.specs.Numbered.{HaveHops}
 use Rattle.feed_model.specs.Feed.{changes_in}
 use Rattle.fib_report.specs.Seen.{Told}
 use Rattle.fib_main.specs.Stops.{Stop}
-use Rattle.fib_main.specs.Due.{Output}
+use Rattle.fib_main.specs.Due.{Output, Printed}
 use Rattle.fib_main.specs.Proves.{IfRan}
 
 -- where a run is due, this holds of what is told
@@ -35,3 +37,29 @@ HasLeast told = LeastInBoth told.routes told.least
 -- The rows of the certificate prove the least table least for the routes, to whoever trusts the rules of certificates alone.
 abbrev pub Certified : Told → Type 0
 Certified told = IsCertificate told.routes told.least told.cert
+
+-- ---- what is printed has its addresses
+
+-- the number is 0, or the place of one of the hops, counted from 1
+abbrev pub HasHop : List Address → ℕ → Type 0
+HasHop hops n = n ≤ length hops
+
+abbrev pub ChangeHasHop : List Address → Change → Type 0
+ChangeHasHop hops (Add p n) = HasHop hops n
+ChangeHasHop hops (Replace p n) = HasHop hops n
+ChangeHasHop hops (Remove p) = Unit {0}
+
+abbrev pub RowHasHop : List Address → CertRow → Type 0
+RowHasHop hops (leaf_row p n) = HasHop hops n
+RowHasHop hops (join_row p k) = Unit {0}
+RowHasHop hops (bound_row f n) = Unit {0}
+
+-- No two hops are one, so different numbers have different addresses. Each route has a hop, and so has its row; every other number that is told is 0 or has a hop.
+pub record HasHops (p : Printed) : Type 0 where
+  pub distinct : IsDistinct same_address p.hops
+  pub routes : HaveHops p.hops p.told.routes
+  pub changes : AllByRecursion (λ (c : ℕ × Change). ChangeHasHop p.hops c.1) p.told.changes
+  pub answers : AllByRecursion (λ (a : Address × ℕ). HasHop p.hops a.1) p.told.answers
+  pub table : HaveHops p.hops p.told.table
+  pub least : AllByRecursion (λ (e : Prefix × ℕ). HasHop p.hops e.1) p.told.least
+  pub cert : AllByRecursion (RowHasHop p.hops) p.told.cert

@@ -18,4 +18,4 @@ mod trees;
 
 pub use cert_check::No;
 pub use outcome::{MOST_LINE, Outcome, Which};
-pub use run::run_fib;
+pub use run::{run_fib, tell};

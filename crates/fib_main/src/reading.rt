@@ -1,16 +1,18 @@
 //! From the words and the inputs to the text that is due.
 
-ghost use Rattle.std.specs.Prelude.{◌≡◌, List, [], Some, None, map, IfOk, OnOk, option_to_list};
-ghost use Rattle.std.specs.String.{string_bytes};
+ghost use Rattle.std.specs.Prelude.{◌≡◌, ◌≤◌, ◌^◌, List, [], Some, None, length, map, IfErr, IfOk, IsSome, OnErr, OnOk, option_to_list};
 ghost use Rattle.fib_io.specs.Causes.{Rose};
 ghost use Rattle.fib_addr.specs.Seen.{addr_as};
-ghost use Rattle.fib_main.specs.Due.{asks_at, checked, due, feed_at, input_at, output_at, reply_at, run_at, told_at, used_at, with_reply, with_text};
-ghost use Rattle.fib_main.specs.Ends.{feeds_named, OneRose, reads, reads_asked, reads_named, ReadsFor};
+ghost use Rattle.fib_main.specs.Due.{asks_at, checked, feed_at, input_at, output_at, reply_at, run_at, told_at, used_at, with_reply, with_text};
+ghost use Rattle.fib_main.specs.Ends.{feeds_named, OneRose, reads_asked, reads_named, ReadsFor};
+ghost use Rattle.fib_main.specs.Owned.{HasRecords, IsOf, Owns, StopsAt, StopsIn};
 ghost use Rattle.fib_main.specs.Proves.{ChecksYes, IfRan, IsRun, PrintsYes};
 ghost use Rattle.fib_main.specs.Seen.{reply_as};
 ghost use Rattle.fib_main.specs.Standing.{Feeds, refusal_of, Stands};
 ghost use Rattle.fib_main.specs.Stops.{Gives, event_in};
-ghost use Rattle.fib_words.specs.Commands.{asked_as, command_of, named_as};
+ghost use Rattle.fib_main.specs.Untold.{GivesSome, ReplyOfSome, TextOfSome};
+ghost use Rattle.fib_main.specs.Words.{asked_by, due_by, read_by, texts_of};
+ghost use Rattle.fib_words.specs.Commands.{asked_as, Check, named_as, Run};
 ghost use Rattle.route_model.specs.Events.{Elem};
 
 use crate::asks::{AskError, read_asks};
@@ -37,6 +39,8 @@ fn octets_of<I: Inputs>(
     which: Which,
 ) -> Result<Vec<u8>, Outcome>
     ensures due { Gives (λ v. v.items) result (input_at (I.content inputs.old) which name.now) }
+    ensures stops { IfErr result (StopsAt which) }
+    ensures most { IfOk result (λ v. length v.items ≤ 2 ^ 36) }
     ensures same { I.content inputs.new ≡ I.content inputs.old }
     ensures cause { ReadsFor (Rose (I.faults inputs.old name.now) (I.faults inputs.new name.now)) (I.faults inputs.old) (I.faults inputs.new) result }
 {
@@ -56,6 +60,8 @@ fn asks_of<I: Inputs>(
     command: &RunWords<'_>,
 ) -> Result<Vec<Addr>, Outcome>
     ensures due { Gives (λ v. map addr_as v.items) result (asks_at (I.content inputs.old) (named_as command.now).asks) }
+    ensures stops { IfErr result (StopsAt Which.Asks) }
+    ensures named { OnErr result (IsSome (named_as command.now).asks) }
     ensures same { I.content inputs.new ≡ I.content inputs.old }
     ensures cause { ReadsFor (OneRose (option_to_list (named_as command.now).asks) (I.faults inputs.old) (I.faults inputs.new)) (I.faults inputs.old) (I.faults inputs.new) result }
 {
@@ -111,6 +117,7 @@ fn feed_of<I: Inputs>(
     name: &str,
 ) -> Result<Counts, Outcome>
     ensures due { (before : List Elem) → Stands which before [] state.old → Feeds which before result state.new (feed_at (I.content inputs.old) which before (Some name.now)) }
+    ensures stops { HasRecords which → IfErr result (StopsAt which) }
     ensures same { I.content inputs.new ≡ I.content inputs.old }
     ensures cause { ReadsFor (Rose (I.faults inputs.old name.now) (I.faults inputs.new name.now)) (I.faults inputs.old) (I.faults inputs.new) result }
 {
@@ -127,6 +134,8 @@ fn updates_of<I: Inputs>(
     command: &RunWords<'_>,
 ) -> Result<Counts, Outcome>
     ensures due { (before : List Elem) → Stands Which.Updates before [] state.old → Feeds Which.Updates before result state.new (feed_at (I.content inputs.old) Which.Updates before (named_as command.now).updates) }
+    ensures stops { IfErr result (StopsAt Which.Updates) }
+    ensures named { OnErr result (IsSome (named_as command.now).updates) }
     ensures same { I.content inputs.new ≡ I.content inputs.old }
     ensures cause { ReadsFor (OneRose (option_to_list (named_as command.now).updates) (I.faults inputs.old) (I.faults inputs.new)) (I.faults inputs.old) (I.faults inputs.new) result }
 {
@@ -149,7 +158,9 @@ fn text_of<I: Inputs>(
     asks: &[Addr],
 ) -> Result<Vec<u8>, Outcome>
     ensures due { Gives (λ v. v.items) result (with_text (told_at (I.content inputs.old) (named_as command.now) (map addr_as asks.now))) }
+    ensures stops { IfErr result (StopsIn (Run (named_as command.now))) }
     ensures yes { IfOk result (λ text. ChecksYes text.items) }
+    ensures same { I.content inputs.new ≡ I.content inputs.old }
     ensures cause { ReadsFor (OneRose (feeds_named (I.content inputs.old) (named_as command.now)) (I.faults inputs.old) (I.faults inputs.new)) (I.faults inputs.old) (I.faults inputs.new) result }
 {
     let mut state = State::new(alloc);
@@ -177,7 +188,10 @@ fn run_for<I: Inputs>(
     command: &RunWords<'_>,
 ) -> Result<Vec<u8>, Outcome>
     ensures due { Gives (λ v. v.items) result (with_text (run_at (I.content inputs.old) (named_as command.now))) }
+    ensures some { TextOfSome (I.content inputs.old) (named_as command.now) result }
+    ensures stops { IfErr result (StopsIn (Run (named_as command.now))) }
     ensures yes { IfOk result (λ text. ChecksYes text.items) }
+    ensures same { I.content inputs.new ≡ I.content inputs.old }
     ensures cause { ReadsFor (OneRose (reads_named (I.content inputs.old) (named_as command.now)) (I.faults inputs.old) (I.faults inputs.new)) (I.faults inputs.old) (I.faults inputs.new) result }
 {
     let asks = asks_of(alloc, inputs, command)?;
@@ -188,6 +202,9 @@ fn run_for<I: Inputs>(
 #[tactic(auto, unfolding(crate::specs::Due::used_at))]
 fn check_for<I: Inputs>(alloc: Global, inputs: &mut I, name: &str) -> Result<Reply, Outcome>
     ensures due { Gives reply_as result (with_reply (checked (used_at (I.content inputs.old) name.now))) }
+    ensures some { ReplyOfSome result }
+    ensures stops { IfErr result (StopsAt Which.Printed) }
+    ensures same { I.content inputs.new ≡ I.content inputs.old }
     ensures cause { ReadsFor (Rose (I.faults inputs.old name.now) (I.faults inputs.new name.now)) (I.faults inputs.old) (I.faults inputs.new) result }
 {
     let octets = octets_of(alloc, inputs, name, Which::Printed)?;
@@ -217,8 +234,12 @@ fn reply_to<I: Inputs>(
     command: &CommandWords<'_>,
 ) -> Result<Reply, Outcome>
     ensures due { Gives reply_as result (with_reply (output_at (I.content inputs.old) (asked_as command.now))) }
+    ensures some { GivesSome (I.content inputs.old) (Some (asked_as command.now)) result }
+    ensures stops { IfErr result (StopsIn (asked_as command.now)) }
+    ensures owns { IfOk result (Owns (Some (asked_as command.now))) }
     ensures yes { IsRun (Some (asked_as command.now)) → IfOk result (λ reply. ChecksYes reply.text.items) }
     ensures due_yes { OnOk result (IfRan (output_at (I.content inputs.old) (asked_as command.now)) PrintsYes) }
+    ensures same { I.content inputs.new ≡ I.content inputs.old }
     ensures cause { ReadsFor (OneRose (reads_asked (I.content inputs.old) (Some (asked_as command.now))) (I.faults inputs.old) (I.faults inputs.new)) (I.faults inputs.old) (I.faults inputs.new) result }
 {
     match command {
@@ -237,10 +258,14 @@ pub fn reply_for<I: Inputs>(
     words: &[String],
     inputs: &mut I,
 ) -> Result<Reply, Outcome>
-    ensures due { Gives reply_as result (reply_at (map string_bytes words.now) (I.content inputs.old)) }
-    ensures yes { IsRun (command_of (map string_bytes words.now)) → IfOk result (λ reply. ChecksYes reply.text.items) }
-    ensures due_yes { OnOk result (IfRan (due (map string_bytes words.now) (I.content inputs.old)) PrintsYes) }
-    ensures cause { ReadsFor (OneRose (reads (map string_bytes words.now) (I.content inputs.old)) (I.faults inputs.old) (I.faults inputs.new)) (I.faults inputs.old) (I.faults inputs.new) result }
+    ensures due { Gives reply_as result (reply_at (texts_of words.now) (I.content inputs.old)) }
+    ensures some { GivesSome (I.content inputs.old) (asked_by words.now) result }
+    ensures own { IfErr result (IsOf (asked_by words.now)) }
+    ensures owns { IfOk result (Owns (asked_by words.now)) }
+    ensures yes { IsRun (asked_by words.now) → IfOk result (λ reply. ChecksYes reply.text.items) }
+    ensures due_yes { OnOk result (IfRan (due_by words.now (I.content inputs.old)) PrintsYes) }
+    ensures same { I.content inputs.new ≡ I.content inputs.old }
+    ensures cause { ReadsFor (OneRose (read_by words.now (I.content inputs.old)) (I.faults inputs.old) (I.faults inputs.new)) (I.faults inputs.old) (I.faults inputs.new) result }
 {
     let command = match read_words(alloc, words) {
         Ok(command) => command,

@@ -124,6 +124,7 @@ fn number_hop(hops: &mut HopTable, elem: &Elem) -> Result<(), HopError>
     ensures hops { OnOk result (hops.new.list ≡ hops_after hops.old.list (elem_as elem.now ∷ [])) }
     ensures few { OnOk result (length hops.old.list ≤ most_hops → length hops.new.list ≤ most_hops) }
     ensures full { IsErrOf result HopError.HopsFull → most_hops < length (hops_after hops.old.list (elem_as elem.now ∷ [])) }
+    ensures room { most_hops < length (hops_after hops.old.list (elem_as elem.now ∷ [])) → length hops.old.list ≤ most_hops → IsErrOf result HopError.HopsFull }
 {
     if let Elem::Put(_, _, _, hop) = elem {
         hops.number(hop)?;

@@ -1,0 +1,21 @@
+-- How the program ends.
+use Rattle.std.specs.Prelude.{ℕ, List, [], Option, Result, Ok, Err}
+use Rattle.std.specs.declared.string.String.{String}
+use Rattle.std.specs.declared.vec.Vec.{Vec}
+use Rattle.fib_words.specs.Commands.{command_of}
+use Rattle.fib_main.specs.declared.outcome.Outcome.{Outcome}
+use Rattle.fib_main.specs.Due.{due}
+use Rattle.fib_main.specs.Ends.{Meets, Writes, text_due}
+use Rattle.fib_main.specs.Owned.{IsOf}
+use Rattle.fib_main.specs.Words.{texts_of}
+
+-- the words of the command line; none where they couldn't be read
+abbrev pub words_in : {A X E : Type 0} → Result (Vec (String A) X) E → List (List ℕ)
+words_in (Ok words) = texts_of words.items
+words_in (Err e) = []
+
+-- the outcome is one of these words, and the due one; out has what is due
+pub record EndsBy (words : List (List ℕ)) (content : List ℕ → Option (List ℕ)) (old new : Option (List ℕ)) (outcome : Outcome) : Type 0 where
+  pub exact : Meets (due words content) outcome
+  pub own : IsOf (command_of words) outcome
+  pub writes : Writes (text_due (due words content)) old new outcome

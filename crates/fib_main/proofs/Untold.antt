@@ -1,0 +1,122 @@
+-- What is due where an input doesn't tell what it holds, and which outcomes the words have.
+use Rattle.std.proofs.Common.{◌≡◌, ℕ, List, Option, Some, None, Result, Ok, Err, inl, inr, sym, ap, subst}
+use Rattle.std.specs.Prelude.{option_map}
+use Rattle.fib_io.specs.Octets.{Adds, AddsSome}
+use Rattle.cert_model.specs.Verdict.{No}
+use Rattle.cert_check.specs.declared.refusal.No as code
+use Rattle.cert_check.specs.Seen.{no_as}
+use Rattle.fib_words.specs.Commands.{Asked, Run, Check}
+use Rattle.fib_main.specs.declared.checking.Reply as code_reply
+use Rattle.fib_main.specs.declared.outcome.Outcome.{Outcome}
+use Rattle.fib_main.specs.declared.outcome.Outcome.TheVariants.{Done, CheckNo, Usage, ReadFault, WriteFault, NoMemory, TooLarge, Malformed, HopsFull, BadLine}
+use Rattle.fib_main.specs.Stops.{Stop, Untold, Refused, Is, Fails}
+use Rattle.fib_main.specs.Due.{Output, Checked, Reply, ran, reply_of, told_at, output_text, with_reply, wrong_in}
+use Rattle.fib_main.specs.Ends.{EndsBy, IsDue}
+use Rattle.fib_main.specs.Owned.{IsOf, Owns}
+use Rattle.fib_main.specs.Untold.{Fits, FitsSome, GivesSome}
+
+-- memory may run out whatever the words are
+pub memory_some : (content : List ℕ → Option (List ℕ)) (asked : Option Asked) → GivesSome content asked (Err NoMemory)
+memory_some content None = tt
+memory_some content (Some (Run named)) = inl tt
+memory_some content (Some (Check name)) = inl tt
+
+-- ---- what fits what is due
+
+-- a check or a run ends with nothing but Done and a no
+no_end : (w : Option No) (o : Outcome) → (o ≡ Done → ⊥) → ((x : code.No) → o ≡ CheckNo x → ⊥) → EndsBy w o → ⊥
+no_end None o d n e = d e
+no_end (Some wrong) o d n e = n e.0 e.1
+
+abbrev fine : {A : Type 0} → A → Result A Stop
+fine x = Ok x
+
+same_fine : {A : Type 0} (x y : A) → fine x ≡ fine y → x ≡ y
+same_fine x y e = cc
+
+replied : (output : Output) (text : List ℕ) (w : Option No) → fine (reply_of output) ≡ fine (record { text = text; wrong = w }) → (output_text output ≡ text) × (wrong_in output ≡ w)
+replied output text w e = let same = same_fine (reply_of output) (record { text = text; wrong = w }) e in (ap (λ (r : Reply). r.text) same, ap (λ (r : Reply). r.wrong) same)
+
+abbrev stopped : Outcome → Result Reply Stop
+stopped o = Err (Refused o)
+
+refused_same : (p o : Outcome) → stopped p ≡ stopped o → o ≡ p
+refused_same p o e = cc
+
+ends_fit : (d : Result Output Stop) (text : List ℕ) (w : Option No) (old new : Option (List ℕ)) (o : Outcome) → Is (with_reply d) (fine (record { text = text; wrong = w })) → EndsBy w o → Adds old new text → Fits d old new o
+ends_fit (Err (Refused p)) text w old new o i e a = absurd cc
+ends_fit (Err Untold) text w old new Done i e a = (tt, tt)
+ends_fit (Err Untold) text w old new (CheckNo x) i e a = (tt, tt)
+ends_fit (Ok output) text w old new Done i e a = let p = replied output text w i in (subst (λ v. EndsBy v Done) (sym p.1) e, subst (λ t. Adds old new t) (sym p.0) a)
+ends_fit (Ok output) text w old new (CheckNo x) i e a = let p = replied output text w i in (subst (λ v. EndsBy v (CheckNo x)) (sym p.1) e, subst (λ t. Adds old new t) (sym p.0) a)
+ends_fit d text w old new Usage i e a = absurd (no_end w Usage (λ f. cc) (λ x f. cc) e)
+ends_fit d text w old new ReadFault i e a = absurd (no_end w ReadFault (λ f. cc) (λ x f. cc) e)
+ends_fit d text w old new WriteFault i e a = absurd (no_end w WriteFault (λ f. cc) (λ x f. cc) e)
+ends_fit d text w old new NoMemory i e a = absurd (no_end w NoMemory (λ f. cc) (λ x f. cc) e)
+ends_fit d text w old new (TooLarge input) i e a = absurd (no_end w (TooLarge input) (λ f. cc) (λ x f. cc) e)
+ends_fit d text w old new (Malformed input number rule) i e a = absurd (no_end w (Malformed input number rule) (λ f. cc) (λ x f. cc) e)
+ends_fit d text w old new (HopsFull event) i e a = absurd (no_end w (HopsFull event) (λ f. cc) (λ x f. cc) e)
+ends_fit d text w old new (BadLine input line why) i e a = absurd (no_end w (BadLine input line why) (λ f. cc) (λ x f. cc) e)
+
+fault_fits : (d : Result Output Stop) (text : List ℕ) (w : Option No) (old new : Option (List ℕ)) → Is (with_reply d) (fine (record { text = text; wrong = w })) → AddsSome old new text → Fits d old new WriteFault
+fault_fits (Ok output) text w old new i a = (tt, subst (λ t. AddsSome old new t) (sym (replied output text w i).0) a)
+fault_fits (Err Untold) text w old new i a = (tt, tt)
+fault_fits (Err (Refused p)) text w old new i a = absurd cc
+
+is_stop : (d : Result Output Stop) (o : Outcome) → Is (with_reply d) (Err (Refused o)) → IsDue d o
+is_stop (Ok output) o i = absurd cc
+is_stop (Err Untold) o i = tt
+is_stop (Err (Refused p)) o i = refused_same p o i
+
+stop_fits : (d : Result Output Stop) (o : Outcome) (old new : Option (List ℕ)) → Fails o (with_reply d) → new ≡ old → Fits d old new o
+stop_fits d Done old new f same = absurd f
+stop_fits d (CheckNo x) old new f same = absurd f
+stop_fits d WriteFault old new f same = absurd f
+stop_fits d ReadFault old new f same = (tt, same)
+stop_fits d NoMemory old new f same = (tt, same)
+stop_fits d Usage old new f same = (is_stop d Usage f, same)
+stop_fits d (TooLarge input) old new f same = (is_stop d (TooLarge input) f, same)
+stop_fits d (Malformed input number rule) old new f same = (is_stop d (Malformed input number rule) f, same)
+stop_fits d (HopsFull event) old new f same = (is_stop d (HopsFull event) f, same)
+stop_fits d (BadLine input line why) old new f same = (is_stop d (BadLine input line why) f, same)
+
+-- ---- the same of what the words ask for
+
+abbrev Content : Type 0
+Content = List ℕ → Option (List ℕ)
+
+pub some_ends : (content : Content) (asked : Option Asked) (reply : code_reply.Reply) (old new : Option (List ℕ)) (o : Outcome) → GivesSome content asked (Ok reply) → EndsBy (option_map no_as reply.no) o → Adds old new reply.text.items → FitsSome content asked old new o
+some_ends content None reply old new o g e a = tt
+some_ends content (Some (Run named)) reply old new o (inl s) e a = absurd s
+some_ends content (Some (Run named)) reply old new o (inr x) e a = inr (x.0, ends_fit (ran (told_at content named x.0)) reply.text.items (option_map no_as reply.no) old new o x.1 e a)
+some_ends content (Some (Check name)) reply old new o (inl s) e a = absurd s
+some_ends content (Some (Check name)) reply old new o (inr x) e a = inr (x.0, ends_fit (Ok (Checked x.0)) reply.text.items (option_map no_as reply.no) old new o x.1 e a)
+
+pub some_fault : (content : Content) (asked : Option Asked) (reply : code_reply.Reply) (old new : Option (List ℕ)) → GivesSome content asked (Ok reply) → AddsSome old new reply.text.items → FitsSome content asked old new WriteFault
+some_fault content None reply old new g a = tt
+some_fault content (Some (Run named)) reply old new (inl s) a = absurd s
+some_fault content (Some (Run named)) reply old new (inr x) a = inr (x.0, fault_fits (ran (told_at content named x.0)) reply.text.items (option_map no_as reply.no) old new x.1 a)
+some_fault content (Some (Check name)) reply old new (inl s) a = absurd s
+some_fault content (Some (Check name)) reply old new (inr x) a = inr (x.0, fault_fits (Ok (Checked x.0)) reply.text.items (option_map no_as reply.no) old new x.1 a)
+
+pub some_stop : (content : Content) (asked : Option Asked) (o : Outcome) (old new : Option (List ℕ)) → GivesSome content asked (Err o) → new ≡ old → FitsSome content asked old new o
+some_stop content None o old new g same = tt
+some_stop content (Some (Run named)) o old new (inl s) same = inl s
+some_stop content (Some (Run named)) o old new (inr x) same = inr (x.0, stop_fits (ran (told_at content named x.0)) o old new x.1 same)
+some_stop content (Some (Check name)) o old new (inl s) same = inl s
+some_stop content (Some (Check name)) o old new (inr x) same = inr (x.0, stop_fits (Ok (Checked x.0)) o old new x.1 same)
+
+-- ---- whose outcome it is
+
+check_owns : (name : List ℕ) (w : Option No) (o : Outcome) → EndsBy w o → IsOf (Some (Check name)) o
+check_owns name None o e = subst (IsOf (Some (Check name))) (sym e) tt
+check_owns name (Some wrong) o e = subst (IsOf (Some (Check name))) (sym e.1) tt
+
+pub own_end : (asked : Option Asked) (reply : code_reply.Reply) (o : Outcome) → Owns asked reply → EndsBy (option_map no_as reply.no) o → IsOf asked o
+own_end None reply o own e = absurd own
+own_end (Some (Run named)) reply o own e = let done : EndsBy None o = subst (λ n. EndsBy (option_map no_as n) o) own e in subst (IsOf (Some (Run named))) (sym done) tt
+own_end (Some (Check name)) reply o own e = check_owns name (option_map no_as reply.no) o e
+
+pub own_fault : (asked : Option Asked) (reply : code_reply.Reply) → Owns asked reply → IsOf asked WriteFault
+own_fault None reply own = absurd own
+own_fault (Some asked) reply own = tt
