@@ -1,5 +1,6 @@
 -- Tables of both families, in the order of prefixes.
-use Rattle.std.proofs.Common.{◌≡◌, ℕ, ◌≤◌, List, [], ◌∷◌, ◌++◌, Bool, true, false, cond, length, refl, sym, ap, ◌∙◌, subst, append-nil, arith}
+use Rattle.std.proofs.Common.{inl, inr, ◌≡◌, ℕ, ◌≤◌, List, [], ◌∷◌, ◌++◌, Bool, true, false, cond, length, refl, sym, ap, ◌∙◌, subst, append-nil, arith}
+use Rattle.std.proofs.lemmas.Bool.{cases_lt}
 use Rattle.std.specs.List.{AllByRecursion}
 use Rattle.std.specs.List.Sorted.{IsStrictlySortedBy}
 use Rattle.std.specs.Map.{keys_of}
@@ -12,12 +13,13 @@ use Rattle.address_model.specs.declared.family.Family.TheVariants.{V4, V6}
 use Rattle.address_model.proofs.Ordered.{path_order}
 use Rattle.table_model.specs.Table.{Table}
 use Rattle.table_model.specs.Entries.{Entries, of_family, of_table}
-use Rattle.least_model.specs.Regions.{prefixes_of, InOrder}
+use Rattle.least_model.specs.Regions.{prefixes_of, SameEntries, InOrder}
 use Rattle.least_model.specs.Least.{IsAggregate, aggregate}
 use Rattle.least_model.specs.Both.{AggregateInBoth, aggregate_in, aggregate_in_both}
 use Rattle.least_model.proofs.Laws.{aggregate_table}
-use Rattle.least_model.proofs.Patch.{aggregate_is}
-use Rattle.least_model.proofs.Order.{aggregate_order}
+use Rattle.least_model.proofs.Patch.{aggregate_is, aggregate_fixed}
+use Rattle.least_model.proofs.Same.{entry_beyond}
+use Rattle.least_model.proofs.Order.{aggregate_order, order_one}
 
 -- ---- a family's part of the entries
 
@@ -98,3 +100,70 @@ pub aggregates_are : (R old : Entries) → AggregateInBoth R old (aggregate_in_b
 aggregates_are R old f =
     let A : Family → Table = λ g. aggregate (width g) (of_family g R) [] 0 (of_family g old) in
     subst (λ (T : Table). IsAggregate (width f) (of_family f R) [] 0 (of_family f old) T) (sym (own_table f A)) (aggregate_is (width f) (of_family f R) [] 0 (of_family f old) (omega arith))
+
+-- ---- entries in order are the tables of their families
+
+-- none of IPv4 is after one of IPv6
+none_after : (p : List Bool) (T : Entries) → AllByRecursion (λ q. prefix_cmp (prefix_of V6 p) q ≡ Less) (keys_of T) → of_family V4 T ≡ []
+none_after p [] a = refl
+none_after p (e ∷ T) a = of_six e.0.family e.0.bits e.1 a.0 (none_after p T a.1)
+  where
+    of_six : (f : Family) (q : List Bool) (h : ℕ) → prefix_cmp (prefix_of V6 p) (prefix_of f q) ≡ Less → of_family V4 T ≡ [] → of_family V4 ((prefix_of f q, h) ∷ T) ≡ []
+    of_six V4 q h k n = cc
+    of_six V6 q h k n = n
+
+one_more : (f : Family) (p : List Bool) (h : ℕ) (T : Entries) → AllByRecursion (λ q. prefix_cmp (prefix_of f p) q ≡ Less) (keys_of T) → T ≡ of_table V4 (of_family V4 T) ++ of_table V6 (of_family V6 T)
+    → (prefix_of f p, h) ∷ T ≡ of_table V4 (of_family V4 ((prefix_of f p, h) ∷ T)) ++ of_table V6 (of_family V6 ((prefix_of f p, h) ∷ T))
+one_more V4 p h T a e = ap (λ (L : Entries). (prefix_of V4 p, h) ∷ L) e
+one_more V6 p h T a e =
+    let n = none_after p T a in
+    ap (λ (L : Entries). (prefix_of V6 p, h) ∷ L) (e ∙ ap (λ M. of_table V4 M ++ of_table V6 (of_family V6 T)) n)
+    ∙ ap (λ M. of_table V4 M ++ ((prefix_of V6 p, h) ∷ of_table V6 (of_family V6 T))) (sym n)
+
+families : (T : Entries) → IsStrictlySortedBy prefix_cmp (keys_of T) → T ≡ of_table V4 (of_family V4 T) ++ of_table V6 (of_family V6 T)
+unfolding IsStrictlySortedBy
+families [] s = refl
+families (e ∷ T) s = one_more e.0.family e.0.bits e.1 T s.0 (families T s.1)
+
+-- a family's part of entries in order is in order
+before_family : (f : Family) (p : List Bool) (T : Entries) → length p ≤ width f → AllByRecursion (λ e. length e.prefix ≤ width f) (of_family f T) → AllByRecursion (λ q. prefix_cmp (prefix_of f p) q ≡ Less) (keys_of T)
+    → AllByRecursion (λ q. path_cmp p q ≡ Less) (prefixes_of (of_family f T))
+before_family f p [] k l a = tt
+before_family f p (e ∷ T) k l a = by_family f e.0.family e.0.bits e.1 k l a.0 (λ m. before_family f p T k m a.1)
+  where
+    by_family : (f g : Family) (q : List Bool) (h : ℕ) → length p ≤ width f → AllByRecursion (λ e. length e.prefix ≤ width f) (of_family f ((prefix_of g q, h) ∷ T)) → prefix_cmp (prefix_of f p) (prefix_of g q) ≡ Less
+        → (AllByRecursion (λ e. length e.prefix ≤ width f) (of_family f T) → AllByRecursion (λ r. path_cmp p r ≡ Less) (prefixes_of (of_family f T)))
+        → AllByRecursion (λ r. path_cmp p r ≡ Less) (prefixes_of (of_family f ((prefix_of g q, h) ∷ T)))
+    by_family V4 V4 q h k l a ih = (sym (path_order (prefix_of V4 p) (prefix_of V4 q) k l.0 refl) ∙ a, ih l.1)
+    by_family V4 V6 q h k l a ih = ih l
+    by_family V6 V4 q h k l a ih = ih l
+    by_family V6 V6 q h k l a ih = (sym (path_order (prefix_of V6 p) (prefix_of V6 q) k l.0 refl) ∙ a, ih l.1)
+
+order_family : (f : Family) (T : Entries) → AllByRecursion (λ e. length e.prefix ≤ width f) (of_family f T) → IsStrictlySortedBy prefix_cmp (keys_of T) → InOrder (of_family f T)
+unfolding IsStrictlySortedBy
+order_family f [] l s = tt
+order_family f (e ∷ T) l s = by_family f e.0.family e.0.bits e.1 l s.0 (λ m. order_family f T m s.1)
+  where
+    by_family : (f g : Family) (q : List Bool) (h : ℕ) → AllByRecursion (λ e. length e.prefix ≤ width f) (of_family f ((prefix_of g q, h) ∷ T)) → AllByRecursion (λ r. prefix_cmp (prefix_of g q) r ≡ Less) (keys_of T)
+        → (AllByRecursion (λ e. length e.prefix ≤ width f) (of_family f T) → InOrder (of_family f T)) → InOrder (of_family f ((prefix_of g q, h) ∷ T))
+    by_family V4 V4 q h l a ih = (before_family V4 q T l.0 l.1 a, ih l.1)
+    by_family V4 V6 q h l a ih = ih l
+    by_family V6 V4 q h l a ih = ih l
+    by_family V6 V6 q h l a ih = (before_family V6 q T l.0 l.1 a, ih l.1)
+
+-- a family's aggregate in order is the one that is computed
+only_aggregate : (f : Family) (R old : Table) (T : Entries) → IsAggregate (width f) R [] 0 old (of_family f T) → IsStrictlySortedBy prefix_cmp (keys_of T) → of_family f T ≡ aggregate (width f) R [] 0 old
+only_aggregate f R old T i s =
+    order_one (width f) (of_family f T) (aggregate (width f) R [] 0 old) i.0 (aggregate_table (width f) R [] 0 old (omega arith)) (order_family f T i.0.1 s) (aggregate_order (width f) R [] 0 old) same
+  where
+    same : SameEntries (of_family f T) (aggregate (width f) R [] 0 old)
+    same q = elim (cases_lt (width f) (length q)) [
+      | inl l ↦ entry_beyond (width f) q (of_family f T) i.0 l ∙ sym (entry_beyond (width f) q (aggregate (width f) R [] 0 old) (aggregate_table (width f) R [] 0 old (omega arith)) l)
+      | inr l ↦ aggregate_fixed (width f) R [] 0 old (of_family f T) (omega arith) i q l
+    ]
+
+pub aggregates_one : (R old T : Entries) → AggregateInBoth R old T → IsStrictlySortedBy prefix_cmp (keys_of T) → T ≡ aggregate_in_both R old
+aggregates_one R old T a s =
+    families T s
+    ∙ (ap (λ L. of_table V4 L ++ of_table V6 (of_family V6 T)) (only_aggregate V4 (of_family V4 R) (of_family V4 old) T (a V4) s)
+    ∙ ap (λ L. aggregate_in V4 R old ++ of_table V6 L) (only_aggregate V6 (of_family V6 R) (of_family V6 old) T (a V6) s))

@@ -118,10 +118,13 @@ pub fn order_law()
     ensures entries { (f : Family) (L : Table) → IsTable (width f) L → InOrder L → IsStrictlySortedBy prefix_cmp (keys_of (of_table f L)) }
 {}
 
-/// The table of both families' aggregates is the aggregate in each, and stands in the order of prefixes.
+/// The table of both families' aggregates is the aggregate in each, and stands in the order of prefixes; no other table does
+/// both.
 pub fn both_law()
     ensures aggregate { (R old : Entries) → AggregateInBoth R old (aggregate_in_both R old) }
     ensures order { (R old : Entries) → IsStrictlySortedBy prefix_cmp (keys_of (aggregate_in_both R old)) }
+    ensures one { (R old T : Entries) → AggregateInBoth R old T → IsStrictlySortedBy prefix_cmp (keys_of T) →
+        T ≡ aggregate_in_both R old }
 {}
 
 /// A table that is kept by snapshots and repairs answers as the routes.
