@@ -1,5 +1,5 @@
 -- One level of each walk down the tree.
-use Rattle.std.proofs.Common.{◌≡◌, ◌≢◌, ◌⊎◌, inl, inr, ℕ, ◌-◌, List, [], ◌∷◌, ◌++◌, map, Bool, true, false, ◌||◌, refl, sym, ap, ◌∙◌, Option, Some, None, Box}
+use Rattle.std.proofs.Common.{◌≡◌, ◌≢◌, inl, inr, ℕ, ◌-◌, List, [], ◌∷◌, ◌++◌, map, Bool, true, false, ◌||◌, refl, sym, ap, ◌∙◌, Option, Some, None, Box}
 use Rattle.std.specs.Prelude.{nat_eq}
 use Rattle.std.specs.Int.{bit_at}
 use Rattle.std.specs.Option.{unwrap_or}
@@ -9,7 +9,7 @@ use Rattle.table_model.specs.Table.{Table, lpm, inherit}
 use Rattle.table_model.proofs.Cut.{lpm_nil}
 use Rattle.least_model.specs.Regions.{join}
 use Rattle.least_model.proofs.Join.{root_join, lpm_join_low, lpm_join_high}
-use Rattle.orig_tree.specs.Walk.{Walks, behind, nothing, walks_of, rows_of, edited, Allowed, picked, has_node}
+use Rattle.orig_tree.specs.Walk.{Walks, behind, nothing, walks_of, rows_of, edited, Allowed, AreMadeTo, picked, has_node}
 use Rattle.orig_tree.specs.declared.node.Label.{Label}
 use Rattle.orig_tree.specs.declared.node.Label.TheVariants.{Route, Entry}
 use Rattle.orig_tree.proofs.Paths.{no_bits, first_one, first_zero}
@@ -207,8 +207,7 @@ kept_low route entry low high after node w k (true ∷ p) h = has_high p route e
 -- new nodes are on the way
 module _ (route entry : Option ℕ) (low high after node : Walks) (left q : ℕ) where
   pub made_high : left ≢ 0 → true ≡ nat_eq (bit_at q (left - 1)) 1 → walks_of route entry low high ≡ node
-      → ((p : List Bool) → has_node p after.nodes ≡ true → (has_node p high.nodes ≡ true) ⊎ (begins p (bits_of (left - 1) q) ≡ true))
-      → (p : List Bool) → has_node p (walks_of route entry low after).nodes ≡ true → (has_node p node.nodes ≡ true) ⊎ (begins p (bits_of left q) ≡ true)
+      → AreMadeTo (bits_of (left - 1) q) high.nodes after.nodes → AreMadeTo (bits_of left q) node.nodes (walks_of route entry low after).nodes
   made_high n b w m [] h = inr refl
   made_high n b w m (true ∷ p) h = elim (m p (sym (has_high p route entry low after) ∙ h)) [
     | inl x ↦ inl (ap (λ n. has_node (true ∷ p) n.nodes) (sym w) ∙ (has_high p route entry low high ∙ x))
@@ -217,8 +216,7 @@ module _ (route entry : Option ℕ) (low high after node : Walks) (left q : ℕ)
   made_high n b w m (false ∷ p) h = inl (ap (λ n. has_node (false ∷ p) n.nodes) (sym w) ∙ (has_low p route entry low high ∙ (sym (has_low p route entry low after) ∙ h)))
 
   pub made_low : left ≢ 0 → false ≡ nat_eq (bit_at q (left - 1)) 1 → walks_of route entry low high ≡ node
-      → ((p : List Bool) → has_node p after.nodes ≡ true → (has_node p low.nodes ≡ true) ⊎ (begins p (bits_of (left - 1) q) ≡ true))
-      → (p : List Bool) → has_node p (walks_of route entry after high).nodes ≡ true → (has_node p node.nodes ≡ true) ⊎ (begins p (bits_of left q) ≡ true)
+      → AreMadeTo (bits_of (left - 1) q) low.nodes after.nodes → AreMadeTo (bits_of left q) node.nodes (walks_of route entry after high).nodes
   made_low n b w m [] h = inr refl
   made_low n b w m (false ∷ p) h = elim (m p (sym (has_low p route entry after high) ∙ h)) [
     | inl x ↦ inl (ap (λ n. has_node (false ∷ p) n.nodes) (sym w) ∙ (has_low p route entry low high ∙ x))
@@ -227,10 +225,12 @@ module _ (route entry : Option ℕ) (low high after node : Walks) (left q : ℕ)
   made_low n b w m (true ∷ p) h = inl (ap (λ n. has_node (true ∷ p) n.nodes) (sym w) ∙ (has_high p route entry low high ∙ (sym (has_high p route entry after high) ∙ h)))
 
 -- a new node has none but itself
-pub made_new : (node link : Walks) (k p : List Bool) → node ≡ walks_of None None nothing nothing → (has_node p node.nodes ≡ true) ⊎ (begins p k ≡ true) → (has_node p link.nodes ≡ true) ⊎ (begins p k ≡ true)
+pub made_new : (node link new : Walks) (k : List Bool) → node ≡ walks_of None None nothing nothing → AreMadeTo k node.nodes new.nodes → AreMadeTo k link.nodes new.nodes
 unfolding same_bits
-made_new node link k p w (inr b) = inr b
-made_new node link k p w (inl h) = inr (itself p (ap (λ n. has_node p n.nodes) (sym w) ∙ h))
+made_new node link new k w m p h = elim (m p h) [
+  | inl x ↦ inr (itself p (ap (λ n. has_node p n.nodes) (sym w) ∙ x))
+  | inr y ↦ inr y
+]
   where
     itself : (p : List Bool) → has_node p (walks_of None None nothing nothing).nodes ≡ true → begins p k ≡ true
     itself [] h = refl

@@ -10,7 +10,7 @@ use Rattle.table_model.specs.Table.{Entry, Table, here}
 use Rattle.table_model.specs.Entries.{Entries, of_family, of_table}
 use Rattle.least_model.specs.Regions.{lift, join}
 use Rattle.orig_tree.specs.Walk.{Walks, nothing, walks_of, has_node}
-use Rattle.orig_tree.specs.Trims.{has_within, is_used, HasBeside, IsKept, AreTrimmed, IsTrimmed, IsCut, KeepsRoot, bare, has_labels}
+use Rattle.orig_tree.specs.Trims.{has_within, is_used, HasBeside, IsKept, AreTrimmed, IsTrimmed, IsPruned, KeepsRoot, bare, has_labels}
 use Rattle.orig_tree.proofs.Paths.{no_bits, first_one, first_zero}
 use Rattle.least_model.proofs.Both.{family_is}
 use Rattle.orig_tree.proofs.Steps.{has_low, has_high}
@@ -89,7 +89,7 @@ not_root b q K (inl e) = cc
 not_root b q K (inr k) = k
 
 module _ (route entry : Option ℕ) where
-  -- the half of bit 1 is cut
+  -- the half of bit 1 is pruned
   module _ (p : List Bool) (low high after : Walks) where
     kept_high : (q : List Bool) → IsKept p after.routes after.entries high.nodes q → IsKept (true ∷ p) (walks_of route entry low after).routes (walks_of route entry low after).entries (walks_of route entry low high).nodes (true ∷ q)
     kept_high q (inl u) = inl (used_high q route entry low after ∙ u)
@@ -104,7 +104,7 @@ module _ (route entry : Option ℕ) where
         of_half (true ∷ r) c d e h = (r, c, d, e, sym (has_high r route entry low high) ∙ h)
         of_half (false ∷ r) c d e h = cc
 
-    pub trim_high : IsCut p high after → IsTrimmed (true ∷ p) (walks_of route entry low high) (walks_of route entry low after)
+    pub trim_high : IsPruned p high after → IsTrimmed (true ∷ p) (walks_of route entry low high) (walks_of route entry low after)
     unfolding same_bits
     trim_high t = λ q. (stays q, back q)
       where
@@ -118,7 +118,7 @@ module _ (route entry : Option ℕ) where
         back (true ∷ q) s = has_high q route entry low after ∙ (t q).1 (sym (has_high q route entry low high) ∙ s.0, kept_high_back q (not_root true q _ s.1))
         back (false ∷ q) s = has_low q route entry low after ∙ (sym (has_low q route entry low high) ∙ s.0)
 
-  -- the half of bit 0 is cut
+  -- the half of bit 0 is pruned
   module _ (p : List Bool) (low high after : Walks) where
     kept_low : (q : List Bool) → IsKept p after.routes after.entries low.nodes q → IsKept (false ∷ p) (walks_of route entry after high).routes (walks_of route entry after high).entries (walks_of route entry low high).nodes (false ∷ q)
     kept_low q (inl u) = inl (used_low q route entry after high ∙ u)
@@ -133,7 +133,7 @@ module _ (route entry : Option ℕ) where
         of_half (false ∷ r) c d e h = (r, c, d, e, sym (has_low r route entry low high) ∙ h)
         of_half (true ∷ r) c d e h = cc
 
-    pub trim_low : IsCut p low after → IsTrimmed (false ∷ p) (walks_of route entry low high) (walks_of route entry after high)
+    pub trim_low : IsPruned p low after → IsTrimmed (false ∷ p) (walks_of route entry low high) (walks_of route entry after high)
     unfolding same_bits
     trim_low t = λ q. (stays q, back q)
       where
@@ -147,9 +147,9 @@ module _ (route entry : Option ℕ) where
         back (false ∷ q) s = has_low q route entry after high ∙ (t q).1 (sym (has_low q route entry low high) ∙ s.0, kept_low_back q (not_root false q _ s.1))
         back (true ∷ q) s = has_high q route entry after high ∙ (sym (has_high q route entry low high) ∙ s.0)
 
-  -- both halves are cut from their roots on
+  -- both halves are pruned from their roots on
   module _ (low high lower upper : Walks) where
-    pub trim_both : IsCut [] low lower → IsCut [] high upper → IsTrimmed [] (walks_of route entry low high) (walks_of route entry lower upper)
+    pub trim_both : IsPruned [] low lower → IsPruned [] high upper → IsTrimmed [] (walks_of route entry low high) (walks_of route entry lower upper)
     unfolding same_bits
     trim_both s t = λ q. (stays q, back q)
       where
@@ -172,15 +172,15 @@ module _ (route entry : Option ℕ) where
 
 -- ---- what is behind a link
 
--- nothing is cut of nothing
-pub cut_nothing : (p : List Bool) (old new : Walks) → old ≡ nothing → new ≡ nothing → IsCut p old new
-cut_nothing p old new e f =
-    let r : IsCut p nothing nothing = λ q. ((λ h. cc), (λ s. s.0)) in
-    subst (λ (w : Walks). IsCut p w new) (sym e) (subst (λ (w : Walks). IsCut p nothing w) (sym f) r)
+-- nothing is pruned of nothing
+pub pruned_nothing : (p : List Bool) (old new : Walks) → old ≡ nothing → new ≡ nothing → IsPruned p old new
+pruned_nothing p old new e f =
+    let r : IsPruned p nothing nothing = λ q. ((λ h. cc), (λ s. s.0)) in
+    subst (λ (w : Walks). IsPruned p w new) (sym e) (subst (λ (w : Walks). IsPruned p nothing w) (sym f) r)
 
 -- what keeps its root
-pub cut_kept : (p : List Bool) (old new : Walks) → IsTrimmed p old new → KeepsRoot p old new → IsCut p old new
-cut_kept p old new t k = λ q. (stays q, λ s. (t q).1 (s.0, inr s.1))
+pub pruned_kept : (p : List Bool) (old new : Walks) → IsTrimmed p old new → KeepsRoot p old new → IsPruned p old new
+pruned_kept p old new t k = λ q. (stays q, λ s. (t q).1 (s.0, inr s.1))
   where
     stays : (q : List Bool) → has_node q new.nodes ≡ true → (has_node q old.nodes ≡ true) × IsKept p new.routes new.entries old.nodes q
     stays [] h = (((t []).0 h).0, k)
@@ -191,9 +191,9 @@ not_bare : (b : Bool) (q : List Bool) → has_node (b ∷ q) bare.nodes ≡ true
 unfolding same_bits
 not_bare b q h = cc
 
-pub cut_bare : (p : List Bool) (old bared new : Walks) → IsTrimmed p old bared → bared ≡ bare → new ≡ nothing → IsCut p old new
-cut_bare p old bared new t e f =
-    subst (λ (w : Walks). IsCut p old w) (sym f) (λ q. ((λ h. cc), gone (subst (λ (w : Walks). IsTrimmed p old w) e t) q))
+pub pruned_bare : (p : List Bool) (old bared new : Walks) → IsTrimmed p old bared → bared ≡ bare → new ≡ nothing → IsPruned p old new
+pruned_bare p old bared new t e f =
+    subst (λ (w : Walks). IsPruned p old w) (sym f) (λ q. ((λ h. cc), gone (subst (λ (w : Walks). IsTrimmed p old w) e t) q))
   where
     beside : IsTrimmed p old bare → (r : List Bool) → begins r p ≡ false → begins p r ≡ false → has_node r old.nodes ≡ true → ⊥
     beside s [] b c h = cc
@@ -205,8 +205,8 @@ cut_bare p old bared new t e f =
 
 -- ---- the walks
 
--- a node with both halves cut
-pub pruned : (route entry : Option ℕ) (low high lower upper node : Walks) → walks_of route entry low high ≡ node → IsCut [] low lower → IsCut [] high upper → IsTrimmed [] node (walks_of route entry lower upper)
+-- a node with both halves pruned
+pub pruned : (route entry : Option ℕ) (low high lower upper node : Walks) → walks_of route entry low high ≡ node → IsPruned [] low lower → IsPruned [] high upper → IsTrimmed [] node (walks_of route entry lower upper)
 pruned route entry low high lower upper node w s t = subst (λ (n : Walks). IsTrimmed [] n (walks_of route entry lower upper)) w (trim_both route entry low high lower upper s t)
 
 -- a node has labels where it has one of its own or a half has some
@@ -255,12 +255,12 @@ trimmed_here old new left q e t = subst (λ (p : List Bool). IsTrimmed p old new
 
 -- and before it
 module _ (route entry : Option ℕ) (low high after node : Walks) (left q : ℕ) where
-  pub trimmed_high : left ≢ 0 → true ≡ nat_eq (bit_at q (left - 1)) 1 → walks_of route entry low high ≡ node → IsCut (bits_of (left - 1) q) high after → IsTrimmed (bits_of left q) node (walks_of route entry low after)
+  pub trimmed_high : left ≢ 0 → true ≡ nat_eq (bit_at q (left - 1)) 1 → walks_of route entry low high ≡ node → IsPruned (bits_of (left - 1) q) high after → IsTrimmed (bits_of left q) node (walks_of route entry low after)
   trimmed_high n b w t =
       subst (λ (p : List Bool). IsTrimmed p node (walks_of route entry low after)) (sym (first_one left q n b))
       (subst (λ (x : Walks). IsTrimmed (true ∷ bits_of (left - 1) q) x (walks_of route entry low after)) w (trim_high route entry (bits_of (left - 1) q) low high after t))
 
-  pub trimmed_low : left ≢ 0 → false ≡ nat_eq (bit_at q (left - 1)) 1 → walks_of route entry low high ≡ node → IsCut (bits_of (left - 1) q) low after → IsTrimmed (bits_of left q) node (walks_of route entry after high)
+  pub trimmed_low : left ≢ 0 → false ≡ nat_eq (bit_at q (left - 1)) 1 → walks_of route entry low high ≡ node → IsPruned (bits_of (left - 1) q) low after → IsTrimmed (bits_of left q) node (walks_of route entry after high)
   trimmed_low n b w t =
       subst (λ (p : List Bool). IsTrimmed p node (walks_of route entry after high)) (sym (first_zero left q n b))
       (subst (λ (x : Walks). IsTrimmed (false ∷ bits_of (left - 1) q) x (walks_of route entry after high)) w (trim_low route entry (bits_of (left - 1) q) low high after t))

@@ -13,25 +13,27 @@ has_within p L = list_any (λ e. begins p e.prefix) L
 abbrev pub is_used : List Bool → Table → Table → Bool
 is_used p routes entries = has_within p routes || has_within p entries
 
--- at q or within q there is a node that is neither on the way to p nor within p
+-- a node at q or within q is neither on the way to p nor within p
 abbrev pub HasBeside : List Bool → List Bool → List (List Bool) → Type 0
 HasBeside p q nodes = (r : List Bool) × (begins q r ≡ true) × (begins r p ≡ false) × (begins p r ≡ false) × (has_node r nodes ≡ true)
 
--- a node at q is kept where p is trimmed: a route or an entry is at it or within it, or a node beside the way to p is
+-- What keeps a node at q where p is trimmed: a route or an entry at it or within it, or a node there that is neither on the way to
+-- p nor within p.
 abbrev pub IsKept : List Bool → Table → Table → List (List Bool) → List Bool → Type 0
 IsKept p routes entries nodes q = (is_used q routes entries ≡ true) ⊎ HasBeside p q nodes
 
 -- p is trimmed: of the nodes exactly the root and those that are kept stay. So what goes is on the way to p or within p.
 abbrev pub AreTrimmed : List Bool → Table → Table → List (List Bool) → List (List Bool) → Type 0
-AreTrimmed p routes entries old new = (q : List Bool) → (has_node q new ≡ true) ↔ ((has_node q old ≡ true) × ((q ≡ []) ⊎ IsKept p routes entries old q))
+AreTrimmed p routes entries old new =
+    (q : List Bool) → (has_node q new ≡ true) ↔ ((has_node q old ≡ true) × ((q ≡ []) ⊎ IsKept p routes entries old q))
 
 -- the same of what is seen of a node
 abbrev pub IsTrimmed : List Bool → Walks → Walks → Type 0
 IsTrimmed p old new = AreTrimmed p new.routes new.entries old.nodes new.nodes
 
 -- the same of what is seen behind a link, where the root goes as any other node does
-abbrev pub IsCut : List Bool → Walks → Walks → Type 0
-IsCut p old new = (q : List Bool) → (has_node q new.nodes ≡ true) ↔ ((has_node q old.nodes ≡ true) × IsKept p new.routes new.entries old.nodes q)
+abbrev pub IsPruned : List Bool → Walks → Walks → Type 0
+IsPruned p old new = (q : List Bool) → (has_node q new.nodes ≡ true) ↔ ((has_node q old.nodes ≡ true) × IsKept p new.routes new.entries old.nodes q)
 
 -- the root is kept
 abbrev pub KeepsRoot : List Bool → Walks → Walks → Type 0

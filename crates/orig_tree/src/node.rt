@@ -1,19 +1,19 @@
 //! Nodes of the tree, with a cover beside each label, which each change on a path tells again on its way up.
 
-ghost use Rattle.std.specs.Prelude.{◌≡◌, ◌≤◌, ◌-◌, ◌⊎◌, ℕ, OnOk, OnErr, IsOk, List, Bool, true, false, [], map, ◌++◌, ◌||◌};
+ghost use Rattle.std.specs.Prelude.{◌≡◌, ◌≤◌, ◌-◌, ℕ, OnOk, OnErr, IsOk, List, Bool, true, false, [], map, ◌++◌, ◌||◌};
 ghost use Rattle.std.specs.Option.{is_some};
-ghost use Rattle.address_model.specs.Bits.{begins, bits_of};
+ghost use Rattle.address_model.specs.Bits.{bits_of};
 ghost use Rattle.address_model.specs.Width.{width};
 ghost use Rattle.table_model.specs.Table.{lpm, root, half};
 ghost use Rattle.least_model.specs.Regions.{above, lift};
 ghost use Rattle.fib_addr.specs.Seen.{entry_as, prefix_as};
-ghost use Rattle.orig_tree.specs.Walk.{behind, nothing, walks_of, rows_of, edited, Allowed, picked, has_node};
+ghost use Rattle.orig_tree.specs.Walk.{behind, nothing, walks_of, rows_of, edited, Allowed, AreMadeTo, picked, has_node};
 ghost use Rattle.table_model.specs.Entries.{of_table};
 ghost use Rattle.orig_tree.specs.Seen.{Fits};
 ghost use Rattle.orig_tree.specs.Cover.{IsCover};
 ghost use Rattle.orig_tree.specs.Slots.{Retold};
 ghost use Rattle.orig_tree.specs.Uniform.{IsUniform};
-ghost use Rattle.orig_tree.specs.Trims.{IsCut, IsTrimmed, KeepsRoot, bare, has_labels};
+ghost use Rattle.orig_tree.specs.Trims.{IsPruned, IsTrimmed, KeepsRoot, bare, has_labels};
 
 use crate::cover::{Cover, Slot};
 use fib_addr::{Entry, Prefix, bit_at, push_entry};
@@ -135,7 +135,7 @@ pub(crate) fn room(alloc: Global, node: &mut Node, q: u128, left: u8) -> Result<
     ensures routes { node.new.routes ≡ node.old.routes }
     ensures entries { node.new.entries ≡ node.old.entries }
     ensures kept { (p : List Bool) → has_node p node.old.nodes ≡ true → has_node p node.new.nodes ≡ true }
-    ensures made { (p : List Bool) → has_node p node.new.nodes ≡ true → (has_node p node.old.nodes ≡ true) ⊎ (begins p (bits_of left q) ≡ true) }
+    ensures made { AreMadeTo (bits_of left q) node.old.nodes node.new.nodes }
     ensures ok { OnOk result (has_node (bits_of left q) node.new.nodes ≡ true) }
     ensures err { OnErr result (node.new ≡ node.old) }
     ensures held { has_node (bits_of left q) node.old.nodes ≡ true → IsOk result }
@@ -164,7 +164,7 @@ fn room_behind(
     ensures routes { (behind link.new).routes ≡ (behind link.old).routes }
     ensures entries { (behind link.new).entries ≡ (behind link.old).entries }
     ensures kept { (p : List Bool) → has_node p (behind link.old).nodes ≡ true → has_node p (behind link.new).nodes ≡ true }
-    ensures made { (p : List Bool) → has_node p (behind link.new).nodes ≡ true → (has_node p (behind link.old).nodes ≡ true) ⊎ (begins p (bits_of left q) ≡ true) }
+    ensures made { AreMadeTo (bits_of left q) (behind link.old).nodes (behind link.new).nodes }
     ensures ok { OnOk result (has_node (bits_of left q) (behind link.new).nodes ≡ true) }
     ensures err { OnErr result (behind link.new ≡ behind link.old) }
     ensures held { has_node (bits_of left q) (behind link.old).nodes ≡ true → IsOk result }
@@ -327,7 +327,7 @@ fn prune(node: &mut Node) -> bool
 fn prune_behind(link: &mut Option<Box<Node>>) -> bool
     ensures routes { (behind link.new).routes ≡ (behind link.old).routes }
     ensures entries { (behind link.new).entries ≡ (behind link.old).entries }
-    ensures cut { IsCut [] (behind link.old) (behind link.new) }
+    ensures pruned { IsPruned [] (behind link.old) (behind link.new) }
     ensures labels { result ≡ true → has_labels (behind link.new) ≡ true }
     ensures none { result ≡ false → behind link.new ≡ nothing }
 {
@@ -386,7 +386,7 @@ fn trim_behind(link: &mut Option<Box<Node>>, q: u128, left: u8) -> bool
     requires { left ≤ 128 }
     ensures routes { (behind link.new).routes ≡ (behind link.old).routes }
     ensures entries { (behind link.new).entries ≡ (behind link.old).entries }
-    ensures cut { IsCut (bits_of left q) (behind link.old) (behind link.new) }
+    ensures pruned { IsPruned (bits_of left q) (behind link.old) (behind link.new) }
     ensures kept { result ≡ true → KeepsRoot (bits_of left q) (behind link.old) (behind link.new) }
     ensures none { result ≡ false → behind link.new ≡ nothing }
 {

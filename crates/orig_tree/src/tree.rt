@@ -1,15 +1,14 @@
 //! The tree of a family.
 
-ghost use Rattle.std.specs.Prelude.{◌≡◌, ◌⊎◌, [], ◌∷◌, true, List, Bool, OnOk, OnErr, IsOk, IfOk, IfSome, IfNone, map};
+ghost use Rattle.std.specs.Prelude.{◌≡◌, [], ◌∷◌, true, List, Bool, OnOk, OnErr, IsOk, IfOk, IfSome, IfNone, map};
 ghost use Rattle.std.specs.Map.{remove_entry};
 ghost use Rattle.address_model.specs.Address.{same_prefix};
-ghost use Rattle.address_model.specs.Bits.{begins};
 ghost use Rattle.table_model.specs.Entries.{with_entry, match_in, of_family, of_table};
 ghost use Rattle.least_model.specs.Regions.{above};
 ghost use Rattle.fib_addr.specs.Seen.{addr_as, prefix_as, entry_as};
 ghost use Rattle.fib_addr.specs.Uniform.{AllGet, TwoDiffer};
 ghost use Rattle.address_model.specs.Width.{width};
-ghost use Rattle.orig_tree.specs.Walk.{has_node, rows_of};
+ghost use Rattle.orig_tree.specs.Walk.{AreMadeTo, has_node, rows_of};
 ghost use Rattle.orig_tree.specs.Seen.{InPlace, Fits};
 ghost use Rattle.orig_tree.specs.Trims.{AreTrimmed};
 
@@ -101,7 +100,8 @@ impl Tree {
         &self.root
     }
 
-    /// Makes the prefix a node, so that `set_route` and `set_entry` take no memory at it.
+    /// Makes the prefix a node, so that `set_route` and `set_entry` take no memory at it. New nodes are the prefix's and those
+    /// on the way to it.
     ///
     /// # Errors
     ///
@@ -113,7 +113,7 @@ impl Tree {
         ensures routes { self.new.routes ≡ self.old.routes }
         ensures entries { self.new.entries ≡ self.old.entries }
         ensures kept { (p : List Bool) → has_node p self.old.nodes ≡ true → has_node p self.new.nodes ≡ true }
-        ensures made { (p : List Bool) → has_node p self.new.nodes ≡ true → (has_node p self.old.nodes ≡ true) ⊎ (begins p (prefix_as prefix.now).bits ≡ true) }
+        ensures made { AreMadeTo (prefix_as prefix.now).bits self.old.nodes self.new.nodes }
         ensures ok { OnOk result (has_node (prefix_as prefix.now).bits self.new.nodes ≡ true) }
         ensures err { OnErr result (self.new ≡ self.old) }
         ensures held { has_node (prefix_as prefix.now).bits self.old.nodes ≡ true → IsOk result }
@@ -217,7 +217,7 @@ impl Tree {
         ensures routes { OnOk result (self.new.routes ≡ with_entry self.old.routes (prefix_as prefix.now, hop.0)) }
         ensures entries { self.new.entries ≡ self.old.entries }
         ensures kept { (p : List Bool) → has_node p self.old.nodes ≡ true → has_node p self.new.nodes ≡ true }
-        ensures made { (p : List Bool) → has_node p self.new.nodes ≡ true → (has_node p self.old.nodes ≡ true) ⊎ (begins p (prefix_as prefix.now).bits ≡ true) }
+        ensures made { AreMadeTo (prefix_as prefix.now).bits self.old.nodes self.new.nodes }
         ensures ok { OnOk result (has_node (prefix_as prefix.now).bits self.new.nodes ≡ true) }
         ensures err { OnErr result (self.new ≡ self.old) }
         ensures held { has_node (prefix_as prefix.now).bits self.old.nodes ≡ true → IsOk result }
@@ -239,7 +239,7 @@ impl Tree {
         ensures routes { self.new.routes ≡ self.old.routes }
         ensures entries { OnOk result (self.new.entries ≡ with_entry self.old.entries (prefix_as prefix.now, hop.0)) }
         ensures kept { (p : List Bool) → has_node p self.old.nodes ≡ true → has_node p self.new.nodes ≡ true }
-        ensures made { (p : List Bool) → has_node p self.new.nodes ≡ true → (has_node p self.old.nodes ≡ true) ⊎ (begins p (prefix_as prefix.now).bits ≡ true) }
+        ensures made { AreMadeTo (prefix_as prefix.now).bits self.old.nodes self.new.nodes }
         ensures ok { OnOk result (has_node (prefix_as prefix.now).bits self.new.nodes ≡ true) }
         ensures err { OnErr result (self.new ≡ self.old) }
         ensures held { has_node (prefix_as prefix.now).bits self.old.nodes ≡ true → IsOk result }

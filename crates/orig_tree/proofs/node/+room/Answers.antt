@@ -36,4 +36,4 @@ room-returns-in_ok-room_behind-2-clause-made t c =
     made_low n.route.hop n.entry.hop (behind n.low) (behind n.high) (behind c.room_behind-else-bit_at.new.link) c.args.node.now c.args.left c.args.q c.if-left-eq0.false c.if-bit_at.ensures c.node.view_is c.in_ok-room_behind-2.ensures.made
 
 pub room_behind-returns-in_ok-room-in-None-clause-made : goal.room_behind-returns-in_ok-room-in-None-clause-made
-room_behind-returns-in_ok-room-in-None-clause-made t c = λ p h. made_new c.deref_mut-in-None.result.now (behind c.args.link.now) (bits_of c.args.left c.args.q) p (c.deref_mut-in-None.ensures.value ∙ (c.in_ok-node-in-None.ensures.ok ∙ c.leaf.ensures)) (c.in_ok-room-in-None.ensures.made p h)
+room_behind-returns-in_ok-room-in-None-clause-made t c = made_new c.deref_mut-in-None.result.now (behind c.args.link.now) c.room-in-None.new.node (bits_of c.args.left c.args.q) (c.deref_mut-in-None.ensures.value ∙ (c.in_ok-node-in-None.ensures.ok ∙ c.leaf.ensures)) c.in_ok-room-in-None.ensures.made

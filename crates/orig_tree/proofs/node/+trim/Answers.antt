@@ -2,7 +2,7 @@ use Rattle.std.proofs.Common.{inl, sym, ap, subst, ◌∙◌}
 use Rattle.address_model.specs.Bits.{bits_of}
 use Rattle.orig_tree.specs.Walk.{Walks, behind}
 use Rattle.orig_tree.specs.Trims.{IsTrimmed}
-use Rattle.orig_tree.proofs.Trimming.{trimmed_here, trimmed_high, trimmed_low, cut_bare, kept_by_high, kept_by_low, kept_beside_high, kept_beside_low, labels_own}
+use Rattle.orig_tree.proofs.Trimming.{trimmed_here, trimmed_high, trimmed_low, pruned_bare, kept_by_high, kept_by_low, kept_beside_high, kept_beside_low, labels_own}
 use Rattle.orig_tree.proofs.node.+trim.Goals as goal
 use Rattle.orig_tree.proofs.node.+trim.Goals.{trim-then-stays, trim-else-stays, trim-then-is_node, trim-else-is_node, trim-then-stays-2, trim-else-stays-2, trim-then-is_node-2, trim-else-is_node-2}
 
@@ -13,13 +13,13 @@ pub trim-returns-after-is_node-clause-trimmed : goal.trim-returns-after-is_node-
 trim-returns-after-is_node-clause-trimmed t c =
     let n = c.node.inside in
     let s = c.trim_behind-stays in
-    trimmed_high n.route.hop n.entry.hop (behind n.low) (behind n.high) (behind s.new.link) c.args.node.now c.args.left c.args.q c.if-left-eq0.false c.if-bit_at.ensures c.node.view_is s.ensures.cut
+    trimmed_high n.route.hop n.entry.hop (behind n.low) (behind n.high) (behind s.new.link) c.args.node.now c.args.left c.args.q c.if-left-eq0.false c.if-bit_at.ensures c.node.view_is s.ensures.pruned
 
 pub trim-returns-after-is_node-2-clause-trimmed : goal.trim-returns-after-is_node-2-clause-trimmed
 trim-returns-after-is_node-2-clause-trimmed t c =
     let n = c.node.inside in
     let s = c.trim_behind-stays-else-bit_at in
-    trimmed_low n.route.hop n.entry.hop (behind n.low) (behind n.high) (behind s.new.link) c.args.node.now c.args.left c.args.q c.if-left-eq0.false c.if-bit_at.ensures c.node.view_is s.ensures.cut
+    trimmed_low n.route.hop n.entry.hop (behind n.low) (behind n.high) (behind s.new.link) c.args.node.now c.args.left c.args.q c.if-left-eq0.false c.if-bit_at.ensures c.node.view_is s.ensures.pruned
 
 pub trim-returns-after-is_node-clause-kept : goal.trim-returns-after-is_node-clause-kept
 trim-returns-after-is_node-clause-kept t c = λ h.
@@ -47,10 +47,10 @@ trim-returns-after-is_node-2-clause-kept t c = λ h.
       | trim-else-is_node-2 w ↦ inl (labels_own n.route.hop n.entry.hop after (behind n.high) (sym w.has_label-else-is_node-2.ensures ∙ (sym w.result-is ∙ h)))
     ]
 
-pub trim_behind-returns-else-stays-clause-cut : goal.trim_behind-returns-else-stays-clause-cut
-trim_behind-returns-else-stays-clause-cut t c =
+pub trim_behind-returns-else-stays-clause-pruned : goal.trim_behind-returns-else-stays-clause-pruned
+trim_behind-returns-else-stays-clause-pruned t c =
     let p = bits_of c.args.left c.args.q in
     let was = c.deref_mut.ensures.value ∙ sym (ap behind (sym c.take.ensures.value ∙ c.in-Some.is)) in
-    cut_bare p (behind c.args.link.now) c.trim-stays.new.node (behind c.take.new.self)
+    pruned_bare p (behind c.args.link.now) c.trim-stays.new.node (behind c.take.new.self)
     (subst (λ (w : Walks). IsTrimmed p w c.trim-stays.new.node) was c.trim-stays.ensures.trimmed)
     (c.trim-stays.ensures.bare c.if-stays.false) (ap behind c.take.ensures.after)
