@@ -71,8 +71,8 @@ pub fn descend(
 
 /// The least table of a prefix's region under a hop that is inherited from above: of the tables that, under it, give the
 /// region's addresses the answers of the tree's routes, the one that the best hops fix, with the tree's entries as the
-/// old table. It costs the prefix's length, and the nodes within the
-/// prefix with their sets of hops.
+/// old table, in the order of prefixes. It costs the prefix's length, and the nodes within the prefix with their sets of
+/// hops.
 ///
 /// # Errors
 ///
@@ -96,7 +96,8 @@ pub fn within(
 }
 
 /// The least table with the answers of the tree's routes: of all such tables the one that the best hops fix, with the
-/// tree's entries as the old table; and the rows that prove it least. It costs the tree's nodes, and their sets of hops.
+/// tree's entries as the old table, in the order of prefixes; and the rows that prove it least. It costs the tree's nodes,
+/// and their sets of hops.
 ///
 /// # Errors
 ///
