@@ -17,7 +17,7 @@ mod text;
 pub use addr::Addr;
 pub use address_model::Family;
 pub use answers::Answers;
-pub use entry::{Entry, Hop};
+pub use entry::{Entry, Hop, push_entry};
 pub use hops::{HopError, HopTable, HopsFull, MOST_HOPS};
 pub use laws::{order_law, prefix_text_law, text_law, uniform_law};
 pub use prefix::{Prefix, bit_at};

@@ -2,11 +2,11 @@
 use Rattle.std.proofs.Common.{◌≡◌, ℕ, zero, suc, ◌+◌, ◌-◌, ◌≤◌, List, [], ◌∷◌, ◌++◌, Bool, true, false, cond, inl, inr, Option, Some, None, length, refl, sym, ap, ◌∙◌, arith}
 use Rattle.table_model.specs.Table.{Table, lpm, hop_or, longest, IsTable, root, inherit, half, cut, here}
 use Rattle.least_model.specs.Regions.{join, above}
-use Rattle.least_model.specs.Sets.{is_in, or_else, joint, one_if_empty, apart, miss, side, set_of, k_of, own, agg}
+use Rattle.least_model.specs.Sets.{is_in, or_else, joint, one_if_empty, apart, side, set_of, k_of, own, agg}
 use Rattle.table_model.proofs.Cut.{lpm_cut, lpm_nil, length_parts}
 use Rattle.least_model.proofs.Above.{none_above, above_cut}
 use Rattle.least_model.proofs.Join.{root_join, low_join, high_join, length_join, lpm_join_low, lpm_join_high, table_here, table_join}
-use Rattle.least_model.proofs.Sets.{without_entry, with_entry, of_the_set, filled, filled_joint, in_own, length_own, in_single, miss_single, miss_most, in_joint, in_first}
+use Rattle.least_model.proofs.Sets.{miss, without_entry, with_entry, of_the_set, filled, filled_joint, in_own, length_own, in_single, miss_single, miss_most, in_joint, in_first}
 
 lower_step : (o : Option ℕ) (h k l : ℕ) (S T : List ℕ) (m n all : ℕ) → k + miss (inherit o h) S ≤ m → l + miss (inherit o h) T ≤ n → length (here o) + m + n ≤ all → k + l + apart S T + miss h (joint S T) ≤ all
 lower_step None h k l S T m n all a b c = omega (arith, without_entry S T h)

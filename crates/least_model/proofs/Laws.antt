@@ -6,11 +6,11 @@ use Rattle.std.proofs.Common.{length-append, append_assoc}
 use Rattle.table_model.specs.Table.{Entry, Table, lpm, longest, longer, hop_or, IsTable, Alike, cut}
 use Rattle.least_model.specs.Regions.{IsWithin, lift}
 use Rattle.least_model.specs.Least.{Least, LeastWithin}
-use Rattle.least_model.specs.Sets.{is_in, miss, joint, apart, side, set_of, k_of, agg, answers, smallest}
+use Rattle.least_model.specs.Sets.{is_in, joint, apart, side, set_of, k_of, agg, answers, smallest}
 use Rattle.least_model.specs.Least.{Gives}
 use Rattle.least_model.specs.Least.{IsCost, IsBest, candidates, set_at, k_at, bound, aggregate}
 use Rattle.least_model.proofs.Join.{length_lift, distinct_lift, short_lift, all_weaker}
-use Rattle.least_model.proofs.Sets.{without_entry, with_entry, of_the_set, filled, filled_joint, in_first, in_rest, in_smallest, not_missed, in_is_zero}
+use Rattle.least_model.proofs.Sets.{miss, without_entry, with_entry, of_the_set, filled, filled_joint, in_first, in_rest, in_smallest, not_missed, in_is_zero}
 use Rattle.least_model.proofs.Cost.{lower, agg_answers, agg_length, agg_table, set_filled, set_values, set_alike, k_alike, set_more, k_more, set_uniform, k_uniform}
 use Rattle.least_model.proofs.Region.{lpm_within, length_cut_most, lpm_lift, within_lift}
 

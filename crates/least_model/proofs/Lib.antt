@@ -7,3 +7,4 @@ pub mod Laws
 pub mod Patch
 pub mod Same
 pub mod Order
+pub mod Both

@@ -9,8 +9,8 @@ use Rattle.std.proofs.lemmas.List.Filters.{length-filter_both}
 use Rattle.table_model.specs.Table.{Entry, Table, longest, hop_or, containing, lpm, Distinct, IsTable, Alike, root, inherit, half, cut, here}
 use Rattle.address_model.specs.Bits.{begins}
 use Rattle.least_model.specs.Regions.{IsWithin, lift, outside, strictly_containing, above}
-use Rattle.least_model.proofs.Sets.{filled, in_pick, in_smallest, smallest_least}
-use Rattle.least_model.specs.Sets.{is_in, pick, smallest, miss, own, set_of, agg, answers}
+use Rattle.least_model.proofs.Sets.{miss, filled, in_pick, in_smallest, smallest_least}
+use Rattle.least_model.specs.Sets.{is_in, pick, smallest, own, set_of, agg, answers}
 use Rattle.least_model.specs.Least.{IsBest, IsOwn, IsAggregate, set_at, k_at, aggregate, patch}
 use Rattle.least_model.specs.Regions.{entry_at, SameOutside}
 use Rattle.table_model.proofs.Cut.{entry, length_cut}

@@ -4,7 +4,11 @@ use Rattle.std.proofs.lemmas.Bool.{eqb-true, eq-eqb, cases_lt, or_cases, and_par
 use Rattle.std.proofs.lemmas.List.Folds.{list_any-append}
 use Rattle.std.proofs.Math.Nat.{min-eq_left, min-eq_right, min-le_left, min-le_right}
 use Rattle.table_model.specs.Table.{here, inherit}
-use Rattle.least_model.specs.Sets.{is_in, common, or_else, joint, one_if_empty, apart, miss, smallest, pick, own}
+use Rattle.least_model.specs.Sets.{is_in, common, or_else, joint, one_if_empty, apart, smallest, pick, own}
+
+-- 1 where the hop is not in the set
+abbrev pub miss : ℕ → List ℕ → ℕ
+miss h S = cond (is_in h S) 0 1
 
 common_step : (h x : ℕ) (S T : List ℕ) (q r : Bool) → nat_eq x h ≡ q → is_in x T ≡ r → is_in h (common S T) ≡ (is_in h S && is_in h T) → is_in h (cond r (x ∷ common S T) (common S T)) ≡ ((q || is_in h S) && is_in h T)
 common_step h x S T true true e f ih = ap (λ y. y || is_in h (common S T)) e ∙ sym (ap (λ y. is_in y T) (sym (eqb-true x h e)) ∙ f)

@@ -1,7 +1,9 @@
 -- The entries of a table within a prefix, around it, and at it.
 use Rattle.std.specs.Prelude.{◌≡◌, ℕ, List, [], ◌∷◌, ◌++◌, Bool, true, false, not, ◌&&◌, Option, map}
 use Rattle.std.specs.List.{AllByRecursion, filter}
+use Rattle.std.specs.List.Sorted.{IsStrictlySortedBy}
 use Rattle.address_model.specs.Bits.{begins}
+use Rattle.address_model.specs.Order.{path_cmp}
 use Rattle.table_model.specs.Table.{Table, longest, hop_or, root, cut, here}
 
 -- every entry's prefix is p or within p
@@ -32,18 +34,13 @@ SameOutside p L M = (q : List Bool) → begins p q ≡ false → entry_at q L �
 abbrev pub SameEntries : Table → Table → Type 0
 SameEntries L M = (q : List Bool) → entry_at q L ≡ entry_at q M
 
--- whether p comes before q: by the bits, and a prefix before what is within it
-abbrev pub precedes : List Bool → List Bool → Bool
-precedes [] (b ∷ q) = true
-precedes (false ∷ p) (true ∷ q) = true
-precedes (true ∷ p) (true ∷ q) = precedes p q
-precedes (false ∷ p) (false ∷ q) = precedes p q
-precedes _ _ = false
+-- the prefixes of the entries
+abbrev pub prefixes_of : Table → List (List Bool)
+prefixes_of L = map (λ e. e.prefix) L
 
--- each entry comes before all later ones
+-- the entries stand in the order of prefixes, each prefix once
 abbrev pub InOrder : Table → Type 0
-InOrder [] = Unit {0}
-InOrder (e ∷ L) = AllByRecursion (λ f. precedes e.prefix f.prefix ≡ true) L × InOrder L
+InOrder L = IsStrictlySortedBy path_cmp (prefixes_of L)
 
 -- ---- a table put together again
 

@@ -31,10 +31,6 @@ one_if_empty (g ∷ S) = 0
 abbrev pub apart : List ℕ → List ℕ → ℕ
 apart S T = one_if_empty (common S T)
 
--- 1 where the hop is not in the set
-abbrev pub miss : ℕ → List ℕ → ℕ
-miss h S = cond (is_in h S) 0 1
-
 -- the answers in the half of first bit b
 abbrev pub side : Bool → (List Bool → ℕ) → List Bool → ℕ
 side b f a = f (b ∷ a)

@@ -6,12 +6,19 @@
 #![tactic(auto)]
 
 ghost use Rattle.std.specs.Prelude.{◌≡◌, ℕ, ◌+◌, ◌<◌, ◌≤◌, ◌↔◌, ◌⊎◌, IsTrue, List, Bool, true, false, [], ◌∷◌, ◌++◌, Option, cond, length};
+ghost use Rattle.std.specs.List.Sorted.{IsStrictlySortedBy};
+ghost use Rattle.std.specs.Map.{keys_of};
 ghost use Rattle.address_model.specs.Bits.{begins};
+ghost use Rattle.address_model.specs.Order.{prefix_cmp};
+ghost use Rattle.address_model.specs.Width.{width};
+ghost use Rattle.address_model.specs.declared.family.Family.{Family};
 ghost use Rattle.table_model.specs.Table.{Table, lpm, IsTable, Alike, half, root};
+ghost use Rattle.table_model.specs.Entries.{Entries, of_family, of_table};
 ghost use Rattle.least_model.specs.Regions.{join, above, entry_at, SameOutside, SameEntries, InOrder};
 ghost use Rattle.least_model.specs.Sets.{is_in, own, joint, apart};
 ghost use Rattle.least_model.specs.Least.{Least, LeastWithin, IsCost, IsBest, IsAggregate, set_at, k_at, bound, aggregate, patch};
 ghost use Rattle.least_model.specs.Kept.{Kept};
+ghost use Rattle.least_model.specs.Both.{AggregateInBoth, aggregate_in, aggregate_in_both};
 
 /// An entry at the root, if any, and two halves make a table.
 pub fn joining_law()
@@ -103,10 +110,23 @@ pub fn patch_law()
     ensures repairs { (w : ℕ) (T R : Table) (p q : List Bool) → entry_at (p ++ q) (patch w T R p) ≡ entry_at (p ++ q) (aggregate w R p (above p T 0) T) }
 {}
 
-/// The aggregate stands in order, and a table in order is given by its entries.
+/// The aggregate stands in order, a table in order is given by its entries, and the entries of a family's table in order stand
+/// in the order of prefixes.
 pub fn order_law()
     ensures aggregate { (w : ℕ) (R : Table) (p : List Bool) (h : ℕ) (old : Table) → InOrder (aggregate w R p h old) }
     ensures one { (w : ℕ) (L M : Table) → IsTable w L → IsTable w M → InOrder L → InOrder M → SameEntries L M → L ≡ M }
+    ensures entries { (f : Family) (L : Table) → IsTable (width f) L → InOrder L → IsStrictlySortedBy prefix_cmp (keys_of (of_table f L)) }
+{}
+
+/// A family's aggregate, told as entries, is the aggregate by its definition. The table of both families' aggregates is the
+/// aggregate in each, and stands in the order of prefixes; no other table does both.
+pub fn both_law()
+    ensures family { (f : Family) (R old : Entries) →
+        IsAggregate (width f) (of_family f R) [] 0 (of_family f old) (of_family f (aggregate_in f R old)) }
+    ensures aggregate { (R old : Entries) → AggregateInBoth R old (aggregate_in_both R old) }
+    ensures order { (R old : Entries) → IsStrictlySortedBy prefix_cmp (keys_of (aggregate_in_both R old)) }
+    ensures one { (R old T : Entries) → AggregateInBoth R old T → IsStrictlySortedBy prefix_cmp (keys_of T) →
+        T ≡ aggregate_in_both R old }
 {}
 
 /// A table that is kept by snapshots and repairs answers as the routes.

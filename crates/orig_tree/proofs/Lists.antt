@@ -7,7 +7,8 @@ use Rattle.address_model.specs.Bits.{same_bits}
 use Rattle.table_model.specs.Table.{Table, here}
 use Rattle.table_model.proofs.Cut.{entry}
 use Rattle.least_model.specs.Regions.{lift, join}
-use Rattle.orig_tree.specs.Edits.{path_cmp, put, without, edit}
+use Rattle.address_model.specs.Order.{path_cmp}
+use Rattle.orig_tree.specs.Edits.{put, without, edit}
 
 cmp_down : (b : Bool) (p q : List Bool) → path_cmp (b ∷ p) (b ∷ q) ≡ path_cmp p q
 cmp_down true p q = refl

@@ -1,33 +1,24 @@
 -- A family's table and its entries, in the order of prefixes.
-use Rattle.std.proofs.Common.{inl, inr, length-append, ◌≡◌, ℕ, zero, suc, ◌+◌, ◌-◌, ◌^◌, ◌<◌, ◌≤◌, List, [], ◌∷◌, ◌++◌, Bool, true, false, cond, refl, sym, ap, ◌∙◌, subst, arith, length}
+use Rattle.std.proofs.Common.{◌≡◌, ℕ, ◌≤◌, List, [], ◌∷◌, Bool, true, false, cond, refl, sym, ap, ◌∙◌, subst, length}
 use Rattle.std.specs.List.{AllByRecursion}
-use Rattle.std.proofs.Math.ListN.{length-replicate}
-use Rattle.std.proofs.lemmas.Bool.{cases_lt}
 use Rattle.std.specs.List.Sorted.{IsStrictlySortedBy}
 use Rattle.std.specs.Map.{keys_of, remove_entry}
-use Rattle.std.specs.Ordering.{match_ordering, nat_cmp, ordering_then}
+use Rattle.std.specs.Ordering.{match_ordering}
 use Rattle.std.specs.declared.cmp.Ordering.{Ordering}
 use Rattle.std.specs.declared.cmp.Ordering.TheVariants.{Less, Equal, Greater}
-use Rattle.std.specs.Prelude.{replicate}
-use Rattle.std.specs.Cmp.{nat_cmp_is}
-use Rattle.address_model.specs.Bits.{bits_of, value_of, same_bits}
+use Rattle.address_model.specs.Bits.{bits_of, same_bits}
 use Rattle.address_model.specs.Width.{width}
 use Rattle.address_model.specs.Address.{Prefix, IsPrefix, same_prefix}
-use Rattle.address_model.specs.Order.{prefix_cmp}
+use Rattle.address_model.specs.Order.{prefix_cmp, path_cmp}
 use Rattle.address_model.specs.declared.family.Family.{Family}
 use Rattle.address_model.specs.declared.family.Family.TheVariants.{V4, V6}
-use Rattle.address_model.proofs.BitLaws.{value-zeros, value-lt}
+use Rattle.address_model.proofs.Ordered.{path_order}
 use Rattle.table_model.specs.Table.{Entry, Table, lpm}
 use Rattle.table_model.specs.Entries.{Entries, of_family, match_in, with_entry, of_table}
 use Rattle.table_model.proofs.Sums.{all_placed, sorted_placed}
-use Rattle.orig_tree.specs.Edits.{path_cmp, put, without}
+pub use Rattle.least_model.proofs.Both.{family_is}
+use Rattle.orig_tree.specs.Edits.{put, without}
 use Rattle.orig_tree.specs.Seen.{InPlace, Labels}
-
--- a family's entries are its table
-pub family_is : (f : Family) (L : Table) → of_family f (of_table f L) ≡ L
-family_is f [] = refl
-family_is V4 (e ∷ L) = ap (λ (M : Table). e ∷ M) (family_is V4 L)
-family_is V6 (e ∷ L) = ap (λ (M : Table). e ∷ M) (family_is V6 L)
 
 -- longest match among a family's entries
 pub match_is : (f g : Family) (w q n : ℕ) (L : Table) (E : Entries) → g ≡ f → w ≡ width f → of_table f L ≡ E → n ≡ lpm L (bits_of w q) 0 →
@@ -39,108 +30,15 @@ match_is f g w q n L E e s v a =
 pub same_rows : (f : Family) (L M : Table) → M ≡ L → InPlace (of_table f L) → InPlace (of_table f M)
 same_rows f L M e i = subst (λ (x : Table). InPlace (of_table f x)) (sym e) i
 
--- ---- the order of prefixes of one family
-
--- the number of the least address of a prefix, for addresses of w bits
-abbrev padded : ℕ → List Bool → ℕ
-padded w p = value_of (p ++ replicate (w - length p) false)
-
-full : (w : ℕ) (p : List Bool) → length p ≤ w → length (p ++ replicate (w - length p) false) ≡ w
-full w p h = omega (arith, length-append p (replicate (w - length p) false), length-replicate (w - length p) false)
-
-padded_nil : (w : ℕ) → padded w [] ≡ 0
-padded_nil w = value-zeros (w - 0)
-
-padded_lt : (w : ℕ) (p : List Bool) → length p ≤ w → padded w p < 2 ^ w
-padded_lt w p h = subst (λ (n : ℕ). padded w p < 2 ^ n) (full w p h) (value-lt (p ++ replicate (w - length p) false))
-
-padded_true : (w : ℕ) (p : List Bool) → length p ≤ w → padded (suc w) (true ∷ p) ≡ 2 ^ w + padded w p
-unfolding value_of
-padded_true w p h =
-    let e : suc w - suc (length p) ≡ w - length p = omega arith in
-    ap (λ k. value_of (true ∷ (p ++ replicate k false))) e ∙ ap (λ n. 2 ^ n + padded w p) (full w p h)
-
-padded_false : (w : ℕ) (p : List Bool) → padded (suc w) (false ∷ p) ≡ 0 + padded w p
-unfolding value_of
-padded_false w p =
-    let e : suc w - suc (length p) ≡ w - length p = omega arith in
-    ap (λ k. value_of (false ∷ (p ++ replicate k false))) e
-
-less : (x y : ℕ) → x < y → nat_cmp x y ≡ Less
-less x y h = sym (nat_cmp_is x y Less h)
-
-same : (x : ℕ) → nat_cmp x x ≡ Equal
-same x = sym (nat_cmp_is x x Equal refl)
-
-greater : (x y : ℕ) → y < x → nat_cmp x y ≡ Greater
-greater x y h = sym (nat_cmp_is x y Greater h)
-
-then_less : (a b x y : ℕ) → a ≤ b → x < y → ordering_then (nat_cmp a b) (nat_cmp x y) ≡ Less
-then_less a b x y h k =
-    elim (cases_lt a b) [
-      | inl l ↦ ap (λ o. ordering_then o (nat_cmp x y)) (less a b l)
-      | inr g ↦ let e : a ≡ b = omega arith in ap (λ z. ordering_then (nat_cmp a z) (nat_cmp x y)) (sym e) ∙ (ap (λ o. ordering_then o (nat_cmp x y)) (same a) ∙ less x y k)
-    ]
-
-then_greater : (a b x y : ℕ) → b ≤ a → y < x → ordering_then (nat_cmp a b) (nat_cmp x y) ≡ Greater
-then_greater a b x y h k =
-    elim (cases_lt b a) [
-      | inl l ↦ ap (λ o. ordering_then o (nat_cmp x y)) (greater a b l)
-      | inr g ↦ let e : a ≡ b = omega arith in ap (λ z. ordering_then (nat_cmp a z) (nat_cmp x y)) (sym e) ∙ (ap (λ o. ordering_then o (nat_cmp x y)) (same a) ∙ greater x y k)
-    ]
-
-shifted : (c a b : ℕ) → nat_cmp (c + a) (c + b) ≡ nat_cmp a b
-shifted c a b =
-    elim (cases_lt a b) [
-      | inl l ↦ less (c + a) (c + b) (omega arith) ∙ sym (less a b l)
-      | inr g ↦ elim (cases_lt b a) [
-        | inl l ↦ greater (c + a) (c + b) (omega arith) ∙ sym (greater a b l)
-        | inr k ↦ let e : a ≡ b = omega arith in ap (λ z. nat_cmp (c + a) (c + z)) (sym e) ∙ (same (c + a) ∙ (sym (same a) ∙ ap (nat_cmp a) e))
-      ]
-    ]
-
-one_more : (a b : ℕ) → nat_cmp (suc a) (suc b) ≡ nat_cmp a b
-one_more a b =
-    let x : suc a ≡ 1 + a = omega arith in
-    let y : suc b ≡ 1 + b = omega arith in
-    ap (λ z. nat_cmp z (suc b)) x ∙ (ap (nat_cmp (1 + a)) y ∙ shifted 1 a b)
-
-abbrev by_padded : ℕ → List Bool → List Bool → Ordering
-by_padded w p q = ordering_then (nat_cmp (padded w p) (padded w q)) (nat_cmp (length p) (length q))
-
-next : (w : ℕ) (p q : List Bool) (x y c : ℕ) → x ≡ c + padded w p → y ≡ c + padded w q → ordering_then (nat_cmp x y) (nat_cmp (suc (length p)) (suc (length q))) ≡ by_padded w p q
-next w p q x y c e k =
-    ap (λ z. ordering_then (nat_cmp z y) (nat_cmp (suc (length p)) (suc (length q)))) e
-    ∙ (ap (λ z. ordering_then (nat_cmp (c + padded w p) z) (nat_cmp (suc (length p)) (suc (length q)))) k
-    ∙ (ap (λ o. ordering_then o (nat_cmp (suc (length p)) (suc (length q)))) (shifted c (padded w p) (padded w q))
-    ∙ ap (ordering_then (nat_cmp (padded w p) (padded w q))) (one_more (length p) (length q))))
-
-paths : (w : ℕ) (p q : List Bool) → length p ≤ w → length q ≤ w → by_padded w p q ≡ path_cmp p q
-paths w [] [] h k = ap (λ o. ordering_then o (nat_cmp 0 0)) (same (padded w [])) ∙ same 0
-paths w [] (c ∷ q) h k = then_less (padded w []) (padded w (c ∷ q)) 0 (suc (length q)) (omega (arith, padded_nil w)) (omega arith)
-paths w (b ∷ p) [] h k = then_greater (padded w (b ∷ p)) (padded w []) (suc (length p)) 0 (omega (arith, padded_nil w)) (omega arith)
-paths zero (b ∷ p) (c ∷ q) h k = absurd (omega arith)
-paths (suc w) (true ∷ p) (true ∷ q) h k = next w p q _ _ (2 ^ w) (padded_true w p (omega arith)) (padded_true w q (omega arith)) ∙ paths w p q (omega arith) (omega arith)
-paths (suc w) (false ∷ p) (false ∷ q) h k = next w p q _ _ 0 (padded_false w p) (padded_false w q) ∙ paths w p q (omega arith) (omega arith)
-paths (suc w) (true ∷ p) (false ∷ q) h k =
-    let g : padded (suc w) (false ∷ q) < padded (suc w) (true ∷ p) = omega (arith, padded_true w p (omega arith), padded_false w q, padded_lt w q (omega arith)) in
-    ap (λ o. ordering_then o (nat_cmp (suc (length p)) (suc (length q)))) (greater (padded (suc w) (true ∷ p)) (padded (suc w) (false ∷ q)) g)
-paths (suc w) (false ∷ p) (true ∷ q) h k =
-    let g : padded (suc w) (false ∷ p) < padded (suc w) (true ∷ q) = omega (arith, padded_true w q (omega arith), padded_false w p, padded_lt w p (omega arith)) in
-    ap (λ o. ordering_then o (nat_cmp (suc (length p)) (suc (length q)))) (less (padded (suc w) (false ∷ p)) (padded (suc w) (true ∷ q)) g)
-
 abbrev prefix_of : Family → List Bool → Prefix
 prefix_of f p = record { family = f; bits = p }
-
-cmp_is : (f : Family) (p q : List Bool) → length p ≤ width f → length q ≤ width f → prefix_cmp (prefix_of f p) (prefix_of f q) ≡ path_cmp p q
-cmp_is f p q h k = ap (λ o. ordering_then o (by_padded (width f) p q)) (same (width f)) ∙ paths (width f) p q h k
 
 -- ---- edits of a family's table are edits of its entries
 
 put_is : (f : Family) (p : List Bool) (h : ℕ) (L : Table) → length p ≤ width f → AllByRecursion IsPrefix (keys_of (of_table f L)) → with_entry (of_table f L) (prefix_of f p, h) ≡ of_table f (put p h L)
 put_is f p h [] l a = refl
 put_is f p h (e ∷ L) l a =
-    ap (λ o. match_ordering o ((prefix_of f p, h) ∷ of_table f (e ∷ L)) ((prefix_of f e.prefix, h) ∷ of_table f L) ((prefix_of f e.prefix, e.hop) ∷ with_entry (of_table f L) (prefix_of f p, h))) (cmp_is f p e.prefix l a.0)
+    ap (λ o. match_ordering o ((prefix_of f p, h) ∷ of_table f (e ∷ L)) ((prefix_of f e.prefix, h) ∷ of_table f L) ((prefix_of f e.prefix, e.hop) ∷ with_entry (of_table f L) (prefix_of f p, h))) (path_order (prefix_of f p) (prefix_of f e.prefix) l a.0 refl)
     ∙ by_order (path_cmp p e.prefix) (put_is f p h L l a.1)
   where
     by_order : (o : Ordering) → with_entry (of_table f L) (prefix_of f p, h) ≡ of_table f (put p h L) →

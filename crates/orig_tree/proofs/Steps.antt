@@ -1,15 +1,15 @@
 -- One level of each walk down the tree.
-use Rattle.std.proofs.Common.{◌≡◌, ◌≢◌, ℕ, ◌-◌, List, [], ◌∷◌, ◌++◌, map, Bool, true, false, ◌||◌, refl, sym, ap, ◌∙◌, Option, Some, None, Box}
+use Rattle.std.proofs.Common.{◌≡◌, ◌≢◌, inl, inr, ℕ, ◌-◌, List, [], ◌∷◌, ◌++◌, map, Bool, true, false, ◌||◌, refl, sym, ap, ◌∙◌, Option, Some, None, Box}
 use Rattle.std.specs.Prelude.{nat_eq}
 use Rattle.std.specs.Int.{bit_at}
 use Rattle.std.specs.Option.{unwrap_or}
 use Rattle.std.specs.declared.alloc.Global.{Global}
-use Rattle.address_model.specs.Bits.{bits_of, same_bits}
+use Rattle.address_model.specs.Bits.{bits_of, same_bits, begins}
 use Rattle.table_model.specs.Table.{Table, lpm, inherit}
 use Rattle.table_model.proofs.Cut.{lpm_nil}
 use Rattle.least_model.specs.Regions.{join}
 use Rattle.least_model.proofs.Join.{root_join, lpm_join_low, lpm_join_high}
-use Rattle.orig_tree.specs.Walk.{Walks, behind, nothing, walks_of, rows_of, edited, Allowed, picked, has_node}
+use Rattle.orig_tree.specs.Walk.{Walks, behind, nothing, walks_of, rows_of, edited, Allowed, AreMadeTo, picked, has_node}
 use Rattle.orig_tree.specs.declared.node.Label.{Label}
 use Rattle.orig_tree.specs.declared.node.Label.TheVariants.{Route, Entry}
 use Rattle.orig_tree.proofs.Paths.{no_bits, first_one, first_zero}
@@ -174,6 +174,11 @@ edited_nothing Route None p a = refl
 edited_nothing Entry None p a = refl
 edited_nothing label (Some h) p a = cc
 
+-- a node is seen at its own path
+pub root_is : (route entry : Option ℕ) (low high node : Walks) → walks_of route entry low high ≡ node → true ≡ has_node [] node.nodes
+unfolding same_bits
+root_is route entry low high node w = ap (λ n. has_node [] n.nodes) w
+
 -- rooms
 pub room_here : (node : Walks) (route entry : Option ℕ) (low high : Walks) (left q : ℕ) → left ≡ 0 → walks_of route entry low high ≡ node → has_node (bits_of left q) node.nodes ≡ true
 unfolding same_bits
@@ -198,3 +203,35 @@ unfolding same_bits
 kept_low route entry low high after node w k [] h = refl
 kept_low route entry low high after node w k (false ∷ p) h = has_low p route entry after high ∙ k p (sym (has_low p route entry low high) ∙ ap (λ n. has_node (false ∷ p) n.nodes) w ∙ h)
 kept_low route entry low high after node w k (true ∷ p) h = has_high p route entry after high ∙ sym (has_high p route entry low high) ∙ ap (λ n. has_node (true ∷ p) n.nodes) w ∙ h
+
+-- new nodes are on the way
+module _ (route entry : Option ℕ) (low high after node : Walks) (left q : ℕ) where
+  pub made_high : left ≢ 0 → true ≡ nat_eq (bit_at q (left - 1)) 1 → walks_of route entry low high ≡ node
+      → AreMadeTo (bits_of (left - 1) q) high.nodes after.nodes → AreMadeTo (bits_of left q) node.nodes (walks_of route entry low after).nodes
+  made_high n b w m [] h = inr refl
+  made_high n b w m (true ∷ p) h = elim (m p (sym (has_high p route entry low after) ∙ h)) [
+    | inl x ↦ inl (ap (λ n. has_node (true ∷ p) n.nodes) (sym w) ∙ (has_high p route entry low high ∙ x))
+    | inr y ↦ inr (ap (begins (true ∷ p)) (first_one left q n b) ∙ y)
+  ]
+  made_high n b w m (false ∷ p) h = inl (ap (λ n. has_node (false ∷ p) n.nodes) (sym w) ∙ (has_low p route entry low high ∙ (sym (has_low p route entry low after) ∙ h)))
+
+  pub made_low : left ≢ 0 → false ≡ nat_eq (bit_at q (left - 1)) 1 → walks_of route entry low high ≡ node
+      → AreMadeTo (bits_of (left - 1) q) low.nodes after.nodes → AreMadeTo (bits_of left q) node.nodes (walks_of route entry after high).nodes
+  made_low n b w m [] h = inr refl
+  made_low n b w m (false ∷ p) h = elim (m p (sym (has_low p route entry after high) ∙ h)) [
+    | inl x ↦ inl (ap (λ n. has_node (false ∷ p) n.nodes) (sym w) ∙ (has_low p route entry low high ∙ x))
+    | inr y ↦ inr (ap (begins (false ∷ p)) (first_zero left q n b) ∙ y)
+  ]
+  made_low n b w m (true ∷ p) h = inl (ap (λ n. has_node (true ∷ p) n.nodes) (sym w) ∙ (has_high p route entry low high ∙ (sym (has_high p route entry after high) ∙ h)))
+
+-- a new node has none but itself
+pub made_new : (node link new : Walks) (k : List Bool) → node ≡ walks_of None None nothing nothing → AreMadeTo k node.nodes new.nodes → AreMadeTo k link.nodes new.nodes
+unfolding same_bits
+made_new node link new k w m p h = elim (m p h) [
+  | inl x ↦ inr (itself p (ap (λ n. has_node p n.nodes) (sym w) ∙ x))
+  | inr y ↦ inr y
+]
+  where
+    itself : (p : List Bool) → has_node p (walks_of None None nothing nothing).nodes ≡ true → begins p k ≡ true
+    itself [] h = refl
+    itself (b ∷ p) h = cc

@@ -1,6 +1,7 @@
 -- A node's table as it is told.
 use Rattle.std.proofs.Common.{◌≡◌, ℕ, ◌+◌, ◌-◌, ◌≤◌, List, [], ◌∷◌, ◌++◌, Bool, true, false, refl, sym, ap, ◌∙◌, subst, arith, length, map, Option, Some, None, append_assoc, append-nil, length-append}
 use Rattle.std.specs.List.{AllByRecursion}
+use Rattle.std.specs.Option.{option_to_list}
 use Rattle.address_model.specs.Address.{Prefix, IsPrefix}
 use Rattle.std.specs.Map.{keys_of}
 use Rattle.address_model.specs.declared.family.Family.TheVariants.{V4, V6}
@@ -10,9 +11,8 @@ use Rattle.table_model.specs.Table.{Table, here}
 use Rattle.table_model.specs.Entries.{Entries, of_table}
 use Rattle.table_model.proofs.Cut.{entry}
 use Rattle.least_model.specs.Regions.{lift, join}
-use Rattle.fib_addr.specs.Seen.{entry_as, prefix_as}
+use Rattle.fib_addr.specs.Seen.{prefix_as}
 use Rattle.fib_addr.specs.declared.prefix.Prefix as code
-use Rattle.fib_addr.specs.declared.entry.Entry as code_entry
 use Rattle.fib_addr.proofs.Parts.{length_prefix}
 use Rattle.fib_addr.specs.Regions.{half_of}
 use Rattle.orig_tree.specs.Walk.{Walks, nothing, walks_of, rows_of, picked}
@@ -37,21 +37,10 @@ pub seen_append : (f : Family) (L M : Table) → of_table f (L ++ M) ≡ of_tabl
 seen_append f [] M = refl
 seen_append f (e ∷ L) M = ap (λ x. ((let p : Prefix = record { family = f; bits = e.prefix } in p), e.hop) ∷ x) (seen_append f L M)
 
-map_append : (xs ys : List code_entry.Entry) → map entry_as (xs ++ ys) ≡ map entry_as xs ++ map entry_as ys
-map_append [] ys = refl
-map_append (x ∷ xs) ys = ap (λ r. entry_as x ∷ r) (map_append xs ys)
-
-pub told_here : (p : code.Prefix) (h : ℕ) (e : code_entry.Entry) (o : Option ℕ) (xs ys : List code_entry.Entry) → o ≡ Some h → e.prefix ≡ p → e.hop.0 ≡ h → ys ≡ xs ++ e ∷ [] →
-    map entry_as ys ≡ map entry_as xs ++ of_table p.family (lift (prefix_as p).bits (here o))
-told_here p h e o xs ys s a b y =
-    let q = (prefix_as p).bits in
-    let one : entry_as e ≡ ((let x : Prefix = record { family = p.family; bits = q ++ [] } in x), h) =
-    ap (λ (z : code.Prefix). (prefix_as z, e.hop.0)) a ∙ (ap (λ z. (prefix_as p, z)) b ∙ ap (λ z. ((let x : Prefix = record { family = p.family; bits = z } in x), h)) (sym (append-nil q)))
-    in
-    ap (map entry_as) y ∙ (map_append xs (e ∷ []) ∙ (ap (λ z. map entry_as xs ++ z ∷ []) one ∙ ap (λ z. map entry_as xs ++ of_table p.family (lift q (here z))) (sym s)))
-
-pub told_none : (p : code.Prefix) (o : Option ℕ) (E : Entries) → o ≡ None → E ≡ E ++ of_table p.family (lift (prefix_as p).bits (here o))
-told_none p o E e = sym (ap (λ z. E ++ of_table p.family (lift (prefix_as p).bits (here z))) e ∙ append-nil E)
+-- the entry of a prefix, if it has one
+pub told_own : (p : Prefix) (o : Option ℕ) → map (λ h. (p, h)) (option_to_list o) ≡ of_table p.family (lift p.bits (here o))
+told_own p None = refl
+told_own p (Some g) = ap (λ z. ((let x : Prefix = record { family = p.family; bits = z } in x), g) ∷ []) (sym (append-nil p.bits))
 
 pub told_nothing : (label : Label) (p : code.Prefix) (w : Walks) (E : Entries) → w ≡ nothing → E ≡ E ++ of_table p.family (lift (prefix_as p).bits (rows_of label w))
 told_nothing label p w E e = sym (ap (λ z. E ++ of_table p.family (lift (prefix_as p).bits (rows_of label z))) e ∙ (ap (λ z. E ++ of_table p.family (lift (prefix_as p).bits z)) (rows_nothing label) ∙ append-nil E))
@@ -117,18 +106,19 @@ own_alone n o L M z f =
     ap (λ x. join o x M) a ∙ (ap (λ x. join o [] x) b ∙ append-nil (here o))
 
 pub told_end : (p : code.Prefix) (label : Label) (route entry o : Option ℕ) (low high node : Walks) (E D : Entries) → walks_of route entry low high ≡ node → p.len ≡ width p.family → Fits (width p.family - p.len) (rows_of label node)
-    → o ≡ picked label route entry → D ≡ E ++ of_table p.family (lift (prefix_as p).bits (here o))
+    → o ≡ picked label route entry → D ≡ E ++ map (λ h. (prefix_as p, h)) (option_to_list o)
     → D ≡ E ++ of_table p.family (lift (prefix_as p).bits (rows_of label node))
 told_end p label route entry o low high node E D w n f s d =
+    let d' : D ≡ E ++ of_table p.family (lift (prefix_as p).bits (here o)) = d ∙ ap (λ x. E ++ x) (told_own (prefix_as p) o) in
     let z : width p.family - p.len ≡ 0 = omega arith in
-    d ∙ ap (λ x. E ++ of_table p.family (lift (prefix_as p).bits x)) (ap here s
+    d' ∙ ap (λ x. E ++ of_table p.family (lift (prefix_as p).bits x)) (ap here s
     ∙ (sym (own_alone (width p.family - p.len) (picked label route entry) (rows_of label low) (rows_of label high) z (fits_node (width p.family - p.len) label route entry low high node w f))
     ∙ (sym (rows_level label route entry low high) ∙ ap (rows_of label) w)))
 
 -- what is told of a node: its own entry, then those of its halves
 pub told_level : (p q r : code.Prefix) (label : Label) (route entry o : Option ℕ) (low high node : Walks) (A B C D : Entries) → walks_of route entry low high ≡ node
     → prefix_as q ≡ half_of (prefix_as p) false → prefix_as r ≡ half_of (prefix_as p) true → o ≡ picked label route entry
-    → B ≡ A ++ of_table p.family (lift (prefix_as p).bits (here o))
+    → B ≡ A ++ map (λ h. (prefix_as p, h)) (option_to_list o)
     → C ≡ B ++ of_table q.family (lift (prefix_as q).bits (rows_of label low))
     → D ≡ C ++ of_table r.family (lift (prefix_as r).bits (rows_of label high))
     → D ≡ A ++ of_table p.family (lift (prefix_as p).bits (rows_of label node))
@@ -142,7 +132,7 @@ told_level p q r label route entry o low high node A B C D w e g s b c d =
     let Y = of_table f (lift (k ++ (true ∷ [])) H) in
     let c' : C ≡ B ++ X = c ∙ ap (λ (x : Prefix). B ++ of_table x.family (lift x.bits L)) e in
     let d' : D ≡ C ++ Y = d ∙ ap (λ (x : Prefix). C ++ of_table x.family (lift x.bits H)) g in
-    let b' : B ≡ A ++ O = b ∙ ap (λ x. A ++ of_table f (lift k (here x))) s in
+    let b' : B ≡ A ++ O = b ∙ ap (λ x. A ++ x) (told_own (prefix_as p) o ∙ ap (λ x. of_table f (lift k (here x))) s) in
     let whole : of_table f (lift k (rows_of label node)) ≡ O ++ (X ++ Y) =
     ap (λ x. of_table f (lift k x)) (ap (rows_of label) (sym w) ∙ rows_level label route entry low high)
     ∙ (ap (of_table f) (lift_join k (picked label route entry) L H) ∙ (seen_append f (lift k (here (picked label route entry))) (lift (k ++ (false ∷ [])) L ++ lift (k ++ (true ∷ [])) H)

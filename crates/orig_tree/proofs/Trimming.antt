@@ -1,5 +1,5 @@
 -- Nodes that are dropped, level by level.
-use Rattle.std.proofs.Common.{◌≡◌, ◌≢◌, ℕ, zero, suc, ◌-◌, nat_eq, List, [], ◌∷◌, ◌++◌, Bool, true, false, ◌||◌, refl, sym, ap, ◌∙◌, subst, Option, Some, None}
+use Rattle.std.proofs.Common.{◌≡◌, ◌≢◌, ◌⊎◌, inl, inr, ℕ, ◌-◌, nat_eq, List, [], ◌∷◌, ◌++◌, Bool, true, false, ◌||◌, refl, sym, ap, ◌∙◌, subst, Option, Some, None}
 use Rattle.std.specs.List.{list_any}
 use Rattle.std.specs.Int.{bit_at}
 use Rattle.std.specs.Option.{is_some}
@@ -10,9 +10,9 @@ use Rattle.table_model.specs.Table.{Entry, Table, here}
 use Rattle.table_model.specs.Entries.{Entries, of_family, of_table}
 use Rattle.least_model.specs.Regions.{lift, join}
 use Rattle.orig_tree.specs.Walk.{Walks, nothing, walks_of, has_node}
-use Rattle.orig_tree.specs.Trims.{has_within, is_used, AreTrimmed, IsTrimmed, bare, has_labels}
+use Rattle.orig_tree.specs.Trims.{has_within, is_used, HasBeside, IsKept, AreTrimmed, IsTrimmed, IsPruned, KeepsRoot, bare, has_labels}
 use Rattle.orig_tree.proofs.Paths.{no_bits, first_one, first_zero}
-use Rattle.orig_tree.proofs.Places.{family_is}
+use Rattle.least_model.proofs.Both.{family_is}
 use Rattle.orig_tree.proofs.Steps.{has_low, has_high}
 
 -- ---- what a half has within
@@ -74,147 +74,140 @@ used_high q route entry low high =
 
 -- ---- one level
 
+-- within the empty prefix nothing is beside the way to it
+used : (R E : Table) (nodes : List (List Bool)) (q : List Bool) → IsKept [] R E nodes q → is_used q R E ≡ true
+used R E nodes q (inl u) = u
+used R E nodes q (inr b) = cc
+
+begins_itself : (q : List Bool) → begins q q ≡ true
+begins_itself [] = refl
+begins_itself (true ∷ q) = begins_itself q
+begins_itself (false ∷ q) = begins_itself q
+
+not_root : (b : Bool) (q : List Bool) (K : Type 0) → (b ∷ q ≡ []) ⊎ K → K
+not_root b q K (inl e) = cc
+not_root b q K (inr k) = k
+
 module _ (route entry : Option ℕ) where
-  -- the half of bit 1 is trimmed; where p is its root, what is left of that has labels
-  pub trim_high : (p : List Bool) (low high after : Walks) → IsTrimmed p high after → (begins p [] ≡ true → has_node [] after.nodes ≡ true → has_labels after ≡ true)
-      → IsTrimmed (true ∷ p) (walks_of route entry low high) (walks_of route entry low after)
-  unfolding same_bits
-  trim_high p low high after t r = record { fewer = fewer; dropped = dropped; used = used; beside = beside }
-    where
-      old : Walks
-      old = walks_of route entry low high
+  -- the half of bit 1 is pruned
+  module _ (p : List Bool) (low high after : Walks) where
+    kept_high : (q : List Bool) → IsKept p after.routes after.entries high.nodes q → IsKept (true ∷ p) (walks_of route entry low after).routes (walks_of route entry low after).entries (walks_of route entry low high).nodes (true ∷ q)
+    kept_high q (inl u) = inl (used_high q route entry low after ∙ u)
+    kept_high q (inr b) = inr (true ∷ b.0, b.1, b.2, b.3, has_high b.0 route entry low high ∙ b.4)
 
-      new : Walks
-      new = walks_of route entry low after
+    kept_high_back : (q : List Bool) → IsKept (true ∷ p) (walks_of route entry low after).routes (walks_of route entry low after).entries (walks_of route entry low high).nodes (true ∷ q) → IsKept p after.routes after.entries high.nodes q
+    kept_high_back q (inl u) = inl (sym (used_high q route entry low after) ∙ u)
+    kept_high_back q (inr b) = inr (of_half b.0 b.1 b.2 b.3 b.4)
+      where
+        of_half : (r : List Bool) → begins (true ∷ q) r ≡ true → begins r (true ∷ p) ≡ false → begins (true ∷ p) r ≡ false → has_node r (walks_of route entry low high).nodes ≡ true → HasBeside p q high.nodes
+        of_half [] c d e h = cc
+        of_half (true ∷ r) c d e h = (r, c, d, e, sym (has_high r route entry low high) ∙ h)
+        of_half (false ∷ r) c d e h = cc
 
-      fewer : (q : List Bool) → has_node q new.nodes ≡ true → has_node q old.nodes ≡ true
-      fewer [] h = refl
-      fewer (true ∷ q) h = has_high q route entry low high ∙ t.fewer q (sym (has_high q route entry low after) ∙ h)
-      fewer (false ∷ q) h = has_low q route entry low high ∙ (sym (has_low q route entry low after) ∙ h)
+    pub trim_high : IsPruned p high after → IsTrimmed (true ∷ p) (walks_of route entry low high) (walks_of route entry low after)
+    unfolding same_bits
+    trim_high t = λ q. (stays q, back q)
+      where
+        stays : (q : List Bool) → has_node q (walks_of route entry low after).nodes ≡ true → (has_node q (walks_of route entry low high).nodes ≡ true) × ((q ≡ []) ⊎ IsKept (true ∷ p) (walks_of route entry low after).routes (walks_of route entry low after).entries (walks_of route entry low high).nodes q)
+        stays [] h = (refl, inl refl)
+        stays (true ∷ q) h = let s = (t q).0 (sym (has_high q route entry low after) ∙ h) in (has_high q route entry low high ∙ s.0, inr (kept_high q s.1))
+        stays (false ∷ q) h = let o = has_low q route entry low high ∙ (sym (has_low q route entry low after) ∙ h) in (o, inr (inr (false ∷ q, begins_itself q, refl, refl, o)))
 
-      dropped_in : (q : List Bool) → begins p q ≡ true → has_node q after.nodes ≡ true → is_used q after.routes after.entries ≡ true
-      dropped_in [] b h = r b h
-      dropped_in (c ∷ q) b h = t.dropped (c ∷ q) (λ e. cc) b h
+        back : (q : List Bool) → (has_node q (walks_of route entry low high).nodes ≡ true) × ((q ≡ []) ⊎ IsKept (true ∷ p) (walks_of route entry low after).routes (walks_of route entry low after).entries (walks_of route entry low high).nodes q) → has_node q (walks_of route entry low after).nodes ≡ true
+        back [] s = refl
+        back (true ∷ q) s = has_high q route entry low after ∙ (t q).1 (sym (has_high q route entry low high) ∙ s.0, kept_high_back q (not_root true q _ s.1))
+        back (false ∷ q) s = has_low q route entry low after ∙ (sym (has_low q route entry low high) ∙ s.0)
 
-      dropped : (q : List Bool) → q ≢ [] → begins (true ∷ p) q ≡ true → has_node q new.nodes ≡ true → is_used q new.routes new.entries ≡ true
-      dropped [] n b h = absurd (n refl)
-      dropped (true ∷ q) n b h = used_high q route entry low after ∙ dropped_in q b (sym (has_high q route entry low after) ∙ h)
-      dropped (false ∷ q) n b h = cc
+  -- the half of bit 0 is pruned
+  module _ (p : List Bool) (low high after : Walks) where
+    kept_low : (q : List Bool) → IsKept p after.routes after.entries low.nodes q → IsKept (false ∷ p) (walks_of route entry after high).routes (walks_of route entry after high).entries (walks_of route entry low high).nodes (false ∷ q)
+    kept_low q (inl u) = inl (used_low q route entry after high ∙ u)
+    kept_low q (inr b) = inr (false ∷ b.0, b.1, b.2, b.3, has_low b.0 route entry low high ∙ b.4)
 
-      used : (q : List Bool) → is_used q new.routes new.entries ≡ true → has_node q old.nodes ≡ true → has_node q new.nodes ≡ true
-      used [] u h = refl
-      used (true ∷ q) u h = has_high q route entry low after ∙ t.used q (sym (used_high q route entry low after) ∙ u) (sym (has_high q route entry low high) ∙ h)
-      used (false ∷ q) u h = has_low q route entry low after ∙ (sym (has_low q route entry low high) ∙ h)
+    kept_low_back : (q : List Bool) → IsKept (false ∷ p) (walks_of route entry after high).routes (walks_of route entry after high).entries (walks_of route entry low high).nodes (false ∷ q) → IsKept p after.routes after.entries low.nodes q
+    kept_low_back q (inl u) = inl (sym (used_low q route entry after high) ∙ u)
+    kept_low_back q (inr b) = inr (of_half b.0 b.1 b.2 b.3 b.4)
+      where
+        of_half : (r : List Bool) → begins (false ∷ q) r ≡ true → begins r (false ∷ p) ≡ false → begins (false ∷ p) r ≡ false → has_node r (walks_of route entry low high).nodes ≡ true → HasBeside p q low.nodes
+        of_half [] c d e h = cc
+        of_half (false ∷ r) c d e h = (r, c, d, e, sym (has_low r route entry low high) ∙ h)
+        of_half (true ∷ r) c d e h = cc
 
-      beside : (q : List Bool) → begins (true ∷ p) q ≡ false → begins q (true ∷ p) ≡ false → has_node q old.nodes ≡ true → has_node q new.nodes ≡ true
-      beside [] a b h = refl
-      beside (true ∷ q) a b h = has_high q route entry low after ∙ t.beside q a b (sym (has_high q route entry low high) ∙ h)
-      beside (false ∷ q) a b h = has_low q route entry low after ∙ (sym (has_low q route entry low high) ∙ h)
+    pub trim_low : IsPruned p low after → IsTrimmed (false ∷ p) (walks_of route entry low high) (walks_of route entry after high)
+    unfolding same_bits
+    trim_low t = λ q. (stays q, back q)
+      where
+        stays : (q : List Bool) → has_node q (walks_of route entry after high).nodes ≡ true → (has_node q (walks_of route entry low high).nodes ≡ true) × ((q ≡ []) ⊎ IsKept (false ∷ p) (walks_of route entry after high).routes (walks_of route entry after high).entries (walks_of route entry low high).nodes q)
+        stays [] h = (refl, inl refl)
+        stays (false ∷ q) h = let s = (t q).0 (sym (has_low q route entry after high) ∙ h) in (has_low q route entry low high ∙ s.0, inr (kept_low q s.1))
+        stays (true ∷ q) h = let o = has_high q route entry low high ∙ (sym (has_high q route entry after high) ∙ h) in (o, inr (inr (true ∷ q, begins_itself q, refl, refl, o)))
 
-  pub trim_low : (p : List Bool) (low high after : Walks) → IsTrimmed p low after → (begins p [] ≡ true → has_node [] after.nodes ≡ true → has_labels after ≡ true)
-      → IsTrimmed (false ∷ p) (walks_of route entry low high) (walks_of route entry after high)
-  unfolding same_bits
-  trim_low p low high after t r = record { fewer = fewer; dropped = dropped; used = used; beside = beside }
-    where
-      old : Walks
-      old = walks_of route entry low high
+        back : (q : List Bool) → (has_node q (walks_of route entry low high).nodes ≡ true) × ((q ≡ []) ⊎ IsKept (false ∷ p) (walks_of route entry after high).routes (walks_of route entry after high).entries (walks_of route entry low high).nodes q) → has_node q (walks_of route entry after high).nodes ≡ true
+        back [] s = refl
+        back (false ∷ q) s = has_low q route entry after high ∙ (t q).1 (sym (has_low q route entry low high) ∙ s.0, kept_low_back q (not_root false q _ s.1))
+        back (true ∷ q) s = has_high q route entry after high ∙ (sym (has_high q route entry low high) ∙ s.0)
 
-      new : Walks
-      new = walks_of route entry after high
+  -- both halves are pruned from their roots on
+  module _ (low high lower upper : Walks) where
+    pub trim_both : IsPruned [] low lower → IsPruned [] high upper → IsTrimmed [] (walks_of route entry low high) (walks_of route entry lower upper)
+    unfolding same_bits
+    trim_both s t = λ q. (stays q, back q)
+      where
+        Kept : List Bool → Type 0
+        Kept q = (q ≡ []) ⊎ IsKept [] (walks_of route entry lower upper).routes (walks_of route entry lower upper).entries (walks_of route entry low high).nodes q
 
-      fewer : (q : List Bool) → has_node q new.nodes ≡ true → has_node q old.nodes ≡ true
-      fewer [] h = refl
-      fewer (false ∷ q) h = has_low q route entry low high ∙ t.fewer q (sym (has_low q route entry after high) ∙ h)
-      fewer (true ∷ q) h = has_high q route entry low high ∙ (sym (has_high q route entry after high) ∙ h)
+        stays : (q : List Bool) → has_node q (walks_of route entry lower upper).nodes ≡ true → (has_node q (walks_of route entry low high).nodes ≡ true) × Kept q
+        stays [] h = (refl, inl refl)
+        stays (false ∷ q) h = let k = (s q).0 (sym (has_low q route entry lower upper) ∙ h) in (has_low q route entry low high ∙ k.0, inr (inl (used_low q route entry lower upper ∙ used lower.routes lower.entries low.nodes q k.1)))
+        stays (true ∷ q) h = let k = (t q).0 (sym (has_high q route entry lower upper) ∙ h) in (has_high q route entry low high ∙ k.0, inr (inl (used_high q route entry lower upper ∙ used upper.routes upper.entries high.nodes q k.1)))
 
-      dropped_in : (q : List Bool) → begins p q ≡ true → has_node q after.nodes ≡ true → is_used q after.routes after.entries ≡ true
-      dropped_in [] b h = r b h
-      dropped_in (c ∷ q) b h = t.dropped (c ∷ q) (λ e. cc) b h
+        kept : (q : List Bool) → q ≢ [] → Kept q → is_used q (walks_of route entry lower upper).routes (walks_of route entry lower upper).entries ≡ true
+        kept q n (inl e) = absurd (n e)
+        kept q n (inr k) = used (walks_of route entry lower upper).routes (walks_of route entry lower upper).entries (walks_of route entry low high).nodes q k
 
-      dropped : (q : List Bool) → q ≢ [] → begins (false ∷ p) q ≡ true → has_node q new.nodes ≡ true → is_used q new.routes new.entries ≡ true
-      dropped [] n b h = absurd (n refl)
-      dropped (false ∷ q) n b h = used_low q route entry after high ∙ dropped_in q b (sym (has_low q route entry after high) ∙ h)
-      dropped (true ∷ q) n b h = cc
+        back : (q : List Bool) → (has_node q (walks_of route entry low high).nodes ≡ true) × Kept q → has_node q (walks_of route entry lower upper).nodes ≡ true
+        back [] k = refl
+        back (false ∷ q) k = has_low q route entry lower upper ∙ (s q).1 (sym (has_low q route entry low high) ∙ k.0, inl (sym (used_low q route entry lower upper) ∙ kept (false ∷ q) (λ e. cc) k.1))
+        back (true ∷ q) k = has_high q route entry lower upper ∙ (t q).1 (sym (has_high q route entry low high) ∙ k.0, inl (sym (used_high q route entry lower upper) ∙ kept (true ∷ q) (λ e. cc) k.1))
 
-      used : (q : List Bool) → is_used q new.routes new.entries ≡ true → has_node q old.nodes ≡ true → has_node q new.nodes ≡ true
-      used [] u h = refl
-      used (false ∷ q) u h = has_low q route entry after high ∙ t.used q (sym (used_low q route entry after high) ∙ u) (sym (has_low q route entry low high) ∙ h)
-      used (true ∷ q) u h = has_high q route entry after high ∙ (sym (has_high q route entry low high) ∙ h)
+-- ---- what is behind a link
 
-      beside : (q : List Bool) → begins (false ∷ p) q ≡ false → begins q (false ∷ p) ≡ false → has_node q old.nodes ≡ true → has_node q new.nodes ≡ true
-      beside [] a b h = refl
-      beside (false ∷ q) a b h = has_low q route entry after high ∙ t.beside q a b (sym (has_low q route entry low high) ∙ h)
-      beside (true ∷ q) a b h = has_high q route entry after high ∙ (sym (has_high q route entry low high) ∙ h)
+-- nothing is pruned of nothing
+pub pruned_nothing : (p : List Bool) (old new : Walks) → old ≡ nothing → new ≡ nothing → IsPruned p old new
+pruned_nothing p old new e f =
+    let r : IsPruned p nothing nothing = λ q. ((λ h. cc), (λ s. s.0)) in
+    subst (λ (w : Walks). IsPruned p w new) (sym e) (subst (λ (w : Walks). IsPruned p nothing w) (sym f) r)
 
-  -- both halves are trimmed from their roots on
-  pub trim_both : (low high lower upper : Walks) → IsTrimmed [] low lower → IsTrimmed [] high upper
-      → (has_node [] lower.nodes ≡ true → has_labels lower ≡ true) → (has_node [] upper.nodes ≡ true → has_labels upper ≡ true)
-      → IsTrimmed [] (walks_of route entry low high) (walks_of route entry lower upper)
-  unfolding same_bits
-  trim_both low high lower upper s t k r = record { fewer = fewer; dropped = dropped; used = used; beside = λ q a b h. cc }
-    where
-      old : Walks
-      old = walks_of route entry low high
-
-      new : Walks
-      new = walks_of route entry lower upper
-
-      fewer : (q : List Bool) → has_node q new.nodes ≡ true → has_node q old.nodes ≡ true
-      fewer [] h = refl
-      fewer (false ∷ q) h = has_low q route entry low high ∙ s.fewer q (sym (has_low q route entry lower upper) ∙ h)
-      fewer (true ∷ q) h = has_high q route entry low high ∙ t.fewer q (sym (has_high q route entry lower upper) ∙ h)
-
-      dropped_low : (q : List Bool) → has_node q lower.nodes ≡ true → is_used q lower.routes lower.entries ≡ true
-      dropped_low [] h = k h
-      dropped_low (c ∷ q) h = s.dropped (c ∷ q) (λ e. cc) refl h
-
-      dropped_high : (q : List Bool) → has_node q upper.nodes ≡ true → is_used q upper.routes upper.entries ≡ true
-      dropped_high [] h = r h
-      dropped_high (c ∷ q) h = t.dropped (c ∷ q) (λ e. cc) refl h
-
-      dropped : (q : List Bool) → q ≢ [] → begins [] q ≡ true → has_node q new.nodes ≡ true → is_used q new.routes new.entries ≡ true
-      dropped [] n b h = absurd (n refl)
-      dropped (false ∷ q) n b h = used_low q route entry lower upper ∙ dropped_low q (sym (has_low q route entry lower upper) ∙ h)
-      dropped (true ∷ q) n b h = used_high q route entry lower upper ∙ dropped_high q (sym (has_high q route entry lower upper) ∙ h)
-
-      used : (q : List Bool) → is_used q new.routes new.entries ≡ true → has_node q old.nodes ≡ true → has_node q new.nodes ≡ true
-      used [] u h = refl
-      used (false ∷ q) u h = has_low q route entry lower upper ∙ s.used q (sym (used_low q route entry lower upper) ∙ u) (sym (has_low q route entry low high) ∙ h)
-      used (true ∷ q) u h = has_high q route entry lower upper ∙ t.used q (sym (used_high q route entry lower upper) ∙ u) (sym (has_high q route entry low high) ∙ h)
-
--- nothing is trimmed of nothing
-pub trim_nothing : (p : List Bool) (old new : Walks) → old ≡ nothing → new ≡ nothing → IsTrimmed p old new
-trim_nothing p old new e f =
-    let r : IsTrimmed p nothing nothing = record { fewer = λ q h. cc; dropped = λ q n b h. cc; used = λ q u h. h; beside = λ q a b h. h } in
-    subst (λ (w : Walks). IsTrimmed p w new) (sym e) (subst (λ (w : Walks). IsTrimmed p nothing w) (sym f) r)
+-- what keeps its root
+pub pruned_kept : (p : List Bool) (old new : Walks) → IsTrimmed p old new → KeepsRoot p old new → IsPruned p old new
+pruned_kept p old new t k = λ q. (stays q, λ s. (t q).1 (s.0, inr s.1))
+  where
+    stays : (q : List Bool) → has_node q new.nodes ≡ true → (has_node q old.nodes ≡ true) × IsKept p new.routes new.entries old.nodes q
+    stays [] h = (((t []).0 h).0, k)
+    stays (b ∷ q) h = let s = (t (b ∷ q)).0 h in (s.0, not_root b q _ s.1)
 
 -- a bare node goes
 not_bare : (b : Bool) (q : List Bool) → has_node (b ∷ q) bare.nodes ≡ true → ⊥
 unfolding same_bits
 not_bare b q h = cc
 
-pub trim_bare : (p : List Bool) (old bared new : Walks) → IsTrimmed p old bared → bared ≡ bare → new ≡ nothing → IsTrimmed p old new
-trim_bare p old bared new t e f =
-    let s : IsTrimmed p old bare = subst (λ (w : Walks). IsTrimmed p old w) e t in
-    subst (λ (w : Walks). IsTrimmed p old w) (sym f)
-    (record { fewer = λ q h. cc; dropped = λ q n b h. cc; used = λ q u h. cc; beside = λ q a b h. gone s q b (s.beside q a b h) })
+pub pruned_bare : (p : List Bool) (old bared new : Walks) → IsTrimmed p old bared → bared ≡ bare → new ≡ nothing → IsPruned p old new
+pruned_bare p old bared new t e f =
+    subst (λ (w : Walks). IsPruned p old w) (sym f) (λ q. ((λ h. cc), gone (subst (λ (w : Walks). IsTrimmed p old w) e t) q))
   where
-    gone : IsTrimmed p old bare → (q : List Bool) → begins q p ≡ false → has_node q bare.nodes ≡ true → has_node q [] ≡ true
-    gone s [] b h = cc
-    gone s (c ∷ q) b h = absurd (not_bare c q h)
+    beside : IsTrimmed p old bare → (r : List Bool) → begins r p ≡ false → begins p r ≡ false → has_node r old.nodes ≡ true → ⊥
+    beside s [] b c h = cc
+    beside s (d ∷ r) b c h = not_bare d r ((s (d ∷ r)).1 (h, inr (inr (d ∷ r, begins_itself (d ∷ r), b, c, h))))
+
+    gone : IsTrimmed p old bare → (q : List Bool) → (has_node q old.nodes ≡ true) × IsKept p [] [] old.nodes q → has_node q [] ≡ true
+    gone s q (h, inl u) = cc
+    gone s q (h, inr b) = absurd (beside s b.0 b.2 b.3 b.4)
 
 -- ---- the walks
 
--- a node with both halves trimmed
-pub pruned : (route entry : Option ℕ) (low high lower upper node : Walks) (l u : Bool) → walks_of route entry low high ≡ node → IsTrimmed [] low lower → IsTrimmed [] high upper
-    → (l ≡ true → has_labels lower ≡ true) → (l ≡ false → lower ≡ nothing) → (u ≡ true → has_labels upper ≡ true) → (u ≡ false → upper ≡ nothing)
-    → IsTrimmed [] node (walks_of route entry lower upper)
-pruned route entry low high lower upper node l u w s t a b c d =
-    subst (λ (n : Walks). IsTrimmed [] n (walks_of route entry lower upper)) w (trim_both route entry low high lower upper s t (is_left l lower a b) (is_left u upper c d))
-  where
-    is_left : (b : Bool) (w : Walks) → (b ≡ true → has_labels w ≡ true) → (b ≡ false → w ≡ nothing) → has_node [] w.nodes ≡ true → has_labels w ≡ true
-    is_left true w a b h = a refl
-    is_left false w a b h = let e : false ≡ true = ap (λ (n : Walks). has_node [] n.nodes) (sym (b refl)) ∙ h in cc
+-- a node with both halves pruned
+pub pruned : (route entry : Option ℕ) (low high lower upper node : Walks) → walks_of route entry low high ≡ node → IsPruned [] low lower → IsPruned [] high upper → IsTrimmed [] node (walks_of route entry lower upper)
+pruned route entry low high lower upper node w s t = subst (λ (n : Walks). IsTrimmed [] n (walks_of route entry lower upper)) w (trim_both route entry low high lower upper s t)
 
 -- a node has labels where it has one of its own or a half has some
 any_label : (o : Option ℕ) (L M : Table) → (is_some o || (has_within [] L || has_within [] M)) ≡ has_within [] (join o L M)
@@ -260,30 +253,51 @@ module _ (route entry : Option ℕ) (low high : Walks) where
 pub trimmed_here : (old new : Walks) (left q : ℕ) → left ≡ 0 → IsTrimmed [] old new → IsTrimmed (bits_of left q) old new
 trimmed_here old new left q e t = subst (λ (p : List Bool). IsTrimmed p old new) (sym (no_bits left q e)) t
 
-no_more : (k q : ℕ) → begins (bits_of k q) [] ≡ true → k ≡ 0
-unfolding bits_of
-no_more zero q b = refl
-no_more (suc k) q b = absurd (not_nil _ (bits_of k q) b)
-  where
-    not_nil : (c : Bool) (p : List Bool) → begins (c ∷ p) [] ≡ true → ⊥
-    not_nil true p e = cc
-    not_nil false p e = cc
-
 -- and before it
 module _ (route entry : Option ℕ) (low high after node : Walks) (left q : ℕ) where
-  pub trimmed_high : left ≢ 0 → true ≡ nat_eq (bit_at q (left - 1)) 1 → walks_of route entry low high ≡ node → IsTrimmed (bits_of (left - 1) q) high after
-      → (left - 1 ≡ 0 → has_node [] after.nodes ≡ true → has_labels after ≡ true) → IsTrimmed (bits_of left q) node (walks_of route entry low after)
-  trimmed_high n b w t l =
+  pub trimmed_high : left ≢ 0 → true ≡ nat_eq (bit_at q (left - 1)) 1 → walks_of route entry low high ≡ node → IsPruned (bits_of (left - 1) q) high after → IsTrimmed (bits_of left q) node (walks_of route entry low after)
+  trimmed_high n b w t =
       subst (λ (p : List Bool). IsTrimmed p node (walks_of route entry low after)) (sym (first_one left q n b))
-      (subst (λ (x : Walks). IsTrimmed (true ∷ bits_of (left - 1) q) x (walks_of route entry low after)) w
-      (trim_high route entry (bits_of (left - 1) q) low high after t (λ z h. l (no_more (left - 1) q z) h)))
+      (subst (λ (x : Walks). IsTrimmed (true ∷ bits_of (left - 1) q) x (walks_of route entry low after)) w (trim_high route entry (bits_of (left - 1) q) low high after t))
 
-  pub trimmed_low : left ≢ 0 → false ≡ nat_eq (bit_at q (left - 1)) 1 → walks_of route entry low high ≡ node → IsTrimmed (bits_of (left - 1) q) low after
-      → (left - 1 ≡ 0 → has_node [] after.nodes ≡ true → has_labels after ≡ true) → IsTrimmed (bits_of left q) node (walks_of route entry after high)
-  trimmed_low n b w t l =
+  pub trimmed_low : left ≢ 0 → false ≡ nat_eq (bit_at q (left - 1)) 1 → walks_of route entry low high ≡ node → IsPruned (bits_of (left - 1) q) low after → IsTrimmed (bits_of left q) node (walks_of route entry after high)
+  trimmed_low n b w t =
       subst (λ (p : List Bool). IsTrimmed p node (walks_of route entry after high)) (sym (first_zero left q n b))
-      (subst (λ (x : Walks). IsTrimmed (false ∷ bits_of (left - 1) q) x (walks_of route entry after high)) w
-      (trim_low route entry (bits_of (left - 1) q) low high after t (λ z h. l (no_more (left - 1) q z) h)))
+      (subst (λ (x : Walks). IsTrimmed (false ∷ bits_of (left - 1) q) x (walks_of route entry after high)) w (trim_low route entry (bits_of (left - 1) q) low high after t))
+
+-- what keeps a node on the way: its half on the way, its other half, or a label of its own
+module _ (route entry : Option ℕ) (low high after node : Walks) (left q : ℕ) where
+  at_high : left ≢ 0 → true ≡ nat_eq (bit_at q (left - 1)) 1 → walks_of route entry low high ≡ node → KeepsRoot (true ∷ bits_of (left - 1) q) (walks_of route entry low high) (walks_of route entry low after)
+      → KeepsRoot (bits_of left q) node (walks_of route entry low after)
+  at_high n b w k =
+      subst (λ (p : List Bool). KeepsRoot p node (walks_of route entry low after)) (sym (first_one left q n b))
+      (subst (λ (x : Walks). KeepsRoot (true ∷ bits_of (left - 1) q) x (walks_of route entry low after)) w k)
+
+  at_low : left ≢ 0 → false ≡ nat_eq (bit_at q (left - 1)) 1 → walks_of route entry low high ≡ node → KeepsRoot (false ∷ bits_of (left - 1) q) (walks_of route entry low high) (walks_of route entry after high)
+      → KeepsRoot (bits_of left q) node (walks_of route entry after high)
+  at_low n b w k =
+      subst (λ (p : List Bool). KeepsRoot p node (walks_of route entry after high)) (sym (first_zero left q n b))
+      (subst (λ (x : Walks). KeepsRoot (false ∷ bits_of (left - 1) q) x (walks_of route entry after high)) w k)
+
+  by_high : (p : List Bool) → KeepsRoot p high after → KeepsRoot (true ∷ p) (walks_of route entry low high) (walks_of route entry low after)
+  by_high p (inl u) = inl (labels_high route entry low after u)
+  by_high p (inr b) = inr (true ∷ b.0, refl, b.2, b.3, has_high b.0 route entry low high ∙ b.4)
+
+  by_low : (p : List Bool) → KeepsRoot p low after → KeepsRoot (false ∷ p) (walks_of route entry low high) (walks_of route entry after high)
+  by_low p (inl u) = inl (labels_low route entry after high u)
+  by_low p (inr b) = inr (false ∷ b.0, refl, b.2, b.3, has_low b.0 route entry low high ∙ b.4)
+
+  pub kept_by_high : left ≢ 0 → true ≡ nat_eq (bit_at q (left - 1)) 1 → walks_of route entry low high ≡ node → KeepsRoot (bits_of (left - 1) q) high after → KeepsRoot (bits_of left q) node (walks_of route entry low after)
+  kept_by_high n b w k = at_high n b w (by_high (bits_of (left - 1) q) k)
+
+  pub kept_by_low : left ≢ 0 → false ≡ nat_eq (bit_at q (left - 1)) 1 → walks_of route entry low high ≡ node → KeepsRoot (bits_of (left - 1) q) low after → KeepsRoot (bits_of left q) node (walks_of route entry after high)
+  kept_by_low n b w k = at_low n b w (by_low (bits_of (left - 1) q) k)
+
+  pub kept_beside_high : left ≢ 0 → true ≡ nat_eq (bit_at q (left - 1)) 1 → walks_of route entry low high ≡ node → has_node [] low.nodes ≡ true → KeepsRoot (bits_of left q) node (walks_of route entry low after)
+  kept_beside_high n b w h = at_high n b w (inr (false ∷ [], refl, refl, refl, has_low [] route entry low high ∙ h))
+
+  pub kept_beside_low : left ≢ 0 → false ≡ nat_eq (bit_at q (left - 1)) 1 → walks_of route entry low high ≡ node → has_node [] high.nodes ≡ true → KeepsRoot (bits_of left q) node (walks_of route entry after high)
+  kept_beside_low n b w h = at_low n b w (inr (true ∷ [], refl, refl, refl, has_high [] route entry low high ∙ h))
 
 -- the whole tree, by its entries
 pub trimmed_tree : (f g : Family) (p s : List Bool) (R E M N : Table) (RS ES : Entries) (old was new : List (List Bool)) → f ≡ g → p ≡ s → M ≡ R → N ≡ E → of_table f R ≡ RS → of_table f E ≡ ES → old ≡ was

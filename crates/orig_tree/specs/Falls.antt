@@ -1,4 +1,4 @@
--- Each half of a node has fewer nodes than the node.
+-- Each half of a node has fewer nodes than the node: what `size_decreases` of a node needs, which may cite nothing of proofs/.
 use Rattle.std.specs.Prelude.{◌≡◌, ◌+◌, ◌≤◌, ◌∷◌, ◌++◌, length, map, Bool, true, false, List, [], Option, Some, None, Box}
 use Rattle.std.proofs.Common.{arith, length-append}
 use Rattle.std.proofs.lemmas.List.{length-map}

@@ -1,5 +1,5 @@
 -- Nodes that are dropped.
-use Rattle.std.specs.Prelude.{◌≡◌, ◌≢◌, List, [], ◌||◌, Bool, true, false, None}
+use Rattle.std.specs.Prelude.{◌≡◌, ◌↔◌, ◌⊎◌, List, [], ◌||◌, Bool, true, false, None}
 use Rattle.std.specs.List.{list_any}
 use Rattle.address_model.specs.Bits.{begins}
 use Rattle.table_model.specs.Table.{Table}
@@ -13,17 +13,31 @@ has_within p L = list_any (λ e. begins p e.prefix) L
 abbrev pub is_used : List Bool → Table → Table → Bool
 is_used p routes entries = has_within p routes || has_within p entries
 
--- Of the nodes those at p and within p are dropped that have no route and no entry at them or within them, but not the root.
--- Whatever has one stays, and so does what is neither within p nor on the way to it.
-pub record AreTrimmed (p : List Bool) (routes entries : Table) (old new : List (List Bool)) : Type 0 where
-  pub fewer : (q : List Bool) → has_node q new ≡ true → has_node q old ≡ true
-  pub dropped : (q : List Bool) → q ≢ [] → begins p q ≡ true → has_node q new ≡ true → is_used q routes entries ≡ true
-  pub used : (q : List Bool) → is_used q routes entries ≡ true → has_node q old ≡ true → has_node q new ≡ true
-  pub beside : (q : List Bool) → begins p q ≡ false → begins q p ≡ false → has_node q old ≡ true → has_node q new ≡ true
+-- a node at q or within q is neither on the way to p nor within p
+abbrev pub HasBeside : List Bool → List Bool → List (List Bool) → Type 0
+HasBeside p q nodes = (r : List Bool) × (begins q r ≡ true) × (begins r p ≡ false) × (begins p r ≡ false) × (has_node r nodes ≡ true)
+
+-- What keeps a node at q where p is trimmed: a route or an entry at it or within it, or a node there that is neither on the way to
+-- p nor within p.
+abbrev pub IsKept : List Bool → Table → Table → List (List Bool) → List Bool → Type 0
+IsKept p routes entries nodes q = (is_used q routes entries ≡ true) ⊎ HasBeside p q nodes
+
+-- p is trimmed: of the nodes exactly the root and those that are kept stay. So what goes is on the way to p or within p.
+abbrev pub AreTrimmed : List Bool → Table → Table → List (List Bool) → List (List Bool) → Type 0
+AreTrimmed p routes entries old new =
+    (q : List Bool) → (has_node q new ≡ true) ↔ ((has_node q old ≡ true) × ((q ≡ []) ⊎ IsKept p routes entries old q))
 
 -- the same of what is seen of a node
 abbrev pub IsTrimmed : List Bool → Walks → Walks → Type 0
 IsTrimmed p old new = AreTrimmed p new.routes new.entries old.nodes new.nodes
+
+-- the same of what is seen behind a link, where the root goes as any other node does
+abbrev pub IsPruned : List Bool → Walks → Walks → Type 0
+IsPruned p old new = (q : List Bool) → (has_node q new.nodes ≡ true) ↔ ((has_node q old.nodes ≡ true) × IsKept p new.routes new.entries old.nodes q)
+
+-- the root is kept
+abbrev pub KeepsRoot : List Bool → Walks → Walks → Type 0
+KeepsRoot p old new = IsKept p new.routes new.entries old.nodes []
 
 -- a node with no labels and nothing below it
 abbrev pub bare : Walks

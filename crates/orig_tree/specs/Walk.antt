@@ -1,6 +1,6 @@
 -- What is seen of a node: the tables of its two labels, and where there are nodes.
-use Rattle.std.specs.Prelude.{◌≡◌, ℕ, List, [], ◌∷◌, ◌++◌, map, ◌||◌, Bool, true, false, Option, Some, None, Box}
-use Rattle.address_model.specs.Bits.{same_bits}
+use Rattle.std.specs.Prelude.{◌≡◌, ◌⊎◌, ℕ, List, [], ◌∷◌, ◌++◌, map, ◌||◌, Bool, true, false, Option, Some, None, Box}
+use Rattle.address_model.specs.Bits.{begins, same_bits}
 use Rattle.table_model.specs.Table.{Table}
 use Rattle.least_model.specs.Regions.{join}
 use Rattle.orig_tree.specs.Edits.{edit}
@@ -50,6 +50,10 @@ edited Entry p h w = record { routes = w.routes; entries = edit p h w.entries; n
 abbrev pub has_node : List Bool → List (List Bool) → Bool
 has_node p [] = false
 has_node p (q ∷ qs) = same_bits p q || has_node p qs
+
+-- each node of new is one of old or on the way to p
+abbrev pub AreMadeTo : List Bool → List (List Bool) → List (List Bool) → Type 0
+AreMadeTo p old new = (q : List Bool) → has_node q new ≡ true → (has_node q old ≡ true) ⊎ (begins q p ≡ true)
 
 -- an entry can be set where there is a node, and taken away everywhere
 abbrev pub Allowed : List Bool → Option ℕ → List (List Bool) → Type 0

@@ -12,7 +12,7 @@ mod path;
 mod tree;
 
 pub use answers::{EntriesOf, RoutesOf};
-pub use node::{Label, Node, push_entry};
+pub use node::{Label, Node};
 pub use path::path_bits;
 pub use tree::Tree;
 

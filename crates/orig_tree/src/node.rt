@@ -4,19 +4,19 @@ ghost use Rattle.std.specs.Prelude.{◌≡◌, ◌≤◌, ◌-◌, ℕ, OnOk, On
 ghost use Rattle.std.specs.Option.{is_some};
 ghost use Rattle.address_model.specs.Bits.{bits_of};
 ghost use Rattle.address_model.specs.Width.{width};
-ghost use Rattle.table_model.specs.Table.{lpm, root, half, here};
+ghost use Rattle.table_model.specs.Table.{lpm, root, half};
 ghost use Rattle.least_model.specs.Regions.{above, lift};
 ghost use Rattle.fib_addr.specs.Seen.{entry_as, prefix_as};
-ghost use Rattle.orig_tree.specs.Walk.{behind, nothing, walks_of, rows_of, edited, Allowed, picked, has_node};
+ghost use Rattle.orig_tree.specs.Walk.{behind, nothing, walks_of, rows_of, edited, Allowed, AreMadeTo, picked, has_node};
 ghost use Rattle.table_model.specs.Entries.{of_table};
 ghost use Rattle.orig_tree.specs.Seen.{Fits};
 ghost use Rattle.orig_tree.specs.Cover.{IsCover};
 ghost use Rattle.orig_tree.specs.Slots.{Retold};
 ghost use Rattle.orig_tree.specs.Uniform.{IsUniform};
-ghost use Rattle.orig_tree.specs.Trims.{IsTrimmed, bare, has_labels};
+ghost use Rattle.orig_tree.specs.Trims.{IsPruned, IsTrimmed, KeepsRoot, bare, has_labels};
 
 use crate::cover::{Cover, Slot};
-use fib_addr::{Entry, Hop, Prefix, bit_at};
+use fib_addr::{Entry, Prefix, bit_at, push_entry};
 use std::alloc::{AllocError, Global};
 use std::marker::Model;
 
@@ -135,6 +135,7 @@ pub(crate) fn room(alloc: Global, node: &mut Node, q: u128, left: u8) -> Result<
     ensures routes { node.new.routes ≡ node.old.routes }
     ensures entries { node.new.entries ≡ node.old.entries }
     ensures kept { (p : List Bool) → has_node p node.old.nodes ≡ true → has_node p node.new.nodes ≡ true }
+    ensures made { AreMadeTo (bits_of left q) node.old.nodes node.new.nodes }
     ensures ok { OnOk result (has_node (bits_of left q) node.new.nodes ≡ true) }
     ensures err { OnErr result (node.new ≡ node.old) }
     ensures held { has_node (bits_of left q) node.old.nodes ≡ true → IsOk result }
@@ -163,6 +164,7 @@ fn room_behind(
     ensures routes { (behind link.new).routes ≡ (behind link.old).routes }
     ensures entries { (behind link.new).entries ≡ (behind link.old).entries }
     ensures kept { (p : List Bool) → has_node p (behind link.old).nodes ≡ true → has_node p (behind link.new).nodes ≡ true }
+    ensures made { AreMadeTo (bits_of left q) (behind link.old).nodes (behind link.new).nodes }
     ensures ok { OnOk result (has_node (bits_of left q) (behind link.new).nodes ≡ true) }
     ensures err { OnErr result (behind link.new ≡ behind link.old) }
     ensures held { has_node (bits_of left q) (behind link.old).nodes ≡ true → IsOk result }
@@ -325,7 +327,7 @@ fn prune(node: &mut Node) -> bool
 fn prune_behind(link: &mut Option<Box<Node>>) -> bool
     ensures routes { (behind link.new).routes ≡ (behind link.old).routes }
     ensures entries { (behind link.new).entries ≡ (behind link.old).entries }
-    ensures trimmed { IsTrimmed [] (behind link.old) (behind link.new) }
+    ensures pruned { IsPruned [] (behind link.old) (behind link.new) }
     ensures labels { result ≡ true → has_labels (behind link.new) ≡ true }
     ensures none { result ≡ false → behind link.new ≡ nothing }
 {
@@ -341,6 +343,20 @@ fn prune_behind(link: &mut Option<Box<Node>>) -> bool
     }
 }
 
+/// Whether there is a node behind a link.
+fn is_node(link: &Option<Box<Node>>) -> bool
+    ensures node { result ≡ has_node [] (behind link.now).nodes }
+    ensures none { result ≡ false → behind link.now ≡ nothing }
+{
+    match link {
+        None => false,
+        Some(node) => {
+            let _route = &node.route;
+            true
+        }
+    }
+}
+
 /// Drops the nodes of a path and below it that have no label at or below them, and those on the way to it that then have
 /// none and nothing below them, but not the node itself; and tells whether the node has something left. It changes no table.
 #[cycle(trim)]
@@ -349,7 +365,7 @@ pub(crate) fn trim(node: &mut Node, q: u128, left: u8) -> bool
     ensures routes { node.new.routes ≡ node.old.routes }
     ensures entries { node.new.entries ≡ node.old.entries }
     ensures trimmed { IsTrimmed (bits_of left q) node.old node.new }
-    ensures labels { left ≡ 0 → result ≡ true → has_labels node.new ≡ true }
+    ensures kept { result ≡ true → KeepsRoot (bits_of left q) node.old node.new }
     ensures bare { result ≡ false → node.new ≡ bare }
 {
     if left == 0 {
@@ -358,10 +374,10 @@ pub(crate) fn trim(node: &mut Node, q: u128, left: u8) -> bool
     let at = left - 1;
     if bit_at(q, at) {
         let stays = trim_behind(&mut node.high, q, at);
-        stays || node.low.is_some() || has_label(&node.route, &node.entry)
+        stays || is_node(&node.low) || has_label(&node.route, &node.entry)
     } else {
         let stays = trim_behind(&mut node.low, q, at);
-        stays || node.high.is_some() || has_label(&node.route, &node.entry)
+        stays || is_node(&node.high) || has_label(&node.route, &node.entry)
     }
 }
 
@@ -370,8 +386,8 @@ fn trim_behind(link: &mut Option<Box<Node>>, q: u128, left: u8) -> bool
     requires { left ≤ 128 }
     ensures routes { (behind link.new).routes ≡ (behind link.old).routes }
     ensures entries { (behind link.new).entries ≡ (behind link.old).entries }
-    ensures trimmed { IsTrimmed (bits_of left q) (behind link.old) (behind link.new) }
-    ensures labels { left ≡ 0 → has_node [] (behind link.new).nodes ≡ true → has_labels (behind link.new) ≡ true }
+    ensures pruned { IsPruned (bits_of left q) (behind link.old) (behind link.new) }
+    ensures kept { result ≡ true → KeepsRoot (bits_of left q) (behind link.old) (behind link.new) }
     ensures none { result ≡ false → behind link.new ≡ nothing }
 {
     match link.take() {
@@ -382,27 +398,6 @@ fn trim_behind(link: &mut Option<Box<Node>>, q: u128, left: u8) -> bool
                 *link = Some(node);
             }
             stays
-        }
-    }
-}
-
-/// Adds the entry of a prefix with this hop, if it has one.
-///
-/// # Errors
-///
-/// No memory.
-#[tactic(auto, using(crate::proofs::Telling::told_here, crate::proofs::Telling::told_none))]
-pub fn push_entry(prefix: Prefix, hop: Option<u16>, out: &mut Vec<Entry>) -> Result<(), AllocError>
-    ensures { OnOk result (map entry_as out.new.items ≡ map entry_as out.old.items ++ of_table prefix.family (lift (prefix_as prefix).bits (here hop))) }
-{
-    match hop {
-        None => Ok(()),
-        Some(hop) => {
-            out.push(Entry {
-                prefix,
-                hop: Hop(hop),
-            })?;
-            Ok(())
         }
     }
 }

@@ -8,7 +8,7 @@ ghost use Rattle.least_model.specs.Regions.{above};
 ghost use Rattle.fib_addr.specs.Seen.{addr_as, prefix_as, entry_as};
 ghost use Rattle.fib_addr.specs.Uniform.{AllGet, TwoDiffer};
 ghost use Rattle.address_model.specs.Width.{width};
-ghost use Rattle.orig_tree.specs.Walk.{has_node, rows_of};
+ghost use Rattle.orig_tree.specs.Walk.{AreMadeTo, has_node, rows_of};
 ghost use Rattle.orig_tree.specs.Seen.{InPlace, Fits};
 ghost use Rattle.orig_tree.specs.Trims.{AreTrimmed};
 
@@ -100,7 +100,8 @@ impl Tree {
         &self.root
     }
 
-    /// Makes the prefix a node, so that `set_route` and `set_entry` take no memory at it.
+    /// Makes the prefix a node, so that `set_route` and `set_entry` take no memory at it. New nodes are the prefix's and those
+    /// on the way to it.
     ///
     /// # Errors
     ///
@@ -112,6 +113,7 @@ impl Tree {
         ensures routes { self.new.routes ≡ self.old.routes }
         ensures entries { self.new.entries ≡ self.old.entries }
         ensures kept { (p : List Bool) → has_node p self.old.nodes ≡ true → has_node p self.new.nodes ≡ true }
+        ensures made { AreMadeTo (prefix_as prefix.now).bits self.old.nodes self.new.nodes }
         ensures ok { OnOk result (has_node (prefix_as prefix.now).bits self.new.nodes ≡ true) }
         ensures err { OnErr result (self.new ≡ self.old) }
         ensures held { has_node (prefix_as prefix.now).bits self.old.nodes ≡ true → IsOk result }
@@ -120,8 +122,9 @@ impl Tree {
         room(self.alloc, &mut self.root, q, prefix.len)
     }
 
-    /// Drops the nodes at the prefix and within it that have no route and no entry at them or within them, and those on its
-    /// path that then have none of their own and nothing below them. The node of the whole space stays.
+    /// Drops the nodes at the prefix and within it that have no route and no entry at them or within them, and those on the
+    /// way to it that then have none of their own and nothing below them: a node beside the way keeps those above it, whether
+    /// it is used or not. The node of the whole space stays.
     pub fn trim(&mut self, prefix: &Prefix)
         requires { prefix.now.family ≡ self.old.family }
         ensures family { self.new.family ≡ self.old.family }
@@ -214,6 +217,7 @@ impl Tree {
         ensures routes { OnOk result (self.new.routes ≡ with_entry self.old.routes (prefix_as prefix.now, hop.0)) }
         ensures entries { self.new.entries ≡ self.old.entries }
         ensures kept { (p : List Bool) → has_node p self.old.nodes ≡ true → has_node p self.new.nodes ≡ true }
+        ensures made { AreMadeTo (prefix_as prefix.now).bits self.old.nodes self.new.nodes }
         ensures ok { OnOk result (has_node (prefix_as prefix.now).bits self.new.nodes ≡ true) }
         ensures err { OnErr result (self.new ≡ self.old) }
         ensures held { has_node (prefix_as prefix.now).bits self.old.nodes ≡ true → IsOk result }
@@ -235,6 +239,7 @@ impl Tree {
         ensures routes { self.new.routes ≡ self.old.routes }
         ensures entries { OnOk result (self.new.entries ≡ with_entry self.old.entries (prefix_as prefix.now, hop.0)) }
         ensures kept { (p : List Bool) → has_node p self.old.nodes ≡ true → has_node p self.new.nodes ≡ true }
+        ensures made { AreMadeTo (prefix_as prefix.now).bits self.old.nodes self.new.nodes }
         ensures ok { OnOk result (has_node (prefix_as prefix.now).bits self.new.nodes ≡ true) }
         ensures err { OnErr result (self.new ≡ self.old) }
         ensures held { has_node (prefix_as prefix.now).bits self.old.nodes ≡ true → IsOk result }

@@ -1,6 +1,10 @@
 -- The downward pass.
-use Rattle.std.proofs.Common.{◌≡◌, ℕ, zero, suc, ◌-◌, List, [], ◌∷◌, ◌++◌, Bool, true, false, cond, Option, Some, None, length, nat_eq, refl, sym, ap, ◌∙◌, arith, subst, append_assoc, inl, inr, ◌||◌}
+use Rattle.std.proofs.Common.{◌≡◌, ℕ, zero, suc, ◌-◌, List, [], ◌∷◌, ◌++◌, Bool, true, false, cond, Option, Some, None, length, nat_eq, refl, sym, ap, ◌∙◌, arith, subst, append_assoc, inl, inr, ◌||◌, map}
 use Rattle.std.proofs.lemmas.Bool.{ne_eqb, eqb-true, eq-eqb, cases_Bool}
+use Rattle.std.specs.List.Sorted.{IsStrictlySortedBy}
+use Rattle.std.specs.Map.{keys_of}
+use Rattle.std.specs.Option.{option_to_list}
+use Rattle.address_model.specs.Order.{prefix_cmp}
 use Rattle.address_model.specs.Address.{Prefix}
 use Rattle.address_model.specs.Bits.{bits_of}
 use Rattle.address_model.specs.Width.{width}
@@ -15,11 +19,12 @@ use Rattle.table_model.proofs.Cut.{entry}
 use Rattle.least_model.specs.Regions.{lift, join}
 use Rattle.least_model.specs.Sets.{side, set_of, k_of, own, pick, agg, answers}
 use Rattle.cert_model.specs.Rows.{one_answer}
-use Rattle.least_model.specs.Least.{aggregate, Least, LeastWithin}
+use Rattle.least_model.specs.Least.{aggregate, IsAggregate, Least, LeastWithin}
 use Rattle.least_model.proofs.Sets.{filled, in_first, in_single, in_pick, same_own}
 use Rattle.least_model.proofs.Cost.{set_uniform, set_filled}
 use Rattle.least_model.proofs.Laws.{fresh_law, aggregate_least}
-use Rattle.orig_tree.proofs.Places.{family_is}
+use Rattle.least_model.proofs.Patch.{aggregate_is}
+use Rattle.least_model.proofs.Both.{family_is, sorted_aggregate}
 use Rattle.orig_tree.proofs.Telling as telling
 use Rattle.ortc.specs.declared.region.Region.{Region}
 use Rattle.ortc.specs.Hops.{SameHops}
@@ -73,8 +78,8 @@ leaf_agg d f L x h u =
     ]
 
 pub told_leaf : (p : code.Prefix) (d : ℕ) (f : List Bool → ℕ) (L : Table) (x h : ℕ) (o : Option ℕ) (X Y : Entries) → ((a : List Bool) → length a ≡ d → f a ≡ x) → o ≡ cond (nat_eq x h) None (Some x)
-    → Y ≡ X ++ of_table p.family (lift (prefix_as p).bits (here o)) → Y ≡ X ++ of_table p.family (lift (prefix_as p).bits (agg d f L h))
-told_leaf p d f L x h o X Y u e y = y ∙ ap (λ z. X ++ of_table p.family (lift (prefix_as p).bits z)) (ap here e ∙ leaf_agg d f L x h u)
+    → Y ≡ X ++ map (λ k. (prefix_as p, k)) (option_to_list o) → Y ≡ X ++ of_table p.family (lift (prefix_as p).bits (agg d f L h))
+told_leaf p d f L x h o X Y u e y = y ∙ ap (λ z. X ++ z) (telling.told_own (prefix_as p) o) ∙ ap (λ z. X ++ of_table p.family (lift (prefix_as p).bits z)) (ap here e ∙ leaf_agg d f L x h u)
 
 -- ---- a region of two halves
 
@@ -95,7 +100,7 @@ pub told_join : (p q r : code.Prefix) (f : List Bool → ℕ) (L : Table) (h hop
     × (n ≡ k_of (suc e) f) × (one_answer (suc e) f ≡ None)
     → l ≡ low → k ≡ high → o ≡ own S old h → hop ≡ inherit o h
     → prefix_as q ≡ half_of (prefix_as p) false → prefix_as r ≡ half_of (prefix_as p) true
-    → Y ≡ X ++ of_table p.family (lift (prefix_as p).bits (here o))
+    → Y ≡ X ++ map (λ k. (prefix_as p, k)) (option_to_list o)
     → ((g : List Bool → ℕ) (M : Table) → Stands l (width q.family - q.len) g M → Z ≡ Y ++ of_table q.family (lift (prefix_as q).bits (agg (width q.family - q.len) g M hop)))
     → ((g : List Bool → ℕ) (M : Table) → Stands k (width r.family - r.len) g M → W ≡ Z ++ of_table r.family (lift (prefix_as r).bits (agg (width r.family - r.len) g M hop)))
     → W ≡ X ++ of_table p.family (lift (prefix_as p).bits (agg (width p.family - p.len) f L h))
@@ -127,7 +132,7 @@ told_join p q r f L h hop X Y Z W o old S n low high l k s ll kk ow i eq er y z 
     ∙ (ap (of_table m) (telling.lift_join P o A B) ∙ (telling.seen_append m (lift P (here o)) (lift (P ++ (false ∷ [])) A ++ lift (P ++ (true ∷ [])) B)
     ∙ ap (λ x. O ++ x) (telling.seen_append m (lift (P ++ (false ∷ [])) A) (lift (P ++ (true ∷ [])) B)))))
     in
-    w' ∙ (ap (λ x. x ++ D) (z' ∙ ap (λ x. x ++ C) y) ∙ (append_assoc (X ++ O) C D ∙ (append_assoc X O (C ++ D) ∙ ap (λ x. X ++ x) (sym whole))))
+    w' ∙ (ap (λ x. x ++ D) (z' ∙ ap (λ x. x ++ C) (y ∙ ap (λ x. X ++ x) (telling.told_own (prefix_as p) o))) ∙ (append_assoc (X ++ O) C D ∙ (append_assoc X O (C ++ D) ∙ ap (λ x. X ++ x) (sym whole))))
 
 -- a region of two halves has a bit left
 pub no_bits_left : (p : code.Prefix) (w e : ℕ) → w ≡ width p.family → p.len ≡ w → width p.family - p.len ≡ suc e → ⊥
@@ -167,6 +172,21 @@ within_least p f h R E W m e =
     subst (λ (T : Table). LeastWithin (width f) R P h T) (sym (ap (of_family f) e ∙ family_is f (aggregate (width f) R P h E)))
     (aggregate_least (width f) R P h E (omega (arith, ap width m, length_prefix (width p.family) p.len p.bits p.fits, p.fits)))
 
+-- the one that the best hops fix
+pub within_best : (p : code.Prefix) (f : Family) (h : ℕ) (R E : Table) (W : Entries) → p.family ≡ f
+    → W ≡ of_table f (aggregate (width f) R (prefix_as p).bits h E) → IsAggregate (width f) R (prefix_as p).bits h E (of_family f W)
+within_best p f h R E W m e =
+    let P = (prefix_as p).bits in
+    subst (λ (T : Table). IsAggregate (width f) R P h E T) (sym (ap (of_family f) e ∙ family_is f (aggregate (width f) R P h E)))
+    (aggregate_is (width f) R P h E (omega (arith, ap width m, length_prefix (width p.family) p.len p.bits p.fits, p.fits)))
+
+-- in the order of prefixes
+pub within_sorted : (p : code.Prefix) (f : Family) (h : ℕ) (R E : Table) (W : Entries) → p.family ≡ f
+    → W ≡ of_table f (aggregate (width f) R (prefix_as p).bits h E) → IsStrictlySortedBy prefix_cmp (keys_of W)
+within_sorted p f h R E W m e =
+    subst (λ (T : Entries). IsStrictlySortedBy prefix_cmp (keys_of T)) (sym e)
+    (sorted_aggregate f R E (prefix_as p).bits h (omega (arith, ap width m, length_prefix (width p.family) p.len p.bits p.fits, p.fits)))
+
 -- ---- the whole space
 
 pub fresh_told : (f : Family) (p : code.Prefix) (h : ℕ) (R E : Table) (W : Entries) → prefix_as p ≡ record { family = f; bits = [] } → h ≡ 0 → W ≡ of_table f (aggregate (width f) R (prefix_as p).bits h E) → W ≡ of_table f (aggregate (width f) R [] 0 E)
@@ -175,3 +195,10 @@ fresh_told f p h R E W e n w = w ∙ (ap (λ (x : Prefix). of_table f (aggregate
 pub fresh_least : (f : Family) (R old : Table) (W : Entries) → W ≡ of_table f (aggregate (width f) R [] 0 old) → Least (width f) R (of_family f W)
 fresh_least f R old W e =
     subst (λ (T : Table). Least (width f) R T) (sym (ap (of_family f) e ∙ family_is f (aggregate (width f) R [] 0 old))) (fresh_law (width f) R old).1
+
+pub fresh_best : (f : Family) (R old : Table) (W : Entries) → W ≡ of_table f (aggregate (width f) R [] 0 old) → IsAggregate (width f) R [] 0 old (of_family f W)
+fresh_best f R old W e =
+    subst (λ (T : Table). IsAggregate (width f) R [] 0 old T) (sym (ap (of_family f) e ∙ family_is f (aggregate (width f) R [] 0 old))) (aggregate_is (width f) R [] 0 old (omega arith))
+
+pub fresh_sorted : (f : Family) (R old : Table) (W : Entries) → W ≡ of_table f (aggregate (width f) R [] 0 old) → IsStrictlySortedBy prefix_cmp (keys_of W)
+fresh_sorted f R old W e = subst (λ (T : Entries). IsStrictlySortedBy prefix_cmp (keys_of T)) (sym e) (sorted_aggregate f R old [] 0 (omega arith))

@@ -1,3 +1,4 @@
 pub mod Hops
 pub mod Stands
 pub mod Proved
+pub mod Tables

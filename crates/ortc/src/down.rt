@@ -3,9 +3,12 @@
 //! A region gets an entry where what it inherits isn't in its set: of the old entry's hop where the set has it, else of the
 //! least hop. Entries are met in the order of prefixes.
 
-ghost use Rattle.std.specs.Prelude.{◌≡◌, ℕ, ◌-◌, ◌++◌, List, Bool, map, cond, nat_eq, Some, None, IfOk, OnOk};
+ghost use Rattle.std.specs.Prelude.{◌≡◌, ℕ, ◌-◌, ◌++◌, List, [], Bool, map, cond, nat_eq, Some, None, IfOk, OnOk};
+ghost use Rattle.std.specs.List.Sorted.{IsStrictlySortedBy};
+ghost use Rattle.std.specs.Map.{keys_of};
+ghost use Rattle.address_model.specs.Order.{prefix_cmp};
 ghost use Rattle.address_model.specs.Width.{width};
-ghost use Rattle.table_model.specs.Table.{Table, here};
+ghost use Rattle.table_model.specs.Table.{Table};
 ghost use Rattle.table_model.specs.Entries.{of_family, of_table};
 ghost use Rattle.least_model.specs.Regions.{lift};
 ghost use Rattle.least_model.specs.Sets.{agg};
@@ -16,13 +19,14 @@ ghost use Rattle.fib_addr.specs.Seen.{entry_as, prefix_as};
 ghost use Rattle.cert_rows.specs.Seen.{row_as};
 ghost use Rattle.ortc.specs.Stands.{Stands};
 ghost use Rattle.ortc.specs.Proved.{ProveLeast};
+ghost use Rattle.ortc.specs.Tables.{IsAggregateOf};
 
 use crate::hop_set::own_hop;
 use crate::region::{Region, below, region_of};
 use crate::rows::prove;
 use crate::table::Fresh;
-use fib_addr::{Entry, Hop, Prefix};
-use orig_tree::{Tree, push_entry};
+use fib_addr::{Entry, Hop, Prefix, push_entry};
+use orig_tree::Tree;
 use std::alloc::{AllocError, Global};
 
 /// The hop of a leaf's own entry, if it gets one.
@@ -67,8 +71,8 @@ pub fn descend(
 
 /// The least table of a prefix's region under a hop that is inherited from above: of the tables that, under it, give the
 /// region's addresses the answers of the tree's routes, the one that the best hops fix, with the tree's entries as the
-/// old table. It costs the prefix's length, and the nodes within the
-/// prefix with their sets of hops.
+/// old table, in the order of prefixes. It costs the prefix's length, and the nodes within the prefix with their sets of
+/// hops.
 ///
 /// # Errors
 ///
@@ -81,6 +85,8 @@ pub fn within(
 ) -> Result<Vec<Entry>, AllocError>
     requires { prefix.now.family ≡ tree.now.family }
     ensures aggregate { IfOk result (λ v. map entry_as v.items ≡ of_table tree.now.family (aggregate (width tree.now.family) (of_family tree.now.family tree.now.routes) (prefix_as prefix.now).bits inherited.0 (of_family tree.now.family tree.now.entries))) }
+    ensures best { IfOk result (λ v. IsAggregateOf tree.now (prefix_as prefix.now).bits inherited.0 (map entry_as v.items)) }
+    ensures order { IfOk result (λ v. IsStrictlySortedBy prefix_cmp (keys_of (map entry_as v.items))) }
     ensures least { IfOk result (λ v. LeastWithin (width tree.now.family) (of_family tree.now.family tree.now.routes) (prefix_as prefix.now).bits inherited.0 (of_family tree.now.family (map entry_as v.items))) }
 {
     let region = region_of(alloc, tree, prefix)?;
@@ -90,13 +96,16 @@ pub fn within(
 }
 
 /// The least table with the answers of the tree's routes: of all such tables the one that the best hops fix, with the
-/// tree's entries as the old table; and the rows that prove it least. It costs the tree's nodes, and their sets of hops.
+/// tree's entries as the old table, in the order of prefixes; and the rows that prove it least. It costs the tree's nodes,
+/// and their sets of hops.
 ///
 /// # Errors
 ///
 /// No memory.
 pub fn fresh(alloc: Global, tree: &Tree) -> Result<Fresh, AllocError>
     ensures aggregate { IfOk result (λ v. map entry_as v.table.items ≡ aggregate_in tree.now.family tree.now.routes tree.now.entries) }
+    ensures best { IfOk result (λ v. IsAggregateOf tree.now [] 0 (map entry_as v.table.items)) }
+    ensures order { IfOk result (λ v. IsStrictlySortedBy prefix_cmp (keys_of (map entry_as v.table.items))) }
     ensures least { IfOk result (λ v. Least (width tree.now.family) (of_family tree.now.family tree.now.routes) (of_family tree.now.family (map entry_as v.table.items))) }
     ensures proof { IfOk result (λ v. map row_as v.proof.items ≡ family_rows tree.now.family tree.now.routes) }
     ensures certificate { IfOk result (λ v. ProveLeast tree.now.family tree.now.routes (map entry_as v.table.items) (map row_as v.proof.items)) }

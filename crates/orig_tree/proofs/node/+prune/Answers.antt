@@ -9,8 +9,7 @@ prune-returns-clause-trimmed t c =
     let n = c.node.inside in
     let low = c.prune_behind-low in
     let high = c.prune_behind-high in
-    pruned n.route.hop n.entry.hop (behind n.low) (behind n.high) (behind low.new.link) (behind high.new.link) c.args.node.now low.result high.result
-    c.node.view_is low.ensures.trimmed high.ensures.trimmed low.ensures.labels low.ensures.none high.ensures.labels high.ensures.none
+    pruned n.route.hop n.entry.hop (behind n.low) (behind n.high) (behind low.new.link) (behind high.new.link) c.args.node.now c.node.view_is low.ensures.pruned high.ensures.pruned
 
 pub prune-returns-clause-labels : goal.prune-returns-clause-labels
 prune-returns-clause-labels t c = λ h.

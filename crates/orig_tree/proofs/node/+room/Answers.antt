@@ -1,7 +1,7 @@
 use Rattle.std.proofs.Common.{◌≡◌, true, false, sym, ap, ◌∙◌}
 use Rattle.orig_tree.specs.Walk.{has_node, behind}
 use Rattle.address_model.specs.Bits.{bits_of}
-use Rattle.orig_tree.proofs.Steps.{room_here, room_high, room_low, kept_high, kept_low}
+use Rattle.orig_tree.proofs.Steps.{room_here, room_high, room_low, kept_high, kept_low, made_high, made_low, made_new}
 use Rattle.orig_tree.proofs.node.+room.Goals as goal
 
 pub room-returns-then-left-eq0-clause-ok : goal.room-returns-then-left-eq0-clause-ok
@@ -24,3 +24,16 @@ room-returns-in_ok-room_behind-2-clause-kept t c = kept_low c.node.inside.route.
 
 pub room-returns-in_ok-room_behind-2-clause-ok : goal.room-returns-in_ok-room_behind-2-clause-ok
 room-returns-in_ok-room_behind-2-clause-ok t c = sym (room_low c.node.inside.route.hop c.node.inside.entry.hop (behind c.room_behind-else-bit_at.new.link) (behind c.node.inside.high) c.args.left c.args.q c.if-left-eq0.false c.if-bit_at.ensures) ∙ c.in_ok-room_behind-2.ensures.ok
+
+pub room-returns-in_ok-room_behind-clause-made : goal.room-returns-in_ok-room_behind-clause-made
+room-returns-in_ok-room_behind-clause-made t c =
+    let n = c.node.inside in
+    made_high n.route.hop n.entry.hop (behind n.low) (behind n.high) (behind c.room_behind.new.link) c.args.node.now c.args.left c.args.q c.if-left-eq0.false c.if-bit_at.ensures c.node.view_is c.in_ok-room_behind.ensures.made
+
+pub room-returns-in_ok-room_behind-2-clause-made : goal.room-returns-in_ok-room_behind-2-clause-made
+room-returns-in_ok-room_behind-2-clause-made t c =
+    let n = c.node.inside in
+    made_low n.route.hop n.entry.hop (behind n.low) (behind n.high) (behind c.room_behind-else-bit_at.new.link) c.args.node.now c.args.left c.args.q c.if-left-eq0.false c.if-bit_at.ensures c.node.view_is c.in_ok-room_behind-2.ensures.made
+
+pub room_behind-returns-in_ok-room-in-None-clause-made : goal.room_behind-returns-in_ok-room-in-None-clause-made
+room_behind-returns-in_ok-room-in-None-clause-made t c = made_new c.deref_mut-in-None.result.now (behind c.args.link.now) c.room-in-None.new.node (bits_of c.args.left c.args.q) (c.deref_mut-in-None.ensures.value ∙ (c.in_ok-node-in-None.ensures.ok ∙ c.leaf.ensures)) c.in_ok-room-in-None.ensures.made

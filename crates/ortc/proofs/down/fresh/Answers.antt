@@ -3,7 +3,7 @@ use Rattle.address_model.specs.Address.{Prefix}
 use Rattle.fib_addr.specs.Seen.{prefix_as, entry_as}
 use Rattle.table_model.specs.Entries.{of_family}
 use Rattle.cert_rows.specs.Seen.{row_as}
-use Rattle.ortc.proofs.Falling.{within_told, fresh_told, fresh_least}
+use Rattle.ortc.proofs.Falling.{within_told, fresh_told, fresh_least, fresh_best, fresh_sorted}
 use Rattle.ortc.proofs.Proving.{fresh_proved, certified}
 use Rattle.ortc.proofs.down.fresh.Goals as goal
 
@@ -23,6 +23,16 @@ returns-clause-least c =
     let R = of_family f c.args.tree.now.routes in
     let E = of_family f c.args.tree.now.entries in
     fresh_least f R E (map entry_as c.descend.new.out.items) (returns-clause-aggregate c)
+
+pub returns-clause-best : goal.returns-clause-best
+returns-clause-best c =
+    let f = c.args.tree.now.family in
+    fresh_best f (of_family f c.args.tree.now.routes) (of_family f c.args.tree.now.entries) (map entry_as c.descend.new.out.items) (returns-clause-aggregate c)
+
+pub returns-clause-order : goal.returns-clause-order
+returns-clause-order c =
+    let f = c.args.tree.now.family in
+    fresh_sorted f (of_family f c.args.tree.now.routes) (of_family f c.args.tree.now.entries) (map entry_as c.descend.new.out.items) (returns-clause-aggregate c)
 
 pub returns-clause-proof : goal.returns-clause-proof
 returns-clause-proof c =

@@ -1,7 +1,7 @@
 use Rattle.std.proofs.Common.{map, ap}
 use Rattle.fib_addr.specs.Seen.{entry_as}
 use Rattle.table_model.specs.Entries.{of_family}
-use Rattle.ortc.proofs.Falling.{within_told, within_least}
+use Rattle.ortc.proofs.Falling.{within_told, within_least, within_best, within_sorted}
 use Rattle.ortc.proofs.down.within.Goals as goal
 
 pub returns-clause-aggregate : goal.returns-clause-aggregate
@@ -14,4 +14,16 @@ pub returns-clause-least : goal.returns-clause-least
 returns-clause-least c =
     let tree = c.args.tree.now in
     within_least c.args.prefix.now tree.family c.args.inherited.0 (of_family tree.family tree.routes) (of_family tree.family tree.entries) (map entry_as c.descend.new.out.items)
+    c.requires (returns-clause-aggregate c)
+
+pub returns-clause-best : goal.returns-clause-best
+returns-clause-best c =
+    let tree = c.args.tree.now in
+    within_best c.args.prefix.now tree.family c.args.inherited.0 (of_family tree.family tree.routes) (of_family tree.family tree.entries) (map entry_as c.descend.new.out.items)
+    c.requires (returns-clause-aggregate c)
+
+pub returns-clause-order : goal.returns-clause-order
+returns-clause-order c =
+    let tree = c.args.tree.now in
+    within_sorted c.args.prefix.now tree.family c.args.inherited.0 (of_family tree.family tree.routes) (of_family tree.family tree.entries) (map entry_as c.descend.new.out.items)
     c.requires (returns-clause-aggregate c)
