@@ -2,3 +2,4 @@ pub mod Bits
 pub mod Width
 pub mod Address
 pub mod Order
+pub mod Derived

@@ -35,7 +35,7 @@ pub fn prefix_text_law()
 /// `cmp` of prefixes is their order: IPv4 before IPv6, then by the bits filled with zeros as a number, then the shorter
 /// first.
 pub fn order_law()
-    ensures prefixes { (p q : code_prefix.Prefix) → code_cmp p q ≡ prefix_cmp (prefix_as p) (prefix_as q) }
+    ensures { (p q : code_prefix.Prefix) → code_cmp p q ≡ prefix_cmp (prefix_as p) (prefix_as q) }
 {}
 
 /// A prefix gets one hop exactly where both its halves get it; it gets one hop at most, and none where two of its addresses
