@@ -3,6 +3,7 @@ use Rattle.std.proofs.Common.{◌≡◌, ℕ, ◌<◌, ◌≤◌, List, [], ◌�
 use Rattle.std.specs.List.{AllByRecursion}
 use Rattle.address_model.specs.Width.{width}
 use Rattle.address_model.specs.Address.{Address, Prefix}
+use Rattle.address_model.specs.Regions.{half_at}
 use Rattle.address_model.specs.declared.family.Family.{Family}
 use Rattle.address_model.specs.declared.family.Family.TheVariants.{V4, V6}
 use Rattle.table_model.specs.Table.{Alike}
@@ -11,7 +12,7 @@ use Rattle.least_model.specs.Sets.{joint, apart}
 use Rattle.least_model.specs.Least.{Least, set_at, k_at, bound}
 use Rattle.least_model.specs.Both.{LeastInBoth}
 use Rattle.least_model.proofs.Laws.{set_join, k_join, set_leaf, k_leaf, bound_law}
-use Rattle.cert_model.specs.Rows.{CertRow, leaf_row, join_row, bound_row, half_at, whole}
+use Rattle.cert_model.specs.Rows.{CertRow, leaf_row, join_row, bound_row, whole}
 use Rattle.cert_model.specs.Right.{IsRight, leaf, join, bound_by, Item, leaf_item, join_item, Reads, HaveBound, IsCertificate}
 use Rattle.cert_model.proofs.Regions.{get_bits}
 

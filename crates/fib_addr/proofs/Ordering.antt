@@ -1,5 +1,5 @@
 -- The code's order of prefixes is the model's.
-use Rattle.std.proofs.Common.{◌≡◌, length, take, refl, sym, ap, ◌∙◌, mod-eq_of_lt}
+use Rattle.std.proofs.Common.{◌≡◌, length, take, sym, ap, ◌∙◌, mod-eq_of_lt}
 use Rattle.std.specs.Ordering.{nat_cmp, ordering_then}
 use Rattle.address_model.specs.Bits.{bits_of, value_of}
 use Rattle.address_model.specs.Width.{width}
