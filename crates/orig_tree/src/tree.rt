@@ -155,6 +155,7 @@ impl Tree {
     /// ones.
     pub fn uniform_route(&self, prefix: &Prefix) -> Option<Hop>
         requires { prefix.now.family ≡ self.now.family }
+        ensures order { InPlace self.now.routes }
         ensures one { IfSome result (λ hop. AllGet self.now.routes (prefix_as prefix.now) hop.0) }
         ensures differ { IfNone result (TwoDiffer self.now.routes (prefix_as prefix.now)) }
     {
@@ -167,6 +168,7 @@ impl Tree {
     /// ones.
     pub fn uniform_entry(&self, prefix: &Prefix) -> Option<Hop>
         requires { prefix.now.family ≡ self.now.family }
+        ensures order { InPlace self.now.entries }
         ensures one { IfSome result (λ hop. AllGet self.now.entries (prefix_as prefix.now) hop.0) }
         ensures differ { IfNone result (TwoDiffer self.now.entries (prefix_as prefix.now)) }
     {
