@@ -1,3 +1,4 @@
 pub mod BitLaws
 pub mod Same
 pub mod Ordered
+pub mod Families

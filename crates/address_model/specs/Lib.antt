@@ -1,4 +1,6 @@
 pub mod Bits
 pub mod Width
 pub mod Address
+pub mod Regions
 pub mod Order
+pub mod Derived

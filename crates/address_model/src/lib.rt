@@ -1,10 +1,10 @@
 //! The model of addresses: what an address, a prefix and their order are, over lists of bits.
 //!
-//! The definitions stand in `specs/`; the code is the family, and a law of the order.
+//! The definitions stand in `specs/`; the code is the family, and the laws of the orders.
 #![tactic(auto)]
 
 mod family;
 mod laws;
 
 pub use family::Family;
-pub use laws::path_law;
+pub use laws::{family_order_law, path_law};

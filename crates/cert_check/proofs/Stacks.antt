@@ -9,10 +9,11 @@ use Rattle.address_model.specs.declared.family.Family.TheVariants.{V4, V6}
 use Rattle.address_model.proofs.Same.{same_prefix_is, same_family_is, same_family_itself}
 use denote.Enum.Bare.{sameb}
 use Rattle.address_model.specs.contracts.family.Family.{the_type}
+use Rattle.address_model.specs.Regions.{half_at}
 use Rattle.table_model.specs.Entries.{Entries, of_family}
 use Rattle.least_model.specs.Sets.{common, one_if_empty, apart}
 use Rattle.least_model.specs.Least.{bound}
-use Rattle.cert_model.specs.Rows.{CertRow, leaf_row, join_row, bound_row, half_at, whole}
+use Rattle.cert_model.specs.Rows.{CertRow, leaf_row, join_row, bound_row, whole}
 use Rattle.cert_model.specs.Right.{IsRight, leaf, join, bound_by, join_item, joint_k}
 use Rattle.cert_model.specs.Right.{Item as ModelItem}
 use Rattle.cert_model.specs.Verdict.{No, Shape, JoinWrong, are_halves, wrong_row}

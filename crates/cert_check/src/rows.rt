@@ -5,9 +5,10 @@
 
 ghost use Rattle.std.specs.Prelude.{◌≡◌, ◌+◌, ◌^◌, ◌<◌, ◌≤◌, ◌&&◌, IfOk, map, option_map, Some, None, [], ◌∷◌, false, true};
 ghost use Rattle.address_model.specs.Address.{same_prefix};
+ghost use Rattle.address_model.specs.Regions.{half_at};
 ghost use Rattle.address_model.specs.declared.family.Family.TheVariants.{V4, V6};
 ghost use Rattle.table_model.specs.Entries.{Entries};
-ghost use Rattle.cert_model.specs.Rows.{bound_row, half_at, whole};
+ghost use Rattle.cert_model.specs.Rows.{bound_row, whole};
 ghost use Rattle.cert_model.specs.Right.{bound_by};
 ghost use Rattle.cert_model.specs.Verdict.{wrong_row};
 ghost use Rattle.fib_addr.specs.Seen.{prefix_as};

@@ -4,6 +4,7 @@ use Rattle.std.specs.List.{IsDistinct}
 use Rattle.std.specs.Map.{keys_of}
 use Rattle.address_model.specs.Width.{width}
 use Rattle.address_model.specs.Address.{Prefix, IsPrefix, same_prefix}
+use Rattle.address_model.specs.Regions.{half_at}
 use Rattle.address_model.specs.declared.family.Family.{Family}
 use Rattle.address_model.specs.declared.family.Family.TheVariants.{V4, V6}
 use Rattle.table_model.specs.Table.{lpm}
@@ -13,7 +14,7 @@ use Rattle.least_model.specs.Least.{Least, set_at, k_at, bound}
 use Rattle.least_model.specs.Both.{LeastInBoth}
 use Rattle.least_model.proofs.Laws.{set_join, k_join, set_leaf, k_leaf, fresh_law}
 use Rattle.least_model.proofs.Cost.{k_alike}
-use Rattle.cert_model.specs.Rows.{CertRow, leaf_row, join_row, bound_row, half_at, whole, one_answer, leaf_or, region_rows, certificate_of}
+use Rattle.cert_model.specs.Rows.{CertRow, leaf_row, join_row, bound_row, whole, one_answer, leaf_or, region_rows, certificate_of}
 use Rattle.cert_model.specs.Right.{Item, leaf_item, join_item, Reads, HaveBound, IsCertificate}
 use Rattle.cert_model.proofs.Regions.{get_all}
 use Rattle.cert_model.proofs.Answers.{one_answer_is}

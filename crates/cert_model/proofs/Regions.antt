@@ -7,7 +7,7 @@ use Rattle.address_model.specs.Address.{Address, Prefix, IsAddress, same_family}
 use Rattle.address_model.proofs.Same.{same_family_is, same_family_itself}
 use Rattle.table_model.specs.Table.{lpm}
 use Rattle.table_model.specs.Entries.{Entries, of_family, match_in}
-use Rattle.cert_model.specs.Right.{AllGet}
+use Rattle.table_model.specs.Uniform.{AllGet}
 
 begins_front : (p q : List Bool) → begins p (p ++ q) ≡ true
 begins_front [] q = refl

@@ -12,11 +12,12 @@ use Rattle.address_model.specs.declared.family.Family.{Family}
 use Rattle.address_model.specs.declared.family.Family.TheVariants.{V4, V6}
 use Rattle.table_model.specs.Table.{Entry, Table, longer, longest, hop_or, containing, lpm}
 use Rattle.table_model.specs.Entries.{Entries, of_family, match_in}
+use Rattle.table_model.specs.Uniform.{AllGet}
 use Rattle.least_model.specs.Least.{candidates}
 use Rattle.least_model.proofs.Laws.{lpm_candidate}
 use Rattle.least_model.specs.Sets.{is_in, common, or_else, joint, one_if_empty, apart}
 use Rattle.cert_model.specs.Rows.{CertRow, leaf_row, join_row, bound_row, whole}
-use Rattle.cert_model.specs.Right.{AllGet, Item, leaf_item, join_item, joint_k, Reads, HaveBound, IsCertificate}
+use Rattle.cert_model.specs.Right.{Item, leaf_item, join_item, joint_k, Reads, HaveBound, IsCertificate}
 use Rattle.cert_model.specs.Renamed.{renamed, renamed_row, renamed_rows, hops_of_entries, KeepsApart}
 use Rattle.cert_model.proofs.Regions.{get_bits}
 

@@ -1,8 +1,9 @@
 -- Right rows have the sets and the k of their regions, so their bound is the least.
-use Rattle.std.proofs.Common.{◌≡◌, ℕ, ◌<◌, ◌≤◌, List, [], ◌∷◌, ◌++◌, Bool, true, false, length, sym, ap, ◌∙◌, arith, subst, length-append}
+use Rattle.std.proofs.Common.{◌≡◌, ℕ, ◌≤◌, List, [], ◌∷◌, true, false, length, sym, ap, ◌∙◌, arith, subst}
 use Rattle.std.specs.List.{AllByRecursion}
 use Rattle.address_model.specs.Width.{width}
 use Rattle.address_model.specs.Address.{Address, Prefix}
+use Rattle.address_model.specs.Regions.{half_at}
 use Rattle.address_model.specs.declared.family.Family.{Family}
 use Rattle.address_model.specs.declared.family.Family.TheVariants.{V4, V6}
 use Rattle.table_model.specs.Table.{Alike}
@@ -11,12 +12,9 @@ use Rattle.least_model.specs.Sets.{joint, apart}
 use Rattle.least_model.specs.Least.{Least, set_at, k_at, bound}
 use Rattle.least_model.specs.Both.{LeastInBoth}
 use Rattle.least_model.proofs.Laws.{set_join, k_join, set_leaf, k_leaf, bound_law}
-use Rattle.cert_model.specs.Rows.{CertRow, leaf_row, join_row, bound_row, half_at, whole}
+use Rattle.cert_model.specs.Rows.{CertRow, leaf_row, join_row, bound_row, whole}
 use Rattle.cert_model.specs.Right.{IsRight, leaf, join, bound_by, Item, leaf_item, join_item, Reads, HaveBound, IsCertificate}
 use Rattle.cert_model.proofs.Regions.{get_bits}
-
-one_more : (p : Prefix) (b : Bool) → length p.bits < width p.family → length (p.bits ++ (b ∷ [])) ≤ width p.family
-one_more p b s = omega (arith, length-append p.bits (b ∷ []))
 
 abbrev set_in : Entries → Prefix → List ℕ
 set_in R p = set_at (width p.family) (of_family p.family R) p.bits

@@ -2,6 +2,7 @@
 use Rattle.std.specs.Prelude.{ℕ, zero, suc, List, [], ◌∷◌, ◌++◌, Bool, true, false, cond, Option, Some, None, nat_eq}
 use Rattle.address_model.specs.Width.{width}
 use Rattle.address_model.specs.Address.{Prefix}
+use Rattle.address_model.specs.Regions.{half_at}
 use Rattle.address_model.specs.declared.family.Family.{Family}
 use Rattle.address_model.specs.declared.family.Family.TheVariants.{V4, V6}
 use Rattle.table_model.specs.Entries.{Entries, of_family}
@@ -14,10 +15,6 @@ pub data CertRow : Type 0 where
   leaf_row : Prefix → ℕ → CertRow
   join_row : Prefix → ℕ → CertRow
   bound_row : Family → ℕ → CertRow
-
--- the half of the prefix's region whose addresses have this bit next
-abbrev pub half_at : Bool → Prefix → Prefix
-half_at b p = record { family = p.family; bits = p.bits ++ b ∷ [] }
 
 -- the prefix of all addresses of the family
 abbrev pub whole : Family → Prefix

@@ -10,12 +10,13 @@ use Rattle.address_model.specs.Bits.{value_of}
 use Rattle.address_model.specs.Width.{width}
 use Rattle.address_model.specs.Address.{Address, Prefix, IsAddress, IsPrefix, same_family, same_prefix}
 use Rattle.address_model.specs.Order.{family_cmp}
+use Rattle.address_model.specs.Regions.{half_at}
 use Rattle.address_model.specs.declared.family.Family.{Family}
 use Rattle.address_model.specs.declared.family.Family.TheVariants.{V4, V6}
 use Rattle.table_model.specs.Entries.{Entries, of_family, match_in}
 use Rattle.least_model.specs.Sets.{side, answers}
 use Rattle.least_model.specs.Least.{bound}
-use Rattle.cert_model.specs.Rows.{CertRow, leaf_row, join_row, bound_row, half_at, whole, one_answer}
+use Rattle.cert_model.specs.Rows.{CertRow, leaf_row, join_row, bound_row, whole, one_answer}
 use Rattle.cert_model.specs.Right.{Item, leaf_item, join_item, joint_k, bound_by}
 
 -- What is wrong. `Twice`: the prefix stands twice in the routes or in the table. `NotSame`: the address gets the first hop

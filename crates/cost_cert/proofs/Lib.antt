@@ -1,4 +1,3 @@
-pub mod Numbers
 pub mod Commas
 pub mod Taking
 pub mod Lines

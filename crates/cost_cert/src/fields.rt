@@ -1,36 +1,21 @@
 //! The fields of a line: each is a slice of the line, and none takes memory.
 
-ghost use Rattle.std.specs.Prelude.{◌≡◌, ◌^◌, bytes_eq, option_map};
+ghost use Rattle.std.specs.Prelude.{◌≡◌, bytes_eq, option_map};
 ghost use Rattle.octet_fields.specs.Gives.{Gives};
 ghost use Rattle.fib_addr.specs.Seen.{addr_as, prefix_as};
-ghost use Rattle.fib_addr.specs.Text.{number_in};
 ghost use Rattle.printed_model.specs.Reading.{address_field, count_field, family_field, hop_field, next_field, number_field, one_field, prefix_field, two_fields};
 ghost use Rattle.cost_cert.specs.Printed.{count_as};
 
 use crate::printed_row::Count;
 use crate::why;
 use bstr::Split;
-use fib_addr::{Addr, Family, Prefix, read_addr, read_prefix};
-use itoa::Buffer;
-use std::str;
+use fib_addr::{Addr, Family, Prefix, read_addr, read_number, read_prefix};
 
-/// Reads a number: plain decimal below 2^64, without a sign or leading zeros.
-fn read_number(text: &[u8]) -> Option<u64>
-    ensures { result ≡ number_in (2 ^ 64) text.now }
-{
-    let number = str::from_utf8(text).ok()?.parse::<u64>().ok()?;
-    let mut digits = Buffer::new();
-    if digits.format(number).as_bytes() != text {
-        return None;
-    }
-    Some(number)
-}
-
-/// A number.
+/// A number below 2^64.
 pub(crate) fn number_field(text: &[u8]) -> Result<u64, u8>
     ensures { Gives (λ n. n) result (number_field text.now) }
 {
-    read_number(text).ok_or(why::NUMBER)
+    read_number(text, u64::MAX).ok_or(why::NUMBER)
 }
 
 /// An address.

@@ -1,24 +1,23 @@
 -- The numbers of next hops after elementary events.
-use Rattle.std.proofs.Common.{◌≡◌, ℕ, suc, ◌+◌, ◌<◌, ◌≤◌, List, [], ◌∷◌, ◌++◌, Bool, true, false, cond, not, Option, Some, None, length, refl, sym, ap, subst, ◌∙◌, arith, zero-add, length-append}
-use Rattle.std.specs.Prelude.{◌||◌, nat_lt, option_map, unwrap_or, map, flat_map, fold, if◌then◌else◌}
+use Rattle.std.proofs.Common.{◌≡◌, ℕ, suc, ◌+◌, ◌≤◌, List, [], ◌∷◌, ◌++◌, Bool, true, false, cond, Option, Some, None, length, refl, sym, ap, subst, ◌∙◌, arith, zero-add, length-append}
+use Rattle.std.specs.Prelude.{nat_lt, option_map, unwrap_or, map, flat_map, fold, if◌then◌else◌}
 use Rattle.std.specs.Option.{option_or}
-use Rattle.std.specs.List.{AllByRecursion, list_any, position_or_len, filter}
+use Rattle.std.specs.List.{AllByRecursion, IsDistinct, list_any, filter}
 use Rattle.std.specs.Map.{lookup, remove_entry}
 use Rattle.std.specs.BTreeMap.{insert_entry}
 use Rattle.std.specs.Ordering.{match_ordering}
 use Rattle.std.specs.declared.cmp.Ordering.{Ordering}
 use Rattle.std.specs.declared.cmp.Ordering.TheVariants.{Less, Equal, Greater}
-use Rattle.std.proofs.lemmas.Bool.{ltb-true, ltb-false, lt-ltb, ne_eqb, cond-false}
+use Rattle.std.proofs.lemmas.Bool.{ltb-false}
 use Rattle.std.proofs.lemmas.Grind.{flat_map-append}
 use Rattle.std.proofs.lemmas.List.Sums.{fold-append}
-use Rattle.std.proofs.lemmas.List.Folds.{list_any-append, position_or_len_push}
 use Rattle.address_model.specs.Address.{Address, Prefix, same_address, same_prefix}
-use Rattle.address_model.proofs.Same.{same_address_itself}
 use Rattle.table_model.specs.Changes.{Add, Replace}
 use Rattle.route_model.specs.Events.{Elem, Put, Cut, prefix_of}
 use Rattle.route_model.specs.Choice.{Place, Offer, Candidates, same_place, place_cmp, after_elem, after_elems, is_chosen, chosen_in, routes_of, chosen_for}
-use Rattle.fib_addr.specs.Hops.{number_of, with_hop}
-use Rattle.feed_model.specs.Feed.{brought, hops_after, most_hops, full_at, number_in, entries_of, change_of, change_by, IsNumbered, AreNumbered}
+use Rattle.fib_addr.specs.Hops.{most_hops, number_of, hop_at, with_hop}
+use Rattle.fib_addr.proofs.HopLists.{brought_number, folded_distinct, folded_stays, none_distinct, number_holds, number_range}
+use Rattle.feed_model.specs.Feed.{brought, hops_after, full_at, number_in, entries_of, change_of, change_by, route_by, routes_in, IsNumbered, AreNumbered}
 use Rattle.feed_model.proofs.Tables.{numbered}
 
 -- ---- hops one after another
@@ -38,44 +37,6 @@ one_more_at_most hops (Put peer prefix path hop) = by_test (list_any (same_addre
     by_test false = (omega (arith, length-append hops (hop ∷ [])), omega (arith, length-append hops (hop ∷ [])))
 
 -- ---- numbers stay
-
--- the number that a place gives
-abbrev placed : ℕ → ℕ → Option ℕ
-placed place len = option_map (λ n. n + 1) (cond (nat_lt place len) (Some place) None)
-
-within : (place len n : ℕ) → placed place len ≡ Some n → (place < len) × (n ≡ place + 1)
-within place len n e = by_test (nat_lt place len) refl e
-  where
-    by_test : (b : Bool) → nat_lt place len ≡ b → option_map (λ n. n + 1) (cond b (Some place) None) ≡ Some n → (place < len) × (n ≡ place + 1)
-    by_test true t x = (ltb-true place len t, cc)
-    by_test false t x = absurd cc
-
-is_placed : (place len : ℕ) → place < len → placed place len ≡ Some (place + 1)
-is_placed place len l = ap (λ b. option_map (λ n. n + 1) (cond b (Some place) None)) (lt-ltb place len l)
-
-number_stays : (hops : List Address) (a b : Address) (n : ℕ) → number_of hops a ≡ Some n → number_of (with_hop hops b) a ≡ Some n
-number_stays hops a b n e = by_test (list_any (same_address b) hops)
-  where
-    place : ℕ
-    place = position_or_len (same_address a) hops
-
-    here : (place < length hops) × (n ≡ place + 1)
-    here = within place (length hops) n e
-
-    same : position_or_len (same_address a) (hops ++ b ∷ []) ≡ place
-    same =
-        let apart : place ≡ length hops → ⊥ = λ i. let l : place < length hops = here.0 in omega (arith, i, l) in
-        position_or_len_push (same_address a) hops b ∙ cond-false _ _ _ (ne_eqb place (length hops) apart)
-
-    by_test : (t : Bool) → number_of (cond t hops (hops ++ b ∷ [])) a ≡ Some n
-    by_test true = e
-    by_test false =
-        ap (λ i. placed i (length (hops ++ b ∷ []))) same
-        ∙ (is_placed place (length (hops ++ b ∷ [])) (omega (arith, here.0, length-append hops (b ∷ []))) ∙ ap Some (sym here.1))
-
-folded_stays : (hops more : List Address) (a : Address) (n : ℕ) → number_of hops a ≡ Some n → number_of (fold with_hop hops more) a ≡ Some n
-folded_stays hops [] a n e = e
-folded_stays hops (b ∷ more) a n e = folded_stays (with_hop hops b) more a n (number_stays hops a b n e)
 
 pub stays : (hops : List Address) (elems : List Elem) (a : Address) (n : ℕ) → number_of hops a ≡ Some n → number_of (hops_after hops elems) a ≡ Some n
 stays hops elems a n e = folded_stays hops (flat_map brought elems) a n e
@@ -139,34 +100,13 @@ full_behind hops xs ys e = full_more hops xs ys ∙ ap (λ o. option_or o (behin
 -- ---- the hops of candidates have numbers
 
 numbered_by : (hops : List Address) (a : Address) (n : ℕ) → number_of hops a ≡ Some n → IsNumbered hops a
-numbered_by hops a n e =
-    let w = within (position_or_len (same_address a) hops) (length hops) n e in
-    (n, e, omega (arith, w.1), omega (arith, w.0, w.1))
+numbered_by hops a n e = let r = number_range hops a n e in (n, e, r.0, r.1)
 
 still_numbered : (hops : List Address) (elems : List Elem) (a : Address) → IsNumbered hops a → IsNumbered (hops_after hops elems) a
 still_numbered hops elems a x = numbered_by (hops_after hops elems) a x.0 (stays hops elems a x.0 x.1)
 
-passes_within : {X : Type 0} (p : X → Bool) (xs : List X) → list_any p xs ≡ true → position_or_len p xs < length xs
-passes_within p [] h = absurd cc
-passes_within p (x ∷ xs) h = by_test (p x) h (passes_within p xs)
-  where
-    by_test : (b : Bool) → (b || list_any p xs) ≡ true → (list_any p xs ≡ true → position_or_len p xs < length xs) → cond (not b) (1 + position_or_len p xs) 0 < suc (length xs)
-    by_test true g ih = omega arith
-    by_test false g ih = omega (arith, ih g)
-
-held_numbered : (hops : List Address) (a : Address) → list_any (same_address a) hops ≡ true → IsNumbered hops a
-held_numbered hops a h = numbered_by hops a (position_or_len (same_address a) hops + 1) (is_placed _ _ (passes_within (same_address a) hops h))
-
-brought_numbered : (hops : List Address) (a : Address) → IsNumbered (with_hop hops a) a
-brought_numbered hops a = by_test (list_any (same_address a) hops) refl
-  where
-    last : (b : Bool) → (b || (same_address a a || false)) ≡ true
-    last true = refl
-    last false = ap (λ b. b || false) (same_address_itself a)
-
-    by_test : (b : Bool) → list_any (same_address a) hops ≡ b → IsNumbered (cond b hops (hops ++ a ∷ [])) a
-    by_test true t = held_numbered hops a t
-    by_test false t = held_numbered (hops ++ a ∷ []) a (list_any-append (same_address a) hops (a ∷ []) ∙ last (list_any (same_address a) hops))
+brought_is : (hops : List Address) (a : Address) → IsNumbered (with_hop hops a) a
+brought_is hops a = let x = brought_number hops a in numbered_by (with_hop hops a) a x.0 x.1
 
 -- what all values of entries meet
 abbrev AllValues : {K X : Type 0} → (X → Type 0) → List (K × X) → Type 0
@@ -211,7 +151,7 @@ numbered_after hops held (Put peer prefix path hop ∷ elems) a =
     let offer : Offer = record { path = path; hop = hop } in
     let elem = Put peer prefix path hop in
     let old = more_numbered hops (elem ∷ []) held a in
-    numbered_after (with_hop hops hop) (after_elem held elem) elems (values_put place_cmp (λ (x : Offer). IsNumbered (with_hop hops hop) x.hop) held at offer old (brought_numbered hops hop))
+    numbered_after (with_hop hops hop) (after_elem held elem) elems (values_put place_cmp (λ (x : Offer). IsNumbered (with_hop hops hop) x.hop) held at offer old (brought_is hops hop))
 numbered_after hops held (Cut peer prefix ∷ elems) a =
     let at : Place = record { prefix = prefix; peer = peer } in
     numbered_after hops (after_elem held (Cut peer prefix)) elems (values_cut (same_place at) (λ (x : Offer). IsNumbered hops x.hop) held a)
@@ -264,3 +204,27 @@ change_stays hops held elem elems a = by_choice (chosen_for held p) (chosen_for 
     by_choice None (Some hop) e = ap (λ n. Add p n ∷ []) (same hop e)
     by_choice (Some was) None e = refl
     by_choice (Some was) (Some hop) e = ap (λ n. if same_address was hop then [] else Replace p n ∷ []) (same hop e)
+
+-- ---- the entries read back
+
+pub hops_distinct : (elems : List Elem) → IsDistinct same_address (hops_after [] elems)
+hops_distinct elems = folded_distinct [] (flat_map brought elems) none_distinct
+
+each_has : (hops : List Address) (routes : List (Prefix × Address)) → AllByRecursion (λ (r : Prefix × Address). IsNumbered hops r.1) routes → AllByRecursion (λ (e : Prefix × ℕ). (1 ≤ e.1) × (e.1 ≤ length hops)) (numbered hops routes)
+each_has hops [] a = tt
+each_has hops (r ∷ routes) a = (by_number a.0, each_has hops routes a.1)
+  where
+    by_number : IsNumbered hops r.1 → (1 ≤ number_in hops r.1) × (number_in hops r.1 ≤ length hops)
+    by_number (n, e, l, m) = rw (ap (λ (o : Option ℕ). unwrap_or o 0) e) (l, m)
+
+pub entries_have : (elems : List Elem) → AllByRecursion (λ (e : Prefix × ℕ). (1 ≤ e.1) × (e.1 ≤ length (hops_after [] elems))) (entries_of (hops_after [] elems) (after_elems [] elems))
+entries_have elems = each_has (hops_after [] elems) (routes_of (after_elems [] elems)) (routes_numbered elems)
+
+each_back : (hops : List Address) (routes : List (Prefix × Address)) → AllByRecursion (λ (r : Prefix × Address). IsNumbered hops r.1) routes → routes_in hops (numbered hops routes) ≡ routes
+each_back hops [] a = refl
+each_back hops (r ∷ routes) a =
+    let back : hop_at hops (number_in hops r.1) ≡ Some r.1 = ap (λ o. hop_at hops (unwrap_or o 0)) a.0.1 ∙ number_holds hops r.1 a.0.0 a.0.1 in
+    ap (λ o. route_by r.0 o ++ routes_in hops (numbered hops routes)) back ∙ ap (λ rs. (r.0, r.1) ∷ rs) (each_back hops routes a.1)
+
+pub entries_back : (elems : List Elem) → routes_in (hops_after [] elems) (entries_of (hops_after [] elems) (after_elems [] elems)) ≡ routes_of (after_elems [] elems)
+entries_back elems = each_back (hops_after [] elems) (routes_of (after_elems [] elems)) (routes_numbered elems)

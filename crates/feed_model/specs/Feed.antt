@@ -6,7 +6,7 @@ use Rattle.table_model.specs.Entries.{Entries}
 use Rattle.table_model.specs.Changes.{Change, Add, Replace, Remove, additions}
 use Rattle.route_model.specs.Events.{Elem, Put, Cut, prefix_of}
 use Rattle.route_model.specs.Choice.{Candidates, after_elem, chosen_for, routes_of}
-use Rattle.fib_addr.specs.Hops.{number_of, with_hop}
+use Rattle.fib_addr.specs.Hops.{hop_at, most_hops, number_of, with_hop}
 
 -- ---- the numbers of next hops
 
@@ -18,10 +18,6 @@ brought (Cut peer prefix) = []
 -- the hops that have numbers after elementary events: the different ones in the order in which they were first brought
 abbrev pub hops_after : List Address → List Elem → List Address
 hops_after hops elems = fold with_hop hops (flat_map brought elems)
-
--- the most hops that may have numbers
-abbrev pub most_hops : ℕ
-most_hops = 65534
 
 -- the hop has one of the numbers
 abbrev pub IsNumbered : List Address → Address → Type 0
@@ -41,6 +37,15 @@ number_in hops hop = unwrap_or (number_of hops hop) 0
 -- the routes as a table's entries
 abbrev pub entries_of : List Address → Candidates → Entries
 entries_of hops held = map (λ r. (r.0, number_in hops r.1)) (routes_of held)
+
+-- the route at a prefix, where it has a hop
+abbrev pub route_by : Prefix → Option Address → List (Prefix × Address)
+route_by p None = []
+route_by p (Some hop) = (p, hop) ∷ []
+
+-- the routes that entries stand for, with the hops of their numbers
+abbrev pub routes_in : List Address → Entries → List (Prefix × Address)
+routes_in hops L = flat_map (λ e. route_by e.0 (hop_at hops e.1)) L
 
 -- the hops of all routes have numbers
 abbrev pub AreNumbered : List Address → Candidates → Type 0

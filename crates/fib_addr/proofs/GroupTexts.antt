@@ -60,9 +60,6 @@ group_is text s e = by_test (nat_le 1 (length text) && nat_le (length text) 4 &&
 no_colon : (c : ℕ) → digit_value c < 16 → is_colon c ≡ false
 no_colon c h = ne_eqb c 58 (λ e. absurd (omega (arith, ap digit_value e)))
 
-no_dot : (c : ℕ) → digit_value c < 16 → is_dot c ≡ false
-no_dot c h = ne_eqb c 46 (λ e. absurd (omega (arith, ap digit_value e)))
-
 digits_no_colon : (cs : List ℕ) → AllDigits 16 cs → AllByRecursion (λ b. is_colon b ≡ false) cs
 digits_no_colon [] h = tt
 digits_no_colon (c ∷ cs) h = (no_colon c h.0, digits_no_colon cs h.1)

@@ -1,10 +1,10 @@
 -- Hops in a set, and as the list that contracts see.
-use Rattle.std.proofs.Common.{◌≡◌, ℕ, zero, suc, ◌+◌, ◌^◌, ◌<◌, ◌≤◌, List, [], ◌∷◌, ◌++◌, Bool, true, false, cond, not, Some, None, length, nat_eq, refl, sym, ap, ◌∙◌, arith, map}
+use Rattle.std.proofs.Common.{◌≡◌, ℕ, zero, suc, ◌+◌, ◌^◌, ◌<◌, ◌≤◌, List, [], ◌∷◌, ◌++◌, Bool, true, false, cond, not, Option, Some, None, length, nat_eq, refl, sym, ap, ◌∙◌, arith, map}
 use Rattle.std.specs.Prelude.{◌&&◌, ◌||◌, nat_lt, option_map, position, slice_get, ◌-◌}
 use Rattle.std.proofs.Common.{inl, inr, zero-add, length-append}
 use Rattle.std.proofs.lemmas.List.{map_push}
 use Rattle.std.proofs.lemmas.Option.{slice_get-map}
-use Rattle.std.specs.List.{list_any, position_or_len}
+use Rattle.std.specs.List.{IsDistinct, list_any, position_or_len}
 use Rattle.std.proofs.lemmas.Bool.{lt-ltb, le-ltb, cases_lt, cond-true, cond-false}
 use Rattle.address_model.specs.Bits.{bits_of, same_bits}
 use Rattle.address_model.specs.Width.{width}
@@ -14,12 +14,13 @@ use Rattle.address_model.specs.declared.family.Family.TheVariants.{V4, V6}
 use Rattle.address_model.specs.contracts.family.Family.{the_type}
 use Rattle.address_model.proofs.Same.{same_address_itself}
 use Rattle.std.proofs.Common.{Result, Ok, Err}
-use Rattle.std.specs.Prelude.{IfOk}
+use Rattle.std.specs.Prelude.{◌↔◌, IfOk, IfSome, IsErr, IsSome, if◌then◌else◌}
 use Rattle.fib_addr.specs.declared.addr.Addr.{Addr}
 use Rattle.fib_addr.specs.declared.entry.Hop.{Hop}
 use Rattle.fib_addr.specs.Seen.{addr_as}
-use Rattle.fib_addr.specs.Hops.{number_of, hop_at, with_hop}
+use Rattle.fib_addr.specs.Hops.{most_hops, number_of, hop_at, with_hop}
 use Rattle.fib_addr.proofs.Parts.{same_bits-nat_eq}
+use Rattle.fib_addr.proofs.HopLists.{number_from, number_holds, number_there, number_within, none_distinct, with_hop_distinct}
 use denote.Enum.Bare.{sameb}
 
 -- the derived test of addresses is the test of what they stand for
@@ -123,6 +124,59 @@ pub added_number : (a : Addr) (keys after : List Addr) (hops : List Address) (n 
     → number_of (map addr_as after) (addr_as a) ≡ Some n
 added_number a keys after hops n e v same none =
     ap (λ xs. number_of xs (addr_as a)) (inserted_as a keys after e ∙ ap (λ xs. with_hop xs (addr_as a)) v) ∙ (new_number hops (addr_as a) none ∙ ap Some (sym same))
+
+-- the hop of the number that is told
+pub told_holds : {E : Type 0} (hops : List Address) (a : Address) (r : Result Hop E) → IfOk r (λ hop. number_of hops a ≡ Some hop.0) → IfOk r (λ hop. hop_at hops hop.0 ≡ Some a)
+told_holds hops a (Ok hop) h = number_holds hops a hop.0 h
+told_holds hops a (Err e) h = h
+
+-- the hop of a number, as the code's address
+
+pub none_seen : (keys : List Addr) → length keys ≡ 0 → (length keys ≤ most_hops) × IsDistinct same_address (map addr_as keys)
+none_seen [] e = (omega arith, none_distinct)
+none_seen (k ∷ keys) e = absurd (omega arith)
+
+-- a new hop is numbered only where there is a number left
+pub added_few : {E : Type 0} (keys : List Addr) (hops : List Address) (m : ℕ) (new : Bool) (r : Result Hop E) (hop : Hop) → m ≡ length keys + (if new then 1 else 0) → length keys ≤ most_hops → map addr_as keys ≡ hops
+    → r ≡ Ok hop → (length hops ≡ most_hops → IsErr r) → m ≤ most_hops
+added_few keys hops m new r hop e l v o f = by_new new e
+  where
+    seen : length keys ≡ length hops
+    seen = sym (length-map-addr keys) ∙ ap length v
+
+    room : length keys ≡ most_hops → ⊥
+    room full = let s : IsErr r = f (sym seen ∙ full) in absurd cc
+
+    by_new : (b : Bool) → m ≡ length keys + (if b then 1 else 0) → m ≤ most_hops
+    by_new false x = omega (arith, x, l)
+    by_new true x = let apart = room in omega (arith, x, l, apart)
+
+pub added_distinct : (a : Addr) (keys after : List Addr) → after ≡ cond (list_any (same_code a) keys) keys (keys ++ a ∷ []) → IsDistinct same_address (map addr_as keys) → IsDistinct same_address (map addr_as after)
+added_distinct a keys after e d = rw (inserted_as a keys after e) (with_hop_distinct (map addr_as keys) (addr_as a) d)
+
+pub distinct_seen : (keys : List Addr) (hops : List Address) → map addr_as keys ≡ hops → IsDistinct same_address (map addr_as keys) → IsDistinct same_address hops
+distinct_seen keys hops v d = rw (sym v) d
+
+pub seen_held : (hops : List Address) (n : ℕ) (o : Option Addr) → option_map addr_as o ≡ hop_at hops n → IsSome o ↔ (1 ≤ n) × (n ≤ length hops)
+seen_held hops n o e = (λ h. number_within hops n (by_hop o (hop_at hops n) e h), λ r. back o (hop_at hops n) e (number_there hops n r.0 r.1))
+  where
+    by_hop : (o : Option Addr) (h : Option Address) → option_map addr_as o ≡ h → IsSome o → IsSome h
+    by_hop None h e s = absurd cc
+    by_hop (Some a) None e s = absurd cc
+    by_hop (Some a) (Some b) e s = refl
+
+    back : (o : Option Addr) (h : Option Address) → option_map addr_as o ≡ h → IsSome h → IsSome o
+    back None None e s = s
+    back None (Some b) e s = absurd cc
+    back (Some a) h e s = refl
+
+pub seen_number : (hops : List Address) (n : ℕ) (o : Option Addr) → IsDistinct same_address hops → option_map addr_as o ≡ hop_at hops n → IfSome o (λ a. number_of hops (addr_as a) ≡ Some n)
+seen_number hops n None d e = tt
+seen_number hops n (Some a) d e = number_from hops (addr_as a) n d (sym e)
+
+pub found_holds : (hops : List Address) (a : Address) (o : Option Hop) → option_map (λ hop. hop.0) o ≡ number_of hops a → IfSome o (λ hop. hop_at hops hop.0 ≡ Some a)
+found_holds hops a None e = tt
+found_holds hops a (Some hop) e = number_holds hops a hop.0 (sym e)
 
 -- the hop at a place
 pub hop_placed : (keys : List Addr) (hops : List Address) (n place : ℕ) → 1 ≤ n → place ≡ n - 1 → map addr_as keys ≡ hops → option_map addr_as (slice_get keys place) ≡ hop_at hops n

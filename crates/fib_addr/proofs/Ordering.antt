@@ -1,13 +1,11 @@
 -- The code's order of prefixes is the model's.
-use Rattle.std.proofs.Common.{◌≡◌, length, take, refl, sym, ap, ◌∙◌, mod-eq_of_lt}
+use Rattle.std.proofs.Common.{◌≡◌, length, take, sym, ap, ◌∙◌, mod-eq_of_lt}
 use Rattle.std.specs.Ordering.{nat_cmp, ordering_then}
 use Rattle.address_model.specs.Bits.{bits_of, value_of}
 use Rattle.address_model.specs.Width.{width}
 use Rattle.address_model.specs.Order.{family_cmp, filled, prefix_cmp}
-use Rattle.address_model.specs.contracts.family.FamilyOrd.TheImpl as family_ord
-use Rattle.address_model.specs.declared.family.Family.{Family}
-use Rattle.address_model.specs.declared.family.Family.TheVariants.{V4, V6}
 use Rattle.address_model.proofs.BitLaws.{value-bits_of}
+use Rattle.address_model.proofs.Families.{family_order}
 use Rattle.fib_addr.specs.declared.prefix.Prefix.{Prefix}
 use Rattle.fib_addr.specs.Seen.{prefix_as}
 use Rattle.fib_addr.specs.Order.{code_cmp}
@@ -16,15 +14,9 @@ use Rattle.fib_addr.proofs.Parts.{bits_filled, length_prefix}
 filled_is : (p : Prefix) → filled (prefix_as p) ≡ p.bits
 filled_is p = ap value_of (sym (bits_filled (width p.family) p.len p.bits p.fits p.cleared)) ∙ (value-bits_of (width p.family) p.bits ∙ mod-eq_of_lt p.below)
 
-pub family_is : (f g : Family) → (family_ord.ghosts).cmp f g ≡ family_cmp f g
-family_is V4 V4 = refl
-family_is V4 V6 = refl
-family_is V6 V4 = refl
-family_is V6 V6 = refl
-
 pub cmp_is : (p q : Prefix) → code_cmp p q ≡ prefix_cmp (prefix_as p) (prefix_as q)
 cmp_is p q =
-    ap (λ o. ordering_then o (ordering_then (nat_cmp p.bits q.bits) (nat_cmp p.len q.len))) (family_is p.family q.family)
+    ap (λ o. ordering_then o (ordering_then (nat_cmp p.bits q.bits) (nat_cmp p.len q.len))) (family_order p.family q.family)
     ∙ ap (ordering_then (family_cmp p.family q.family))
     (ap (λ n. ordering_then (nat_cmp n q.bits) (nat_cmp p.len q.len)) (sym (filled_is p))
     ∙ (ap (λ n. ordering_then (nat_cmp (filled (prefix_as p)) n) (nat_cmp p.len q.len)) (sym (filled_is q))

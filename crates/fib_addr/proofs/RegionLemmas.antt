@@ -7,9 +7,9 @@ use Rattle.std.proofs.Math.Pow.{pow-lt}
 use Rattle.address_model.specs.Bits.{bits_of, begins}
 use Rattle.address_model.specs.Width.{width}
 use Rattle.address_model.specs.Address.{Prefix, contains, first_bits, same_family}
+use Rattle.address_model.specs.Regions.{is_within, half_at}
 use Rattle.address_model.specs.declared.family.Family.{Family}
 use Rattle.address_model.proofs.BitLaws.{bits_take, bits_split}
-use Rattle.fib_addr.specs.Regions.{is_within, half_of}
 use Rattle.fib_addr.specs.Text.{first_address}
 
 -- ---- halves
@@ -81,7 +81,7 @@ half_fits w len place n m true h p lt z e =
 half_fits w len place n m false h p lt z e = omega arith
 
 pub half_is : (f : Family) (len w n m : ℕ) (b : Bool) (p : Prefix) → len < width f → w ≡ width f → n % 2 ^ (width f - len) ≡ 0 → m ≡ n + bit_worth b (2 ^ (w - len - 1))
-    → p ≡ first_bits (len + 1) (record { family = f; bits = bits_of (width f) m }) → p ≡ half_of (record { family = f; bits = take len (bits_of (width f) n) }) b
+    → p ≡ first_bits (len + 1) (record { family = f; bits = bits_of (width f) m }) → p ≡ half_at b (record { family = f; bits = take len (bits_of (width f) n) })
 half_is f len w n m b p h wide z e is =
     let same : m ≡ n + bit_worth b (2 ^ (width f - len - 1)) = e ∙ ap (λ (j : ℕ). n + bit_worth b (2 ^ (j - len - 1))) wide in
     is ∙ ap (λ x. let q : Prefix = record { family = f; bits = x } in q) (ap (λ (x : ℕ). take (len + 1) (bits_of (width f) x)) same ∙ half_bits (width f) len n b h z)

@@ -5,11 +5,11 @@ use Rattle.std.proofs.Math.ListN.{length-replicate}
 use Rattle.address_model.specs.Bits.{begins}
 use Rattle.address_model.specs.Width.{width}
 use Rattle.address_model.specs.Address.{Address, Prefix, IsPrefix, contains, same_family}
+use Rattle.address_model.specs.Regions.{half_at}
 use Rattle.address_model.specs.declared.family.Family.{Family}
 use Rattle.address_model.specs.declared.family.Family.TheVariants.{V4, V6}
 use Rattle.table_model.specs.Entries.{Entries, match_in}
-use Rattle.fib_addr.specs.Regions.{half_of}
-use Rattle.fib_addr.specs.Uniform.{AllGet, TwoDiffer}
+use Rattle.table_model.specs.Uniform.{AllGet, TwoDiffer}
 
 -- what begins with more begins with less
 begins_front : (p q a : List Bool) → begins (p ++ q) a ≡ true → begins p a ≡ true
@@ -21,14 +21,14 @@ begins_front (false ∷ p) q (true ∷ a) e = cc
 begins_front (true ∷ p) q [] e = cc
 begins_front (false ∷ p) q [] e = cc
 
-within_half : (b : Bool) (p : Prefix) (a : Address) → contains (half_of p b) a ≡ true → contains p a ≡ true
+within_half : (b : Bool) (p : Prefix) (a : Address) → contains (half_at b p) a ≡ true → contains p a ≡ true
 within_half b p a e = by_family (same_family p.family a.family) e
   where
     by_family : (t : Bool) → (t && begins (p.bits ++ b ∷ []) a.bits) ≡ true → (t && begins p.bits a.bits) ≡ true
     by_family true e = begins_front p.bits (b ∷ []) a.bits e
     by_family false e = cc
 
-pub halves : (L : Entries) (p : Prefix) (h : ℕ) → AllGet L p h → AllGet L (half_of p false) h × AllGet L (half_of p true) h
+pub halves : (L : Entries) (p : Prefix) (h : ℕ) → AllGet L p h → AllGet L (half_at false p) h × AllGet L (half_at true p) h
 halves L p h all = ((λ a i w. all a i (within_half false p a w)), (λ a i w. all a i (within_half true p a w)))
 
 -- the next bit of a longer list
@@ -54,13 +54,13 @@ both_hold true true e = (refl, refl)
 both_hold true false e = cc
 both_hold false t e = cc
 
-pub joined : (L : Entries) (p : Prefix) (h : ℕ) → length p.bits < width p.family → AllGet L (half_of p false) h → AllGet L (half_of p true) h → AllGet L p h
+pub joined : (L : Entries) (p : Prefix) (h : ℕ) → length p.bits < width p.family → AllGet L (half_at false p) h → AllGet L (half_at true p) h → AllGet L p h
 joined L p h l low high a i w =
     let s = both_hold (same_family p.family a.family) (begins p.bits a.bits) w in
     let n = next_bit p.bits a.bits (omega (arith, i, l, ap width (family_is p.family a.family s.0))) s.1 in
     by_bit n.0 (ap (λ t. t && begins (p.bits ++ n.0 ∷ []) a.bits) s.0 ∙ n.1)
   where
-    by_bit : (b : Bool) → contains (half_of p b) a ≡ true → match_in L a ≡ h
+    by_bit : (b : Bool) → contains (half_at b p) a ≡ true → match_in L a ≡ h
     by_bit true e = high a i e
     by_bit false e = low a i e
 

@@ -6,8 +6,8 @@ ghost use Rattle.std.specs.Map.{keys_of};
 ghost use Rattle.address_model.specs.Address.{same_prefix};
 ghost use Rattle.address_model.specs.declared.family.Family.{Family};
 ghost use Rattle.table_model.specs.Entries.{Entries};
+ghost use Rattle.table_model.specs.Uniform.{AllGet, TwoDiffer};
 ghost use Rattle.fib_addr.specs.Seen.{prefix_as};
-ghost use Rattle.fib_addr.specs.Uniform.{AllGet, TwoDiffer};
 
 use crate::entry::Hop;
 use crate::prefix::Prefix;
@@ -15,7 +15,8 @@ use address_model::Family;
 
 /// A table of one family, which tells whether the addresses of a prefix all get one answer.
 ///
-/// Contracts see the entries, each prefix once; an address gets what longest match among them gives, hop 0 where there is none.
+/// Contracts see the entries, whose prefixes are distinct; an address gets what longest match among them gives, hop 0 where there
+/// is none.
 pub trait Answers {
     ghost entries: { Self → Entries };
 
@@ -23,8 +24,7 @@ pub trait Answers {
 
     /// The family of the addresses that it answers for.
     fn family(&self) -> Family
-        ensures family { result ≡ of self.now }
-        ensures distinct { IsDistinct same_prefix (keys_of (entries self.now)) };
+        ensures { result ≡ of self.now };
 
     /// The hop that every address of the prefix gets, `Hop::NONE` where none gets one; or `None` where two of its addresses
     /// get different hops.
@@ -32,4 +32,6 @@ pub trait Answers {
         requires { prefix.now.family ≡ of self.now }
         ensures one { IfSome result (λ hop. AllGet (entries self.now) (prefix_as prefix.now) hop.0) }
         ensures differ { IfNone result (TwoDiffer (entries self.now) (prefix_as prefix.now)) };
+
+    ghost distinct: { (table : Self) → IsDistinct same_prefix (keys_of (entries table)) };
 }

@@ -4,7 +4,9 @@
 //! in a hash set in that order: a hop's number is its place there from 1. Asking costs one look-up, and so does numbering a
 //! hop that is held; a new one costs two.
 
-ghost use Rattle.std.specs.Prelude.{◌≡◌, ◌↔◌, ◌+◌, ◌<◌, ◌≤◌, [], length, map, option_map, Some, None, IsOk, IsErr, IsSome, IfOk, OnOk, OnErr, IsErrOf};
+ghost use Rattle.std.specs.Prelude.{◌≡◌, ◌↔◌, ◌+◌, ◌<◌, ◌≤◌, [], length, map, option_map, Some, None, IsOk, IsErr, IsSome, IfSome, IfOk, OnOk, OnErr, IsErrOf};
+ghost use Rattle.std.specs.List.{IsDistinct};
+ghost use Rattle.address_model.specs.Address.{same_address};
 ghost use Rattle.indexmap.specs.IndexSet.{spare};
 ghost use Rattle.fib_addr.specs.Hops.{Hops, most_hops, number_of, hop_at, with_hop};
 ghost use Rattle.fib_addr.specs.Seen.{addr_as};
@@ -52,8 +54,8 @@ impl From<HopsFull> for HopError {
     }
 }
 
-/// Next hops with their numbers. Contracts see the list of hops in the order of their numbers, and how many more are
-/// numbered without memory.
+/// Next hops with their numbers. Contracts see the list of hops in the order of their numbers, in which none stands twice, and
+/// how many more are numbered without memory.
 #[derive(Drop)]
 pub struct HopTable {
     hops: IndexSet<Addr>,
@@ -64,7 +66,7 @@ impl Model for HopTable {
 
     ghost view = { λ table. record { list = map addr_as table.hops.keys; spare = spare table.hops } };
 
-    ghost invariant = { λ table. length table.hops.keys ≤ most_hops };
+    ghost invariant = { λ table. (length table.hops.keys ≤ most_hops) × IsDistinct same_address (map addr_as table.hops.keys) };
 }
 
 /// The number of the hop at a place.
@@ -101,6 +103,8 @@ impl HopTable {
     /// more (`room`), `NoMemory` doesn't come.
     pub fn number(&mut self, addr: &Addr) -> Result<Hop, HopError>
         ensures number { IfOk result (λ hop. number_of self.new.list (addr_as addr.now) ≡ Some hop.0) }
+        ensures addr { IfOk result (λ hop. hop_at self.new.list hop.0 ≡ Some (addr_as addr.now)) }
+        ensures distinct { IsDistinct same_address self.new.list }
         ensures hops { OnOk result (self.new.list ≡ with_hop self.old.list (addr_as addr.now)) }
         ensures few { OnOk result (length self.new.list ≤ most_hops) }
 
@@ -123,6 +127,7 @@ impl HopTable {
     /// The number that `number` would give the hop, memory aside. It takes no memory.
     pub fn next(&self, addr: &Addr) -> Result<Hop, HopsFull>
         ensures number { IfOk result (λ hop. number_of (with_hop self.now.list (addr_as addr.now)) (addr_as addr.now) ≡ Some hop.0) }
+        ensures addr { IfOk result (λ hop. hop_at (with_hop self.now.list (addr_as addr.now)) hop.0 ≡ Some (addr_as addr.now)) }
         ensures full { IsErr result ↔ (length self.now.list ≡ most_hops) × (number_of self.now.list (addr_as addr.now) ≡ None) }
     {
         match self.find(addr) {
@@ -142,17 +147,21 @@ impl HopTable {
         Ok(numbered(self.hops.len()))
     }
 
-    /// The hop's number, `None` exactly where it isn't held.
+    /// The hop's number, `None` exactly where it isn't held. It is the hop's alone: `addr` of the number is the hop.
     pub fn find(&self, addr: &Addr) -> Option<Hop>
-        ensures { option_map (λ hop. hop.0) result ≡ number_of self.now.list (addr_as addr.now) }
+        ensures number { option_map (λ hop. hop.0) result ≡ number_of self.now.list (addr_as addr.now) }
+        ensures addr { IfSome result (λ hop. hop_at self.now.list hop.0 ≡ Some (addr_as addr.now)) }
     {
         let place = self.hops.get_index_of(addr)?;
         Some(numbered(place))
     }
 
-    /// The hop of a number, `None` exactly where no held hop has it; `Hop::NONE` is no hop's.
+    /// The hop of a number, `None` exactly where no held hop has it: `Hop::NONE` is no hop's, and of so many hops each number
+    /// from 1 on is one's, and of another number another's. `find` of the hop is the number.
     pub fn addr(&self, hop: Hop) -> Option<Addr>
-        ensures { option_map addr_as result ≡ hop_at self.now.list hop.0 }
+        ensures addr { option_map addr_as result ≡ hop_at self.now.list hop.0 }
+        ensures held { IsSome result ↔ (1 ≤ hop.0) × (hop.0 ≤ length self.now.list) }
+        ensures number { IfSome result (λ addr. number_of self.now.list (addr_as addr) ≡ Some hop.0) }
     {
         let place = usize::from(hop.0).checked_sub(1)?;
         self.hops.get_index(place).copied()

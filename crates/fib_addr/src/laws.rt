@@ -1,18 +1,20 @@
 //! Laws: each function does nothing, and its clauses hold for all values.
 
-ghost use Rattle.std.specs.Prelude.{◌≡◌, ◌<◌, List, ℕ, Some, false, true, length};
-ghost use Rattle.address_model.specs.Address.{Address, IsAddress, Prefix, IsPrefix};
+ghost use Rattle.std.specs.Prelude.{◌≡◌, ◌<◌, ◌≤◌, List, ℕ, Some, IsSome, false, true, fold, length};
+ghost use Rattle.std.specs.List.{IsDistinct};
+ghost use Rattle.address_model.specs.Address.{Address, IsAddress, Prefix, IsPrefix, same_address};
 ghost use Rattle.address_model.specs.Order.{prefix_cmp};
 ghost use Rattle.address_model.specs.Width.{width};
+ghost use Rattle.address_model.specs.Regions.{half_at};
 ghost use Rattle.address_model.specs.declared.family.Family.TheVariants.{V4};
 ghost use Rattle.std.specs.Net.Text.{longest_zero_run};
 ghost use Rattle.fib_addr.specs.Groups.{IsLongestZeroRun};
 ghost use Rattle.table_model.specs.Entries.{Entries};
+ghost use Rattle.table_model.specs.Uniform.{AllGet, TwoDiffer};
+ghost use Rattle.fib_addr.specs.Hops.{hop_at, number_of, with_hop};
 ghost use Rattle.fib_addr.specs.Order.{code_cmp};
-ghost use Rattle.fib_addr.specs.Regions.{half_of};
 ghost use Rattle.fib_addr.specs.Seen.{prefix_as};
 ghost use Rattle.fib_addr.specs.Text.{address_in, address_text, prefix_in, prefix_text};
-ghost use Rattle.fib_addr.specs.Uniform.{AllGet, TwoDiffer};
 ghost use Rattle.fib_addr.specs.declared.prefix.Prefix as code_prefix;
 
 /// What is written of an address is read as it, and what is read as an address is one. An IPv4 address has one text alone,
@@ -38,11 +40,21 @@ pub fn order_law()
     ensures prefixes { (p q : code_prefix.Prefix) → code_cmp p q ≡ prefix_cmp (prefix_as p) (prefix_as q) }
 {}
 
+/// Of hops that have numbers each number from 1 to their number is a hop's, the hop of a hop's number is that hop, and where no
+/// hop stands twice, the number of a number's hop is that number: so different numbers have different hops. None stands twice
+/// as more are numbered.
+pub fn hops_law()
+    ensures there { (hops : List Address) (n : ℕ) → 1 ≤ n → n ≤ length hops → IsSome (hop_at hops n) }
+    ensures hop { (hops : List Address) (a : Address) (n : ℕ) → number_of hops a ≡ Some n → hop_at hops n ≡ Some a }
+    ensures number { (hops : List Address) (a : Address) (n : ℕ) → IsDistinct same_address hops → hop_at hops n ≡ Some a → number_of hops a ≡ Some n }
+    ensures distinct { (hops used : List Address) → IsDistinct same_address hops → IsDistinct same_address (fold with_hop hops used) }
+{}
+
 /// A prefix gets one hop exactly where both its halves get it; it gets one hop at most, and none where two of its addresses
 /// differ.
 pub fn uniform_law()
-    ensures halves { (L : Entries) (p : Prefix) (h : ℕ) → AllGet L p h → AllGet L (half_of p false) h × AllGet L (half_of p true) h }
-    ensures joined { (L : Entries) (p : Prefix) (h : ℕ) → length p.bits < width p.family → AllGet L (half_of p false) h → AllGet L (half_of p true) h → AllGet L p h }
+    ensures halves { (L : Entries) (p : Prefix) (h : ℕ) → AllGet L p h → AllGet L (half_at false p) h × AllGet L (half_at true p) h }
+    ensures joined { (L : Entries) (p : Prefix) (h : ℕ) → length p.bits < width p.family → AllGet L (half_at false p) h → AllGet L (half_at true p) h → AllGet L p h }
     ensures once { (L : Entries) (p : Prefix) (h k : ℕ) → IsPrefix p → AllGet L p h → AllGet L p k → h ≡ k }
     ensures apart { (L : Entries) (p : Prefix) (h : ℕ) → AllGet L p h → TwoDiffer L p → ⊥ }
 {}

@@ -76,7 +76,7 @@ pub fn bit_at(bits: u128, place: u8) -> bool
 
 impl Prefix {
     ghost use Rattle.address_model.specs.Address.{contains, first_bits};
-    ghost use Rattle.fib_addr.specs.Regions.{is_within, half_of};
+    ghost use Rattle.address_model.specs.Regions.{half_at, is_within};
     ghost use Rattle.fib_addr.specs.Seen.{addr_as, prefix_as};
     ghost use Rattle.fib_addr.specs.Text.{first_address};
 
@@ -142,7 +142,7 @@ impl Prefix {
     /// The half of the prefix's region that has this bit next.
     pub fn half(&self, bit: bool) -> Prefix
         requires { self.now.len < width self.now.family }
-        ensures { prefix_as result ≡ half_of (prefix_as self.now) bit }
+        ensures { prefix_as result ≡ half_at bit (prefix_as self.now) }
     {
         let place = self.family.width() - self.len - 1;
         let first = Addr {

@@ -1,4 +1,4 @@
-//! The text of addresses and prefixes, what lies within a prefix, and the numbers of hops up to the last.
+//! The text of addresses, prefixes and numbers, what lies within a prefix, and the numbers of hops up to the last.
 
 use super::*;
 use std::test::Fail;
@@ -177,6 +177,27 @@ fn prefix_of(text: &str) -> Result<Prefix, Fail> {
         Some(prefix) => Ok(prefix),
         None => Err(Fail::new("no prefix")),
     }
+}
+
+#[test]
+fn reads_numbers(rt: HostRuntime) {
+    for (text, number) in [
+        ("0", Some(0)),
+        ("255", Some(255)),
+        ("18446744073709551615", Some(u64::MAX)),
+        ("18446744073709551616", None),
+        ("", None),
+        ("00", None),
+        ("+1", None),
+        ("-1", None),
+        (" 1", None),
+        ("1\n", None),
+        ("0x1", None),
+    ] {
+        assert_eq!(rt; read_number(text.as_bytes(), u64::MAX), number, "{text}");
+    }
+    assert_eq!(rt; read_number(b"128", 128), Some(128));
+    assert_eq!(rt; read_number(b"129", 128), None);
 }
 
 #[test]

@@ -44,12 +44,13 @@ pub fn read_addr(text: &[u8]) -> Option<Addr>
     }
 }
 
-/// Reads a decimal number of at most `most`, without a sign or leading zeros.
-fn read_number(text: &[u8], most: u8) -> Option<u8>
+/// Reads a decimal number of at most `most`, from the text's first octet to its last, without a sign or leading zeros. `None`
+/// exactly where the text is anything else.
+pub fn read_number(text: &[u8], most: u64) -> Option<u64>
     ensures value { result ≡ number_in (most + 1) text.now }
     ensures fits { IfSome result (λ number. number ≤ most) }
 {
-    let number = str::from_utf8(text).ok()?.parse::<u8>().ok()?;
+    let number = str::from_utf8(text).ok()?.parse::<u64>().ok()?;
     let mut digits = Buffer::new();
     if digits.format(number).as_bytes() != text {
         return None;
@@ -72,8 +73,8 @@ pub fn read_prefix(text: &[u8]) -> Option<Prefix>
 {
     let slash = slash_at(text)?;
     let addr = read_addr(&text[..slash])?;
-    let len = read_number(&text[slash + 1..], addr.family.width())?;
-    let prefix = Prefix::new(&addr, len);
+    let len = read_number(&text[slash + 1..], u64::from(addr.family.width()))?;
+    let prefix = Prefix::new(&addr, len as u8);
     (prefix.first_addr() == addr).then_some(prefix)
 }
 

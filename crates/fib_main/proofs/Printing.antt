@@ -16,10 +16,11 @@ use Rattle.route_model.proofs.Said.{none_yet}
 use Rattle.feed_model.specs.Feed.{IsNumbered, brought, entries_of, hops_after, number_in}
 use Rattle.feed_model.proofs.Numbers.{routes_numbered}
 use Rattle.fib_addr.specs.Hops.{most_hops}
+use Rattle.fib_addr.proofs.HopLists.{folded_distinct}
 use Rattle.printed_model.specs.Rows.{PrintedRow, IsRow, text_of as rows_text}
 use Rattle.printed_model.specs.Numbered.{of_route, of_least, of_cert, IsOther, HaveHops, Proves, rows_with}
 use Rattle.printed_model.specs.Used.{printed_in, used_of}
-use Rattle.printed_model.proofs.Few.{folded_distinct, printed_read}
+use Rattle.printed_model.proofs.Few.{printed_read}
 use Rattle.printed_model.proofs.Renamed.{printed_proves}
 use Rattle.fib_report.specs.Seen.{Told}
 use Rattle.fib_report.specs.Rows.{change_by, of_answer, of_change, of_table, printed_rows, report_rows}

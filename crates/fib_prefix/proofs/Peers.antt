@@ -9,10 +9,11 @@ use Rattle.address_model.specs.Bits.{value_of}
 use Rattle.address_model.specs.Width.{width}
 use Rattle.address_model.specs.Order.{family_cmp}
 use Rattle.address_model.proofs.BitLaws.{value-bits_of}
+use Rattle.address_model.proofs.Families.{family_order}
 use Rattle.fib_addr.specs.declared.addr.Addr.{Addr}
 use Rattle.fib_addr.specs.Seen.{addr_as, prefix_as}
 use Rattle.fib_addr.specs.Order.{code_cmp}
-use Rattle.fib_addr.proofs.Ordering.{cmp_is, family_is}
+use Rattle.fib_addr.proofs.Ordering.{cmp_is}
 use Rattle.fib_prefix.specs.declared.event.Peer.{Peer}
 use Rattle.fib_prefix.specs.Seen.{peer_as}
 use Rattle.fib_prefix.specs.Order.{code_peer_cmp}
@@ -29,7 +30,7 @@ value_is a = value-bits_of (width a.family) a.bits ∙ mod-eq_of_lt a.below
 
 pub peer_is : (p q : Peer) → code_peer_cmp p q ≡ peer_cmp (peer_as p) (peer_as q)
 peer_is p q =
-    ap (λ o. ordering_then (ordering_then o (nat_cmp p.addr.bits q.addr.bits)) (nat_cmp p.asn q.asn)) (family_is p.addr.family q.addr.family)
+    ap (λ o. ordering_then (ordering_then o (nat_cmp p.addr.bits q.addr.bits)) (nat_cmp p.asn q.asn)) (family_order p.addr.family q.addr.family)
     ∙ (regroup (family_cmp p.addr.family q.addr.family) (nat_cmp p.addr.bits q.addr.bits) (nat_cmp p.asn q.asn)
     ∙ (ap (λ n. ordering_then (family_cmp p.addr.family q.addr.family) (ordering_then (nat_cmp n q.addr.bits) (nat_cmp p.asn q.asn))) (sym (value_is p.addr))
     ∙ ap (λ n. ordering_then (family_cmp p.addr.family q.addr.family) (ordering_then (nat_cmp (value_of (addr_as p.addr).bits) n) (nat_cmp p.asn q.asn))) (sym (value_is q.addr))))

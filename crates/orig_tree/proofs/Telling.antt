@@ -6,6 +6,7 @@ use Rattle.address_model.specs.Address.{Prefix, IsPrefix}
 use Rattle.std.specs.Map.{keys_of}
 use Rattle.address_model.specs.declared.family.Family.TheVariants.{V4, V6}
 use Rattle.address_model.specs.Width.{width}
+use Rattle.address_model.specs.Regions.{half_at}
 use Rattle.address_model.specs.declared.family.Family.{Family}
 use Rattle.table_model.specs.Table.{Table, here}
 use Rattle.table_model.specs.Entries.{Entries, of_table}
@@ -14,7 +15,6 @@ use Rattle.least_model.specs.Regions.{lift, join}
 use Rattle.fib_addr.specs.Seen.{prefix_as}
 use Rattle.fib_addr.specs.declared.prefix.Prefix as code
 use Rattle.fib_addr.proofs.Parts.{length_prefix}
-use Rattle.fib_addr.specs.Regions.{half_of}
 use Rattle.orig_tree.specs.Walk.{Walks, nothing, walks_of, rows_of, picked}
 use Rattle.orig_tree.specs.declared.node.Label.{Label}
 use Rattle.orig_tree.specs.Seen.{Fits}
@@ -46,7 +46,7 @@ pub told_nothing : (label : Label) (p : code.Prefix) (w : Walks) (E : Entries) �
 told_nothing label p w E e = sym (ap (λ z. E ++ of_table p.family (lift (prefix_as p).bits (rows_of label z))) e ∙ (ap (λ z. E ++ of_table p.family (lift (prefix_as p).bits z)) (rows_nothing label) ∙ append-nil E))
 
 -- one more bit
-pub half_longer : (p q : code.Prefix) (b : Bool) → prefix_as q ≡ half_of (prefix_as p) b → q.len ≡ p.len + 1
+pub half_longer : (p q : code.Prefix) (b : Bool) → prefix_as q ≡ half_at b (prefix_as p) → q.len ≡ p.len + 1
 half_longer p q b e =
     omega (
       arith,
@@ -78,16 +78,16 @@ fits_upper n o L M f = fits_down n true M (fits_back n (lift (false ∷ []) L) (
 fits_node : (n : ℕ) (label : Label) (route entry : Option ℕ) (low high node : Walks) → walks_of route entry low high ≡ node → Fits n (rows_of label node) → Fits n (join (picked label route entry) (rows_of label low) (rows_of label high))
 fits_node n label route entry low high node w f = subst (λ (L : Table). Fits n L) (ap (rows_of label) (sym w) ∙ rows_level label route entry low high) f
 
-family_of_half : (p q : code.Prefix) (b : Bool) → prefix_as q ≡ half_of (prefix_as p) b → q.family ≡ p.family
+family_of_half : (p q : code.Prefix) (b : Bool) → prefix_as q ≡ half_at b (prefix_as p) → q.family ≡ p.family
 family_of_half p q b e = ap (λ (x : Prefix). x.family) e
 
-pub fits_low : (p q : code.Prefix) (label : Label) (route entry : Option ℕ) (low high node : Walks) → prefix_as q ≡ half_of (prefix_as p) false → walks_of route entry low high ≡ node
+pub fits_low : (p q : code.Prefix) (label : Label) (route entry : Option ℕ) (low high node : Walks) → prefix_as q ≡ half_at false (prefix_as p) → walks_of route entry low high ≡ node
     → Fits (width p.family - p.len) (rows_of label node) → Fits (width q.family - q.len) (rows_of label low)
 fits_low p q label route entry low high node e w f =
     let n : width p.family - p.len - 1 ≡ width q.family - q.len = omega (arith, half_longer p q false e, ap width (family_of_half p q false e)) in
     subst (λ (k : ℕ). Fits k (rows_of label low)) n (fits_lower (width p.family - p.len) (picked label route entry) (rows_of label low) (rows_of label high) (fits_node (width p.family - p.len) label route entry low high node w f))
 
-pub fits_high : (p q : code.Prefix) (label : Label) (route entry : Option ℕ) (low high node : Walks) → prefix_as q ≡ half_of (prefix_as p) true → walks_of route entry low high ≡ node
+pub fits_high : (p q : code.Prefix) (label : Label) (route entry : Option ℕ) (low high node : Walks) → prefix_as q ≡ half_at true (prefix_as p) → walks_of route entry low high ≡ node
     → Fits (width p.family - p.len) (rows_of label node) → Fits (width q.family - q.len) (rows_of label high)
 fits_high p q label route entry low high node e w f =
     let n : width p.family - p.len - 1 ≡ width q.family - q.len = omega (arith, half_longer p q true e, ap width (family_of_half p q true e)) in
@@ -117,7 +117,7 @@ told_end p label route entry o low high node E D w n f s d =
 
 -- what is told of a node: its own entry, then those of its halves
 pub told_level : (p q r : code.Prefix) (label : Label) (route entry o : Option ℕ) (low high node : Walks) (A B C D : Entries) → walks_of route entry low high ≡ node
-    → prefix_as q ≡ half_of (prefix_as p) false → prefix_as r ≡ half_of (prefix_as p) true → o ≡ picked label route entry
+    → prefix_as q ≡ half_at false (prefix_as p) → prefix_as r ≡ half_at true (prefix_as p) → o ≡ picked label route entry
     → B ≡ A ++ map (λ h. (prefix_as p, h)) (option_to_list o)
     → C ≡ B ++ of_table q.family (lift (prefix_as q).bits (rows_of label low))
     → D ≡ C ++ of_table r.family (lift (prefix_as r).bits (rows_of label high))

@@ -4,9 +4,9 @@ ghost use Rattle.std.specs.Prelude.{◌≡◌, [], ◌∷◌, true, List, Bool, 
 ghost use Rattle.std.specs.Map.{remove_entry};
 ghost use Rattle.address_model.specs.Address.{same_prefix};
 ghost use Rattle.table_model.specs.Entries.{with_entry, match_in, of_family, of_table};
+ghost use Rattle.table_model.specs.Uniform.{AllGet, TwoDiffer};
 ghost use Rattle.least_model.specs.Regions.{above};
 ghost use Rattle.fib_addr.specs.Seen.{addr_as, prefix_as, entry_as};
-ghost use Rattle.fib_addr.specs.Uniform.{AllGet, TwoDiffer};
 ghost use Rattle.address_model.specs.Width.{width};
 ghost use Rattle.orig_tree.specs.Walk.{AreMadeTo, has_node, rows_of};
 ghost use Rattle.orig_tree.specs.Seen.{InPlace, Fits};
@@ -158,6 +158,7 @@ impl Tree {
     /// ones.
     pub fn uniform_route(&self, prefix: &Prefix) -> Option<Hop>
         requires { prefix.now.family ≡ self.now.family }
+        ensures order { InPlace self.now.routes }
         ensures one { IfSome result (λ hop. AllGet self.now.routes (prefix_as prefix.now) hop.0) }
         ensures differ { IfNone result (TwoDiffer self.now.routes (prefix_as prefix.now)) }
     {
@@ -170,6 +171,7 @@ impl Tree {
     /// ones.
     pub fn uniform_entry(&self, prefix: &Prefix) -> Option<Hop>
         requires { prefix.now.family ≡ self.now.family }
+        ensures order { InPlace self.now.entries }
         ensures one { IfSome result (λ hop. AllGet self.now.entries (prefix_as prefix.now) hop.0) }
         ensures differ { IfNone result (TwoDiffer self.now.entries (prefix_as prefix.now)) }
     {

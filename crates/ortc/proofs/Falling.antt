@@ -8,10 +8,10 @@ use Rattle.address_model.specs.Order.{prefix_cmp}
 use Rattle.address_model.specs.Address.{Prefix}
 use Rattle.address_model.specs.Bits.{bits_of}
 use Rattle.address_model.specs.Width.{width}
+use Rattle.address_model.specs.Regions.{half_at}
 use Rattle.address_model.specs.declared.family.Family.{Family}
 use Rattle.fib_addr.specs.Seen.{prefix_as}
 use Rattle.fib_addr.proofs.Parts.{length_prefix}
-use Rattle.fib_addr.specs.Regions.{half_of}
 use Rattle.fib_addr.specs.declared.prefix.Prefix as code
 use Rattle.table_model.specs.Table.{Table, root, half, here, inherit, lpm, cut}
 use Rattle.table_model.specs.Entries.{Entries, of_family, of_table}
@@ -99,7 +99,7 @@ pub told_join : (p q r : code.Prefix) (f : List Bool → ℕ) (L : Table) (h hop
     → (e : ℕ) × (width p.family - p.len ≡ suc e) × (root L ≡ old) × SameHops S (set_of (suc e) f) × Stands low e (side false f) (half false L) × Stands high e (side true f) (half true L)
     × (n ≡ k_of (suc e) f) × (one_answer (suc e) f ≡ None)
     → l ≡ low → k ≡ high → o ≡ own S old h → hop ≡ inherit o h
-    → prefix_as q ≡ half_of (prefix_as p) false → prefix_as r ≡ half_of (prefix_as p) true
+    → prefix_as q ≡ half_at false (prefix_as p) → prefix_as r ≡ half_at true (prefix_as p)
     → Y ≡ X ++ map (λ k. (prefix_as p, k)) (option_to_list o)
     → ((g : List Bool → ℕ) (M : Table) → Stands l (width q.family - q.len) g M → Z ≡ Y ++ of_table q.family (lift (prefix_as q).bits (agg (width q.family - q.len) g M hop)))
     → ((g : List Bool → ℕ) (M : Table) → Stands k (width r.family - r.len) g M → W ≡ Z ++ of_table r.family (lift (prefix_as r).bits (agg (width r.family - r.len) g M hop)))

@@ -3,16 +3,16 @@ use Rattle.std.proofs.Common.{◌≡◌, ℕ, zero, suc, ◌+◌, ◌-◌, List,
 use Rattle.std.proofs.lemmas.List.{map-append}
 use Rattle.address_model.specs.Address.{Prefix}
 use Rattle.address_model.specs.Width.{width}
+use Rattle.address_model.specs.Regions.{half_at}
 use Rattle.address_model.specs.declared.family.Family.{Family}
 use Rattle.fib_addr.specs.Seen.{prefix_as}
-use Rattle.fib_addr.specs.Regions.{half_of}
 use Rattle.fib_addr.specs.declared.prefix.Prefix as code
 use Rattle.table_model.specs.Table.{Table, cut}
 use Rattle.table_model.specs.Entries.{Entries, of_family}
 use Rattle.least_model.specs.Sets.{side, set_of, k_of, answers}
 use Rattle.least_model.specs.Least.{Least, bound}
 use Rattle.ortc.specs.Proved.{ProveLeast}
-use Rattle.cert_model.specs.Rows.{CertRow, leaf_row, join_row, bound_row, half_at, one_answer, leaf_or, region_rows, whole, family_rows}
+use Rattle.cert_model.specs.Rows.{CertRow, leaf_row, join_row, bound_row, one_answer, leaf_or, region_rows, whole, family_rows}
 use Rattle.cert_model.specs.Right.{bound_by}
 use Rattle.cert_model.proofs.Answers.{one_answer_from}
 use Rattle.cert_model.proofs.Postorder.{have_bound, few}
@@ -55,7 +55,7 @@ rows_more d k f p X Y Z W n e y z w =
 
 pub listed_join : (p q r : code.Prefix) (f : List Bool → ℕ) (L M N : Table) (n k : ℕ) (X Y Z W : List CertRow) (low high l m : Region) (e : ℕ) → width p.family - p.len ≡ suc e
     → Stands low e (side false f) M → Stands high e (side true f) N → n ≡ k_of (suc e) f → one_answer (suc e) f ≡ None → l ≡ low → m ≡ high → k ≡ n
-    → prefix_as q ≡ half_of (prefix_as p) false → prefix_as r ≡ half_of (prefix_as p) true
+    → prefix_as q ≡ half_at false (prefix_as p) → prefix_as r ≡ half_at true (prefix_as p)
     → ((g : List Bool → ℕ) (K : Table) → Stands l (width q.family - q.len) g K → Y ≡ X ++ region_rows (width q.family - q.len) g (prefix_as q))
     → ((g : List Bool → ℕ) (K : Table) → Stands m (width r.family - r.len) g K → Z ≡ Y ++ region_rows (width r.family - r.len) g (prefix_as r))
     → W ≡ Z ++ join_row (prefix_as p) k ∷ []

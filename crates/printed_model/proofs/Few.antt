@@ -1,24 +1,22 @@
 -- Printed rows have no more hops than what they print, so their text is read as them.
 use Rattle.std.proofs.Common.{◌≡◌, ℕ, zero, suc, ◌<◌, ◌≤◌, List, [], ◌∷◌, ◌++◌, Bool, true, false, cond, Option, Some, None, Ok, length, nat_eq, map, refl, sym, ap, subst, ◌∙◌, arith}
 use Rattle.std.specs.Prelude.{◌||◌, flat_map, fold, slice_get, option_to_list}
-use Rattle.std.specs.Cmp.{IsEquivalence, both_ways}
 use Rattle.std.specs.List.{AllByRecursion, IsDistinct, list_any, position_or_len}
 use Rattle.std.proofs.lemmas.Bool.{eqb-true, ne_eqb}
 use Rattle.std.proofs.lemmas.Grind.{flat_map-append}
 use Rattle.std.proofs.lemmas.List.{length-map}
-use Rattle.std.proofs.lemmas.Map.Keys.{IsDistinct-push}
 use Rattle.std.proofs.lemmas.Map.Steps.{length-le_from_distinct_below}
 use Rattle.octet_fields.specs.Field.{◌>>=◌}
 use Rattle.address_model.specs.Address.{Address, same_address}
-use Rattle.address_model.proofs.Same.{same_address_is, same_address_itself}
+use Rattle.address_model.proofs.Same.{same_address_itself}
 use Rattle.table_model.specs.Entries.{Entries}
 use Rattle.fib_addr.specs.Hops.{hop_at, with_hop, most_hops}
+use Rattle.fib_addr.proofs.HopLists.{folded_distinct, none_distinct, passes_within, place_holds}
 use Rattle.cert_model.specs.Rows.{CertRow, leaf_row, join_row, bound_row}
 use Rattle.printed_model.specs.Rows.{PrintedRow, IsRow, text_of}
 use Rattle.printed_model.specs.Texts.{numbered_hop, hops_in}
 use Rattle.printed_model.specs.Used.{used_of, printed_in}
 use Rattle.printed_model.specs.Numbered.{route_by, of_route, of_least, of_cert, IsOther, rows_with}
-use Rattle.printed_model.proofs.Hops.{passes_within, place_holds}
 use Rattle.printed_model.proofs.Texts.{text_again}
 use Rattle.printed_model.proofs.Renamed.{other_hop, said}
 
@@ -78,29 +76,6 @@ folded_among hops new (a ∷ used) n u = folded_among hops (with_hop new a) used
     by_test : (t : Bool) → AllByRecursion (IsAmong hops) (cond t new (new ++ a ∷ []))
     by_test true = n
     by_test false = both_among hops new (a ∷ []) n (u.0, tt)
-
--- different hops stay different as more get numbers
-swapped : (a b : Address) → same_address a b ≡ true → same_address b a ≡ true
-swapped a b e = ap (λ x. same_address x a) (sym (same_address_is a b e)) ∙ same_address_itself a
-
-same_addresses : IsEquivalence same_address
-same_addresses = record {
-  refl = same_address_itself;
-  symm = λ a b. both_ways (same_address a b) (same_address b a) (swapped a b) (swapped b a);
-  congr = λ a b c e. ap (λ x. same_address x c) (same_address_is a b e);
-}
-
-pub folded_distinct : (new used : List Address) → IsDistinct same_address new → IsDistinct same_address (fold with_hop new used)
-folded_distinct new [] d = d
-folded_distinct new (a ∷ used) d = folded_distinct (with_hop new a) used (by_test (list_any (same_address a) new) refl)
-  where
-    by_test : (t : Bool) → list_any (same_address a) new ≡ t → IsDistinct same_address (cond t new (new ++ a ∷ []))
-    by_test true e = d
-    by_test false e = IsDistinct-push same_addresses new a d e
-
-none_distinct : IsDistinct same_address []
-unfolding IsDistinct
-none_distinct = tt
 
 -- ---- there are no more different hops than those that they are among
 

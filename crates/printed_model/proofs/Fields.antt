@@ -1,5 +1,5 @@
 -- What is written of a field is read again.
-use Rattle.std.proofs.Common.{◌≡◌, ℕ, List, Bool, true, false, cond, Option, Some, None, Result, Ok, decimal, codes, refl, sym, ap, ◌∙◌}
+use Rattle.std.proofs.Common.{arith, ◌≡◌, ℕ, List, Bool, true, false, cond, Option, Some, None, Result, Ok, decimal, codes, refl, sym, ap, ◌∙◌}
 use Rattle.std.specs.Prelude.{bytes_eq}
 use Rattle.octet_fields.specs.Field.{◌>>=◌}
 use Rattle.address_model.specs.Address.{Address, Prefix, IsAddress, IsPrefix}
@@ -12,7 +12,7 @@ use Rattle.fib_addr.proofs.TextLaws.{written_is_read}
 use Rattle.fib_addr.proofs.PrefixLaws.{prefix_written}
 use Rattle.printed_model.specs.Rows.{Count, Records, Skipped, Events, Routes, Entries, Nodes, Leaves, IsHop, IsNumber, count_name, family_name, hop_text}
 use Rattle.printed_model.specs.Reading.{bad_hop, bad_prefix, bad_number, or_why, address_field, prefix_field, number_field, hop_field, count_field, family_field}
-use Rattle.printed_model.proofs.Numbers.{number_written}
+use Rattle.fib_addr.proofs.Numbers.{number_read}
 
 pub address_again : (a : Address) → IsAddress a → address_field (address_text a) ≡ Ok a
 address_again a h = ap (or_why bad_hop) (written_is_read a h)
@@ -21,7 +21,7 @@ pub prefix_again : (p : Prefix) → IsPrefix p → prefix_field (prefix_text p) 
 prefix_again p h = ap (or_why bad_prefix) (prefix_written p h)
 
 pub number_again : (n : ℕ) → IsNumber n → number_field (decimal n) ≡ Ok n
-number_again n h = ap (or_why bad_number) (number_written n h)
+number_again n h = ap (or_why bad_number) (number_read _ n h (omega arith))
 
 -- a word that is no address stands for no hop alone
 pub hop_again : (word : List ℕ) (hop : Option Address) → address_in word ≡ None → IsHop hop → hop_field word (hop_text word hop) ≡ Ok hop

@@ -1,4 +1,3 @@
-pub mod Numbers
 pub mod Hops
 pub mod Lines
 pub mod Fields

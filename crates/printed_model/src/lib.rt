@@ -3,14 +3,14 @@
 //! The definitions stand in `specs/`. Each function here is a law: it does nothing, and its clauses hold for all values.
 #![tactic(auto)]
 
-ghost use Rattle.std.specs.Prelude.{◌≡◌, ◌↔◌, ◌≤◌, List, ℕ, Ok, Err, Some, length, flat_map, fold};
+ghost use Rattle.std.specs.Prelude.{◌≡◌, ◌↔◌, ◌≤◌, List, ℕ, Ok, Err, Some, length, flat_map};
 ghost use Rattle.std.specs.List.{AllByRecursion, IsDistinct};
 ghost use Rattle.std.specs.Map.{keys_of};
 ghost use Rattle.address_model.specs.Address.{Address, IsAddress, IsPrefix, same_address};
 ghost use Rattle.table_model.specs.Entries.{Entries};
 ghost use Rattle.cert_model.specs.Rows.{CertRow};
 ghost use Rattle.cert_model.specs.Right.{IsCertificate};
-ghost use Rattle.fib_addr.specs.Hops.{hop_at, with_hop, most_hops};
+ghost use Rattle.fib_addr.specs.Hops.{hop_at, most_hops};
 ghost use Rattle.printed_model.specs.Rows.{PrintedRow, IsRow, fields_of, text_of};
 ghost use Rattle.printed_model.specs.Reading.{row_in};
 ghost use Rattle.printed_model.specs.Texts.{BadLine, hops_in, line_texts, numbered_hop, rows_in};
@@ -38,7 +38,7 @@ pub fn numbers_law()
 
 /// The numbers of hops don't matter to a certificate: the printed rows of routes that have hops, of a table, and of a certificate
 /// that proves it least, prove a least table with the numbers that a reader gives the hops. The text of the rows is read as them
-/// where the hops aren't too many. Rows of proper entries are proper, and different hops stay different as more get numbers.
+/// where the hops aren't too many. Rows of proper entries are proper.
 pub fn printed_law()
     ensures proves { (hops : List Address) (R T : Entries) (C : List CertRow) (between after : List PrintedRow) → IsDistinct same_address hops → HaveHops hops R →
         AllByRecursion IsOther between → AllByRecursion IsOther after → IsCertificate R T C → Proves (used_of (rows_with hops R T C between after)) }
@@ -48,5 +48,4 @@ pub fn printed_law()
     ensures proper { (hops : List Address) (R T : Entries) (C : List CertRow) (between after : List PrintedRow) → AllByRecursion IsAddress hops →
         AllByRecursion IsPrefix (keys_of R) → AllByRecursion IsPrefix (keys_of T) → AllByRecursion IsCertRow C → AllByRecursion IsRow between → AllByRecursion IsRow after →
         AllByRecursion IsRow (rows_with hops R T C between after) }
-    ensures distinct { (hops used : List Address) → IsDistinct same_address hops → IsDistinct same_address (fold with_hop hops used) }
 {}

@@ -2,12 +2,15 @@
 use Rattle.std.proofs.Common.{◌≡◌, List, [], ◌∷◌, Bool, true, false, refl, sym, ap, ◌∙◌}
 use Rattle.std.specs.List.{AllByRecursion, IsDistinct}
 use Rattle.std.specs.List.Sorted.{IsStrictlySortedBy}
+use Rattle.std.specs.Map.{keys_of}
 use Rattle.std.specs.Ordering.{ordering_reverse}
 use Rattle.std.specs.declared.cmp.Ordering.TheVariants.{Less, Greater}
 use Rattle.address_model.specs.Address.{Prefix, same_prefix}
 use Rattle.address_model.specs.Order.{prefix_cmp}
 use Rattle.address_model.proofs.Ordered.{prefix_total}
 use Rattle.address_model.proofs.Same.{same_prefix_is}
+use Rattle.table_model.specs.Entries.{Entries, in_order}
+use Rattle.table_model.proofs.Sums.{in_order_sorted}
 
 below : (p q : Prefix) → prefix_cmp p q ≡ Less → same_prefix p q ≡ false
 below p q l = by_test (same_prefix p q) refl
@@ -27,3 +30,7 @@ pub once_sorted : (ps : List Prefix) → IsStrictlySortedBy prefix_cmp ps → Is
 unfolding IsStrictlySortedBy IsDistinct
 once_sorted [] s = tt
 once_sorted (p ∷ ps) s = (all_below p ps s.0, once_sorted ps s.1)
+
+-- entries that are put in order have distinct prefixes
+pub once_in_order : (L : Entries) → IsDistinct same_prefix (keys_of (in_order L))
+once_in_order L = once_sorted (keys_of (in_order L)) (in_order_sorted L)

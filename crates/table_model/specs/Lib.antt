@@ -1,3 +1,4 @@
 pub mod Table
 pub mod Entries
+pub mod Uniform
 pub mod Changes

@@ -1,4 +1,4 @@
-use Rattle.feed_model.proofs.Numbers.{hops_more, stays, one_more_at_most, room, full_in_front, full_behind, routes_numbered, chosen_numbered, entries_stay, change_stays}
+use Rattle.feed_model.proofs.Numbers.{hops_more, stays, one_more_at_most, room, full_in_front, full_behind, routes_numbered, chosen_numbered, hops_distinct, entries_have, entries_back, entries_stay, change_stays}
 use Rattle.feed_model.proofs.numbers_law.Goals as goal
 
 pub returns : goal.returns
@@ -10,6 +10,9 @@ returns c = record {
   full_in_front = full_in_front;
   full_behind = full_behind;
   routes = routes_numbered;
+  distinct = hops_distinct;
+  entries = entries_have;
+  back = entries_back;
   chosen = chosen_numbered;
   entries_stay = entries_stay;
   change_stays = change_stays;

@@ -1,5 +1,5 @@
 use Rattle.printed_model.proofs.Renamed.{printed_proves}
-use Rattle.printed_model.proofs.Few.{folded_distinct, printed_read}
+use Rattle.printed_model.proofs.Few.{printed_read}
 use Rattle.printed_model.proofs.Proper.{printed_proper}
 use Rattle.printed_model.proofs.printed_law.Goals as goal
 
@@ -8,9 +8,6 @@ returns-clause-proves c = printed_proves
 
 pub returns-clause-text : goal.returns-clause-text
 returns-clause-text c = printed_read
-
-pub returns-clause-distinct : goal.returns-clause-distinct
-returns-clause-distinct c = folded_distinct
 
 pub returns-clause-proper : goal.returns-clause-proper
 returns-clause-proper c = printed_proper

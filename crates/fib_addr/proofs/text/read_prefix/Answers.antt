@@ -9,5 +9,5 @@ returns-in_err-slash c = ap (option_map prefix_as) c.from_residual.ensures ∙ n
 
 pub returns : goal.returns
 returns c =
-    prefix_read c.args.text.now c.in_ok-slash.slash c.in_ok-len.len c.width.result c.in_ok-addr.addr c.first_addr.result c.new-prefix.result c.eq.result c.then_some.result
-    c.in_ok-slash.ensures c.in_ok-addr.ensures c.in_ok-len.ensures.value c.width.ensures c.in_ok-len.ensures.fits c.new-prefix.ensures c.first_addr.ensures c.eq.ensures c.then_some.ensures
+    prefix_read c.args.text.now c.in_ok-slash.slash c.in_ok-len.len c.from.result c.in_ok-addr.addr c.first_addr.result c.new-prefix.result c.eq.result c.then_some.result
+    c.in_ok-slash.ensures c.in_ok-addr.ensures c.in_ok-len.ensures.value (c.from.ensures ∙ c.width.ensures) c.in_ok-len.ensures.fits c.new-prefix.ensures c.first_addr.ensures c.eq.ensures c.then_some.ensures

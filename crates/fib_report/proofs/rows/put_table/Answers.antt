@@ -9,5 +9,5 @@ use Rattle.fib_report.proofs.rows.put_table.Goals as goal
 pub loop-entry-preserved : goal.loop-entry-preserved
 loop-entry-preserved g c =
     let row = of_table c.args.hops.now.list in
-    let is = ap (table_row (prefix_as c.entry-item.result.prefix)) c.addr.ensures in
+    let is = ap (table_row (prefix_as c.entry-item.result.prefix)) c.addr.ensures.addr in
     (AddsRows-item _ _ _ _ row entry_as _ _ c.entry-item.result _ c.loop-entry-test.true c.entry-item.is is c.loop-entry.invariant.0 c.in_ok-put_row.ensures.added, one_proper row entry_as _ _ c.entry-item.result _ c.loop-entry-test.true c.entry-item.is is c.loop-entry.invariant.1 c.in_ok-put_row.ensures.proper)

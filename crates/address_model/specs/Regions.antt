@@ -7,6 +7,6 @@ use Rattle.address_model.specs.Address.{Prefix, same_family}
 abbrev pub is_within : Prefix → Prefix → Bool
 is_within p q = same_family q.family p.family && begins q.bits p.bits
 
--- the half of p's region whose addresses have this bit next
-abbrev pub half_of : Prefix → Bool → Prefix
-half_of p bit = record { family = p.family; bits = p.bits ++ bit ∷ [] }
+-- the half of the prefix's region whose addresses have this bit next
+abbrev pub half_at : Bool → Prefix → Prefix
+half_at b p = record { family = p.family; bits = p.bits ++ b ∷ [] }
