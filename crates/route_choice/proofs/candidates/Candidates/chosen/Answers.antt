@@ -8,7 +8,7 @@ use Rattle.route_choice.proofs.Choose.{chosen_is}
 use Rattle.route_choice.proofs.candidates.Candidates.chosen.Goals as goal
 
 pub returns-in_err-best : goal.returns-in_err-best
-returns-in_err-best c = ap (option_map addr_as) c.from_residual.ensures ∙ (sym (ap (option_map (λ (x : Candidate). addr_as x.offer.hop)) c.in_err-best.was) ∙ (chosen_is c.self.inside.seats.entries c.self.inside.ranks.keys c.args.prefix.now c.best_but.result c.self.invariant.0 c.best_but.ensures.ordered (sym c.best_but.ensures.first) ∙ ap (λ (h : Held). chosen_for h.candidates (prefix_as c.args.prefix.now)) c.self.view_is))
+returns-in_err-best c = ap (option_map addr_as) c.from_residual.ensures ∙ (sym (ap (option_map (λ (x : Candidate). addr_as x.offer.hop)) c.in_err-best.was) ∙ (chosen_is c.self.inside.seats.entries c.self.inside.ranks.keys c.args.prefix.now c.best_but.result c.self.invariant.indexed c.best_but.ensures.ordered (sym c.best_but.ensures.first) ∙ ap (λ (h : Held). chosen_for h.candidates (prefix_as c.args.prefix.now)) c.self.view_is))
 
 pub returns : goal.returns
-returns c = ap (λ h. Some (addr_as h)) c.hop.ensures ∙ (sym (ap (option_map (λ (x : Candidate). addr_as x.offer.hop)) c.in_ok-best.was) ∙ (chosen_is c.self.inside.seats.entries c.self.inside.ranks.keys c.args.prefix.now c.best_but.result c.self.invariant.0 c.best_but.ensures.ordered (sym c.best_but.ensures.first) ∙ ap (λ (h : Held). chosen_for h.candidates (prefix_as c.args.prefix.now)) c.self.view_is))
+returns c = ap (λ h. Some (addr_as h)) c.hop.ensures ∙ (sym (ap (option_map (λ (x : Candidate). addr_as x.offer.hop)) c.in_ok-best.was) ∙ (chosen_is c.self.inside.seats.entries c.self.inside.ranks.keys c.args.prefix.now c.best_but.result c.self.invariant.indexed c.best_but.ensures.ordered (sym c.best_but.ensures.first) ∙ ap (λ (h : Held). chosen_for h.candidates (prefix_as c.args.prefix.now)) c.self.view_is))
