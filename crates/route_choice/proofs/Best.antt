@@ -28,9 +28,9 @@ use Rattle.route_choice.specs.declared.keys.Offer.{Offer}
 use Rattle.route_choice.specs.declared.keys.Candidate.{Candidate}
 use Rattle.route_choice.specs.Orders.{seat_cmp, rank_cmp}
 use Rattle.fib_prefix.specs.Order.{code_peer_cmp}
-use Rattle.route_choice.specs.Seats.{Seats, place_as, held_in, flat, offer_at, rank_at, seat_of, IsIndexed}
+use Rattle.route_choice.specs.Seats.{Seats, held_in, flat, offer_at, rank_at, seat_of, IsIndexed}
 use Rattle.route_choice.specs.Walks.{ranks_of, with_path, offer_ranked, is_out, or_next, first_in}
-use Rattle.route_choice.proofs.Orders.{peer_is, peer_same, prefix_same, prefix_total, seat_total, rank_total, peer_total}
+use Rattle.route_choice.proofs.Orders.{place_as, peer_is, peer_same, prefix_same, prefix_total, seat_total, rank_total, peer_total}
 use Rattle.route_choice.proofs.Views.{offer_as, at_seat, held_seat, lookup_by_test}
 
 -- ---- what the walk over ranks finds

@@ -31,10 +31,6 @@ weaker : (a b c : Bool) → (b ≡ true → c ≡ true) → (a || b) ≡ true �
 weaker true b c f h = refl
 weaker false b c f h = f h
 
-or_false : (b : Bool) → (b || false) ≡ true → b ≡ true
-or_false true h = refl
-or_false false h = h
-
 -- ---- what orders don't tell apart is alike
 
 alike_ranks : (ranks : List Rank) (q r : Rank) → is_eq (rank_cmp q r) ≡ true → has_rank ranks q ≡ has_rank ranks r
@@ -251,15 +247,6 @@ made_room old new before after here r q p path hop e f o hs hr x is plan k = sub
     by_rank : (t : Rank) (b : Bool) → is_eq (rank_cmp r t) ≡ b → cond b true (has_rank before t) ≡ true → (is_some (offer_ranked new t) || (holds_rank plan t || is_eq (rank_cmp top t))) ≡ true
     by_rank t true g u = or_right (is_some (offer_ranked new t)) _ (or_right (holds_rank plan t) _ (ap (λ x. is_eq (rank_cmp x t)) (sym is_top) ∙ g))
     by_rank t false g u = weaker (is_some (offer_ranked new t)) (holds_rank plan t) _ (λ i. or_left (holds_rank plan t) _ i) (ap (λ x. is_some (with_path t.path x) || holds_rank plan t) (o (seat_of t)) ∙ k.ranks_serve t u)
-
--- a plan that takes no room
-pub kept_cut : (seats : Seats) (ranks : List Rank) (q : Peer) (p : code.Prefix) (plan : Option Elem) → IsKept seats ranks None plan → IsKept seats ranks plan (Some (elem.Cut q p))
-kept_cut seats ranks q p plan k = record {
-  indexed = k.indexed;
-  room = tt;
-  seats_serve = λ s t. weaker (is_some (offer_at seats s)) (holds_seat plan s) _ (λ i. or_left (holds_seat plan s) _ i) (k.seats_serve s t);
-  ranks_serve = λ r t. weaker (is_some (offer_ranked seats r)) (holds_rank plan r) _ (λ i. or_left (holds_rank plan r) _ i) (k.ranks_serve r t);
-}
 
 -- ---- offers that come and go
 

@@ -19,8 +19,8 @@ use Rattle.route_model.proofs.Said.{none_yet, candidates_after, offer_after}
 use Rattle.route_choice.specs.declared.keys.Seat.{Seat}
 use Rattle.route_choice.specs.declared.keys.Offer.{Offer}
 use Rattle.route_choice.specs.Orders.{seat_cmp}
-use Rattle.route_choice.specs.Seats.{Seats, place_as, said_by, held_in, flat, offer_at, seat_in, offer_in}
-use Rattle.route_choice.proofs.Orders.{seat_same, seat_total, is_place, is_prefix, is_peer}
+use Rattle.route_choice.specs.Seats.{Seats, said_by, held_in, flat, offer_at, seat_in, offer_in}
+use Rattle.route_choice.proofs.Orders.{place_as, seat_same, seat_total, is_place, is_prefix, is_peer}
 
 abbrev pub offer_as : Offer → model.Offer
 offer_as offer = record { path = offer.path; hop = addr_as offer.hop }

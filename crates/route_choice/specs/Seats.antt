@@ -8,14 +8,11 @@ use Rattle.fib_prefix.specs.Seen.{peer_as}
 use Rattle.fib_prefix.specs.declared.event.Elem.{Elem}
 use Rattle.fib_prefix.specs.declared.event.Elem.TheVariants as elem
 use Rattle.route_model.specs.Events as model
-use Rattle.route_model.specs.Choice.{Place, Candidates, after_elem}
+use Rattle.route_model.specs.Choice.{Candidates, after_elem}
 use Rattle.route_choice.specs.declared.keys.Seat.{Seat}
 use Rattle.route_choice.specs.declared.keys.Rank.{Rank}
 use Rattle.route_choice.specs.declared.keys.Offer.{Offer}
 use Rattle.route_choice.specs.Orders.{seat_cmp, rank_cmp}
-
-abbrev pub place_as : Seat → Place
-place_as s = record { prefix = prefix_as s.prefix; peer = peer_as s.peer }
 
 -- the seats, with what is offered at each
 abbrev pub Seats : Type 0

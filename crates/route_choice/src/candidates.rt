@@ -1,4 +1,4 @@
-//! The candidates.
+//! The candidates: the routes among which one is chosen for each prefix.
 
 ghost use Rattle.std.specs.Prelude.{◌≡◌, ◌&&◌, ◌||◌, List, true, false, cond, [], map, option_map, is_some, Some, None, Bool, Option, IfOk, OnOk, OnErr, IsSome};
 ghost use Rattle.std.specs.Ordering.{is_eq};
@@ -21,8 +21,8 @@ use std::alloc::{AllocError, Global};
 use std::collections::{BTreeMap, BTreeSet};
 use std::marker::Model;
 
-/// What peers offer, and what is chosen of it. Contracts see the list of candidates in the order of their places, and the
-/// elementary event for which room is held.
+/// The routes that peers offer, and which of them are chosen. Contracts see the list of candidates in the order of their
+/// places, and the elementary event for which room is held.
 #[derive(Drop)]
 pub struct Candidates {
     alloc: Global,
@@ -82,7 +82,7 @@ fn offer_ranked(seats: &BTreeMap<Seat, Option<Offer>>, rank: &Rank) -> Option<Of
     }
 }
 
-/// The best candidate of a prefix, that of a peer left out.
+/// The preferred route for a prefix, that of a peer left out.
 fn best_but(
     seats: &BTreeMap<Seat, Option<Offer>>,
     ranks: &BTreeSet<Rank>,
@@ -108,7 +108,7 @@ fn best_but(
     None
 }
 
-/// The hop of the better of what a peer offers and the best candidate of the others.
+/// The next hop of the preferred one of a peer's route and that of the others.
 fn better_hop(peer: Peer, own: Option<Offer>, others: &Option<Candidate>) -> Option<Addr>
     ensures { result ≡ better_of peer own others.now }
 {
@@ -128,7 +128,7 @@ fn better_hop(peer: Peer, own: Option<Offer>, others: &Option<Candidate>) -> Opt
     }
 }
 
-/// A cut for each offer of a peer, in the order of prefixes.
+/// A cut for each route of a peer, in the order of prefixes.
 fn cuts_of(
     alloc: Global,
     seats: &BTreeMap<Seat, Option<Offer>>,
@@ -374,7 +374,7 @@ fn load_elem(
 }
 
 impl Candidates {
-    /// No candidates.
+    /// No routes.
     pub fn new(alloc: Global) -> Candidates
         ensures { result ≡ record { candidates = []; room = None } }
     {
@@ -386,7 +386,7 @@ impl Candidates {
         }
     }
 
-    /// The event as elementary events: a cut for each candidate of a peer that is lost, in the order of prefixes.
+    /// The event as elementary events: a cut for each route of a peer whose session is lost, in the order of prefixes.
     ///
     /// # Errors
     ///
@@ -429,8 +429,8 @@ impl Candidates {
         Ok(())
     }
 
-    /// Makes room for an elementary event and tells the choice that it will make. It changes no candidate. The plan before it
-    /// is void.
+    /// Makes room for an elementary event and tells the choice that it will make. It changes no route. The plan before it is
+    /// void.
     ///
     /// # Errors
     ///
@@ -492,15 +492,15 @@ impl Candidates {
         Ok(())
     }
 
-    /// The chosen hop of a prefix, if it has a candidate.
-    pub fn chosen(&self, prefix: &Prefix) -> Option<Addr>
+    /// The next hop of the chosen route for a prefix, if a peer offers one.
+    pub fn chosen_hop(&self, prefix: &Prefix) -> Option<Addr>
         ensures { option_map addr_as result ≡ chosen_for self.now.candidates (prefix_as prefix.now) }
     {
         let best = best_but(&self.seats, &self.ranks, prefix, None)?;
         Some(best.offer.hop())
     }
 
-    /// Each prefix that has a candidate with its chosen hop, in the order of prefixes.
+    /// Each prefix for which a peer offers a route, with the next hop of the chosen one, in the order of prefixes.
     ///
     /// # Errors
     ///
