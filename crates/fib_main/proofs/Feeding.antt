@@ -14,8 +14,8 @@ use Rattle.mrt_frame.specs.Records.{fault_of}
 use Rattle.mrt_frame.specs.declared.Malformed as code_malformed
 use Rattle.mrt_read.specs.Standing as reading
 use Rattle.mrt_read.specs.declared.reader.Reader.{Reader}
-use Rattle.mrt_read.specs.declared.reader.ReadError.{ReadError}
-use Rattle.mrt_read.specs.declared.reader.ReadError.TheVariants as read
+use Rattle.mrt_read.specs.declared.reader.EventsError.{EventsError}
+use Rattle.mrt_read.specs.declared.reader.EventsError.TheVariants as read
 use Rattle.fib_main.specs.declared.outcome.Which.{Which}
 use Rattle.fib_main.specs.declared.outcome.Outcome.TheVariants as outcome
 use Rattle.fib_main.specs.declared.state.State.{State}
@@ -125,7 +125,7 @@ fault_due : (which : Which) (before : List Elem) (octets : List ℕ) (read : Pro
 unfolding feed_of
 fault_due which before octets read malformed state s f = rw (f.1, s.fits, f.0) refl
 
-pub refused_read : (which : Which) (before : List Elem) (octets : List ℕ) (old new : Reader) (state : State) (events : ℕ) (error : ReadError) → Going which before octets old state events → reading.Failed old error new → Brings which before (Err (of_read error)) state (feed_of which before octets)
+pub refused_read : (which : Which) (before : List Elem) (octets : List ℕ) (old new : Reader) (state : State) (events : ℕ) (error : EventsError) → Going which before octets old state events → reading.Failed old error new → Brings which before (Err (of_read error)) state (feed_of which before octets)
 refused_read which before octets old new state events (read.Malformed malformed) g t = fault_due which before octets g.read malformed state g.held (t.tells octets g.read g.stands)
 refused_read which before octets old new state events read.NoMemory g t = tt
 

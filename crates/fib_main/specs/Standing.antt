@@ -16,8 +16,8 @@ use Rattle.fib_main.specs.declared.state.State.{State}
 use Rattle.fib_main.specs.declared.state.FeedError.{FeedError}
 use Rattle.fib_main.specs.declared.state.FeedError.TheVariants.{Malformed, HopsFull, NoMemory}
 use Rattle.fib_main.specs.declared.report.Fed.{Fed}
-use Rattle.mrt_read.specs.declared.reader.ReadError.{ReadError}
-use Rattle.mrt_read.specs.declared.reader.ReadError.TheVariants as read
+use Rattle.mrt_read.specs.declared.reader.EventsError.{EventsError}
+use Rattle.mrt_read.specs.declared.reader.EventsError.TheVariants as read
 use Rattle.fib_main.specs.Seen.{changes_as, route_as}
 use Rattle.fib_main.specs.Stops.{Stop, Refused, Is, Fails, event_in}
 use Rattle.fib_main.specs.Due.{Feed}
@@ -72,7 +72,7 @@ pub record Has (which : Which) (before : List Elem) (feed : Feed) (counts : Coun
   pub stands : Stands which before feed.elems state
 
 -- a refusal of a reader, as one of an input
-abbrev pub of_read : ReadError → FeedError
+abbrev pub of_read : EventsError → FeedError
 of_read (read.Malformed malformed) = Malformed malformed
 of_read read.NoMemory = NoMemory
 

@@ -14,7 +14,7 @@ ghost use Rattle.fib_main.specs.declared.state.FeedError.TheVariants.{Malformed 
 use crate::outcome::Which;
 use fib_prefix::{Addr, Elem, Event, Hop, HopError, HopTable};
 use fib_report::Change;
-use mrt_read::{Malformed, ReadError};
+use mrt_read::{EventsError, Malformed};
 use route_choice::{Candidates, Choice};
 use std::alloc::{AllocError, AllocFailed, Global};
 use thiserror::Error;
@@ -41,13 +41,13 @@ impl From<Malformed> for FeedError {
     }
 }
 
-impl From<ReadError> for FeedError {
+impl From<EventsError> for FeedError {
     ghost from_gives = { λ error e. e ≡ of_read error };
 
-    fn from(error: ReadError) -> FeedError {
+    fn from(error: EventsError) -> FeedError {
         match error {
-            ReadError::Malformed(malformed) => FeedError::Malformed(malformed),
-            ReadError::NoMemory => FeedError::NoMemory,
+            EventsError::Malformed(malformed) => FeedError::Malformed(malformed),
+            EventsError::NoMemory => FeedError::NoMemory,
         }
     }
 }

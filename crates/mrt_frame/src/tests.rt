@@ -42,7 +42,7 @@ fn take_twice(framer: &mut Framer) -> Result<Option<[(u16, usize); 2]>, Malforme
         return Ok(None);
     };
     let first = (framed.sub, framed.body.len());
-    framer.again();
+    framer.put_back();
     let Some(framed) = framer.next()? else {
         return Ok(None);
     };
@@ -50,7 +50,7 @@ fn take_twice(framer: &mut Framer) -> Result<Option<[(u16, usize); 2]>, Malforme
 }
 
 /// What is said once the records of the input are taken.
-fn ended(framer: &mut Framer) -> Result<(), Malformed>
+fn end_of(framer: &mut Framer) -> Result<(), Malformed>
     ensures { IsUsedUp framer.new }
 {
     while let Some(_framed) = framer.next()? {}
@@ -77,7 +77,7 @@ fn takes_the_same_records_from_pieces_of_any_size(rt: HostRuntime) -> Result<(),
             expected.as_slice(),
             "in pieces of {size}"
         );
-        assert_eq!(rt; ended(&mut framer), Ok(()), "in pieces of {size}");
+        assert_eq!(rt; end_of(&mut framer), Ok(()), "in pieces of {size}");
     }
     Ok(())
 }
@@ -90,7 +90,7 @@ fn gives_a_record_back(rt: HostRuntime) -> Result<(), Fail> {
     assert_eq!(rt; take_twice(&mut framer), Ok(Some([(1, 21), (1, 21)])));
     assert_eq!(rt; take_twice(&mut framer), Ok(Some([(2, 36), (2, 36)])));
     assert_eq!(rt; take_twice(&mut framer), Ok(None));
-    assert_eq!(rt; ended(&mut framer), Ok(()));
+    assert_eq!(rt; end_of(&mut framer), Ok(()));
     Ok(())
 }
 
@@ -105,11 +105,11 @@ fn refuses_what_is_cut_or_too_long(rt: HostRuntime) -> Result<(), Fail> {
     ];
     for (input, refused) in cases {
         let mut framer = Framer::new(rt.alloc());
-        assert_eq!(rt; ended(&mut framer), Ok(()));
+        assert_eq!(rt; end_of(&mut framer), Ok(()));
         framer.feed(input)?;
-        assert_eq!(rt; ended(&mut framer), Err(refused), "at {refused}");
+        assert_eq!(rt; end_of(&mut framer), Err(refused), "at {refused}");
         assert_eq!(rt;
-            ended(&mut framer),
+            end_of(&mut framer),
             Err(refused),
             "at {refused}, asked again"
         );

@@ -16,7 +16,7 @@ use Rattle.mrt_read.specs.Next as next
 use Rattle.mrt_read.specs.Seen.{told_events}
 use Rattle.mrt_read.specs.Standing.{left, peers, refusal, Stands, next_in, IsUsedUp, IsFault, TakesEvents, Refuses, end_of, Tells}
 use Rattle.mrt_read.specs.declared.reader.Reader.{Reader}
-use Rattle.mrt_read.specs.declared.reader.Told.{Told}
+use Rattle.mrt_read.specs.declared.reader.NextRecord.{NextRecord}
 
 -- ---- a refusal is kept, or none is
 
@@ -52,7 +52,7 @@ same_progress read table (Some v) events records skipped e n none some = rw (e, 
 abbrev pub source : Reader → next.Source
 source r = record { framer = r.framer; table = r.table }
 
-pub takes_events : (old new : Reader) (told : Told) (events : List Event) → refusal old ≡ None → refusal new ≡ None → next.ReadsRecord (source old) told (source new)
+pub takes_events : (old new : Reader) (told : NextRecord) (events : List Event) → refusal old ≡ None → refusal new ≡ None → next.ReadsRecord (source old) told (source new)
     → events ≡ told_events (next.events_of told) → new.records ≡ old.records + 1 → IfNone (next.events_of told) (new.skipped ≡ old.skipped + 1) → IfSome (next.events_of told) (λ v. new.skipped ≡ old.skipped) → TakesEvents old events new
 takes_events old new told events none still r e n skips keeps = record {
   shorter = r.shorter;
@@ -65,7 +65,7 @@ takes_events old new told events none still r e n skips keeps = record {
       stands_on fed _ new still refl refl refl (rw same at on);
 }
 
-pub went_on : (old new : next.Source) (given : Option Told) (told : Told) → given ≡ Some told → next.Goes old (Ok given) new → next.ReadsRecord old told new
+pub went_on : (old new : next.Source) (given : Option NextRecord) (told : NextRecord) → given ≡ Some told → next.Goes old (Ok given) new → next.ReadsRecord old told new
 went_on old new given told is goes = rw is at goes
 
 pub went_wrong : (old new : next.Source) (why : Refusal) (rule : ℕ) → why ≡ Rule rule → next.Fails old why new → next.BreaksRule old rule × (new.table ≡ old.table)

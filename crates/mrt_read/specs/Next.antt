@@ -10,9 +10,9 @@ use Rattle.mrt_records.specs.declared.table.PeerTable.{PeerTable}
 use Rattle.wire_fields.specs.declared.refusal.Refusal.{Refusal}
 use Rattle.wire_fields.specs.declared.refusal.Refusal.TheVariants.{Rule, NoMemory}
 use Rattle.fib_prefix.specs.Seen.{event_as}
-use Rattle.mrt_read.specs.Seen.{peers_in}
-use Rattle.mrt_read.specs.declared.reader.Told.{Told}
-use Rattle.mrt_read.specs.declared.reader.Told.TheVariants.{Events, Skipped}
+use Rattle.mrt_records.specs.Views.{peers_in}
+use Rattle.mrt_read.specs.declared.reader.NextRecord.{NextRecord}
+use Rattle.mrt_read.specs.declared.reader.NextRecord.TheVariants.{Events, Skipped}
 
 -- the framer and the latest peer table
 pub record Source : Type 0 where
@@ -20,12 +20,12 @@ pub record Source : Type 0 where
   pub table : Option PeerTable
 
 -- the events of a record, or none where it is skipped
-abbrev pub events_of : Told → Option (List Event)
+abbrev pub events_of : NextRecord → Option (List Event)
 events_of (Events events) = Some (map event_as events.items)
 events_of Skipped = None
 
 -- the next record was read
-pub record ReadsRecord (old : Source) (told : Told) (new : Source) : Type 0 where
+pub record ReadsRecord (old : Source) (told : NextRecord) (new : Source) : Type 0 where
   pub read : Record
   pub front : record_at (left old.framer) ≡ Ok (read, left new.framer)
   pub says : record_in (peers_in old.table) read ≡ Ok (peers_in new.table, events_of told)
@@ -50,7 +50,7 @@ Fails old (Rule rule) new = BreaksRule old rule × (new.table ≡ old.table)
 Fails old NoMemory new = Stays old new
 
 -- what was read of the source, and how it stands then
-abbrev pub Goes : Source → Result (Option Told) Refusal → Source → Type 0
+abbrev pub Goes : Source → Result (Option NextRecord) Refusal → Source → Type 0
 Goes old (Ok (Some told)) new = ReadsRecord old told new
 Goes old (Ok None) new = Stays old new × ((record_at (left old.framer) ≡ Err header_cut) ⊎ (record_at (left old.framer) ≡ Err body_cut))
 Goes old (Err why) new = Fails old why new

@@ -1,19 +1,6 @@
 -- What a clause sees of what was read.
-use Rattle.std.specs.Prelude.{List, [], map, Option, Some, None, option_map}
-use Rattle.std.specs.declared.vec.Vec.{Vec}
-use Rattle.route_model.specs.Events.{Peer, Event}
-use Rattle.fib_prefix.specs.Seen.{event_as}
-use Rattle.fib_prefix.specs.declared.event.Event as code_event
-use Rattle.mrt_records.specs.Views.{peers_of}
-use Rattle.mrt_records.specs.declared.table.PeerTable.{PeerTable}
-
--- the peers of a table, where there is one
-abbrev pub peers_in : Option PeerTable → Option (List Peer)
-peers_in table = option_map peers_of table
-
--- the peer table behind a record, and the record's events
-abbrev pub read_as : {A : Type 0} → Option PeerTable → Option (Vec code_event.Event A) → Option (List Peer) × Option (List Event)
-read_as table told = (peers_in table, option_map (λ events. map event_as events.items) told)
+use Rattle.std.specs.Prelude.{List, [], Option, Some, None}
+use Rattle.route_model.specs.Events.{Event}
 
 -- the events of a record, none where it is skipped
 abbrev pub told_events : Option (List Event) → List Event

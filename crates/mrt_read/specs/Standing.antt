@@ -12,10 +12,11 @@ use Rattle.mrt_frame.specs.Records.{fault_of}
 use Rattle.mrt_frame.specs.declared.Malformed as code_malformed
 use Rattle.fib_prefix.specs.Seen.{event_as}
 use Rattle.fib_prefix.specs.declared.event.Event as code_event
-use Rattle.mrt_read.specs.Seen.{peers_in, told_events}
+use Rattle.mrt_records.specs.Views.{peers_in}
+use Rattle.mrt_read.specs.Seen.{told_events}
 use Rattle.mrt_read.specs.declared.reader.Reader.{Reader}
-use Rattle.mrt_read.specs.declared.reader.ReadError.{ReadError}
-use Rattle.mrt_read.specs.declared.reader.ReadError.TheVariants.{Malformed, NoMemory}
+use Rattle.mrt_read.specs.declared.reader.EventsError.{EventsError}
+use Rattle.mrt_read.specs.declared.reader.EventsError.TheVariants.{Malformed, NoMemory}
 
 -- the octets fed that no whole record has used up
 abbrev pub left : Reader → List ℕ
@@ -55,7 +56,7 @@ abbrev pub next_of : Reader → Result (Option (List Event)) Fault
 next_of reader = framing.kept_or (refusal reader) (next_in (records_of reader) (peers reader) (record_at (left reader)))
 
 -- the answer is this, but for want of memory
-abbrev pub Answers : {A : Type 0} → Result (Option (Vec code_event.Event A)) ReadError → Result (Option (List Event)) Fault → Type 0
+abbrev pub Answers : {A : Type 0} → Result (Option (Vec code_event.Event A)) EventsError → Result (Option (List Event)) Fault → Type 0
 Answers (Ok told) due = due ≡ Ok (option_map (λ events. map event_as events.items) told)
 Answers (Err (Malformed malformed)) due = due ≡ Err (fault_of malformed)
 Answers (Err NoMemory) due = Unit {0}
@@ -113,12 +114,12 @@ pub record Refuses (old : Reader) (fault : Fault) (new : Reader) : Type 0 where
   pub stands : (fed : List ℕ) (read : Progress) → Stands fed read old → Stands fed read new
 
 -- how the reader stands after it gave nothing for this reason
-abbrev pub Failed : Reader → ReadError → Reader → Type 0
+abbrev pub Failed : Reader → EventsError → Reader → Type 0
 Failed old (Malformed malformed) new = Refuses old (fault_of malformed) new
 Failed old NoMemory new = IsUnchanged old new
 
 -- how the reader stands after it gave this
-abbrev pub Took : {A : Type 0} → Reader → Result (Option (Vec code_event.Event A)) ReadError → Reader → Type 0
+abbrev pub Took : {A : Type 0} → Reader → Result (Option (Vec code_event.Event A)) EventsError → Reader → Type 0
 Took old (Ok (Some events)) new = TakesEvents old (map event_as events.items) new
 Took old (Ok None) new = TakesNothing old new
 Took old (Err error) new = Failed old error new

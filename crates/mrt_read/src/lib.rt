@@ -8,10 +8,9 @@
 #![tactic(auto)]
 
 mod reader;
-mod records;
 
 pub use mrt_frame::Malformed;
-pub use reader::{ReadError, Reader};
+pub use reader::{EventsError, Reader};
 
 #[cfg(test)]
 mod tests;

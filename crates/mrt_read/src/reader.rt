@@ -7,16 +7,15 @@ ghost use Rattle.mrt_frame.specs.Framing.{count};
 ghost use Rattle.mrt_read.specs.Next.{Goes};
 ghost use Rattle.reading_model.specs.Input.{start};
 
-use crate::records::read_record;
 use fib_prefix::Event;
 use mrt_frame::{Framer, Malformed};
-use mrt_records::{PeerTable, Refusal};
+use mrt_records::{PeerTable, Refusal, read_record};
 use std::alloc::{AllocError, Global};
 use thiserror::Error;
 
 /// Why no events were taken.
 #[derive(Clone, Copy, Debug, PartialEq, Eq, Error)]
-pub enum ReadError {
+pub enum EventsError {
     /// The next record breaks a rule.
     #[error("{0}")]
     Malformed(Malformed),
@@ -27,7 +26,7 @@ pub enum ReadError {
 
 /// What the next whole record says.
 #[derive(Drop)]
-enum Told {
+enum NextRecord {
     /// Its events.
     Events(Vec<Event>),
     /// It is skipped.
@@ -39,19 +38,19 @@ fn read_next(
     alloc: Global,
     framer: &mut Framer,
     table: &mut Option<PeerTable>,
-) -> Result<Option<Told>, Refusal>
+) -> Result<Option<NextRecord>, Refusal>
     requires { framing.refusal framer.old ≡ None }
     ensures { Goes (record { framer = framer.old; table = table.old }) result (record { framer = framer.new; table = table.new }) }
 {
     match framer.next() {
         Err(malformed) => Err(Refusal::Rule(malformed.rule)),
         Ok(None) => Ok(None),
-        Ok(Some(framed)) => match read_record(alloc, table, &framed) {
-            Ok(Some(events)) => Ok(Some(Told::Events(events))),
-            Ok(None) => Ok(Some(Told::Skipped)),
+        Ok(Some(framed)) => match read_record(alloc, table, framed.kind, framed.sub, framed.body) {
+            Ok(Some(events)) => Ok(Some(NextRecord::Events(events))),
+            Ok(None) => Ok(Some(NextRecord::Skipped)),
             Err(Refusal::Rule(rule)) => Err(Refusal::Rule(rule)),
             Err(Refusal::NoMemory) => {
-                framer.again();
+                framer.put_back();
                 Err(Refusal::NoMemory)
             }
         },
@@ -104,32 +103,32 @@ impl Reader {
     ///
     /// The first record that breaks a rule is refused, for good, and none of its events is given. Where memory runs out,
     /// the reader is as it was.
-    pub fn take_events(&mut self) -> Result<Option<Vec<Event>>, ReadError>
+    pub fn take_events(&mut self) -> Result<Option<Vec<Event>>, EventsError>
         ensures gives { Answers result (next_of self.old) }
         ensures after { Took self.old result self.new }
     {
         if let Some(refused) = self.refused {
-            return Err(ReadError::Malformed(refused));
+            return Err(EventsError::Malformed(refused));
         }
         match read_next(self.alloc, &mut self.framer, &mut self.table) {
             Ok(None) => Ok(None),
-            Ok(Some(Told::Events(events))) => {
+            Ok(Some(NextRecord::Events(events))) => {
                 self.records += 1;
                 Ok(Some(events))
             }
-            Ok(Some(Told::Skipped)) => {
+            Ok(Some(NextRecord::Skipped)) => {
                 self.records += 1;
                 self.skipped += 1;
                 Ok(Some(Vec::new(self.alloc)))
             }
-            Err(Refusal::NoMemory) => Err(ReadError::NoMemory),
+            Err(Refusal::NoMemory) => Err(EventsError::NoMemory),
             Err(Refusal::Rule(rule)) => {
                 let refused = Malformed {
                     number: self.records,
                     rule,
                 };
                 self.refused = Some(refused);
-                Err(ReadError::Malformed(refused))
+                Err(EventsError::Malformed(refused))
             }
         }
     }
@@ -157,7 +156,7 @@ impl Reader {
     }
 
     /// How many of them were skipped.
-    pub fn skipped(&self) -> u64
+    pub fn skipped_records(&self) -> u64
         ensures { result ≡ skipped_of self.now }
     {
         self.skipped

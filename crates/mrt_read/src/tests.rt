@@ -44,11 +44,11 @@ fn take_all(reader: &mut Reader, events: &mut Vec<Event>) -> Result<(), Fail>
 }
 
 /// What is said of the input's end, once the events of all whole records are taken.
-fn end_of(reader: &mut Reader) -> Result<(), ReadError> {
+fn end_of(reader: &mut Reader) -> Result<(), EventsError> {
     while let Some(_events) = reader.take_events()? {}
     match reader.finish() {
         Ok(()) => Ok(()),
-        Err(malformed) => Err(ReadError::Malformed(malformed)),
+        Err(malformed) => Err(EventsError::Malformed(malformed)),
     }
 }
 
@@ -77,7 +77,7 @@ fn tells_the_same_from_pieces_of_any_size(rt: HostRuntime) -> Result<(), Fail> {
             "in pieces of {size}"
         );
         assert_eq!(rt; reader.records(), 5, "in pieces of {size}");
-        assert_eq!(rt; reader.skipped(), 2, "in pieces of {size}");
+        assert_eq!(rt; reader.skipped_records(), 2, "in pieces of {size}");
     }
     for (name, pieces, number, rule) in [
         ("a route before the peers", [ROUTE, PEERS], 0, 5),
@@ -90,7 +90,7 @@ fn tells_the_same_from_pieces_of_any_size(rt: HostRuntime) -> Result<(), Fail> {
         for piece in pieces {
             reader.feed(piece)?;
         }
-        let refused = Err(ReadError::Malformed(Malformed { number, rule }));
+        let refused = Err(EventsError::Malformed(Malformed { number, rule }));
         assert_eq!(rt; end_of(&mut reader), refused, "{name}");
         assert_eq!(rt; end_of(&mut reader), refused, "{name}, asked again");
     }

@@ -1,4 +1,5 @@
-//! Fields at the front of octets: a value and what follows it, or the caller's fault where the field is cut.
+//! Fields at the front of octets: readers, each with its definition. A reader gives a value and what follows it, or the
+//! caller's fault where the field is cut.
 //!
 //! Numbers are big-endian, as MRT (RFC 6396, section 2) and BGP-4 (RFC 4271, section 4) have them, and `byteorder`
 //! reads them. The fault is handed in by the caller, which knows what a cut means at its place; so the order of the

@@ -146,7 +146,7 @@ next_fault : (before : List Record) (octets : List ℕ) (rule : ℕ) → record_
 unfolding next_record
 next_fault before octets rule e = rw e refl
 
-records_shorten : Shortens next_record
+pub records_shorten : Shortens next_record
 unfolding next_record
 records_shorten = record {
   by = λ before next octets after e.

@@ -26,7 +26,7 @@ no_record : (read : Progress) (octets : List ℕ) (rule : ℕ) → record_at oct
 unfolding read_record
 no_record read octets rule e = rw e refl
 
-shortens : Shortens read_record
+pub shortens : Shortens read_record
 unfolding read_record
 shortens = record {
   by = λ read next octets after e.

@@ -27,11 +27,11 @@ use Rattle.reading_model.specs.Reading.{Reads}
 
 -- ---- what a reader's value meets
 
-then_any : {A B F : Type 0} (r : Result A F) (f : A → Result B F) (Q : B → Type 0) → ((x : A) → IfOk (f x) Q) → IfOk (r >>= f) Q
+pub then_any : {A B F : Type 0} (r : Result A F) (f : A → Result B F) (Q : B → Type 0) → ((x : A) → IfOk (f x) Q) → IfOk (r >>= f) Q
 then_any (Ok x) f Q h = h x
 then_any (Err e) f Q h = tt
 
-then_meets : {A B F : Type 0} (r : Result A F) (f : A → Result B F) (P : A → Type 0) (Q : B → Type 0) → IfOk r P → ((x : A) → P x → IfOk (f x) Q) → IfOk (r >>= f) Q
+pub then_meets : {A B F : Type 0} (r : Result A F) (f : A → Result B F) (P : A → Type 0) (Q : B → Type 0) → IfOk r P → ((x : A) → P x → IfOk (f x) Q) → IfOk (r >>= f) Q
 then_meets (Ok x) f P Q p h = h x p
 then_meets (Err e) f P Q p h = tt
 

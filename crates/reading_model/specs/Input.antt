@@ -5,7 +5,7 @@ use Rattle.address_model.specs.declared.family.Family.TheVariants.{V4, V6}
 use Rattle.route_model.specs.Events.{Peer, Event}
 use Rattle.octet_fields.specs.Field.{◌>>=◌, until_end}
 use Rattle.reading_model.specs.Rules.{no_peer_table}
-use Rattle.reading_model.specs.Record.{Record, Fault, record_at}
+use Rattle.reading_model.specs.Record.{Record, record_at}
 use Rattle.reading_model.specs.Rib.{peer_table, rib}
 use Rattle.reading_model.specs.Update.{bgp4mp}
 
@@ -48,10 +48,6 @@ counted p (peers, None) = record { peers = peers; events = p.events; records = p
 pub record Stopped : Type 0 where
   pub read : Progress
   pub rule : ℕ
-
--- the number of the record that breaks it, and the rule
-abbrev pub fault_of : Stopped → Fault
-fault_of stopped = record { number = stopped.read.records; rule = stopped.rule }
 
 abbrev pub or_stop : {A : Type 0} → Progress → Result A ℕ → Result A Stopped
 or_stop read (Ok x) = Ok x

@@ -8,3 +8,4 @@ pub mod Rib
 pub mod Update
 pub mod Input
 pub mod Reading
+pub mod End

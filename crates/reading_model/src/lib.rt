@@ -9,8 +9,15 @@ mod session;
 
 ghost use Rattle.std.specs.Prelude.{◌≡◌, ℕ, List, Ok, Err};
 ghost use Rattle.std.specs.List.{AllByRecursion};
+ghost use Rattle.address_model.specs.declared.family.Family.{Family};
 ghost use Rattle.route_model.specs.Events.{IsEvent};
-ghost use Rattle.reading_model.specs.Input.{Progress, Stopped, input};
+ghost use Rattle.octet_fields.specs.Field.{one_more};
+ghost use Rattle.reading_model.specs.Wire.{prefix_at};
+ghost use Rattle.reading_model.specs.Path.{segment_at};
+ghost use Rattle.reading_model.specs.Attribute.{attribute_at};
+ghost use Rattle.reading_model.specs.Record.{next_record};
+ghost use Rattle.reading_model.specs.Input.{Progress, Stopped, read_record, input};
+ghost use Rattle.reading_model.specs.End.{ReadsToEnd};
 ghost use Rattle.reading_model.specs.Pieces.{StartsSo, FeedsOn, TakesOn, StaysTooLong, StaysBroken, EndsCut, EndsSo, KeepsFront};
 ghost use Rattle.reading_model.specs.Reading.{Reads, ReadingStarts, ReadingFeeds, ReadingTakes, ReadingBreaks, ReadingTooLong, ReadingStays, ReadingEndsCut, ReadingEnds};
 
@@ -39,6 +46,16 @@ pub fn reading_in_pieces()
     ensures stays { ReadingStays }
     ensures ends_cut { ReadingEndsCut }
     ensures ends { ReadingEnds }
+{}
+
+/// Where a definition reads to the end, nothing is left over: prefixes, the segments of a path, attributes, records, and a
+/// whole input with all that it says.
+pub fn end_law()
+    ensures prefixes { (cut : ℕ) (family : Family) → ReadsToEnd (one_more (prefix_at cut family)) }
+    ensures path { (size : ℕ) → ReadsToEnd (segment_at size) }
+    ensures attributes { (place : Place) → ReadsToEnd (attribute_at place) }
+    ensures records { ReadsToEnd next_record }
+    ensures input { ReadsToEnd read_record }
 {}
 
 /// What is read is well formed, also where reading stops or goes on: each address has as many bits as its family, each

@@ -28,10 +28,10 @@ use Rattle.route_choice.specs.declared.keys.Offer.{Offer}
 use Rattle.route_choice.specs.declared.keys.Candidate.{Candidate}
 use Rattle.route_choice.specs.Orders.{seat_cmp, rank_cmp}
 use Rattle.fib_prefix.specs.Order.{code_peer_cmp}
-use Rattle.route_choice.specs.Seats.{Seats, place_as, held_in, flat, offer_at, rank_at, seat_of, IsIndexed}
+use Rattle.route_choice.specs.Seats.{Seats, held_in, flat, offer_at, rank_at, seat_of, IsIndexed}
 use Rattle.route_choice.specs.Walks.{ranks_of, with_path, offer_ranked, is_out, or_next, first_in}
-use Rattle.route_choice.proofs.Orders.{peer_is, peer_same, prefix_same, prefix_total, seat_total, rank_total, peer_total}
-use Rattle.route_choice.proofs.Views.{offer_as, at_seat, has_seat, lookup_by_test}
+use Rattle.route_choice.proofs.Orders.{place_as, peer_is, peer_same, prefix_same, prefix_total, seat_total, rank_total, peer_total}
+use Rattle.route_choice.proofs.Views.{offer_as, at_seat, held_seat, lookup_by_test}
 
 -- ---- what the walk over ranks finds
 
@@ -150,7 +150,7 @@ pub record HasCode (seats : Seats) (d : Place × model.Offer) : Type 0 where
   pub is : offer_as offer ≡ d.1
 
 pub code_of : (seats : Seats) (d : Place × model.Offer) → IsHeld (held_in seats) d → HasCode seats d
-code_of seats d h = by_seat (has_seat d.0 d.1 seats h)
+code_of seats d h = by_seat (held_seat d.0 d.1 seats h)
   where
     by_offer : (s : Seat) → place_as s ≡ d.0 → (o : Option Offer) → offer_at seats s ≡ o → option_map offer_as o ≡ Some d.1 → HasCode seats d
     by_offer s e None f g = absurd cc
@@ -194,7 +194,7 @@ same_offer seats s t e = ap flat (lookup_by_test (is_at (seat_cmp t)) (is_at (se
 pub with_own_path : (n : ℕ) (offer : Offer) → offer.path ≡ n → with_path n (Some offer) ≡ Some offer
 with_own_path n offer e = ap (λ (b : Bool). if b then Some offer else None) (let x : (offer.path == n) ≡ true = grind (arith, e) in x)
 
-with_path_parts : (n : ℕ) (o : Option Offer) (offer : Offer) → with_path n o ≡ Some offer → (o ≡ Some offer) × (offer.path ≡ n)
+pub with_path_parts : (n : ℕ) (o : Option Offer) (offer : Offer) → with_path n o ≡ Some offer → (o ≡ Some offer) × (offer.path ≡ n)
 with_path_parts n None offer e = absurd cc
 with_path_parts n (Some x) offer e = by_test (x.path == n) refl e
   where

@@ -29,11 +29,11 @@ use Rattle.route_choice.specs.declared.keys.Candidate.{Candidate}
 use Rattle.route_choice.specs.declared.choice.Choice.{Choice}
 use Rattle.route_choice.specs.Orders.{rank_cmp}
 use Rattle.fib_prefix.specs.Order.{code_peer_cmp}
-use Rattle.route_choice.specs.Seats.{Seats, place_as, held_in, offer_at, IsIndexed, seat_in, offer_in}
+use Rattle.route_choice.specs.Seats.{Seats, held_in, offer_at, IsIndexed, seat_in, offer_in}
 use Rattle.route_choice.specs.Walks.{ranks_of, first_in, better_of}
 use Rattle.route_model.specs.Events.{prefix_of}
 use Rattle.route_choice.specs.Held.{IsChoice}
-use Rattle.route_choice.proofs.Orders.{peer_is}
+use Rattle.route_choice.proofs.Orders.{place_as, peer_is}
 use Rattle.route_choice.proofs.Views.{offer_as, are_candidates, at_seat, about_is, offered_is, is_elem}
 use Rattle.route_choice.proofs.Best.{IsBestOf, out_as, candidate_as, best_is}
 

@@ -21,9 +21,9 @@ use Rattle.route_choice.specs.declared.keys.Seat.{Seat}
 use Rattle.route_choice.specs.declared.keys.Offer.{Offer}
 use Rattle.route_choice.specs.Orders.{seat_cmp}
 use Rattle.fib_prefix.specs.Order.{code_peer_cmp}
-use Rattle.route_choice.specs.Seats.{Seats, place_as, held_in, flat}
+use Rattle.route_choice.specs.Seats.{Seats, held_in, flat}
 use Rattle.route_choice.specs.Walks.{seats_of, cut_or, cuts_in}
-use Rattle.route_choice.proofs.Orders.{peer_same, seat_same, peer_total, is_place}
+use Rattle.route_choice.proofs.Orders.{place_as, peer_same, seat_same, peer_total, is_place}
 use Rattle.route_choice.proofs.Views.{offer_as, are_candidates, lookup-held}
 
 -- the candidates of seats, one after another

@@ -5,5 +5,6 @@ pub mod Best
 pub mod Choose
 pub mod Finds
 pub mod Rooms
+pub mod Kept
 pub mod Downs
 pub mod Routes

@@ -17,7 +17,7 @@ use Rattle.fib_addr.specs.Order.{code_cmp}
 use Rattle.fib_addr.proofs.Parts.{length_prefix}
 use Rattle.fib_addr.proofs.Ordering.{cmp_is}
 use Rattle.route_model.specs.Events.{same_peer, IsPeer}
-use Rattle.route_model.specs.Choice.{IsPlace, same_place}
+use Rattle.route_model.specs.Choice.{Place, IsPlace, same_place}
 use Rattle.route_model.proofs.Keyed.{key_test}
 use Rattle.route_model.proofs.Places.{peer_key, prefix_key}
 use Rattle.route_choice.specs.declared.keys.Seat.{Seat}
@@ -25,7 +25,10 @@ use Rattle.route_choice.specs.declared.keys.Rank.{Rank}
 use Rattle.route_choice.specs.Orders.{seat_cmp, rank_cmp}
 use Rattle.fib_prefix.specs.Order.{code_peer_cmp}
 pub use Rattle.fib_prefix.proofs.Peers.{peer_is, peer_total, prefix_total}
-use Rattle.route_choice.specs.Seats.{place_as}
+
+-- the place of a seat
+abbrev pub place_as : Seat → Place
+place_as s = record { prefix = prefix_as s.prefix; peer = peer_as s.peer }
 
 pub seat_total : IsTotalOrder seat_cmp
 seat_total = then_total (on_total (λ (s : Seat). s.peer) peer_total) (on_total (λ (s : Seat). s.prefix) prefix_total)

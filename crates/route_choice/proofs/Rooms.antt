@@ -1,6 +1,6 @@
 -- Seats and ranks that come and go.
 use Rattle.std.proofs.Common.{◌≡◌, ℕ, List, [], ◌∷◌, Bool, true, false, cond, not, Option, Some, None, refl, sym, ap, subst, ◌∙◌}
-use Rattle.std.specs.Prelude.{◌||◌, is_some, IsSome, option_map}
+use Rattle.std.specs.Prelude.{◌||◌, is_some, IsSome}
 use Rattle.std.specs.Option.{option_copied}
 use Rattle.std.specs.List.{list_any}
 use Rattle.std.specs.Map.{lookup}
@@ -13,6 +13,9 @@ use Rattle.address_model.specs.Address.{Address, Prefix, same_prefix}
 use Rattle.fib_addr.specs.Seen.{addr_as, prefix_as}
 use Rattle.fib_prefix.specs.Seen.{peer_as, elem_as}
 use Rattle.fib_addr.specs.Order.{code_cmp}
+use Rattle.fib_addr.specs.declared.addr.Addr.{Addr}
+use Rattle.fib_addr.specs.declared.prefix.Prefix as code
+use Rattle.fib_prefix.specs.declared.event.Peer.{Peer}
 use Rattle.fib_prefix.specs.declared.event.Elem.{Elem}
 use Rattle.fib_prefix.specs.declared.event.Elem.TheVariants as elem
 use Rattle.route_model.specs.Events as model
@@ -23,15 +26,14 @@ use Rattle.route_choice.specs.declared.keys.Rank.{Rank}
 use Rattle.route_choice.specs.declared.keys.Offer.{Offer}
 use Rattle.route_choice.specs.Orders.{seat_cmp, rank_cmp}
 use Rattle.fib_prefix.specs.Order.{code_peer_cmp}
-use Rattle.route_choice.specs.Seats.{Seats, flat, offer_at, rank_at, seat_of, has_rank, IsIndexed, HasRoom, seat_in, offer_in}
+use Rattle.route_choice.specs.Seats.{Seats, flat, offer_at, rank_at, seat_of, has_rank, has_seat, IsIndexed, HasRoom, seat_in, offer_in}
 use Rattle.route_choice.specs.Walks.{with_path, offer_ranked}
-use Rattle.route_choice.proofs.Orders.{peer_same, prefix_same, seat_total, rank_total}
-use Rattle.route_choice.proofs.Views.{lookup_by_test}
+use Rattle.route_choice.proofs.Orders.{peer_same, prefix_same, rank_total}
 use Rattle.route_choice.proofs.Best.{same_offer, SameRank, same_rank, with_own_path, is_equal}
 use denote.Ref.{Bor}
 
 -- the rank of what a seat offers has that offer
-own_rank : (seats : Seats) (r : Rank) (s : Seat) (offer : Offer) → is_eq (rank_cmp r (rank_at s offer.path)) ≡ true → offer_at seats s ≡ Some offer → offer_ranked seats r ≡ Some offer
+pub own_rank : (seats : Seats) (r : Rank) (s : Seat) (offer : Offer) → is_eq (rank_cmp r (rank_at s offer.path)) ≡ true → offer_at seats s ≡ Some offer → offer_ranked seats r ≡ Some offer
 own_rank seats r s offer e h =
     let f : SameRank r (rank_at s offer.path) = same_rank r (rank_at s offer.path) e in
     let seat : seat_cmp (seat_of r) s ≡ Equal = ap (λ o. ordering_then o (code_cmp r.prefix s.prefix)) f.peer ∙ f.prefix in
@@ -86,9 +88,13 @@ copied_none (Some x) v b e t u = let y : true ≡ not b = t in absurd cc
 pub absent : {X : Type 0} (o : Option (Bor X)) (v : Option X) (b : Bool) → option_copied o ≡ v → is_some o ≡ not b → b ≡ true → v ≡ None
 absent o v b e t u = copied_none o v b e t u
 
+pub present : {X : Type 0} (o : Option (Bor X)) (v : Option X) (b : Bool) → option_copied o ≡ v → is_some o ≡ not b → b ≡ false → is_some v ≡ true
+present None v b e t u = let y : false ≡ not b = t in absurd cc
+present (Some x) v b e t u = ap is_some (sym e)
+
 -- ---- room for an elementary event
 
-pub room_seat : (seats : Seats) (ranks : List Rank) (e : Elem) → HasRoom seats ranks (Some e) → (offer : Offer) → offer_in e ≡ Some offer → IsSome (lookup (is_at (seat_cmp (seat_in e))) seats)
+pub room_seat : (seats : Seats) (ranks : List Rank) (e : Elem) → HasRoom seats ranks (Some e) → (offer : Offer) → offer_in e ≡ Some offer → has_seat seats (seat_in e) ≡ true
 room_seat seats ranks (elem.Put q p path hop) r offer h = r.0
 room_seat seats ranks (elem.Cut q p) r offer h = absurd cc
 
@@ -99,29 +105,22 @@ room_rank seats ranks (elem.Put q p path hop) r offer h = ap (λ n. has_rank ran
     same_value v w i = cc
 room_rank seats ranks (elem.Cut q p) r offer h = absurd cc
 
-any_by_test : {K : Type 0} (f g : K → Bool) (ks : List K) → ((k : K) → f k ≡ g k) → list_any f ks ≡ list_any g ks
+pub any_by_test : {K : Type 0} (f g : K → Bool) (ks : List K) → ((k : K) → f k ≡ g k) → list_any f ks ≡ list_any g ks
 any_by_test f g [] h = refl
 any_by_test f g (k ∷ ks) h = ap (λ b. b || list_any f ks) (h k) ∙ ap (λ b. g k || b) (any_by_test f g ks h)
 
-pub same_room : (seats : Seats) (ranks : List Rank) (e f : Elem) → elem_as e ≡ elem_as f → HasRoom seats ranks (Some e) → HasRoom seats ranks (Some f)
-same_room seats ranks (elem.Cut q p) (elem.Cut r o) e h = tt
-same_room seats ranks (elem.Cut q p) (elem.Put r o path hop) e h = absurd cc
-same_room seats ranks (elem.Put q p path hop) (elem.Cut r o) e h = absurd cc
-same_room seats ranks (elem.Put q p path hop) (elem.Put r o way next) e h =
+-- puts that clauses don't tell apart have the same seat and rank
+pub same_put : (q r : Peer) (p o : code.Prefix) (path way : ℕ) (hop next : Addr) → elem_as (elem.Put q p path hop) ≡ elem_as (elem.Put r o way next)
+    → (seat_cmp (record { peer = q; prefix = p }) (record { peer = r; prefix = o }) ≡ Equal) × (rank_cmp (record { prefix = p; path = path; peer = q }) (record { prefix = o; path = way; peer = r }) ≡ Equal)
+same_put q r p o path way hop next e =
     let x : peer_as q ≡ peer_as r = put_peer (peer_as q) (peer_as r) (prefix_as p) (prefix_as o) path way (addr_as hop) (addr_as next) e in
     let y : prefix_as p ≡ prefix_as o = put_prefix (peer_as q) (peer_as r) (prefix_as p) (prefix_as o) path way (addr_as hop) (addr_as next) e in
     let z : path ≡ way = put_path (peer_as q) (peer_as r) (prefix_as p) (prefix_as o) path way (addr_as hop) (addr_as next) e in
     let peers : code_peer_cmp q r ≡ Equal = is_equal (code_peer_cmp q r) (peer_same q r ∙ (ap (same_peer (peer_as q)) (sym x) ∙ peer_key.itself (peer_as q))) in
     let prefixes : code_cmp p o ≡ Equal = is_equal (code_cmp p o) (prefix_same p o ∙ (ap (same_prefix (prefix_as p)) (sym y) ∙ prefix_key.itself (prefix_as p))) in
-    let paths : nat_cmp path way ≡ Equal = ap (nat_cmp path) (sym z) ∙ tied_itself nat_cmp_total path in
-    let s : Seat = record { peer = q; prefix = p } in
-    let t : Seat = record { peer = r; prefix = o } in
-    let k : Rank = record { prefix = p; path = path; peer = q } in
-    let l : Rank = record { prefix = o; path = way; peer = r } in
-    let seat : seat_cmp s t ≡ Equal = ap (λ w. ordering_then w (code_cmp p o)) peers ∙ prefixes in
-    let rank : rank_cmp k l ≡ Equal = ap (λ w. ordering_then w (ordering_then (nat_cmp path way) (code_peer_cmp q r))) prefixes ∙ (ap (λ w. ordering_then w (code_peer_cmp q r)) paths ∙ peers) in (
-      subst IsSome (lookup_by_test (is_at (seat_cmp s)) (is_at (seat_cmp t)) seats (λ u. ap is_eq (seat_total.congr s t u seat))) h.0,
-      sym (any_by_test (is_at (rank_cmp k)) (is_at (rank_cmp l)) ranks (λ u. ap is_eq (rank_total.congr k l u rank))) ∙ h.1,
+    let paths : nat_cmp path way ≡ Equal = ap (nat_cmp path) (sym z) ∙ tied_itself nat_cmp_total path in (
+      ap (λ w. ordering_then w (code_cmp p o)) peers ∙ prefixes,
+      ap (λ w. ordering_then w (ordering_then (nat_cmp path way) (code_peer_cmp q r))) prefixes ∙ (ap (λ w. ordering_then w (code_peer_cmp q r)) paths ∙ peers),
     )
   where
     put_peer : (q r : model.Peer) (p o : Prefix) (m n : ℕ) (a b : Address) → model.Put q p m a ≡ model.Put r o n b → q ≡ r
@@ -133,15 +132,18 @@ same_room seats ranks (elem.Put q p path hop) (elem.Put r o way next) e h =
     put_path : (q r : model.Peer) (p o : Prefix) (m n : ℕ) (a b : Address) → model.Put q p m a ≡ model.Put r o n b → m ≡ n
     put_path q r p o m n a b i = cc
 
--- the room that is held, as clauses see it
-pub room_is : (seats : Seats) (ranks : List Rank) (room : Option Elem) (e : Elem) → HasRoom seats ranks room → option_map elem_as room ≡ Some (elem_as e) → HasRoom seats ranks (Some e)
-room_is seats ranks None e h i = absurd cc
-room_is seats ranks (Some f) e h i = same_room seats ranks f e (same_elem (elem_as f) (elem_as e) i) h
-  where
-    same_elem : (v w : model.Elem) → Some v ≡ Some w → v ≡ w
-    same_elem v w j = cc
-
 -- ---- after it was carried out
+
+both_equal : (a b : Ordering) → ordering_then a b ≡ Equal → (a ≡ Equal) × (b ≡ Equal)
+both_equal Less b w = cc
+both_equal Equal b w = (refl, w)
+both_equal Greater b w = cc
+
+-- an offer of one path ranks the same at seats that the order doesn't tell apart
+pub same_ranks : (s t : Seat) (path : ℕ) → seat_cmp s t ≡ Equal → rank_cmp (rank_at s path) (rank_at t path) ≡ Equal
+same_ranks s t path e =
+    let x = both_equal (code_peer_cmp s.peer t.peer) (code_cmp s.prefix t.prefix) e in
+    ap (λ w. ordering_then w (ordering_then (nat_cmp path path) (code_peer_cmp s.peer t.peer))) x.1 ∙ (ap (λ w. ordering_then w (code_peer_cmp s.peer t.peer)) (tied_itself nat_cmp_total path) ∙ x.0)
 
 -- what is offered elsewhere keeps its rank, and what is offered here has one
 pub indexed_here : (old new : Seats) (ranks : List Rank) (here : Seat) (o : Option Offer) → ((offer : Offer) → o ≡ Some offer → has_rank ranks (rank_at here offer.path) ≡ true) → ((s : Seat) → offer_at new s ≡ cond (is_eq (seat_cmp here s)) o (offer_at old s)) → IsIndexed old ranks → IsIndexed new ranks
@@ -150,19 +152,9 @@ indexed_here old new ranks here o r h i = λ s offer f. by_test s offer (is_eq (
     by_test : (s : Seat) (offer : Offer) (d : Bool) → is_eq (seat_cmp here s) ≡ d → cond d o (offer_at old s) ≡ Some offer → has_rank ranks (rank_at s offer.path) ≡ true
     by_test s offer false g f = i s offer f
     by_test s offer true g f =
-        let x = seat_parts here s (is_equal (seat_cmp here s) g) in
         let k : Rank = rank_at here offer.path in
         let l : Rank = rank_at s offer.path in
-        let rank : rank_cmp k l ≡ Equal = ap (λ w. ordering_then w (ordering_then (nat_cmp offer.path offer.path) (code_peer_cmp here.peer s.peer))) x.1 ∙ (ap (λ w. ordering_then w (code_peer_cmp here.peer s.peer)) (tied_itself nat_cmp_total offer.path) ∙ x.0) in
-        sym (any_by_test (is_at (rank_cmp k)) (is_at (rank_cmp l)) ranks (λ u. ap is_eq (rank_total.congr k l u rank))) ∙ r offer f
-      where
-        both_equal : (a b : Ordering) → ordering_then a b ≡ Equal → (a ≡ Equal) × (b ≡ Equal)
-        both_equal Less b w = cc
-        both_equal Equal b w = (refl, w)
-        both_equal Greater b w = cc
-
-        seat_parts : (s t : Seat) → seat_cmp s t ≡ Equal → (code_peer_cmp s.peer t.peer ≡ Equal) × (code_cmp s.prefix t.prefix ≡ Equal)
-        seat_parts s t w = both_equal (code_peer_cmp s.peer t.peer) (code_cmp s.prefix t.prefix) w
+        sym (any_by_test (is_at (rank_cmp k)) (is_at (rank_cmp l)) ranks (λ u. ap is_eq (rank_total.congr k l u (same_ranks here s offer.path (is_equal (seat_cmp here s) g))))) ∙ r offer f
 
 pub indexed_after : (old new : Seats) (ranks : List Rank) (e : Elem) → HasRoom old ranks (Some e) → ((s : Seat) → offer_at new s ≡ cond (is_eq (seat_cmp (seat_in e) s)) (offer_in e) (offer_at old s)) → IsIndexed old ranks → IsIndexed new ranks
 indexed_after old new ranks e r h i = indexed_here old new ranks (seat_in e) (offer_in e) (room_rank old ranks e r) h i

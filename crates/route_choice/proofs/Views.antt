@@ -1,6 +1,7 @@
 -- The candidates that seats hold.
 use Rattle.std.proofs.Common.{◌≡◌, List, [], ◌∷◌, Bool, true, false, cond, Option, Some, None, refl, sym, ap, ◌∙◌}
 use Rattle.std.specs.Prelude.{option_map, if◌then◌else◌}
+use Rattle.std.specs.Cmp.{IsTotalOrder}
 use Rattle.std.specs.Map.{lookup}
 use Rattle.std.specs.Ordering.{is_eq, ordering_reverse}
 use Rattle.std.specs.BTreeMap.{is_at}
@@ -18,8 +19,8 @@ use Rattle.route_model.proofs.Said.{none_yet, candidates_after, offer_after}
 use Rattle.route_choice.specs.declared.keys.Seat.{Seat}
 use Rattle.route_choice.specs.declared.keys.Offer.{Offer}
 use Rattle.route_choice.specs.Orders.{seat_cmp}
-use Rattle.route_choice.specs.Seats.{Seats, place_as, said_by, held_in, flat, offer_at, seat_in, offer_in}
-use Rattle.route_choice.proofs.Orders.{seat_same, seat_total, is_place, is_prefix, is_peer}
+use Rattle.route_choice.specs.Seats.{Seats, said_by, held_in, flat, offer_at, seat_in, offer_in}
+use Rattle.route_choice.proofs.Orders.{place_as, seat_same, seat_total, is_place, is_prefix, is_peer}
 
 abbrev pub offer_as : Offer → model.Offer
 offer_as offer = record { path = offer.path; hop = addr_as offer.hop }
@@ -65,8 +66,8 @@ passing {K = K} {X = X} test v (e ∷ es) h = by_test (test e.0) refl h (passing
     by_test false t g ih = ih g
 
 -- a place where something is held is a seat's
-pub has_seat : (q : Place) (v : model.Offer) (seats : Seats) → lookup (same_place q) (held_in seats) ≡ Some v → (s : Seat) × (place_as s ≡ q)
-has_seat q v seats h = by_found (lookup (λ s. same_place q (place_as s)) seats) refl (sym (lookup-held q seats) ∙ h)
+pub held_seat : (q : Place) (v : model.Offer) (seats : Seats) → lookup (same_place q) (held_in seats) ≡ Some v → (s : Seat) × (place_as s ≡ q)
+held_seat q v seats h = by_found (lookup (λ s. same_place q (place_as s)) seats) refl (sym (lookup-held q seats) ∙ h)
   where
     by_found : (o : Option (Option Offer)) → lookup (λ s. same_place q (place_as s)) seats ≡ o → option_map offer_as (flat o) ≡ Some v → (s : Seat) × (place_as s ≡ q)
     by_found None f e = absurd cc
@@ -79,13 +80,13 @@ by_seats seats held a i h = same_entries place_key (held_in seats) held (are_can
     at_one q s e = ap (λ r. lookup (same_place r) (held_in seats)) (sym e) ∙ (at_seat s seats ∙ (h s ∙ ap (λ r. lookup (same_place r) held) e))
 
     by_found : (q : Place) (x : Option model.Offer) → lookup (same_place q) (held_in seats) ≡ x → (y : Option model.Offer) → lookup (same_place q) held ≡ y → lookup (same_place q) (held_in seats) ≡ lookup (same_place q) held
-    by_found q (Some v) f y g = let r = has_seat q v seats f in at_one q r.0 r.1
+    by_found q (Some v) f y g = let r = held_seat q v seats f in at_one q r.0 r.1
     by_found q None f (Some w) g = let r = i q w g in at_one q r.0 r.1
     by_found q None f None g = f ∙ sym g
 
 -- seats with the same offers hold the same candidates
 pub unchanged : (seats after : Seats) → ((s : Seat) → offer_at after s ≡ offer_at seats s) → held_in after ≡ held_in seats
-unchanged seats after h = by_seats after (held_in seats) (are_candidates seats) (λ q v f. has_seat q v seats f) (λ s. ap (option_map offer_as) (h s) ∙ sym (at_seat s seats))
+unchanged seats after h = by_seats after (held_in seats) (are_candidates seats) (λ q v f. held_seat q v seats f) (λ s. ap (option_map offer_as) (h s) ∙ sym (at_seat s seats))
 
 pub about_is : (at : Place) (e : Elem) → is_about at (elem_as e) ≡ same_place at (place_as (seat_in e))
 about_is at (elem.Put q p path hop) = refl
@@ -99,8 +100,9 @@ pub is_elem : (e : Elem) → IsElem (elem_as e)
 is_elem (elem.Put q p path hop) = (is_prefix p, is_peer q)
 is_elem (elem.Cut q p) = (is_prefix p, is_peer q)
 
-pub flipped : (s t : Seat) → is_eq (seat_cmp s t) ≡ is_eq (seat_cmp t s)
-flipped s t = ap is_eq (seat_total.antisymm s t) ∙ reversed (seat_cmp t s)
+-- two are tied whichever comes first
+pub flips : {K : Type 0} {R : K → K → Ordering} → IsTotalOrder R → (x y : K) → is_eq (R x y) ≡ is_eq (R y x)
+flips {R = R} total x y = ap is_eq (total.antisymm x y) ∙ reversed (R y x)
   where
     reversed : (o : Ordering) → is_eq (ordering_reverse o) ≡ is_eq o
     reversed Less = refl
@@ -116,7 +118,7 @@ changed seats after e h = by_seats after (after_elem (held_in seats) (elem_as e)
 
     by_test : (q : Place) (v : model.Offer) (b : Bool) → same_place q (place_as (seat_in e)) ≡ b → cond b (option_map offer_as (offer_in e)) (lookup (same_place q) (held_in seats)) ≡ Some v → (s : Seat) × (place_as s ≡ q)
     by_test q v true t g = (seat_in e, sym (place_key.same q (place_as (seat_in e)) t))
-    by_test q v false t g = has_seat q v seats g
+    by_test q v false t g = held_seat q v seats g
 
     image : (q : Place) (v : model.Offer) → lookup (same_place q) (after_elem (held_in seats) (elem_as e)) ≡ Some v → (s : Seat) × (place_as s ≡ q)
     image q v f = by_test q v (same_place q (place_as (seat_in e))) refl (sym (after_it q) ∙ f)
@@ -128,4 +130,4 @@ changed seats after e h = by_seats after (after_elem (held_in seats) (elem_as e)
     here : (s : Seat) → option_map offer_as (offer_at after s) ≡ lookup (same_place (place_as s)) (after_elem (held_in seats) (elem_as e))
     here s =
         ap (option_map offer_as) (h s) ∙ (mapped (is_eq (seat_cmp (seat_in e) s)) s
-        ∙ (ap (λ b. cond b (option_map offer_as (offer_in e)) (lookup (same_place (place_as s)) (held_in seats))) (flipped (seat_in e) s ∙ seat_same s (seat_in e)) ∙ sym (after_it (place_as s))))
+        ∙ (ap (λ b. cond b (option_map offer_as (offer_in e)) (lookup (same_place (place_as s)) (held_in seats))) (flips seat_total (seat_in e) s ∙ seat_same s (seat_in e)) ∙ sym (after_it (place_as s))))

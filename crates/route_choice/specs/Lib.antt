@@ -2,4 +2,5 @@ pub mod Keys
 pub mod Orders
 pub mod Seats
 pub mod Walks
+pub mod Kept
 pub mod Held

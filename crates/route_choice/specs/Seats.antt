@@ -1,5 +1,5 @@
 -- What seats and ranks stand for.
-use Rattle.std.specs.Prelude.{◌≡◌, ⊤, ℕ, List, [], ◌∷◌, Bool, true, Option, Some, None, IsSome}
+use Rattle.std.specs.Prelude.{◌≡◌, ⊤, ℕ, List, [], ◌∷◌, Bool, true, Option, Some, None, is_some}
 use Rattle.std.specs.List.{list_any}
 use Rattle.std.specs.Map.{lookup}
 use Rattle.std.specs.BTreeMap.{is_at}
@@ -8,14 +8,11 @@ use Rattle.fib_prefix.specs.Seen.{peer_as}
 use Rattle.fib_prefix.specs.declared.event.Elem.{Elem}
 use Rattle.fib_prefix.specs.declared.event.Elem.TheVariants as elem
 use Rattle.route_model.specs.Events as model
-use Rattle.route_model.specs.Choice.{Place, Candidates, after_elem}
+use Rattle.route_model.specs.Choice.{Candidates, after_elem}
 use Rattle.route_choice.specs.declared.keys.Seat.{Seat}
 use Rattle.route_choice.specs.declared.keys.Rank.{Rank}
 use Rattle.route_choice.specs.declared.keys.Offer.{Offer}
 use Rattle.route_choice.specs.Orders.{seat_cmp, rank_cmp}
-
-abbrev pub place_as : Seat → Place
-place_as s = record { prefix = prefix_as s.prefix; peer = peer_as s.peer }
 
 -- the seats, with what is offered at each
 abbrev pub Seats : Type 0
@@ -49,6 +46,10 @@ seat_of r = record { peer = r.peer; prefix = r.prefix }
 abbrev pub has_rank : List Rank → Rank → Bool
 has_rank ranks r = list_any (is_at (rank_cmp r)) ranks
 
+-- whether the seat is there, though nothing may be offered at it
+abbrev pub has_seat : Seats → Seat → Bool
+has_seat seats s = is_some (lookup (is_at (seat_cmp s)) seats)
+
 -- each offer has its rank
 abbrev pub IsIndexed : Seats → List Rank → Type 0
 IsIndexed seats ranks = (s : Seat) (offer : Offer) → offer_at seats s ≡ Some offer → has_rank ranks (rank_at s offer.path) ≡ true
@@ -65,5 +66,5 @@ offer_in (elem.Cut q p) = None
 -- there is room for what it offers
 abbrev pub HasRoom : Seats → List Rank → Option Elem → Type 0
 HasRoom seats ranks None = ⊤
-HasRoom seats ranks (Some (elem.Put q p path hop)) = IsSome (lookup (is_at (seat_cmp (record { peer = q; prefix = p }))) seats) × (has_rank ranks (record { prefix = p; path = path; peer = q }) ≡ true)
+HasRoom seats ranks (Some (elem.Put q p path hop)) = (has_seat seats (record { peer = q; prefix = p }) ≡ true) × (has_rank ranks (record { prefix = p; path = path; peer = q }) ≡ true)
 HasRoom seats ranks (Some (elem.Cut q p)) = ⊤

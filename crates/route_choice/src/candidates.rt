@@ -1,6 +1,6 @@
-//! The candidates.
+//! The candidates: the routes among which one is chosen for each prefix.
 
-ghost use Rattle.std.specs.Prelude.{◌≡◌, true, cond, [], map, option_map, Some, None, IfOk, OnOk, OnErr, IsSome};
+ghost use Rattle.std.specs.Prelude.{◌≡◌, ◌&&◌, ◌||◌, List, true, false, cond, [], map, option_map, is_some, Some, None, Bool, Option, IfOk, OnOk, OnErr, IsSome};
 ghost use Rattle.std.specs.Ordering.{is_eq};
 ghost use Rattle.std.specs.BTreeMap as tree;
 ghost use Rattle.std.specs.BTreeSet as set;
@@ -8,9 +8,10 @@ ghost use Rattle.fib_addr.specs.Seen.{addr_as, prefix_as};
 ghost use Rattle.fib_prefix.specs.Seen.{event_as, elem_as};
 ghost use Rattle.route_model.specs.Choice.{AreCandidates, after_elem, elems_of, chosen_for, routes_of};
 ghost use Rattle.route_choice.specs.Orders.{seat_cmp, rank_cmp};
-ghost use Rattle.route_choice.specs.Seats.{held_in, IsIndexed, HasRoom, has_rank, seat_in, offer_in};
+ghost use Rattle.route_choice.specs.Seats.{held_in, IsIndexed, HasRoom, has_rank, has_seat, seat_in, offer_in};
 ghost use Rattle.route_choice.specs.Seats.{offer_at as offered};
 ghost use Rattle.route_choice.specs.Held.{Held, IsChoice, IsPlanned, picked};
+ghost use Rattle.route_choice.specs.Kept.{IsKept, EachSeatServes, EachRankServes, holds_seat as seat_held, holds_rank as rank_held};
 ghost use Rattle.route_choice.specs.Walks.{offer_ranked as ranked, first_in, better_of, cuts_in, route_as, ranks_of, seats_of};
 
 use crate::choice::{Choice, Pick};
@@ -20,16 +21,16 @@ use std::alloc::{AllocError, Global};
 use std::collections::{BTreeMap, BTreeSet};
 use std::marker::Model;
 
-/// What peers offer, and what is chosen of it. Contracts see the list of candidates in the order of their places, and the
-/// elementary event for which room is held.
+/// The routes that peers offer, and which of them are chosen. Contracts see the list of candidates in the order of their
+/// places, and the elementary event for which room is held.
 #[derive(Drop)]
 pub struct Candidates {
     alloc: Global,
-    // what is offered at each seat; a seat that only room is held for offers nothing
+    // what is offered at each seat; the seat that is held for the plan alone offers nothing
     seats: BTreeMap<Seat, Option<Offer>>,
-    // the rank of each offer, and that for which room is held
+    // the rank of each offer, and that which is held for the plan
     ranks: BTreeSet<Rank>,
-    // the elementary event that was planned last, until something changes
+    // the plan: the elementary event that was planned last, until something changes
     room: Option<Elem>,
 }
 
@@ -38,7 +39,7 @@ impl Model for Candidates {
 
     ghost view = { λ c. record { candidates = held_in c.seats.entries; room = option_map elem_as c.room } };
 
-    ghost invariant = { λ c. IsIndexed c.seats.entries c.ranks.keys × HasRoom c.seats.entries c.ranks.keys c.room };
+    ghost invariant = { λ c. IsKept c.seats.entries c.ranks.keys None c.room };
 }
 
 /// The seat that an elementary event is about.
@@ -81,7 +82,7 @@ fn offer_ranked(seats: &BTreeMap<Seat, Option<Offer>>, rank: &Rank) -> Option<Of
     }
 }
 
-/// The best candidate of a prefix, that of a peer left out.
+/// The preferred route for a prefix, that of a peer left out.
 fn best_but(
     seats: &BTreeMap<Seat, Option<Offer>>,
     ranks: &BTreeSet<Rank>,
@@ -107,7 +108,7 @@ fn best_but(
     None
 }
 
-/// The hop of the better of what a peer offers and the best candidate of the others.
+/// The next hop of the preferred one of a peer's route and that of the others.
 fn better_hop(peer: Peer, own: Option<Offer>, others: &Option<Candidate>) -> Option<Addr>
     ensures { result ≡ better_of peer own others.now }
 {
@@ -127,7 +128,7 @@ fn better_hop(peer: Peer, own: Option<Offer>, others: &Option<Candidate>) -> Opt
     }
 }
 
-/// A cut for each offer of a peer, in the order of prefixes.
+/// A cut for each route of a peer, in the order of prefixes.
 fn cuts_of(
     alloc: Global,
     seats: &BTreeMap<Seat, Option<Offer>>,
@@ -147,8 +148,9 @@ fn cuts_of(
 
 /// Sets what is offered at a seat, which is there if anything is to be.
 fn set_offer(seats: &mut BTreeMap<Seat, Option<Offer>>, seat: &Seat, offer: Option<Offer>)
-    requires { (o : Offer) → offer ≡ Some o → IsSome (tree.get seat_cmp seats.old seat.now) }
-    ensures { (s : Seat) → offered seats.new.entries s ≡ cond (is_eq (seat_cmp seat.now s)) offer (offered seats.old.entries s) }
+    requires { (o : Offer) → offer ≡ Some o → has_seat seats.old.entries seat.now ≡ true }
+    ensures offers { (s : Seat) → offered seats.new.entries s ≡ cond (is_eq (seat_cmp seat.now s)) offer (offered seats.old.entries s) }
+    ensures seats { (s : Seat) → has_seat seats.new.entries s ≡ cond (is_eq (seat_cmp seat.now s)) (is_some offer) (has_seat seats.old.entries s) }
 {
     if offer.is_none() {
         seats.remove(seat);
@@ -159,9 +161,9 @@ fn set_offer(seats: &mut BTreeMap<Seat, Option<Offer>>, seat: &Seat, offer: Opti
 
 /// Carries out an elementary event for which there is room.
 fn carry_out(seats: &mut BTreeMap<Seat, Option<Offer>>, ranks: &mut BTreeSet<Rank>, elem: &Elem)
-    requires { HasRoom seats.old.entries ranks.old.keys (Some elem.now) }
+    requires { IsKept seats.old.entries ranks.old.keys None (Some elem.now) }
     ensures offers { (s : Seat) → offered seats.new.entries s ≡ cond (is_eq (seat_cmp (seat_in elem.now) s)) (offer_in elem.now) (offered seats.old.entries s) }
-    ensures indexed { IsIndexed seats.old.entries ranks.old.keys → IsIndexed seats.new.entries ranks.new.keys }
+    ensures kept { IsKept seats.new.entries ranks.new.keys None None }
 {
     let seat = seat_of(elem);
     let old = offer_at(seats, &seat);
@@ -173,7 +175,9 @@ fn carry_out(seats: &mut BTreeMap<Seat, Option<Offer>>, ranks: &mut BTreeSet<Ran
 
 /// Removes a rank that no offer has.
 fn prune_rank(seats: &BTreeMap<Seat, Option<Offer>>, ranks: &mut BTreeSet<Rank>, rank: &Rank)
-    ensures { IsIndexed seats.now.entries ranks.old.keys → IsIndexed seats.now.entries ranks.new.keys }
+    ensures indexed { IsIndexed seats.now.entries ranks.old.keys → IsIndexed seats.now.entries ranks.new.keys }
+    ensures serve { (held : Rank → Bool) → EachRankServes seats.now.entries ranks.old.keys (λ r. is_eq (rank_cmp rank.now r) || held r) → EachRankServes seats.now.entries ranks.new.keys held }
+    ensures others { (r : Rank) → is_eq (rank_cmp rank.now r) ≡ false → has_rank ranks.new.keys r ≡ has_rank ranks.old.keys r }
 {
     if offer_ranked(seats, rank).is_none() {
         ranks.remove(rank);
@@ -182,26 +186,88 @@ fn prune_rank(seats: &BTreeMap<Seat, Option<Offer>>, ranks: &mut BTreeSet<Rank>,
 
 /// Removes a seat where nothing is offered.
 fn prune_seat(seats: &mut BTreeMap<Seat, Option<Offer>>, seat: &Seat)
-    ensures { (s : Seat) → offered seats.new.entries s ≡ offered seats.old.entries s }
+    ensures offers { (s : Seat) → offered seats.new.entries s ≡ offered seats.old.entries s }
+    ensures serve { (held : Seat → Bool) → EachSeatServes seats.old.entries (λ s. is_eq (seat_cmp seat.now s) || held s) → EachSeatServes seats.new.entries held }
+    ensures others { (s : Seat) → is_eq (seat_cmp seat.now s) ≡ false → has_seat seats.new.entries s ≡ has_seat seats.old.entries s }
 {
     if offer_at(seats, seat).is_none() {
         seats.remove(seat);
     }
 }
 
-/// Removes the seat and the rank that were held for an elementary event, where nothing is offered there.
+/// Whether the seat is held for the plan.
+fn holds_seat(plan: &Option<Elem>, seat: &Seat) -> bool
+    ensures { result ≡ seat_held plan.now seat.now }
+{
+    match plan {
+        Some(Elem::Put(peer, prefix, _, _)) => Seat::new(peer, prefix) == *seat,
+        _ => false,
+    }
+}
+
+/// Whether the rank is held for the plan.
+fn holds_rank(plan: &Option<Elem>, rank: &Rank) -> bool
+    ensures { result ≡ rank_held plan.now rank.now }
+{
+    match plan {
+        Some(Elem::Put(peer, prefix, path, _)) => Seat::new(peer, prefix).rank(*path) == *rank,
+        _ => false,
+    }
+}
+
+/// Gives back a rank of an earlier plan: removes it, but for an offer's and the plan's.
+fn give_back_rank(
+    seats: &BTreeMap<Seat, Option<Offer>>,
+    ranks: &mut BTreeSet<Rank>,
+    rank: &Rank,
+    plan: &Option<Elem>,
+)
+    ensures indexed { IsIndexed seats.now.entries ranks.old.keys → IsIndexed seats.now.entries ranks.new.keys }
+    ensures serve { EachRankServes seats.now.entries ranks.old.keys (λ r. is_eq (rank_cmp rank.now r) || rank_held plan.now r) → EachRankServes seats.now.entries ranks.new.keys (rank_held plan.now) }
+    ensures room { HasRoom seats.now.entries ranks.old.keys plan.now → HasRoom seats.now.entries ranks.new.keys plan.now }
+{
+    if !holds_rank(plan, rank) {
+        prune_rank(seats, ranks, rank);
+    }
+}
+
+/// Gives back a seat of an earlier plan: removes it, but where something is offered and for the plan.
+fn give_back_seat(seats: &mut BTreeMap<Seat, Option<Offer>>, seat: &Seat, plan: &Option<Elem>)
+    ensures offers { (s : Seat) → offered seats.new.entries s ≡ offered seats.old.entries s }
+    ensures serve { EachSeatServes seats.old.entries (λ s. is_eq (seat_cmp seat.now s) || seat_held plan.now s) → EachSeatServes seats.new.entries (seat_held plan.now) }
+    ensures room { (ranks : List Rank) → HasRoom seats.old.entries ranks plan.now → HasRoom seats.new.entries ranks plan.now }
+{
+    if !holds_seat(plan, seat) {
+        prune_seat(seats, seat);
+    }
+}
+
+/// Gives back the room of an earlier plan.
 fn give_back(
     seats: &mut BTreeMap<Seat, Option<Offer>>,
     ranks: &mut BTreeSet<Rank>,
-    room: Option<Elem>,
+    earlier: Option<Elem>,
+    plan: &Option<Elem>,
 )
     ensures offers { (s : Seat) → offered seats.new.entries s ≡ offered seats.old.entries s }
-    ensures indexed { IsIndexed seats.old.entries ranks.old.keys → IsIndexed seats.new.entries ranks.new.keys }
+    ensures kept { IsKept seats.old.entries ranks.old.keys earlier plan.now → IsKept seats.new.entries ranks.new.keys None plan.now }
 {
-    if let Some(Elem::Put(peer, prefix, path, _)) = room {
+    let Some(earlier) = earlier else {
+        return;
+    };
+    if let Elem::Put(peer, prefix, path, _) = earlier {
         let seat = Seat::new(&peer, &prefix);
-        prune_rank(seats, ranks, &seat.rank(path));
-        prune_seat(seats, &seat);
+        give_back_rank(seats, ranks, &seat.rank(path), plan);
+        give_back_seat(seats, &seat, plan);
+    }
+}
+
+/// Takes back a rank that was put, where it was new.
+fn take_back(ranks: &mut BTreeSet<Rank>, rank: &Rank, is_new: bool)
+    ensures { (r : Rank) → has_rank ranks.new.keys r ≡ cond (is_new && is_eq (rank_cmp rank.now r)) false (has_rank ranks.old.keys r) }
+{
+    if is_new {
+        ranks.remove(rank);
     }
 }
 
@@ -213,16 +279,17 @@ fn make_room(
     rank: &Rank,
 ) -> Result<(), AllocError>
     ensures offers { (s : Seat) → offered seats.new.entries s ≡ offered seats.old.entries s }
-    ensures indexed { IsIndexed seats.old.entries ranks.old.keys → IsIndexed seats.new.entries ranks.new.keys }
-    ensures seat { OnOk result (IsSome (tree.get seat_cmp seats.new seat.now)) }
-    ensures rank { OnOk result (has_rank ranks.new.keys rank.now ≡ true) }
+    ensures seats { OnOk result ((s : Seat) → has_seat seats.new.entries s ≡ cond (is_eq (seat_cmp seat.now s)) true (has_seat seats.old.entries s)) }
+    ensures ranks { OnOk result ((r : Rank) → has_rank ranks.new.keys r ≡ cond (is_eq (rank_cmp rank.now r)) true (has_rank ranks.old.keys r)) }
+    ensures err_seats { OnErr result (seats.new.entries ≡ seats.old.entries) }
+    ensures err_ranks { OnErr result ((r : Rank) → has_rank ranks.new.keys r ≡ has_rank ranks.old.keys r) }
 {
-    ranks.insert(*rank)?;
+    let is_new = ranks.insert(*rank)?;
     if seats.get(seat).is_none() {
         match seats.insert(*seat, None) {
             Ok(_) => {}
             Err(failed) => {
-                prune_rank(seats, ranks, rank);
+                take_back(ranks, rank, is_new);
                 return Err(AllocError::from(failed));
             }
         }
@@ -230,15 +297,15 @@ fn make_room(
     Ok(())
 }
 
-/// Makes room for what an elementary event offers. An `Err` leaves all offers as they were.
+/// Makes room for what an elementary event offers, beside that of the plan before it. An `Err` leaves all as it was.
 fn make_room_for(
     seats: &mut BTreeMap<Seat, Option<Offer>>,
     ranks: &mut BTreeSet<Rank>,
     elem: &Elem,
 ) -> Result<(), AllocError>
     ensures offers { (s : Seat) → offered seats.new.entries s ≡ offered seats.old.entries s }
-    ensures indexed { IsIndexed seats.old.entries ranks.old.keys → IsIndexed seats.new.entries ranks.new.keys }
-    ensures room { OnOk result (HasRoom seats.new.entries ranks.new.keys (Some elem.now)) }
+    ensures kept { OnOk result ((plan : Option Elem) → IsKept seats.old.entries ranks.old.keys None plan → IsKept seats.new.entries ranks.new.keys plan (Some elem.now)) }
+    ensures err { OnErr result ((plan : Option Elem) → IsKept seats.old.entries ranks.old.keys None plan → IsKept seats.new.entries ranks.new.keys None plan) }
 {
     match *elem {
         Elem::Put(peer, prefix, path, _) => {
@@ -249,7 +316,7 @@ fn make_room_for(
     }
 }
 
-/// Offers something at a seat. An `Err` leaves all offers as they were.
+/// Offers something at a seat, beside the room of the plan. An `Err` leaves all as it was.
 fn put_offer(
     seats: &mut BTreeMap<Seat, Option<Offer>>,
     ranks: &mut BTreeSet<Rank>,
@@ -257,15 +324,16 @@ fn put_offer(
     offer: Offer,
 ) -> Result<(), AllocError>
     ensures ok { OnOk result ((s : Seat) → offered seats.new.entries s ≡ cond (is_eq (seat_cmp seat.now s)) (Some offer) (offered seats.old.entries s)) }
-    ensures err { OnErr result ((s : Seat) → offered seats.new.entries s ≡ offered seats.old.entries s) }
-    ensures indexed { IsIndexed seats.old.entries ranks.old.keys → IsIndexed seats.new.entries ranks.new.keys }
+    ensures kept { OnOk result ((plan : Option Elem) → IsKept seats.old.entries ranks.old.keys None plan → IsKept seats.new.entries ranks.new.keys plan None) }
+    ensures err_offers { OnErr result ((s : Seat) → offered seats.new.entries s ≡ offered seats.old.entries s) }
+    ensures err { OnErr result ((plan : Option Elem) → IsKept seats.old.entries ranks.old.keys None plan → IsKept seats.new.entries ranks.new.keys None plan) }
 {
     let rank = seat.rank(offer.path());
-    ranks.insert(rank)?;
+    let is_new = ranks.insert(rank)?;
     let old = match seats.insert(*seat, Some(offer)) {
         Ok(old) => old.flatten(),
         Err(failed) => {
-            prune_rank(seats, ranks, &rank);
+            take_back(ranks, &rank, is_new);
             return Err(AllocError::from(failed));
         }
     };
@@ -275,18 +343,38 @@ fn put_offer(
     Ok(())
 }
 
-/// Ends what is offered at a seat.
+/// Ends what is offered at a seat, beside the room of the plan.
 fn cut_offer(seats: &mut BTreeMap<Seat, Option<Offer>>, ranks: &mut BTreeSet<Rank>, seat: &Seat)
     ensures offers { (s : Seat) → offered seats.new.entries s ≡ cond (is_eq (seat_cmp seat.now s)) None (offered seats.old.entries s) }
-    ensures indexed { IsIndexed seats.old.entries ranks.old.keys → IsIndexed seats.new.entries ranks.new.keys }
+    ensures kept { (plan : Option Elem) → IsKept seats.old.entries ranks.old.keys None plan → IsKept seats.new.entries ranks.new.keys plan None }
 {
     if let Some(old) = seats.remove(seat).flatten() {
         prune_rank(seats, ranks, &seat.rank(old.path()));
     }
 }
 
+/// Offers what an elementary event does, or ends what is offered there, beside the room of the plan. An `Err` leaves all as
+/// it was.
+fn load_elem(
+    seats: &mut BTreeMap<Seat, Option<Offer>>,
+    ranks: &mut BTreeSet<Rank>,
+    elem: &Elem,
+) -> Result<(), AllocError>
+    ensures ok { OnOk result ((s : Seat) → offered seats.new.entries s ≡ cond (is_eq (seat_cmp (seat_in elem.now) s)) (offer_in elem.now) (offered seats.old.entries s)) }
+    ensures kept { OnOk result ((plan : Option Elem) → IsKept seats.old.entries ranks.old.keys None plan → IsKept seats.new.entries ranks.new.keys plan None) }
+    ensures err_offers { OnErr result ((s : Seat) → offered seats.new.entries s ≡ offered seats.old.entries s) }
+    ensures err { OnErr result ((plan : Option Elem) → IsKept seats.old.entries ranks.old.keys None plan → IsKept seats.new.entries ranks.new.keys None plan) }
+{
+    let seat = seat_of(elem);
+    match offer_of(elem) {
+        Some(offer) => put_offer(seats, ranks, &seat, offer)?,
+        None => cut_offer(seats, ranks, &seat),
+    }
+    Ok(())
+}
+
 impl Candidates {
-    /// No candidates.
+    /// No routes.
     pub fn new(alloc: Global) -> Candidates
         ensures { result ≡ record { candidates = []; room = None } }
     {
@@ -298,7 +386,7 @@ impl Candidates {
         }
     }
 
-    /// The event as elementary events: a cut for each candidate of a peer that is lost, in the order of prefixes.
+    /// The event as elementary events: a cut for each route of a peer whose session is lost, in the order of prefixes.
     ///
     /// # Errors
     ///
@@ -329,30 +417,29 @@ impl Candidates {
         }
     }
 
-    /// Gives back the room that is held and makes that which an elementary event takes.
+    /// Makes the room that an elementary event takes, and gives back that of the plan before it.
     fn take_room(&mut self, elem: &Elem) -> Result<(), AllocError>
         ensures candidates { self.new.candidates ≡ self.old.candidates }
         ensures room { OnOk result (self.new.room ≡ Some (elem_as elem.now)) }
-        ensures err { OnErr result (self.new.room ≡ None) }
+        ensures err { OnErr result (self.new ≡ self.old) }
     {
-        give_back(&mut self.seats, &mut self.ranks, self.room);
-        self.room = None;
         make_room_for(&mut self.seats, &mut self.ranks, elem)?;
-        self.room = Some(*elem);
+        let earlier = self.room.replace(*elem);
+        give_back(&mut self.seats, &mut self.ranks, earlier, &self.room);
         Ok(())
     }
 
-    /// Makes room for an elementary event and tells the choice that it will make. It changes no candidate. An earlier plan is
+    /// Makes room for an elementary event and tells the choice that it will make. It changes no route. The plan before it is
     /// void.
     ///
     /// # Errors
     ///
-    /// No memory; then no candidate has changed, and nothing is planned.
+    /// No memory; then nothing has changed, and the plan before it still holds.
     pub fn plan(&mut self, elem: &Elem) -> Result<Pick, AllocError>
         ensures candidates { self.new.candidates ≡ self.old.candidates }
         ensures elem { IfOk result (λ pick. picked pick ≡ elem_as elem.now) }
         ensures planned { IfOk result (IsPlanned self.new) }
-        ensures err { OnErr result (self.new.room ≡ None) }
+        ensures err { OnErr result (self.new ≡ self.old) }
     {
         self.take_room(elem)?;
         Ok(Pick {
@@ -377,12 +464,12 @@ impl Candidates {
     ///
     /// # Errors
     ///
-    /// No memory; then no candidate has changed.
+    /// No memory; then nothing has changed, and an earlier plan still holds.
     pub fn apply(&mut self, elem: &Elem) -> Result<Choice, AllocError>
         ensures candidates { OnOk result (self.new.candidates ≡ after_elem self.old.candidates (elem_as elem.now)) }
         ensures choice { IfOk result (IsChoice self.old.candidates (elem_as elem.now)) }
-        ensures room { self.new.room ≡ None }
-        ensures err { OnErr result (self.new.candidates ≡ self.old.candidates) }
+        ensures room { OnOk result (self.new.room ≡ None) }
+        ensures err { OnErr result (self.new ≡ self.old) }
     {
         let pick = self.plan(elem)?;
         Ok(self.commit(pick))
@@ -393,31 +480,27 @@ impl Candidates {
     ///
     /// # Errors
     ///
-    /// No memory; then no candidate has changed.
+    /// No memory; then nothing has changed, and an earlier plan still holds.
     pub fn load(&mut self, elem: &Elem) -> Result<(), AllocError>
         ensures candidates { OnOk result (self.new.candidates ≡ after_elem self.old.candidates (elem_as elem.now)) }
-        ensures room { self.new.room ≡ None }
-        ensures err { OnErr result (self.new.candidates ≡ self.old.candidates) }
+        ensures room { OnOk result (self.new.room ≡ None) }
+        ensures err { OnErr result (self.new ≡ self.old) }
     {
-        give_back(&mut self.seats, &mut self.ranks, self.room);
-        self.room = None;
-        let seat = seat_of(elem);
-        match offer_of(elem) {
-            Some(offer) => put_offer(&mut self.seats, &mut self.ranks, &seat, offer)?,
-            None => cut_offer(&mut self.seats, &mut self.ranks, &seat),
-        }
+        load_elem(&mut self.seats, &mut self.ranks, elem)?;
+        let earlier = self.room.take();
+        give_back(&mut self.seats, &mut self.ranks, earlier, &None);
         Ok(())
     }
 
-    /// The chosen hop of a prefix, if it has a candidate.
-    pub fn chosen(&self, prefix: &Prefix) -> Option<Addr>
+    /// The next hop of the chosen route for a prefix, if a peer offers one.
+    pub fn chosen_hop(&self, prefix: &Prefix) -> Option<Addr>
         ensures { option_map addr_as result ≡ chosen_for self.now.candidates (prefix_as prefix.now) }
     {
         let best = best_but(&self.seats, &self.ranks, prefix, None)?;
         Some(best.offer.hop())
     }
 
-    /// Each prefix that has a candidate with its chosen hop, in the order of prefixes.
+    /// Each prefix for which a peer offers a route, with the next hop of the chosen one, in the order of prefixes.
     ///
     /// # Errors
     ///

@@ -9,9 +9,9 @@ use fib_prefix::{Addr, Elem, Prefix};
 pub struct Choice {
     /// The prefix.
     pub prefix: Prefix,
-    /// The hop before, if the prefix had a candidate.
+    /// The hop before, if there was a route for the prefix.
     pub before: Option<Addr>,
-    /// The hop after, if it has one then.
+    /// The hop after, if there is one then.
     pub after: Option<Addr>,
 }
 

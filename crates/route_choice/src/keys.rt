@@ -1,4 +1,4 @@
-//! What a candidate is found by, and what it offers.
+//! What a route is found by, how preferred it is, and what it offers.
 
 ghost use Rattle.std.specs.Prelude.{◌≡◌, ◌≤◌, ◌-◌, ◌%◌, ◌^◌, ◌<◌, false};
 ghost use Rattle.address_model.specs.Width.{width};
@@ -30,7 +30,7 @@ const GREATEST_PREFIX: Prefix = Prefix {
     len: 128,
 };
 
-/// Where a peer's candidate for a prefix is found: by peer, then by prefix. Contracts see both; the numbers stand first
+/// Where a peer's route for a prefix is found: by peer, then by prefix. Contracts see both; the numbers stand first
 /// here, so that a seat takes 48 octets.
 #[derive(Clone, Copy)]
 pub struct Seat {
@@ -127,7 +127,7 @@ impl PartialOrd for Seat {
     }
 }
 
-/// What a peer offers for a prefix. Contracts see the length of its path and its next hop.
+/// What a peer's route for a prefix offers. Contracts see the length of its path and its next hop.
 #[derive(Clone, Copy)]
 pub struct Offer {
     bits: u128,
@@ -146,8 +146,8 @@ impl Model for Offer {
     ghost inverse = { λ k. record { bits = k.hop.bits; path = k.path; family = k.hop.family; below = k.hop.below } };
 }
 
-/// How a candidate ranks: the better of two candidates of a prefix comes first. Contracts see its prefix, the length of
-/// its path and its peer; the numbers stand first here, so that a rank takes 48 octets.
+/// A route's preference: of two routes for a prefix the preferred one comes first. Contracts see the prefix, the length of
+/// the path and the peer; the numbers stand first here, so that a rank takes 48 octets.
 #[derive(Clone, Copy)]
 pub struct Rank {
     bits: u128,
@@ -247,7 +247,7 @@ impl PartialOrd for Rank {
     }
 }
 
-/// A candidate for some prefix.
+/// A peer's route for some prefix.
 #[derive(Clone, Copy)]
 pub struct Candidate {
     /// Whose it is.
@@ -377,7 +377,7 @@ impl Rank {
     ghost use Rattle.route_choice.specs.Orders.{rank_cmp};
     ghost use Rattle.route_choice.specs.Seats.{seat_of};
 
-    /// The least rank of a prefix.
+    /// The rank that is preferred to all others of a prefix.
     pub fn first(prefix: &Prefix) -> Rank
         ensures prefix { result.prefix ≡ prefix.now }
         ensures least { (r : Rank) → code_cmp prefix.now r.prefix ≡ Equal → is_gt (rank_cmp result r) ≡ false }
@@ -423,7 +423,7 @@ impl Rank {
         }
     }
 
-    /// The seat of the candidate.
+    /// The seat of the route.
     pub fn seat(&self) -> Seat
         ensures { result ≡ seat_of self.now }
     {

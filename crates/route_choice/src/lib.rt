@@ -1,9 +1,20 @@
-//! The candidates of all peers, and the one that is chosen for each prefix: that of the shortest path, and among those
-//! of the least peer.
+//! The routes of all peers, and the one that is chosen for each prefix: that of the shortest AS_PATH, and among those
+//! the one of the lowest peer.
 //!
-//! Each candidate has a seat, by peer and then prefix, which says what it offers, and a rank, by prefix, then path, then
-//! peer. So a peer's candidates lie together, and a prefix's candidates lie together with the best of them first. A
-//! change costs a few look-ups, whatever the other candidates are; what a lost session takes costs its own candidates.
+//! These are the steps of BGP-4's decision process (RFC 4271, sections 9.1.1 and 9.1.2.2), and which of them are taken:
+//!
+//! - The degree of preference (9.1.1) isn't asked for: it is a router's own policy, or LOCAL_PREF, which has a meaning within
+//!   one AS alone, and a collector's peers are of many.
+//! - a) The shortest AS_PATH is preferred.
+//! - b) The lowest ORIGIN and c) the lowest MULTI_EXIT_DISC aren't asked for: each peer sends them as its own policy set them,
+//!   and c compares routes of one neighboring AS alone.
+//! - d) EBGP before IBGP and e) the lowest interior cost aren't asked for: a collector's records don't carry them.
+//! - f) The lowest BGP Identifier isn't asked for: a dump's peer table has it, and the messages of a session don't.
+//! - g) The lowest peer address is preferred, IPv4 before IPv6, and of peers of one address the lowest AS.
+//!
+//! A peer's route for a prefix has a seat, by peer and then prefix, which says what is offered there, and a rank, by prefix
+//! and then by preference. So a peer's routes lie together, and a prefix's routes lie together with the preferred one first.
+//! A change costs a few look-ups, whatever the other routes are; what a lost session takes costs its own routes.
 #![tactic(auto)]
 
 mod candidates;

@@ -1,4 +1,12 @@
--- The candidates of all peers, and the one that is chosen for each prefix.
+-- The routes of all peers, which are the candidates, and the one of them that is chosen for each prefix.
+--
+-- The steps of BGP-4's decision process (RFC 4271, 9.1.1 and 9.1.2.2), and which of them are taken:
+-- * degree of preference: not taken; it is a router's own policy, or LOCAL_PREF, which has a meaning within one AS alone, and a collector's peers are of many
+-- * a) the shortest AS_PATH: taken
+-- * b) the lowest ORIGIN, c) the lowest MULTI_EXIT_DISC: not taken; each peer sends them as its own policy set them, and c compares routes of one neighboring AS alone
+-- * d) EBGP before IBGP, e) the lowest interior cost: not taken; a collector's records don't carry them
+-- * f) the lowest BGP Identifier: not taken; a dump's peer table has it, and the messages of a session don't
+-- * g) the lowest peer address: taken, IPv4 before IPv6, and of peers of one address the lowest AS
 use Rattle.std.specs.Prelude.{◌≡◌, ℕ, List, [], ◌∷◌, ◌++◌, Bool, not, ◌&&◌, map, filter, fold, Option, Some, None, if◌then◌else◌}
 use Rattle.std.specs.List.{list_any, AllByRecursion}
 use Rattle.std.specs.List.Sorted.{IsStrictlySortedBy}
@@ -26,7 +34,7 @@ same_place p q = same_prefix p.prefix q.prefix && same_peer p.peer q.peer
 abbrev pub place_cmp : Place → Place → Ordering
 place_cmp p q = ordering_then (prefix_cmp p.prefix q.prefix) (peer_cmp p.peer q.peer)
 
--- what a peer offers for a prefix: the length of its path and its next hop
+-- what a peer's route for a prefix offers: the length of its path and its next hop
 pub record Offer : Type 0 where
   pub path : ℕ
   pub hop : Address
@@ -70,11 +78,11 @@ elems_after held (event ∷ events) = elems_of held event ++ elems_after (after_
 
 -- ---- choice
 
--- by the length of the path, then by the peer
+-- by preference: by the length of the path, then by the peer
 abbrev pub choice_cmp : Place × Offer → Place × Offer → Ordering
 choice_cmp c d = ordering_then (nat_cmp c.1.path d.1.path) (peer_cmp c.0.peer d.0.peer)
 
--- whether the first of two candidates is better: a shorter path, or a lesser peer where the paths are equally long
+-- whether the first of two candidates is preferred: a shorter path, or a lesser peer where the paths are equally long
 abbrev pub beats : Place × Offer → Place × Offer → Bool
 beats c d = is_lt (choice_cmp c d)
 

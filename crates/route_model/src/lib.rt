@@ -1,4 +1,5 @@
-//! The model of routes: what peers say, the candidates that they offer, and which is chosen for each prefix.
+//! The model of routes: what peers say, the routes that they offer, which are the candidates of a prefix, and the one of them
+//! that is chosen.
 //!
 //! The definitions stand in `specs/`. Each function here is a law: it does nothing, and its clause holds for all values.
 #![tactic(auto)]
@@ -24,7 +25,8 @@ pub fn order_law()
     ensures stay { (held : Candidates) (elem : Elem) → AreCandidates held → IsElem elem → AreCandidates (after_elem held elem) }
 {}
 
-/// Where a prefix has candidates, exactly one of them is chosen: it has the least path, and among those the least peer.
+/// Where a prefix has candidates, exactly one of them is chosen: the route of the shortest path, and among those that of the
+/// least peer.
 pub fn choice_law()
     ensures one { (held : Candidates) (c : Place × Offer) → AreCandidates held → IsHeld held c → (d : Place × Offer) × IsChosen held d × (d.0.prefix ≡ c.0.prefix) }
     ensures alone { (held : Candidates) (c d : Place × Offer) → AreCandidates held → IsChosen held c → IsChosen held d → c.0.prefix ≡ d.0.prefix → c ≡ d }

@@ -1,8 +1,8 @@
 use Rattle.std.proofs.Common.{refl, ap, ◌∙◌, Some, option_map}
 use Rattle.mrt_frame.specs.Records.{fault_of}
-use Rattle.mrt_read.specs.Seen.{peers_in}
+use Rattle.mrt_records.specs.Views.{peers_in}
 use Rattle.mrt_read.proofs.Standing.{refuses_again, refuses_rule, source, takes_events, went_on, went_wrong}
-use Rattle.mrt_read.specs.declared.reader.Told.TheVariants.{Events}
+use Rattle.mrt_read.specs.declared.reader.NextRecord.TheVariants.{Events}
 use Rattle.mrt_read.proofs.reader.Reader.take_events.Goals as goal
 
 pub returns-in-Some-clause-after : goal.returns-in-Some-clause-after

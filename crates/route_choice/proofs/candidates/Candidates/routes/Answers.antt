@@ -16,7 +16,7 @@ loop-rank-init c = record {
   routes =
       ap (λ xs. map route_as xs ++ walked c.self.inside.seats.entries None c.into_iter-rank-iterator.result) c.new-routes.ensures.items
       ∙ (ap (walked c.self.inside.seats.entries None) (c.into_iter-rank-iterator.ensures.into_iter_gives ∙ c.iter-rank-items.ensures.rest)
-      ∙ (walked_is c.self.inside.seats.entries c.self.inside.ranks.keys c.self.invariant.0 c.iter-rank-items.ensures.ordered ∙ ap (λ (h : Held). routes_of h.candidates) c.self.view_is));
+      ∙ (walked_is c.self.inside.seats.entries c.self.inside.ranks.keys c.self.invariant.indexed c.iter-rank-items.ensures.ordered ∙ ap (λ (h : Held). routes_of h.candidates) c.self.view_is));
 }
 
 pub loop-rank-preserved-in-Continue-1 : goal.loop-rank-preserved-in-Continue-1
