@@ -18,3 +18,7 @@ prefix_as p = record { family = p.family; bits = take p.len (bits_of (width p.fa
 -- the entry: its prefix and its hop's number
 abbrev pub entry_as : code_entry.Entry → Prefix × ℕ
 entry_as e = (prefix_as e.prefix, e.hop.0)
+
+-- a route: its prefix and its next hop
+abbrev pub route_as : code_prefix.Prefix × code_addr.Addr → Prefix × Address
+route_as r = (prefix_as r.0, addr_as r.1)

@@ -18,7 +18,8 @@ use Rattle.fib_main.specs.Ends.{OneRose, ReadsBy, after, feeds_named}
 use Rattle.fib_addr.specs.declared.addr.Addr.{Addr}
 use Rattle.fib_addr.specs.declared.prefix.Prefix.{Prefix}
 use Rattle.fib_main.specs.declared.report.Fed.{Fed}
-use Rattle.fib_main.specs.Seen.{changes_as, route_as}
+use Rattle.fib_addr.specs.Seen.{route_as}
+use Rattle.fib_main.specs.Seen.{changes_as}
 use Rattle.fib_main.specs.Standing.{Stands, Has, IsFed}
 
 refused_not_ok : {X : Type 0} (o : Outcome) (x : X) → Err (Refused o) ≡ Ok x → ⊥

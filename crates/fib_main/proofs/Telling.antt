@@ -19,7 +19,7 @@ use Rattle.feed_model.specs.Feed.{hops_after, entries_of, load_changes, changes_
 use Rattle.fib_addr.specs.declared.addr.Addr.{Addr}
 use Rattle.fib_addr.specs.declared.prefix.Prefix.{Prefix}
 use Rattle.fib_addr.specs.declared.entry.Entry.{Entry}
-use Rattle.fib_addr.specs.Seen.{addr_as, entry_as}
+use Rattle.fib_addr.specs.Seen.{addr_as, entry_as, route_as}
 use Rattle.fib_report.specs.declared.run.Change.{Change}
 use Rattle.fib_report.specs.declared.run.Report.{Report}
 use Rattle.fib_report.specs.Seen.{Told}
@@ -27,7 +27,7 @@ use Rattle.fib_report.specs.Rows.{run_text}
 use Rattle.fib_main.specs.declared.report.Fed.{Fed}
 use Rattle.fib_main.specs.declared.state.State.{State}
 use Rattle.fib_main.specs.Due.{Feed, answers_to, counts, changes_of, printed, text_of}
-use Rattle.fib_main.specs.Seen.{answers_as, changes_as, numbered, route_as, totals}
+use Rattle.fib_main.specs.Seen.{answers_as, changes_as, numbered, totals}
 use Rattle.fib_main.specs.Held.{IsLooked}
 use Rattle.fib_main.specs.declared.report.Looked.{Looked}
 use Rattle.fib_main.specs.Standing.{IsFed, IsCounted}

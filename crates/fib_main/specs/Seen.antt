@@ -27,10 +27,6 @@ answers_as answers = map (λ a. (addr_as a.0, a.1.0)) answers
 abbrev pub reply_as : code_reply.Reply → Reply
 reply_as reply = record { text = reply.text.items; wrong = option_map no_as reply.no }
 
--- a route: its prefix and its hop
-abbrev pub route_as : code_prefix.Prefix × code_addr.Addr → Prefix × Address
-route_as r = (prefix_as r.0, addr_as r.1)
-
 -- a route with the number of its hop
 abbrev pub numbered : List Address → code_prefix.Prefix × code_addr.Addr → Prefix × ℕ
 numbered hops r = (prefix_as r.0, number_in hops (addr_as r.1))

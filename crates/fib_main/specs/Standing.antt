@@ -18,7 +18,8 @@ use Rattle.fib_main.specs.declared.state.FeedError.TheVariants.{Malformed, HopsF
 use Rattle.fib_main.specs.declared.report.Fed.{Fed}
 use Rattle.mrt_read.specs.declared.reader.EventsError.{EventsError}
 use Rattle.mrt_read.specs.declared.reader.EventsError.TheVariants as read
-use Rattle.fib_main.specs.Seen.{changes_as, route_as}
+use Rattle.fib_addr.specs.Seen.{route_as}
+use Rattle.fib_main.specs.Seen.{changes_as}
 use Rattle.fib_main.specs.Stops.{Stop, Refused, Is, Fails, event_in}
 use Rattle.fib_main.specs.Due.{Feed}
 

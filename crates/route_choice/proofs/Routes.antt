@@ -11,7 +11,7 @@ use Rattle.std.specs.declared.cmp.Ordering.TheVariants.{Less, Equal, Greater}
 use Rattle.address_model.specs.Address.{Address, Prefix, IsPrefix, same_prefix}
 use Rattle.address_model.specs.Order.{prefix_cmp}
 use Rattle.address_model.proofs.Same.{same_prefix_is, same_prefix_itself}
-use Rattle.fib_addr.specs.Seen.{addr_as, prefix_as}
+use Rattle.fib_addr.specs.Seen.{addr_as, prefix_as, route_as}
 use Rattle.fib_addr.specs.Order.{code_cmp}
 use Rattle.fib_addr.specs.declared.addr.Addr.{Addr}
 use Rattle.fib_addr.specs.declared.prefix.Prefix as code
@@ -27,7 +27,7 @@ use Rattle.route_choice.specs.declared.keys.Candidate.{Candidate}
 use Rattle.route_choice.specs.Orders.{rank_cmp}
 use Rattle.fib_prefix.specs.Order.{code_peer_cmp}
 use Rattle.route_choice.specs.Seats.{Seats, held_in, rank_at, IsIndexed}
-use Rattle.route_choice.specs.Walks.{route_as, offer_ranked, or_next, first_in, ranks_of}
+use Rattle.route_choice.specs.Walks.{offer_ranked, or_next, first_in, ranks_of}
 use Rattle.route_choice.proofs.Orders.{prefix_same, is_prefix}
 use Rattle.route_choice.proofs.Views.{are_candidates}
 use Rattle.route_choice.proofs.Best.{code_of, same_rank}

@@ -1,8 +1,6 @@
 -- What walks over seats and ranks find.
 use Rattle.std.specs.Prelude.{◌==◌, ◌&&◌, ◌||◌, nat_lt, ℕ, List, [], ◌∷◌, Bool, false, Option, Some, None, filter, if◌then◌else◌}
 use Rattle.std.specs.Ordering.{is_eq, is_lt}
-use Rattle.address_model.specs.Address.{Address, Prefix}
-use Rattle.fib_addr.specs.Seen.{addr_as, prefix_as}
 use Rattle.fib_addr.specs.Order.{code_cmp}
 use Rattle.fib_addr.specs.declared.addr.Addr.{Addr}
 use Rattle.fib_addr.specs.declared.prefix.Prefix as code
@@ -61,6 +59,3 @@ cut_or q s (Some offer) cuts = Cut q s.prefix ∷ cuts
 unfoldable pub cuts_in : Peer → Seats → List Elem
 cuts_in q [] = []
 cuts_in q (e ∷ seats) = cut_or q e.0 e.1 (cuts_in q seats)
-
-abbrev pub route_as : code.Prefix × Addr → Prefix × Address
-route_as r = (prefix_as r.0, addr_as r.1)

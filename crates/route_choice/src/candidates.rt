@@ -4,7 +4,7 @@ ghost use Rattle.std.specs.Prelude.{◌≡◌, ◌&&◌, ◌||◌, List, true, f
 ghost use Rattle.std.specs.Ordering.{is_eq};
 ghost use Rattle.std.specs.BTreeMap as tree;
 ghost use Rattle.std.specs.BTreeSet as set;
-ghost use Rattle.fib_addr.specs.Seen.{addr_as, prefix_as};
+ghost use Rattle.fib_addr.specs.Seen.{addr_as, prefix_as, route_as};
 ghost use Rattle.fib_prefix.specs.Seen.{event_as, elem_as};
 ghost use Rattle.route_model.specs.Choice.{AreCandidates, after_elem, elems_of, chosen_for, routes_of};
 ghost use Rattle.route_choice.specs.Orders.{seat_cmp, rank_cmp};
@@ -12,7 +12,7 @@ ghost use Rattle.route_choice.specs.Seats.{held_in, IsIndexed, HasRoom, has_rank
 ghost use Rattle.route_choice.specs.Seats.{offer_at as offered};
 ghost use Rattle.route_choice.specs.Held.{Held, IsChoice, IsPlanned, picked};
 ghost use Rattle.route_choice.specs.Kept.{IsKept, EachSeatServes, EachRankServes, holds_seat as seat_held, holds_rank as rank_held};
-ghost use Rattle.route_choice.specs.Walks.{offer_ranked as ranked, first_in, better_of, cuts_in, route_as, ranks_of, seats_of};
+ghost use Rattle.route_choice.specs.Walks.{offer_ranked as ranked, first_in, better_of, cuts_in, ranks_of, seats_of};
 
 use crate::choice::{Choice, Pick};
 use crate::keys::{Candidate, Offer, Rank, Seat};
