@@ -36,7 +36,8 @@ pub trait ByName {
 
     /// A reader that stands at the beginning of what the name holds.
     fn open(&self, name: &str) -> io::Result<Self::Reader>
-        ensures { IfOk result (λ reader. IsOpened (content self.now name.now) (Self.Reader.stream_bytes reader) (Self.Reader.stream_position reader)) };
+        ensures { IfOk result (λ reader. IsOpened (content self.now name.now)
+            (Self.Reader.stream_bytes reader) (Self.Reader.stream_position reader)) };
 }
 
 /// The files of a runtime. They tell no content.
@@ -58,7 +59,9 @@ impl<R: Files<File = File>> ByName for SystemFiles<'_, R> {
 /// Reads once, from the place on.
 fn read_at<R: ReadSeek>(reader: &mut R, at: u64, buf: &mut [u8]) -> io::Result<usize>
     ensures most { IfOk result (λ n. n ≤ length buf.new) }
-    ensures told { IfOk result (λ n. IfSome (R.stream_bytes reader.old) (λ octets. IfSome (R.stream_position reader.old) (λ _. AreAt octets at buf.new n))) }
+    ensures told { IfOk result
+        (λ n. IfSome (R.stream_bytes reader.old)
+        (λ octets. IfSome (R.stream_position reader.old) (λ _. AreAt octets at buf.new n))) }
 {
     reader.seek(SeekFrom::Start(at))?;
     reader.read(buf)
@@ -67,7 +70,8 @@ fn read_at<R: ReadSeek>(reader: &mut R, at: u64, buf: &mut [u8]) -> io::Result<u
 /// Opens what the name holds and reads once, from the place on.
 fn read_named<N: ByName>(names: &N, name: &str, at: u64, buf: &mut [u8]) -> io::Result<usize>
     ensures most { IfOk result (λ n. n ≤ length buf.new) }
-    ensures told { IfOk result (λ n. IfSome (N.content names.now name.now) (λ octets. AreAt octets at buf.new n)) }
+    ensures told { IfOk result
+        (λ n. IfSome (N.content names.now name.now) (λ octets. AreAt octets at buf.new n)) }
 {
     let mut reader = names.open(name)?;
     read_at(&mut reader, at, buf)
@@ -138,7 +142,8 @@ impl FlushWrite for Stderr {
 /// Writes once and flushes.
 fn write_through<W: FlushWrite>(inner: &mut W, piece: &[u8]) -> io::Result<usize>
     ensures most { IfOk result (λ n. n ≤ length piece.now) }
-    ensures adds { IfOk result (λ n. Appends (W.contents inner.old) (W.contents inner.new) (take n piece.now)) }
+    ensures adds { IfOk result
+        (λ n. Appends (W.contents inner.old) (W.contents inner.new) (take n piece.now)) }
     ensures flushed { OnOk result (W.flushed inner.new ≡ W.contents inner.new) }
 {
     let taken = inner.write(piece)?;
@@ -172,11 +177,18 @@ impl<W: FlushWrite + Drop> Sink for StdSink<W> {
     fn write(&mut self, piece: &[u8]) -> Result<usize, OutFault>
         ensures most { IfOk result (λ n. n ≤ length piece.now) }
         ensures some { IfOk result (λ n. 0 < length piece.now → 0 < n) }
-        ensures ok { IfOk result (λ n. AddsFront (⟦<StdSink<W> as Sink>⟧.written self.old) (⟦<StdSink<W> as Sink>⟧.written self.new) piece.now n) }
-        ensures err { OnErr result (⟦<StdSink<W> as Sink>⟧.written self.new ≡ ⟦<StdSink<W> as Sink>⟧.written self.old) }
-        ensures cause { HasCause (⟦<StdSink<W> as Sink>⟧.faults self.old) (⟦<StdSink<W> as Sink>⟧.faults self.new) result }
-        ensures adds { IfOk result (λ n. Appends (W.contents (writer_of self.old)) (W.contents (writer_of self.new)) (take n piece.now)) }
-        ensures flushed { OnOk result (W.flushed (writer_of self.new) ≡ W.contents (writer_of self.new)) }
+        ensures ok { IfOk result
+            (λ n. AddsFront (⟦<StdSink<W> as Sink>⟧.written self.old)
+            (⟦<StdSink<W> as Sink>⟧.written self.new) piece.now n) }
+        ensures err { OnErr result
+            (⟦<StdSink<W> as Sink>⟧.written self.new ≡ ⟦<StdSink<W> as Sink>⟧.written self.old) }
+        ensures cause { HasCause (⟦<StdSink<W> as Sink>⟧.faults self.old)
+            (⟦<StdSink<W> as Sink>⟧.faults self.new) result }
+        ensures adds { IfOk result
+            (λ n. Appends (W.contents (writer_of self.old)) (W.contents (writer_of self.new))
+            (take n piece.now)) }
+        ensures flushed { OnOk result
+            (W.flushed (writer_of self.new) ≡ W.contents (writer_of self.new)) }
     {
         match write_through(&mut self.inner, piece) {
             Ok(taken) if taken > 0 || piece.is_empty() => Ok(taken),
