@@ -27,9 +27,12 @@ fn outcome_of<I: Inputs, O: Sink, E: Sink>(
     out: &mut O,
     err: &mut E,
 ) -> Outcome
-    ensures ends { EndsBy (words_in words) (I.content inputs.old) (O.written out.old) (O.written out.new) result }
-    ensures tells { TellsOf result (E.written err.old) (E.written err.new) (E.faults err.old) (E.faults err.new) }
-    ensures memory { IfErr words (λ e. error_kind e ≡ ErrorKind.OutOfMemory → result ≡ Outcome.NoMemory) }
+    ensures ends { EndsBy (words_in words) (I.content inputs.old) (O.written out.old)
+        (O.written out.new) result }
+    ensures tells { TellsOf result (E.written err.old) (E.written err.new) (E.faults err.old)
+        (E.faults err.new) }
+    ensures memory { IfErr words
+        (λ e. error_kind e ≡ ErrorKind.OutOfMemory → result ≡ Outcome.NoMemory) }
 {
     match words {
         Ok(words) => run_fib(alloc, &words, inputs, out, err),

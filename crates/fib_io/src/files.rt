@@ -26,8 +26,10 @@ pub trait ReadSeek: Read + Seek {
     /// stands behind them then.
     fn read_on(&mut self, buf: &mut [u8]) -> io::Result<usize>
         ensures most { IfOk result (λ n. n ≤ length buf.new) }
-        ensures told { ReadsOn (Self.stream_bytes self.old) (Self.stream_position self.old) (Self.stream_position self.new) buf.new result }
-        ensures same { ForSome (Self.stream_bytes self.old) (λ octets. Self.stream_bytes self.new ≡ Some octets) };
+        ensures told { ReadsOn (Self.stream_bytes self.old) (Self.stream_position self.old)
+            (Self.stream_position self.new) buf.new result }
+        ensures same { ForSome (Self.stream_bytes self.old)
+            (λ octets. Self.stream_bytes self.new ≡ Some octets) };
 }
 
 impl ReadSeek for File {
@@ -44,7 +46,8 @@ pub trait ByName {
 
     /// A reader that stands at the beginning of what the name holds.
     fn open(&self, name: &str) -> io::Result<Self::Reader>
-        ensures { IfOk result (λ reader. IsOpened (content self.now name.now) (Self.Reader.stream_bytes reader) (Self.Reader.stream_position reader)) };
+        ensures { IfOk result (λ reader. IsOpened (content self.now name.now)
+            (Self.Reader.stream_bytes reader) (Self.Reader.stream_position reader)) };
 }
 
 /// The files of a runtime. They tell no content.
@@ -94,7 +97,9 @@ impl<R: ReadSeek + Drop> OpenInput<R> {
     /// Goes to a place, unless it stands there.
     fn go_to(&mut self, at: u64) -> io::Result<()>
         ensures name { self.new.name ≡ self.old.name }
-        ensures open { (content : Option (List ℕ)) → IsOpen content (R.stream_bytes self.old.reader) (R.stream_position self.old.reader) self.old.place → IsOpen content (R.stream_bytes self.new.reader) (R.stream_position self.new.reader) self.new.place }
+        ensures open { (content : Option (List ℕ))
+            → IsOpen content (R.stream_bytes self.old.reader) (R.stream_position self.old.reader) self.old.place
+            → IsOpen content (R.stream_bytes self.new.reader) (R.stream_position self.new.reader) self.new.place }
         ensures at { OnOk result (self.new.place ≡ Some at) }
     {
         if self.place != Some(at) {
@@ -108,8 +113,12 @@ impl<R: ReadSeek + Drop> OpenInput<R> {
     fn read_at(&mut self, at: u64, buf: &mut [u8]) -> io::Result<usize>
         ensures most { IfOk result (λ n. n ≤ length buf.new) }
         ensures name { self.new.name ≡ self.old.name }
-        ensures open { (content : Option (List ℕ)) → IsOpen content (R.stream_bytes self.old.reader) (R.stream_position self.old.reader) self.old.place → IsOpen content (R.stream_bytes self.new.reader) (R.stream_position self.new.reader) self.new.place }
-        ensures told { (octets : List ℕ) → IsOpen (Some octets) (R.stream_bytes self.old.reader) (R.stream_position self.old.reader) self.old.place → IfOk result (λ n. AreAt octets at buf.new n) }
+        ensures open { (content : Option (List ℕ))
+            → IsOpen content (R.stream_bytes self.old.reader) (R.stream_position self.old.reader) self.old.place
+            → IsOpen content (R.stream_bytes self.new.reader) (R.stream_position self.new.reader) self.new.place }
+        ensures told { (octets : List ℕ)
+            → IsOpen (Some octets) (R.stream_bytes self.old.reader) (R.stream_position self.old.reader) self.old.place
+            → IfOk result (λ n. AreAt octets at buf.new n) }
     {
         self.go_to(at)?;
         let n = self.reader.read_on(buf)?;
@@ -163,7 +172,8 @@ fn open_input<N: ByName>(
     name: &str,
 ) -> Result<OpenInput<N::Reader>, InFault>
     ensures named { IfOk result (λ input. string_bytes input.name ≡ name.now) }
-    ensures open { IfOk result (λ input. IsOpen (N.content files.now name.now) (N.Reader.stream_bytes input.reader) (N.Reader.stream_position input.reader) input.place) }
+    ensures open { IfOk result (λ input. IsOpen (N.content files.now name.now)
+        (N.Reader.stream_bytes input.reader) (N.Reader.stream_position input.reader) input.place) }
 {
     Ok(OpenInput {
         name: String::from_str(alloc, name)?,
@@ -191,7 +201,8 @@ impl<N: ByName + Drop> FileInputs<N> {
     /// Reads once, from the place on, what stands under the name.
     fn read_named(&mut self, name: &str, at: u64, buf: &mut [u8]) -> Result<usize, InFault>
         ensures most { IfOk result (λ n. n ≤ length buf.new) }
-        ensures told { IfOk result (λ n. IfSome (N.content self.old.files name.now) (λ octets. AreAt octets at buf.new n)) }
+        ensures told { IfOk result
+            (λ n. IfSome (N.content self.old.files name.now) (λ octets. AreAt octets at buf.new n)) }
         ensures files { self.new.files ≡ self.old.files }
         ensures faults { self.new.faults ≡ self.old.faults }
     {

@@ -43,7 +43,8 @@ impl FlushWrite for Stderr {
 /// Writes once and flushes.
 fn write_through<W: FlushWrite>(inner: &mut W, piece: &[u8]) -> io::Result<usize>
     ensures most { IfOk result (λ n. n ≤ length piece.now) }
-    ensures adds { IfOk result (λ n. Appends (W.contents inner.old) (W.contents inner.new) (take n piece.now)) }
+    ensures adds { IfOk result
+        (λ n. Appends (W.contents inner.old) (W.contents inner.new) (take n piece.now)) }
     ensures flushed { OnOk result (W.flushed inner.new ≡ W.contents inner.new) }
 {
     let taken = inner.write(piece)?;
@@ -77,11 +78,18 @@ impl<W: FlushWrite + Drop> Sink for StdSink<W> {
     fn write(&mut self, piece: &[u8]) -> Result<usize, OutFault>
         ensures most { IfOk result (λ n. n ≤ length piece.now) }
         ensures some { IfOk result (λ n. 0 < length piece.now → 0 < n) }
-        ensures ok { IfOk result (λ n. AddsFront (⟦<StdSink<W> as Sink>⟧.written self.old) (⟦<StdSink<W> as Sink>⟧.written self.new) piece.now n) }
-        ensures err { OnErr result (⟦<StdSink<W> as Sink>⟧.written self.new ≡ ⟦<StdSink<W> as Sink>⟧.written self.old) }
-        ensures cause { HasCause (⟦<StdSink<W> as Sink>⟧.faults self.old) (⟦<StdSink<W> as Sink>⟧.faults self.new) result }
-        ensures adds { IfOk result (λ n. Appends (W.contents (writer_of self.old)) (W.contents (writer_of self.new)) (take n piece.now)) }
-        ensures flushed { OnOk result (W.flushed (writer_of self.new) ≡ W.contents (writer_of self.new)) }
+        ensures ok { IfOk result
+            (λ n. AddsFront (⟦<StdSink<W> as Sink>⟧.written self.old)
+            (⟦<StdSink<W> as Sink>⟧.written self.new) piece.now n) }
+        ensures err { OnErr result
+            (⟦<StdSink<W> as Sink>⟧.written self.new ≡ ⟦<StdSink<W> as Sink>⟧.written self.old) }
+        ensures cause { HasCause (⟦<StdSink<W> as Sink>⟧.faults self.old)
+            (⟦<StdSink<W> as Sink>⟧.faults self.new) result }
+        ensures adds { IfOk result
+            (λ n. Appends (W.contents (writer_of self.old)) (W.contents (writer_of self.new))
+            (take n piece.now)) }
+        ensures flushed { OnOk result
+            (W.flushed (writer_of self.new) ≡ W.contents (writer_of self.new)) }
     {
         match write_through(&mut self.inner, piece) {
             Ok(taken) if taken > 0 || piece.is_empty() => Ok(taken),

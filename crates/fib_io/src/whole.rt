@@ -65,7 +65,8 @@ fn read_piece<I: Inputs>(
     requires within { at ≤ MOST }
     ensures most { IfOk result (λ n. n ≤ length buf.new) }
     ensures small { IfOk result (λ n. at < MOST → at + n ≤ MOST) }
-    ensures told { IfOk result (λ n. IfSome (I.content inputs.old name.now) (λ octets. AreAt octets at buf.new n)) }
+    ensures told { IfOk result
+        (λ n. IfSome (I.content inputs.old name.now) (λ octets. AreAt octets at buf.new n)) }
     ensures same { I.content inputs.new ≡ I.content inputs.old }
     ensures cause { HasReadCause (I.faults inputs.old) (I.faults inputs.new) name.now result }
 {
@@ -92,9 +93,11 @@ fn read_by<I: Inputs>(
     buf: &mut [u8],
 ) -> Result<Vec<u8>, ReadError>
     requires { 0 < length buf.old }
-    ensures whole { IfOk result (λ v. IfSome (I.content inputs.old name.now) (λ octets. v.items ≡ octets)) }
+    ensures whole { IfOk result
+        (λ v. IfSome (I.content inputs.old name.now) (λ octets. v.items ≡ octets)) }
     ensures most { IfOk result (λ v. length v.items ≤ MOST) }
-    ensures large { IsErrOf result ReadError.TooLarge → IfSome (I.content inputs.old name.now) (λ octets. MOST < length octets) }
+    ensures large { IsErrOf result ReadError.TooLarge → IfSome (I.content inputs.old name.now)
+        (λ octets. MOST < length octets) }
     ensures same { I.content inputs.new ≡ I.content inputs.old }
     ensures cause { IsReadOf (I.faults inputs.old) (I.faults inputs.new) name.now result }
 {
@@ -118,9 +121,11 @@ pub fn read_whole<I: Inputs>(
     inputs: &mut I,
     name: &str,
 ) -> Result<Vec<u8>, ReadError>
-    ensures whole { IfOk result (λ v. IfSome (I.content inputs.old name.now) (λ octets. v.items ≡ octets)) }
+    ensures whole { IfOk result
+        (λ v. IfSome (I.content inputs.old name.now) (λ octets. v.items ≡ octets)) }
     ensures most { IfOk result (λ v. length v.items ≤ MOST) }
-    ensures large { IsErrOf result ReadError.TooLarge → IfSome (I.content inputs.old name.now) (λ octets. MOST < length octets) }
+    ensures large { IsErrOf result ReadError.TooLarge → IfSome (I.content inputs.old name.now)
+        (λ octets. MOST < length octets) }
     ensures same { I.content inputs.new ≡ I.content inputs.old }
     ensures cause { IsReadOf (I.faults inputs.old) (I.faults inputs.new) name.now result }
 {

@@ -35,15 +35,21 @@ fn outcome_of<I: Inputs, O: Sink>(
     out: &mut O,
 ) -> Outcome
     ensures exact { Meets (due_by words.now (I.content inputs.old)) result }
-    ensures read { ReadsFrom (read_by words.now (I.content inputs.old)) (I.faults inputs.old) (I.faults inputs.new) result }
+    ensures read { ReadsFrom (read_by words.now (I.content inputs.old)) (I.faults inputs.old)
+        (I.faults inputs.new) result }
     ensures write { WritesBy (O.faults out.old) (O.faults out.new) result }
-    ensures out { Writes (text_due (due_by words.now (I.content inputs.old))) (O.written out.old) (O.written out.new) result }
+    ensures out { Writes (text_due (due_by words.now (I.content inputs.old))) (O.written out.old)
+        (O.written out.new) result }
     ensures own { IsOf (asked_by words.now) result }
-    ensures some { FitsSome (I.content inputs.old) (asked_by words.now) (O.written out.old) (O.written out.new) result }
+    ensures some { FitsSome (I.content inputs.old) (asked_by words.now) (O.written out.old)
+        (O.written out.new) result }
     ensures same { I.content inputs.new ≡ I.content inputs.old }
-    ensures printed { result ≡ Outcome.Done → IsRun (asked_by words.now) → AddsYes (O.written out.old) (O.written out.new) }
-    ensures front { result ≡ Outcome.WriteFault → IsRun (asked_by words.now) → AddsFrontOfYes (O.written out.old) (O.written out.new) }
-    ensures due_yes { result ≡ Outcome.Done → IfRan (due_by words.now (I.content inputs.old)) PrintsYes }
+    ensures printed { result ≡ Outcome.Done → IsRun (asked_by words.now) → AddsYes
+        (O.written out.old) (O.written out.new) }
+    ensures front { result ≡ Outcome.WriteFault → IsRun (asked_by words.now) → AddsFrontOfYes
+        (O.written out.old) (O.written out.new) }
+    ensures due_yes { result ≡ Outcome.Done → IfRan
+        (due_by words.now (I.content inputs.old)) PrintsYes }
 {
     match reply_for(alloc, words, inputs) {
         Ok(reply) => match write_all(out, &reply.text) {
@@ -56,7 +62,8 @@ fn outcome_of<I: Inputs, O: Sink>(
 
 /// Writes the outcome's line to err, where a fault is passed over.
 pub fn tell<E: Sink>(outcome: Outcome, err: &mut E)
-    ensures { TellsOf outcome (E.written err.old) (E.written err.new) (E.faults err.old) (E.faults err.new) }
+    ensures { TellsOf outcome (E.written err.old) (E.written err.new) (E.faults err.old)
+        (E.faults err.new) }
 {
     if outcome != Outcome::Done {
         let _ = write_all(err, outcome.line().as_bytes());
@@ -72,16 +79,23 @@ fn ended<I: Inputs, O: Sink, E: Sink>(
     err: &mut E,
 ) -> Outcome
     ensures exact { Meets (due_by words.now (I.content inputs.old)) result }
-    ensures read { ReadsFrom (read_by words.now (I.content inputs.old)) (I.faults inputs.old) (I.faults inputs.new) result }
+    ensures read { ReadsFrom (read_by words.now (I.content inputs.old)) (I.faults inputs.old)
+        (I.faults inputs.new) result }
     ensures write { WritesBy (O.faults out.old) (O.faults out.new) result }
-    ensures out { Writes (text_due (due_by words.now (I.content inputs.old))) (O.written out.old) (O.written out.new) result }
+    ensures out { Writes (text_due (due_by words.now (I.content inputs.old))) (O.written out.old)
+        (O.written out.new) result }
     ensures own { IsOf (asked_by words.now) result }
-    ensures some { FitsSome (I.content inputs.old) (asked_by words.now) (O.written out.old) (O.written out.new) result }
+    ensures some { FitsSome (I.content inputs.old) (asked_by words.now) (O.written out.old)
+        (O.written out.new) result }
     ensures same { I.content inputs.new ≡ I.content inputs.old }
-    ensures printed { result ≡ Outcome.Done → IsRun (asked_by words.now) → AddsYes (O.written out.old) (O.written out.new) }
-    ensures front { result ≡ Outcome.WriteFault → IsRun (asked_by words.now) → AddsFrontOfYes (O.written out.old) (O.written out.new) }
-    ensures due_yes { result ≡ Outcome.Done → IfRan (due_by words.now (I.content inputs.old)) PrintsYes }
-    ensures err { TellsOf result (E.written err.old) (E.written err.new) (E.faults err.old) (E.faults err.new) }
+    ensures printed { result ≡ Outcome.Done → IsRun (asked_by words.now) → AddsYes
+        (O.written out.old) (O.written out.new) }
+    ensures front { result ≡ Outcome.WriteFault → IsRun (asked_by words.now) → AddsFrontOfYes
+        (O.written out.old) (O.written out.new) }
+    ensures due_yes { result ≡ Outcome.Done → IfRan
+        (due_by words.now (I.content inputs.old)) PrintsYes }
+    ensures err { TellsOf result (E.written err.old) (E.written err.new) (E.faults err.old)
+        (E.faults err.new) }
 {
     let outcome = outcome_of(alloc, words, inputs, out);
     tell(outcome, err);
@@ -110,32 +124,39 @@ pub fn run_fib<I: Inputs, O: Sink, E: Sink>(
     ensures exact { Meets (due_by words.now (I.content inputs.old)) result }
 
     // A fault of reading has its cause in an input that was to be read, and nothing else leaves a count risen.
-    ensures read { ReadsFrom (read_by words.now (I.content inputs.old)) (I.faults inputs.old) (I.faults inputs.new) result }
+    ensures read { ReadsFrom (read_by words.now (I.content inputs.old)) (I.faults inputs.old)
+        (I.faults inputs.new) result }
 
     // A fault of writing has its cause in out.
     ensures write { WritesBy (O.faults out.old) (O.faults out.new) result }
 
     // Out has the due text at Done and at CheckNo, a front of it at a fault of writing, and else nothing new.
-    ensures out { Writes (text_due (due_by words.now (I.content inputs.old))) (O.written out.old) (O.written out.new) result }
+    ensures out { Writes (text_due (due_by words.now (I.content inputs.old))) (O.written out.old)
+        (O.written out.new) result }
 
     // Err has the outcome's line, and nothing new at Done.
-    ensures err { TellsOf result (E.written err.old) (E.written err.new) (E.faults err.old) (E.faults err.new) }
+    ensures err { TellsOf result (E.written err.old) (E.written err.new) (E.faults err.old)
+        (E.faults err.new) }
 
     // The words have the outcome, whether or not an input tells what it holds.
     ensures own { IsOf (asked_by words.now) result }
 
     // Where the asks of a run or the text of a check don't tell, all is as it is due of some that there could be.
-    ensures some { FitsSome (I.content inputs.old) (asked_by words.now) (O.written out.old) (O.written out.new) result }
+    ensures some { FitsSome (I.content inputs.old) (asked_by words.now) (O.written out.old)
+        (O.written out.new) result }
 
     // No content changes.
     ensures same { I.content inputs.new ≡ I.content inputs.old }
 
     // Where a count rose, the outcome says so.
-    ensures risen_input { (name : List ℕ) → I.faults inputs.old name < I.faults inputs.new name → result ≡ Outcome.ReadFault }
+    ensures risen_input { (name : List ℕ) → I.faults inputs.old name < I.faults inputs.new name →
+        result ≡ Outcome.ReadFault }
     ensures risen_out { O.faults out.old < O.faults out.new → result ≡ Outcome.WriteFault }
 
     // With contents told and no count risen the due outcome comes, unless memory runs out.
-    ensures complete { Completes (due_by words.now (I.content inputs.old)) (OneRose (read_by words.now (I.content inputs.old)) (I.faults inputs.old) (I.faults inputs.new)) (Rose (O.faults out.old) (O.faults out.new)) result }
+    ensures complete { Completes (due_by words.now (I.content inputs.old))
+        (OneRose (read_by words.now (I.content inputs.old)) (I.faults inputs.old)
+        (I.faults inputs.new)) (Rose (O.faults out.old) (O.faults out.new)) result }
 
     // What is due to be printed of a run: the changes add up to the table, the table sends every address where the routes send it,
     // each answer is the longest match among the routes, and the least table sends every address where the routes send it
@@ -155,9 +176,12 @@ pub fn run_fib<I: Inputs, O: Sink, E: Sink>(
     // At Done of a run out has one text more, to which a check says yes: it is read again as rows with a certificate, whatever
     // numbers the reader gives the hops. At a fault of writing it has a front of such a text. Where the inputs tell what they
     // hold, the due text is such a text.
-    ensures printed { result ≡ Outcome.Done → IsRun (asked_by words.now) → AddsYes (O.written out.old) (O.written out.new) }
-    ensures front { result ≡ Outcome.WriteFault → IsRun (asked_by words.now) → AddsFrontOfYes (O.written out.old) (O.written out.new) }
-    ensures due_yes { result ≡ Outcome.Done → IfRan (due_by words.now (I.content inputs.old)) PrintsYes }
+    ensures printed { result ≡ Outcome.Done → IsRun (asked_by words.now) → AddsYes
+        (O.written out.old) (O.written out.new) }
+    ensures front { result ≡ Outcome.WriteFault → IsRun (asked_by words.now) → AddsFrontOfYes
+        (O.written out.old) (O.written out.new) }
+    ensures due_yes { result ≡ Outcome.Done → IfRan
+        (due_by words.now (I.content inputs.old)) PrintsYes }
 
     // A check that is due says yes exactly where the printed rows are a certificate, whoever wrote them. The printed least
     // table then sends every address where the printed routes send it, and has no more entries in either family than any
