@@ -3,10 +3,10 @@ use Rattle.std.specs.Prelude.{ℕ, List, [], option_map}
 use Rattle.std.specs.Result.{result_unwrap_or}
 use Rattle.address_model.specs.declared.family.Family.{Family}
 use Rattle.address_model.specs.Address.{Prefix}
-use Rattle.fib_addr.specs.Seen.{addr_as}
+use Rattle.fib_addr.specs.Views.{addr_as}
 use Rattle.reading_model.specs.Rules.{attribute_value}
 use Rattle.reading_model.specs.Wire.{prefixes}
-use Rattle.reading_model.specs.Attribute.{Reached, Unreached, Found, Listed}
+use Rattle.reading_model.specs.Attribute.{ReachAttr, Unreached, Found, Listed}
 use Rattle.bgp_attrs.specs.declared.multiprotocol.Reach.{Reach}
 use Rattle.bgp_attrs.specs.declared.multiprotocol.Unreach.{Unreach}
 use Rattle.bgp_attrs.specs.declared.list.Attrs.{Attrs}
@@ -16,7 +16,7 @@ use Rattle.bgp_attrs.specs.declared.list.Found as code
 abbrev pub prefixes_in : Family → List ℕ → List Prefix
 prefixes_in family octets = result_unwrap_or (prefixes attribute_value family octets) []
 
-abbrev pub reached : Reach → Reached
+abbrev pub reached : Reach → ReachAttr
 reached r = record { family = r.family; hop = addr_as r.hop; nlri = prefixes_in r.family r.nlri.now }
 
 abbrev pub unreached : Unreach → Unreached

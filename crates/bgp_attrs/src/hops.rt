@@ -4,7 +4,7 @@ ghost use Rattle.std.specs.Prelude.{◌≡◌, IsTrue, length};
 ghost use Rattle.address_model.specs.declared.family.Family.TheVariants.{V4};
 ghost use Rattle.octet_fields.specs.Gives.{Gives};
 ghost use Rattle.reading_model.specs.Attribute.{full_hop, hop_of, is_hop_length, next_hop_at, rib_hop};
-ghost use Rattle.fib_addr.specs.Seen.{addr_as};
+ghost use Rattle.fib_addr.specs.Views.{addr_as};
 
 use fib_addr::{Addr, Family};
 use octet_fields::{octet, octets};

@@ -4,7 +4,7 @@ ghost use Rattle.std.specs.Prelude.{◌<◌, ◌^◌, ◌==◌, length, IfOk, bi
 ghost use Rattle.octet_fields.specs.Field.{number_at};
 ghost use Rattle.octet_fields.specs.Gives.{Gives};
 ghost use Rattle.reading_model.specs.Rules.{attribute_cut};
-ghost use Rattle.reading_model.specs.Attribute.{with_path, with_hop, with_reach, with_unreach, with_value, attribute_at, attributes};
+ghost use Rattle.reading_model.specs.Attribute.{with_as_path, with_next_hop, with_reach, with_unreach, with_value, attribute_at, attributes};
 ghost use Rattle.bgp_attrs.specs.Views.{found_as, listed_as};
 
 use crate::hops::next_hop;
@@ -53,10 +53,10 @@ struct Found<'a> {
 }
 
 /// An AS_PATH; the first counts (RFC 7606, section 3 (g)).
-#[tactic(auto, unfolding(reading_model::specs::Attribute::with_path))]
+#[tactic(auto, unfolding(reading_model::specs::Attribute::with_as_path))]
 fn with_as_path<'a>(before: Found<'a>, place: Place, value: &[u8]) -> Result<Found<'a>, u8>
     requires { length value.now < 2 ^ 32 }
-    ensures { Gives found_as result (with_path place (found_as before.entry) value.now) }
+    ensures { Gives found_as result (with_as_path place (found_as before.entry) value.now) }
 {
     if before.path.is_some() {
         return Ok(before);
@@ -70,9 +70,9 @@ fn with_as_path<'a>(before: Found<'a>, place: Place, value: &[u8]) -> Result<Fou
 }
 
 /// A NEXT_HOP; the first counts (RFC 7606, section 3 (g)).
-#[tactic(auto, unfolding(reading_model::specs::Attribute::with_hop))]
+#[tactic(auto, unfolding(reading_model::specs::Attribute::with_next_hop))]
 fn with_next_hop<'a>(before: Found<'a>, value: &[u8]) -> Result<Found<'a>, u8>
-    ensures { Gives found_as result (with_hop (found_as before.entry) value.now) }
+    ensures { Gives found_as result (with_next_hop (found_as before.entry) value.now) }
 {
     if before.hop.is_some() {
         return Ok(before);

@@ -2,7 +2,7 @@
 
 ghost use Rattle.std.specs.Prelude.{◌≡◌, ◌+◌, ◌≤◌, ◌<◌, ◌^◌, length, IfOk};
 ghost use Rattle.octet_fields.specs.Gives.{Gives};
-ghost use Rattle.reading_model.specs.Path.{weight, segment_at, as_size, path_of};
+ghost use Rattle.reading_model.specs.Path.{segment_length, segment_at, as_size, path_of};
 
 use octet_fields::{octet, octets};
 use wire_fields::rule;
@@ -18,7 +18,7 @@ const AS_CONFED_SET: u8 = 4;
 
 /// What a segment counts in the path length.
 fn weight_of(kind: u8, count: u8) -> u32
-    ensures { result ≡ weight kind count }
+    ensures { result ≡ segment_length kind count }
 {
     match kind {
         AS_SEQUENCE => u32::from(count),

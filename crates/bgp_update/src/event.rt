@@ -3,8 +3,8 @@
 ghost use Rattle.std.specs.Prelude.{◌≡◌, ◌++◌, OnErr, OnOk, option_map, map};
 ghost use Rattle.reading_model.specs.Rib as model;
 ghost use Rattle.reading_model.specs.Update.{routes};
-ghost use Rattle.fib_addr.specs.Seen.{addr_as, prefix_as};
-ghost use Rattle.fib_prefix.specs.Seen.{peer_as, event_as};
+ghost use Rattle.fib_addr.specs.Views.{addr_as, prefix_as};
+ghost use Rattle.fib_prefix.specs.Views.{peer_as, event_as};
 
 use fib_prefix::{Addr, Event, Peer, Prefix};
 use std::alloc::AllocError;

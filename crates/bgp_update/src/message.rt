@@ -1,7 +1,7 @@
 //! Messages.
 
 ghost use Rattle.std.specs.Prelude.{map};
-ghost use Rattle.fib_prefix.specs.Seen.{peer_as, event_as};
+ghost use Rattle.fib_prefix.specs.Views.{peer_as, event_as};
 ghost use Rattle.reading_model.specs.Update.{message};
 ghost use Rattle.wire_fields.specs.Gives.{GivesInMemory};
 

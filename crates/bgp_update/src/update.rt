@@ -1,8 +1,8 @@
 //! UPDATE messages.
 
 ghost use Rattle.std.specs.Prelude.{map, ◌≡◌, ◌++◌, IfErr, IfOk, OnOk, option_map};
-ghost use Rattle.fib_addr.specs.Seen.{prefix_as};
-ghost use Rattle.fib_prefix.specs.Seen.{peer_as, event_as};
+ghost use Rattle.fib_addr.specs.Views.{prefix_as};
+ghost use Rattle.fib_prefix.specs.Views.{peer_as, event_as};
 ghost use Rattle.reading_model.specs.Update.{reach_events, routes, unreach_events, update, withdrawn};
 ghost use Rattle.bgp_attrs.specs.Views.{listed_as, reached, unreached};
 ghost use Rattle.wire_fields.specs.Gives.{GivesInMemory};

@@ -17,7 +17,7 @@ use Rattle.cert_model.specs.Verdict.{NotSame, least_differing, not_same_at, not_
 use Rattle.cert_model.proofs.Differing.{IsLeastAt, none_differs, none_from, some_differs}
 use Rattle.cert_check.specs.declared.runs.Run.{Run}
 use Rattle.cert_check.specs.declared.alike.Apart.{Apart}
-use Rattle.cert_check.specs.Runs.{run_at, last_hop, AreRuns, Below, Tells}
+use Rattle.cert_check.specs.Runs.{run_hop_at, last_hop, AreRuns, Below, RunsTell}
 use Rattle.cert_check.specs.Apart.{next_apart, IsFirstApart, no_of}
 use Rattle.cert_check.proofs.Sweeps.{from_run, from_append, past_all, before_all}
 
@@ -46,15 +46,15 @@ pub all_after : (n m : ℕ) (r : List Run) → n < m → AllByRecursion (λ (s :
 all_after n m [] lt a = tt
 all_after n m (s ∷ r) lt a = (omega (arith, a.0), all_after n m r lt a.1)
 
-pub at_start : (c r : List Run) (x : Run) → AreRuns 0 (c ++ x ∷ r) → run_at (c ++ x ∷ r) x.start ≡ x.hop
+pub at_start : (c r : List Run) (x : Run) → AreRuns 0 (c ++ x ∷ r) → run_hop_at (c ++ x ∷ r) x.start ≡ x.hop
 at_start c r x a =
     from_append c (x ∷ r) x.start 0 ∙ (ap (from_run r x.start) (cond-true _ _ _ (le-leb x.start x.start (omega arith))) ∙ before_all r x.start x.hop (later_starts 0 c r x a))
 
-before_start : (c r : List Run) (x : Run) (n : ℕ) → AreRuns 0 (c ++ x ∷ r) → n < x.start → run_at (c ++ x ∷ r) n ≡ run_at c n
+before_start : (c r : List Run) (x : Run) (n : ℕ) → AreRuns 0 (c ++ x ∷ r) → n < x.start → run_hop_at (c ++ x ∷ r) n ≡ run_hop_at c n
 before_start c r x n a lt =
     from_append c (x ∷ r) n 0 ∙ before_all (x ∷ r) n (from_run c n 0) (lt, all_after n x.start r lt (later_starts 0 c r x a))
 
-up_to_start : (c r : List Run) (x : Run) → AreRuns 0 (c ++ x ∷ r) → run_at c x.start ≡ last_hop c
+up_to_start : (c r : List Run) (x : Run) → AreRuns 0 (c ++ x ∷ r) → run_hop_at c x.start ≡ last_hop c
 up_to_start c r x a = past_all c x.start x.start 0 (below_start 0 c r x a) (omega arith)
 
 below_middle : (m : ℕ) (c r : List Run) (x : Run) → Below m (c ++ x ∷ r) → x.start < m
@@ -91,7 +91,7 @@ both_longer c r s x y a b other = elim (cases_order x.start y.start) [
       cond-false _ _ _ (le-ltb x.start y.start (omega arith)) ∙ cond-false _ _ _ (le-ltb y.start x.start (omega arith)) in
       subst (Both c r s x y) (sym f) (
         at_start c r x a,
-        ap (run_at (c ++ y ∷ s)) e ∙ at_start c s y b,
+        ap (run_hop_at (c ++ y ∷ s)) e ∙ at_start c s y b,
         other e,
         (λ n lt. before_start c r x n a lt ∙ sym (before_start c s y n b (omega (arith, e)))),
         (λ m p q. below_middle m c r x p),
@@ -193,10 +193,10 @@ number_bits w a e =
 pub number_lt : (w : ℕ) (a : List Bool) → length a ≡ w → value_of a < 2 ^ w
 number_lt w a e = subst (λ (j : ℕ). value_of a < 2 ^ j) e (value-lt a)
 
-told_at : (f : Family) (L : Entries) (runs : List Run) → Tells f L runs → (a : List Bool) → length a ≡ width f → answers (of_family f L) [] a ≡ run_at runs (value_of a)
+told_at : (f : Family) (L : Entries) (runs : List Run) → RunsTell f L runs → (a : List Bool) → length a ≡ width f → answers (of_family f L) [] a ≡ run_hop_at runs (value_of a)
 told_at f L runs t a e = sym (t.2 (value_of a) (number_lt (width f) a e) ∙ ap (λ p. lpm (of_family f L) p 0) (number_bits (width f) a e))
 
-told_number : (f : Family) (L : Entries) (runs : List Run) → Tells f L runs → (n : ℕ) → n < 2 ^ width f → answers (of_family f L) [] (bits_of (width f) n) ≡ run_at runs n
+told_number : (f : Family) (L : Entries) (runs : List Run) → RunsTell f L runs → (n : ℕ) → n < 2 ^ width f → answers (of_family f L) [] (bits_of (width f) n) ≡ run_hop_at runs n
 told_number f L runs t n lt = sym (t.2 n lt)
 
 only_least : (d : ℕ) (f g : List Bool → ℕ) (a : List Bool) → IsLeastAt d f g a → least_differing d f g ≡ Some a
@@ -212,7 +212,7 @@ only_least d f g a i = by_answer (least_differing d f g) refl
           | inr (inr gt) ↦ absurd (i.1 (j.2 a i.0 gt))
         ]
 
-pub no_of_is : (f : Family) (L M : Entries) (a b : List Run) (o : Option Apart) → Tells f L a → Tells f M b → IsFirstApart a b o → no_of f o ≡ not_same_in L M f
+pub no_of_is : (f : Family) (L M : Entries) (a b : List Run) (o : Option Apart) → RunsTell f L a → RunsTell f M b → IsFirstApart a b o → no_of f o ≡ not_same_in L M f
 no_of_is f L M a b None s t i = sym (ap (not_same_at L M f) (none_from (width f) (answers (of_family f L) []) (answers (of_family f M) []) (λ p e. told_at f L a s p e ∙ (i (value_of p) ∙ sym (told_at f M b t p e)))))
 no_of_is f L M a b (Some x) s t i =
     let w = width f in

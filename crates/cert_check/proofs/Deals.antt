@@ -12,7 +12,7 @@ use Rattle.table_model.specs.Table.{Table, root, root_of, half, half_of}
 use Rattle.table_model.specs.Table.{Entry as ModelEntry}
 use Rattle.table_model.specs.Entries.{Entries, of_family}
 use Rattle.least_model.proofs.Join.{half_append}
-use Rattle.fib_addr.specs.Seen.{entry_as}
+use Rattle.fib_addr.specs.Views.{entry_as}
 use Rattle.fib_addr.specs.declared.entry.Entry as code
 use Rattle.cert_check.specs.declared.runs.Part.{Part}
 use Rattle.cert_check.specs.Runs.{part_as, table_of}

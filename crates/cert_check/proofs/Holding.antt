@@ -19,10 +19,10 @@ use Rattle.cert_model.specs.Verdict.{all_get}
 use Rattle.cert_model.proofs.Regions.{get_bits, get_all}
 use Rattle.cert_model.proofs.Reading.{all_get_is, all_get_from}
 use Rattle.fib_addr.specs.declared.prefix.Prefix.{Prefix}
-use Rattle.fib_addr.specs.Seen.{prefix_as}
+use Rattle.fib_addr.specs.Views.{prefix_as}
 use Rattle.fib_addr.proofs.Parts.{length_prefix}
 use Rattle.cert_check.specs.declared.runs.Run.{Run}
-use Rattle.cert_check.specs.Runs.{run_at, last_hop, AreRuns, IsBegun, Tells}
+use Rattle.cert_check.specs.Runs.{run_hop_at, last_hop, AreRuns, IsBegun, RunsTell}
 use Rattle.cert_check.proofs.Sweeps.{from_run, from_append, before_all}
 use Rattle.cert_check.proofs.Aparts.{split_at, take_one_more, other_hop, at_start, later_starts, all_after, number_bits, number_lt}
 
@@ -87,7 +87,7 @@ past_is x b u lt z = by_number (2 ^ u) (pow_pos u) (b / 2 ^ u) (x / 2 ^ u) refl 
 
 -- all numbers of the region from b on get the hop
 abbrev AllNumbers : List Run → ℕ → ℕ → ℕ → Type 0
-AllNumbers runs b u h = (v : ℕ) → v < 2 ^ u → run_at runs (b + v) ≡ h
+AllNumbers runs b u h = (v : ℕ) → v < 2 ^ u → run_hop_at runs (b + v) ≡ h
 
 pub new_marks : (n : ℕ) (marks : List ℕ) → marks ≡ replicate n 0 → (length marks ≡ n) × ((h : ℕ) → get_or marks h 0 < 1)
 new_marks n marks e = (ap length e ∙ length-replicate n 0, λ h. subst (λ xs. get_or xs h 0 < 1) (sym e) (zero_at n h))
@@ -99,8 +99,8 @@ new_marks n marks e = (ap length e ∙ length-replicate n 0, λ h. subst (λ xs.
     zero_at (suc n) (suc h) = zero_at n h
 
 -- the answers of the prefix's addresses are those of the numbers from its own on
-region_answers : (p : Prefix) (L : Entries) (runs : List Run) → Tells p.family L runs → (a : List Bool) → length a ≡ width p.family - p.len
-    → answers (of_family p.family L) (prefix_as p).bits a ≡ run_at runs (p.bits + value_of a)
+region_answers : (p : Prefix) (L : Entries) (runs : List Run) → RunsTell p.family L runs → (a : List Bool) → length a ≡ width p.family - p.len
+    → answers (of_family p.family L) (prefix_as p).bits a ≡ run_hop_at runs (p.bits + value_of a)
 region_answers p L runs t a l =
     let w = width p.family in
     let u = w - p.len in
@@ -124,7 +124,7 @@ region_answers p L runs t a l =
 pub prefix_short : (p : Prefix) → IsPrefix (prefix_as p)
 prefix_short p = let e : length (prefix_as p).bits ≡ p.len = length_prefix (width p.family) p.len p.bits p.fits in let f : p.len ≤ width p.family = p.fits in omega (arith, e, f)
 
-numbers_from : (p : Prefix) (L : Entries) (runs : List Run) (h : ℕ) → Tells p.family L runs → all_get L (prefix_as p) h ≡ true → AllNumbers runs p.bits (width p.family - p.len) h
+numbers_from : (p : Prefix) (L : Entries) (runs : List Run) (h : ℕ) → RunsTell p.family L runs → all_get L (prefix_as p) h ≡ true → AllNumbers runs p.bits (width p.family - p.len) h
 numbers_from p L runs h t g v lt =
     let w = width p.family in
     let u = w - p.len in
@@ -134,9 +134,9 @@ numbers_from p L runs h t g v lt =
     let fits : p.len ≤ w = p.fits in
     let s : length (prefix_as p).bits ≡ p.len = length_prefix w p.len p.bits p.fits in
     let long : length ((prefix_as p).bits ++ a) ≡ w = length-append (prefix_as p).bits a ∙ omega (arith, s, l, fits) in
-    ap (λ (y : ℕ). run_at runs (p.bits + y)) (sym value) ∙ (sym (region_answers p L runs t a l) ∙ get_bits L (prefix_as p) h (all_get_is L (prefix_as p) h (prefix_short p) g) a long)
+    ap (λ (y : ℕ). run_hop_at runs (p.bits + y)) (sym value) ∙ (sym (region_answers p L runs t a l) ∙ get_bits L (prefix_as p) h (all_get_is L (prefix_as p) h (prefix_short p) g) a long)
 
-numbers_to : (p : Prefix) (L : Entries) (runs : List Run) (h : ℕ) → Tells p.family L runs → AllNumbers runs p.bits (width p.family - p.len) h → all_get L (prefix_as p) h ≡ true
+numbers_to : (p : Prefix) (L : Entries) (runs : List Run) (h : ℕ) → RunsTell p.family L runs → AllNumbers runs p.bits (width p.family - p.len) h → all_get L (prefix_as p) h ≡ true
 numbers_to p L runs h t g =
     all_get_from L (prefix_as p) h (prefix_short p) (get_all L (prefix_as p) h (λ a long.
     let s : length (prefix_as p).bits ≡ p.len = length_prefix (width p.family) p.len p.bits p.fits in
@@ -149,15 +149,15 @@ past_le : (runs : List Run) (n h : ℕ) → AllByRecursion (λ (r : Run). r.star
 past_le [] n h a = refl
 past_le (r ∷ runs) n h a = ap (from_run runs n) (cond-true _ _ _ (le-leb r.start n a.0)) ∙ past_le runs n r.hop a.1
 
-in_two : (runs : List Run) (i n : ℕ) → run_at runs n ≡ from_run (drop i runs) n (from_run (take i runs) n 0)
-in_two runs i n = ap (λ rs. run_at rs n) (sym (take-append-drop i runs)) ∙ from_append (take i runs) (drop i runs) n 0
+in_two : (runs : List Run) (i n : ℕ) → run_hop_at runs n ≡ from_run (drop i runs) n (from_run (take i runs) n 0)
+in_two runs i n = ap (λ rs. run_hop_at rs n) (sym (take-append-drop i runs)) ∙ from_append (take i runs) (drop i runs) n 0
 
 more_le : (m n : ℕ) (runs : List Run) → m ≤ n → AllByRecursion (λ (r : Run). r.start ≤ m) runs → AllByRecursion (λ (r : Run). r.start ≤ n) runs
 more_le m n [] le a = tt
 more_le m n (r ∷ runs) le a = (omega (arith, a.0), more_le m n runs le a.1)
 
 -- before the next run begins, the last run's hop counts
-until_next : (runs : List Run) (i b n : ℕ) → IsBegun b runs i → b ≤ n → AllByRecursion (λ (r : Run). n < r.start) (drop i runs) → run_at runs n ≡ last_hop (take i runs)
+until_next : (runs : List Run) (i b n : ℕ) → IsBegun b runs i → b ≤ n → AllByRecursion (λ (r : Run). n < r.start) (drop i runs) → run_hop_at runs n ≡ last_hop (take i runs)
 until_next runs i b n g le a =
     in_two runs i n ∙ (before_all (drop i runs) n (from_run (take i runs) n 0) a ∙ past_le (take i runs) n 0 (more_le b n (take i runs) le g.0))
 
@@ -182,7 +182,7 @@ holds_to_next runs i b u h x z r g lt is past l v small =
 pub first_hop_is : (runs : List Run) (i b u h : ℕ) → IsBegun b runs i → AllNumbers runs b u h → last_hop (take i runs) ≡ h
 first_hop_is runs i b u h g a =
     let z : b + 0 ≡ b = omega arith in
-    sym (until_next runs i b b g (omega arith) g.1) ∙ (ap (run_at runs) (sym z) ∙ a 0 (pow_pos u))
+    sym (until_next runs i b b g (omega arith) g.1) ∙ (ap (run_hop_at runs) (sym z) ∙ a 0 (pow_pos u))
 
 pub next_is_past : (runs : List Run) (i b u h : ℕ) (x z : Run) → AreRuns 0 runs → IsBegun b runs i → i < length runs → x ≡ get_or runs i z → b < x.start → AllNumbers runs b u h → b + 2 ^ u ≤ x.start
 next_is_past runs i b u h x z r g lt is after a = elim (cases_lt x.start (b + 2 ^ u)) [
@@ -192,8 +192,8 @@ next_is_past runs i b u h x z r g lt is after a = elim (cases_lt x.start (b + 2 
       let cut : AreRuns 0 (take i runs ++ x ∷ drop (suc i) runs) = subst (AreRuns 0) whole r in
       let v = x.start - b in
       let e : b + v ≡ x.start = omega arith in
-      let hop : run_at runs x.start ≡ x.hop = ap (λ rs. run_at rs x.start) whole ∙ at_start (take i runs) (drop (suc i) runs) x cut in
-      let same : h ≡ x.hop = sym (a v (omega arith)) ∙ (ap (run_at runs) e ∙ hop) in
+      let hop : run_hop_at runs x.start ≡ x.hop = ap (λ rs. run_hop_at rs x.start) whole ∙ at_start (take i runs) (drop (suc i) runs) x cut in
+      let same : h ≡ x.hop = sym (a v (omega arith)) ∙ (ap (run_hop_at runs) e ∙ hop) in
       absurd (other_hop 0 (take i runs) (drop (suc i) runs) x cut (first_hop_is runs i b u h g a ∙ same))
 ]
 
@@ -209,17 +209,17 @@ same_tests false false f g = refl
 
 -- ---- as it is tested
 
-pub at_end : (p : Prefix) (L : Entries) (runs : List Run) (i h : ℕ) (r : Bool) → Tells p.family L runs → IsBegun p.bits runs i → last_hop (take i runs) ≡ h → i ≡ length runs → r ≡ true → r ≡ all_get L (prefix_as p) h
+pub at_end : (p : Prefix) (L : Entries) (runs : List Run) (i h : ℕ) (r : Bool) → RunsTell p.family L runs → IsBegun p.bits runs i → last_hop (take i runs) ≡ h → i ≡ length runs → r ≡ true → r ≡ all_get L (prefix_as p) h
 at_end p L runs i h r t g l e yes' = yes' ∙ sym (numbers_to p L runs h t (holds_to_end runs i p.bits (width p.family - p.len) h g e l))
 
-pub at_next : (p : Prefix) (L : Entries) (runs : List Run) (i h : ℕ) (x z : Run) (r : Bool) → Tells p.family L runs → IsBegun p.bits runs i → last_hop (take i runs) ≡ h → i < length runs → x ≡ get_or runs i z
+pub at_next : (p : Prefix) (L : Entries) (runs : List Run) (i h : ℕ) (x z : Run) (r : Bool) → RunsTell p.family L runs → IsBegun p.bits runs i → last_hop (take i runs) ≡ h → i < length runs → x ≡ get_or runs i z
     → (p.bits < x.start → (r ≡ true) ↔ (p.bits + 2 ^ (width p.family - p.len) ≤ x.start)) → r ≡ all_get L (prefix_as p) h
 at_next p L runs i h x z r t g l lt is past =
     let after : p.bits < x.start = next_begins runs i p.bits x z g lt is in
     same_tests r (all_get L (prefix_as p) h) (λ e. numbers_to p L runs h t (holds_to_next runs i p.bits (width p.family - p.len) h x z t.1 g lt is ((past after).0 e) l))
     (λ e. (past after).1 (next_is_past runs i p.bits (width p.family - p.len) h x z t.1 g lt is after (numbers_from p L runs h t e)))
 
-pub at_other : (p : Prefix) (L : Entries) (runs : List Run) (i h : ℕ) (r : Bool) → Tells p.family L runs → IsBegun p.bits runs i → (last_hop (take i runs) ≡ h → ⊥) → r ≡ false → r ≡ all_get L (prefix_as p) h
+pub at_other : (p : Prefix) (L : Entries) (runs : List Run) (i h : ℕ) (r : Bool) → RunsTell p.family L runs → IsBegun p.bits runs i → (last_hop (take i runs) ≡ h → ⊥) → r ≡ false → r ≡ all_get L (prefix_as p) h
 at_other p L runs i h r t g other f = same_tests r (all_get L (prefix_as p) h) (λ e. absurd (both_ways r f e)) (λ e. absurd (other (first_hop_is runs i p.bits (width p.family - p.len) h g (numbers_from p L runs h t e))))
 
 pub last_hop_at : (runs : List Run) (i : ℕ) (x z : Run) → i ≢ 0 → i ≤ length runs → x ≡ get_or runs (i - 1) z → x.hop ≡ last_hop (take i runs)

@@ -14,7 +14,7 @@ use Rattle.address_model.proofs.Ordered.{equal_are_same, prefix_total}
 use Rattle.cert_model.specs.Verdict.{twice}
 use Rattle.fib_addr.specs.declared.prefix.Prefix as code
 use Rattle.fib_addr.specs.declared.entry.Entry.{Entry}
-use Rattle.fib_addr.specs.Seen.{prefix_as, entry_as}
+use Rattle.fib_addr.specs.Views.{prefix_as, entry_as}
 use Rattle.fib_addr.specs.Order.{code_cmp}
 use Rattle.fib_addr.proofs.Ordering.{cmp_is}
 use Rattle.std.proofs.Common.{drop-cons}

@@ -7,9 +7,9 @@ use Rattle.address_model.specs.declared.family.Family.TheVariants.{V4, V6}
 use Rattle.table_model.specs.Entries.{Entries, match_in, AlikeInBoth}
 use Rattle.cert_model.specs.Verdict.{NotSame, IsLeastDiffering, not_same, not_same_in}
 use Rattle.cert_model.proofs.Differing.{same_law, says}
-use Rattle.fib_addr.specs.Seen.{addr_as}
+use Rattle.fib_addr.specs.Views.{addr_as}
 use Rattle.cert_check.specs.declared.alike.Differ.{Differ}
-use Rattle.cert_check.specs.Seen.{differ_as}
+use Rattle.cert_check.specs.Views.{differ_as}
 
 abbrev Answers : Entries → Entries → Option Differ → Type 0
 Answers R T d =

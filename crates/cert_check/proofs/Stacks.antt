@@ -13,18 +13,18 @@ use Rattle.address_model.specs.Regions.{half_at}
 use Rattle.table_model.specs.Entries.{Entries, of_family}
 use Rattle.least_model.specs.Sets.{common, one_if_empty, apart}
 use Rattle.least_model.specs.Least.{bound}
-use Rattle.cert_model.specs.Rows.{CertRow, leaf_row, join_row, bound_row, whole}
+use Rattle.cert_model.specs.Rows.{CertRow, leaf_row, join_row, bound_row, whole_prefix}
 use Rattle.cert_model.specs.Right.{IsRight, leaf, join, bound_by, join_item, joint_k}
 use Rattle.cert_model.specs.Right.{Item as ModelItem}
 use Rattle.cert_model.specs.Verdict.{No, Shape, JoinWrong, are_halves, wrong_row}
 use Rattle.cert_model.proofs.Rules.{right_bound}
 use Rattle.cert_model.proofs.Reading.{all_get_is}
 use Rattle.cert_rows.specs.declared.row.Row.{Row}
-use Rattle.cert_rows.specs.Seen.{row_as}
-use Rattle.cert_check.specs.Seen.{no_as}
+use Rattle.cert_rows.specs.Views.{row_as}
+use Rattle.cert_check.specs.Views.{no_as}
 use Rattle.cert_check.specs.declared.refusal.No as code
 use Rattle.cert_check.specs.declared.rows.Item.{Item}
-use Rattle.cert_check.specs.Stack.{item_as, stack_as, due_as, weight, AllRight, Told, RowRead, LeafRead, JoinDone, JoinRead, WholeTaken, Popped, next_due, bound_in}
+use Rattle.cert_check.specs.Stack.{item_as, stack_as, due_as, leaf_weight, AllRight, BoundsTold, RowRead, LeafRead, JoinDone, JoinRead, WholeTaken, Popped, next_due, bound_due}
 
 pub push_as : (xs : List Item) (x : Item) → stack_as (xs ++ x ∷ []) ≡ item_as x ∷ stack_as xs
 push_as xs x = go xs []
@@ -43,12 +43,12 @@ pub leaf_read : (R : Entries) (p : Prefix) (h n : ℕ) (f : Family) (st st' : Li
 unfolding wrong_row
 leaf_read R p h n V4 st st' None s r = (
   (λ rows. cond-true _ _ _ r.0 ∙ ap (λ xs. wrong_row R rows (V4 ∷ V6 ∷ []) xs (n + 1)) (sym r.1)),
-  omega (arith, ap weight r.1),
+  omega (arith, ap leaf_weight r.1),
   (λ a. subst (AllRight R) (sym r.1) (leaf s (all_get_is R p h s r.0), a)),
 )
 leaf_read R p h n V6 st st' None s r = (
   (λ rows. cond-true _ _ _ r.0 ∙ ap (λ xs. wrong_row R rows (V6 ∷ []) xs (n + 1)) (sym r.1)),
-  omega (arith, ap weight r.1),
+  omega (arith, ap leaf_weight r.1),
   (λ a. subst (AllRight R) (sym r.1) (leaf s (all_get_is R p h s r.0), a)),
 )
 leaf_read R p h n V4 st st' (Some x) s r = λ rows. cond-false _ _ _ r.0 ∙ ap Some (sym r.1)
@@ -87,12 +87,12 @@ join_some : (R : Entries) (p : Prefix) (k n : ℕ) (f : Family) (st st' : List M
     → st' ≡ join_item p low high ∷ more → RowRead R (join_row p k) n (Some f) st (Some f) st' None
 join_some R p k n V4 st st' low high more e h g e' = (
   (λ rows. ap (λ xs. wrong_row R (join_row p k ∷ rows) (V4 ∷ V6 ∷ []) xs n) e ∙ (joins_at R p k n V4 (V6 ∷ []) low high more h g rows ∙ ap (λ xs. wrong_row R rows (V4 ∷ V6 ∷ []) xs (n + 1)) (sym e'))),
-  omega (arith, ap weight e, ap weight e', apart_most low.hops high.hops),
+  omega (arith, ap leaf_weight e, ap leaf_weight e', apart_most low.hops high.hops),
   (λ a. subst (AllRight R) (sym e') (join_right R p low high more h (subst (AllRight R) e a))),
 )
 join_some R p k n V6 st st' low high more e h g e' = (
   (λ rows. ap (λ xs. wrong_row R (join_row p k ∷ rows) (V6 ∷ []) xs n) e ∙ (joins_at R p k n V6 [] low high more h g rows ∙ ap (λ xs. wrong_row R rows (V6 ∷ []) xs (n + 1)) (sym e'))),
-  omega (arith, ap weight e, ap weight e', apart_most low.hops high.hops),
+  omega (arith, ap leaf_weight e, ap leaf_weight e', apart_most low.hops high.hops),
   (λ a. subst (AllRight R) (sym e') (join_right R p low high more h (subst (AllRight R) e a))),
 )
 
@@ -124,7 +124,7 @@ join_done p k n st st' low high more (Some x) e h d = λ R f due rows. ap (λ xs
 wrong_family : (R : Entries) (g f : Family) (due : List Family) (m n : ℕ) (st : List ModelItem) (rows : List CertRow) → same_family g f ≡ false → wrong_row R (bound_row g m ∷ rows) (f ∷ due) st n ≡ Some (Shape n)
 unfolding wrong_row
 wrong_family R g f due m n [] rows e = refl
-wrong_family R g f due m n (i ∷ []) rows e = cond-false _ _ _ (ap (λ b. b && same_prefix i.prefix (whole f)) e)
+wrong_family R g f due m n (i ∷ []) rows e = cond-false _ _ _ (ap (λ b. b && same_prefix i.prefix (whole_prefix f)) e)
 wrong_family R g f due m n (i ∷ j ∷ st) rows e = refl
 
 pub other_bound : (R : Entries) (g f : Family) (m n : ℕ) (st st' : List ModelItem) (due' : Option Family) → same_family g f ≡ false → RowRead R (bound_row g m) n (Some f) st due' st' (Some (Shape n))
@@ -143,16 +143,16 @@ and_not : (a b : Bool) → b ≡ false → (a && b) ≡ false
 and_not true b e = e
 and_not false b e = refl
 
-pub whole_other : (f : Family) (st st' : List ModelItem) (i : ModelItem) → st ≡ i ∷ [] → same_prefix i.prefix (whole f) ≡ false → WholeTaken f st st' None
+pub whole_other : (f : Family) (st st' : List ModelItem) (i : ModelItem) → st ≡ i ∷ [] → same_prefix i.prefix (whole_prefix f) ≡ false → WholeTaken f st st' None
 unfolding wrong_row
 whole_other f st st' i e h R m n due rows = ap (λ xs. wrong_row R (bound_row f m ∷ rows) (f ∷ due) xs n) e ∙ cond-false _ _ _ (and_not (same_family f f) _ h)
 
-bound_step : (R : Entries) (f : Family) (due : List Family) (m n : ℕ) (st : List ModelItem) (i : ModelItem) (rows : List CertRow) → st ≡ i ∷ [] → same_prefix i.prefix (whole f) ≡ true → nat_eq m (bound_by i.hops i.k) ≡ true
+bound_step : (R : Entries) (f : Family) (due : List Family) (m n : ℕ) (st : List ModelItem) (i : ModelItem) (rows : List CertRow) → st ≡ i ∷ [] → same_prefix i.prefix (whole_prefix f) ≡ true → nat_eq m (bound_by i.hops i.k) ≡ true
     → wrong_row R (bound_row f m ∷ rows) (f ∷ due) st n ≡ wrong_row R rows due [] (n + 1)
 unfolding wrong_row
 bound_step R f due m n st i rows e h g = ap (λ xs. wrong_row R (bound_row f m ∷ rows) (f ∷ due) xs n) e ∙ (cond-true _ _ _ (and_from (same_family f f) _ (same_family_itself f) h) ∙ cond-true _ _ _ g)
 
-bound_off : (R : Entries) (f : Family) (due : List Family) (m n : ℕ) (st : List ModelItem) (i : ModelItem) (rows : List CertRow) → st ≡ i ∷ [] → same_prefix i.prefix (whole f) ≡ true → nat_eq m (bound_by i.hops i.k) ≡ false
+bound_off : (R : Entries) (f : Family) (due : List Family) (m n : ℕ) (st : List ModelItem) (i : ModelItem) (rows : List CertRow) → st ≡ i ∷ [] → same_prefix i.prefix (whole_prefix f) ≡ true → nat_eq m (bound_by i.hops i.k) ≡ false
     → wrong_row R (bound_row f m ∷ rows) (f ∷ due) st n ≡ Some (JoinWrong n m (bound_by i.hops i.k))
 unfolding wrong_row
 bound_off R f due m n st i rows e h g = ap (λ xs. wrong_row R (bound_row f m ∷ rows) (f ∷ due) xs n) e ∙ (cond-true _ _ _ (and_from (same_family f f) _ (same_family_itself f) h) ∙ cond-false _ _ _ g)
@@ -160,12 +160,12 @@ bound_off R f due m n st i rows e h g = ap (λ xs. wrong_row R (bound_row f m �
 pub bound_read : (R : Entries) (f : Family) (m n : ℕ) (st st' : List ModelItem) (i : ModelItem) → WholeTaken f st st' (Some i) → nat_eq m (bound_by i.hops i.k) ≡ true → RowRead R (bound_row f m) n (Some f) st (next_due f) st' None
 bound_read R V4 m n st st' i w g = (
   (λ rows. bound_step R V4 (V6 ∷ []) m n st i rows w.0 w.1 g ∙ ap (λ xs. wrong_row R rows (V6 ∷ []) xs (n + 1)) (sym w.2)),
-  omega (arith, ap weight w.2),
+  omega (arith, ap leaf_weight w.2),
   (λ a. subst (AllRight R) (sym w.2) tt),
 )
 bound_read R V6 m n st st' i w g = (
   (λ rows. bound_step R V6 [] m n st i rows w.0 w.1 g ∙ ap (λ xs. wrong_row R rows [] xs (n + 1)) (sym w.2)),
-  omega (arith, ap weight w.2),
+  omega (arith, ap leaf_weight w.2),
   (λ a. subst (AllRight R) (sym w.2) tt),
 )
 
@@ -181,7 +181,7 @@ bound_none R V6 m n st st' due' st'' w = λ rows. w R m n [] rows
 pub bound_told : (R : Entries) (f : Family) (st st' : List ModelItem) (i : ModelItem) → WholeTaken f st st' (Some i) → AllRight R st → bound (width f) (of_family f R) ≡ bound_by i.hops i.k
 bound_told R f st st' i w a =
     let r : IsRight R i.prefix i.hops i.k = (subst (AllRight R) w.0 a).0 in
-    right_bound R f i.hops i.k (subst (λ (q : Prefix). IsRight R q i.hops i.k) (same_prefix_is i.prefix (whole f) w.1) r)
+    right_bound R f i.hops i.k (subst (λ (q : Prefix). IsRight R q i.hops i.k) (same_prefix_is i.prefix (whole_prefix f) w.1) r)
 
 -- prefixes with as many bits as an address have no halves
 too_long : (p q : Prefix) (b : Bool) → IsPrefix q → length p.bits ≡ width p.family → same_prefix q (half_at b p) ≡ false
@@ -230,9 +230,9 @@ at_read R f m n due d d' st st' st'' i e w g same e' s =
     (subst (λ (x : List ModelItem). RowRead R (bound_row f m) n (Some f) st (next_due f) x None) (sym s) (bound_read R f m n st st' i w yes')))
 
 pub at_told : (R : Entries) (f : Family) (due : ℕ) (d d' : Option Family) (st st' : List ModelItem) (i : ModelItem) (v4 v6 u4 u6 : ℕ) → d ≡ Some f → WholeTaken f st st' (Some i) → due ≡ bound_by i.hops i.k → d' ≡ next_due f
-    → (bound_in f R ≡ due → Told R (Some f) v4 v6 → Told R (next_due f) u4 u6) → AllRight R st → Told R d v4 v6 → Told R d' u4 u6
+    → (bound_due f R ≡ due → BoundsTold R (Some f) v4 v6 → BoundsTold R (next_due f) u4 u6) → AllRight R st → BoundsTold R d v4 v6 → BoundsTold R d' u4 u6
 at_told R f due d d' st st' i v4 v6 u4 u6 e w g e' go a t =
-    subst (λ (x : Option Family). Told R x u4 u6) (sym e') (go (bound_told R f st st' i w a ∙ sym g) (subst (λ (x : Option Family). Told R x v4 v6) e t))
+    subst (λ (x : Option Family). BoundsTold R x u4 u6) (sym e') (go (bound_told R f st st' i w a ∙ sym g) (subst (λ (x : Option Family). BoundsTold R x v4 v6) e t))
 
 pub in_due : (R : Entries) (row row' : CertRow) (n : ℕ) (f : Family) (d : Option Family) (st st' : List ModelItem) (x : Option No) → row ≡ row' → d ≡ Some f → RowRead R row' n (Some f) st (Some f) st' x → RowRead R row n d st d st' x
 in_due R row row' n f d st st' x e g r =
@@ -256,8 +256,8 @@ pub row_bound : (R : Entries) (row : CertRow) (g f : Family) (m n : ℕ) (d d' :
 row_bound R row g f m n d d' st st' x e o r =
     subst (λ (y : CertRow). RowRead R y n d st d' st' x) (sym (e ∙ ap (λ h. bound_row h m) (same_family_is g f o))) r
 
-pub join_weight : (p : Prefix) (k n : ℕ) (st st' : List ModelItem) (x : Option code.No) → x ≡ None → JoinRead p k n st st' (option_map no_as x) → weight st' ≤ weight st + 1
-join_weight p k n st st' None e (low, high, more, f, h, g, f') = omega (arith, ap weight f, ap weight f', apart_most low.hops high.hops)
+pub join_weight : (p : Prefix) (k n : ℕ) (st st' : List ModelItem) (x : Option code.No) → x ≡ None → JoinRead p k n st st' (option_map no_as x) → leaf_weight st' ≤ leaf_weight st + 1
+join_weight p k n st st' None e (low, high, more, f, h, g, f') = omega (arith, ap leaf_weight f, ap leaf_weight f', apart_most low.hops high.hops)
 join_weight p k n st st' (Some x) e r = absurd (none_not x e)
   where
     none_not : (y : code.No) → Some y ≡ None → ⊥

@@ -16,7 +16,7 @@ use Rattle.table_model.proofs.Cut.{lpm_cut, lpm_nil}
 use Rattle.least_model.proofs.Join.{all_append, all_weaker}
 use Rattle.cert_check.specs.declared.runs.Run.{Run}
 use Rattle.cert_check.specs.declared.runs.Part.{Part}
-use Rattle.cert_check.specs.Runs.{table_of, run_at, last_hop, AreRuns, Below, Noted, Swept, Tells}
+use Rattle.cert_check.specs.Runs.{table_of, run_hop_at, last_hop, AreRuns, Below, Noted, Swept, RunsTell}
 
 -- ---- a run at the end
 
@@ -59,19 +59,19 @@ swept_one d L h start hop old new same noted below runs = by_test (nat_eq (last_
     some = pow_pos d
 
     by_test : (b : Bool) → nat_eq (last_hop old) hop ≡ b → new ≡ cond b old (old ++ run start hop ∷ [])
-        → Below (start + 2 ^ d) new × AreRuns 0 new × ((n : ℕ) → n < start → run_at new n ≡ run_at old n) × ((x : ℕ) → x < 2 ^ d → run_at new (start + x) ≡ lpm L (bits_of d x) h)
+        → Below (start + 2 ^ d) new × AreRuns 0 new × ((n : ℕ) → n < start → run_hop_at new n ≡ run_hop_at old n) × ((x : ℕ) → x < 2 ^ d → run_hop_at new (start + x) ≡ lpm L (bits_of d x) h)
     by_test true t e = (
       subst (Below (start + 2 ^ d)) (sym e) (below_more start (start + 2 ^ d) old (omega arith) below),
       subst (AreRuns 0) (sym e) runs,
-      λ n lt. ap (λ rs. run_at rs n) e,
-      λ x lt. ap (λ rs. run_at rs (start + x)) e ∙ (past_all old start (start + x) 0 below (omega arith) ∙ (eqb-true (last_hop old) hop t ∙ sym (same x))),
+      λ n lt. ap (λ rs. run_hop_at rs n) e,
+      λ x lt. ap (λ rs. run_hop_at rs (start + x)) e ∙ (past_all old start (start + x) 0 below (omega arith) ∙ (eqb-true (last_hop old) hop t ∙ sym (same x))),
     )
     by_test false t e =
         let other : last_hop old ≢ hop = λ s. let y : nat_eq (last_hop old) hop ≡ true = ap (nat_eq (last_hop old)) (sym s) ∙ same_number (last_hop old) in cc in (
           subst (Below (start + 2 ^ d)) (sym e) (all_append (λ (r : Run). r.start < start + 2 ^ d) old (run start hop ∷ []) (below_more start (start + 2 ^ d) old (omega arith) below) (omega (arith, some), tt)),
           subst (AreRuns 0) (sym e) (runs_push 0 start hop old runs below other),
-          λ n lt. ap (λ rs. run_at rs n) e ∙ (from_append old (run start hop ∷ []) n 0 ∙ cond-false _ _ _ (lt-leb start n lt)),
-          λ x lt. ap (λ rs. run_at rs (start + x)) e ∙ (from_append old (run start hop ∷ []) (start + x) 0 ∙ (cond-true _ _ _ (le-leb start (start + x) (omega arith)) ∙ sym (same x))),
+          λ n lt. ap (λ rs. run_hop_at rs n) e ∙ (from_append old (run start hop ∷ []) n 0 ∙ cond-false _ _ _ (lt-leb start n lt)),
+          λ x lt. ap (λ rs. run_hop_at rs (start + x)) e ∙ (from_append old (run start hop ∷ []) (start + x) 0 ∙ (cond-true _ _ _ (le-leb start (start + x) (omega arith)) ∙ sym (same x))),
         )
       where
         same_number : (m : ℕ) → nat_eq m m ≡ true
@@ -110,9 +110,9 @@ swept_both d start L h old mid new low high below runs =
     let size : start + 2 ^ d + 2 ^ d ≡ start + 2 ^ (d + 1) = omega (arith, double d) in
     (subst (λ (m : ℕ). Below m new) size b.0, b.1, (λ n lt. b.2 n (omega arith) ∙ a.2 n lt), by_half a b)
   where
-    by_half : (Below (start + 2 ^ d) mid × AreRuns 0 mid × ((n : ℕ) → n < start → run_at mid n ≡ run_at old n) × ((x : ℕ) → x < 2 ^ d → run_at mid (start + x) ≡ lpm (half false L) (bits_of d x) (inherit (root L) h)))
-        → (Below (start + 2 ^ d + 2 ^ d) new × AreRuns 0 new × ((n : ℕ) → n < start + 2 ^ d → run_at new n ≡ run_at mid n) × ((x : ℕ) → x < 2 ^ d → run_at new (start + 2 ^ d + x) ≡ lpm (half true L) (bits_of d x) (inherit (root L) h)))
-        → (x : ℕ) → x < 2 ^ (d + 1) → run_at new (start + x) ≡ lpm L (bits_of (d + 1) x) h
+    by_half : (Below (start + 2 ^ d) mid × AreRuns 0 mid × ((n : ℕ) → n < start → run_hop_at mid n ≡ run_hop_at old n) × ((x : ℕ) → x < 2 ^ d → run_hop_at mid (start + x) ≡ lpm (half false L) (bits_of d x) (inherit (root L) h)))
+        → (Below (start + 2 ^ d + 2 ^ d) new × AreRuns 0 new × ((n : ℕ) → n < start + 2 ^ d → run_hop_at new n ≡ run_hop_at mid n) × ((x : ℕ) → x < 2 ^ d → run_hop_at new (start + 2 ^ d + x) ≡ lpm (half true L) (bits_of d x) (inherit (root L) h)))
+        → (x : ℕ) → x < 2 ^ (d + 1) → run_hop_at new (start + x) ≡ lpm L (bits_of (d + 1) x) h
     by_half a b x lt = elim (cases_lt x (2 ^ d)) [
       | inl t ↦ b.2 (start + x) (omega arith) ∙ (a.3 x t ∙ (sym (lpm_cut L false (bits_of d x) h) ∙ ap (λ p. lpm L p h) (sym (bits_first d x t))))
       | inr t ↦
@@ -120,7 +120,7 @@ swept_both d start L h old mid new low high below runs =
           let s : y < 2 ^ d = omega (arith, double d) in
           let e : 2 ^ d + y ≡ x = omega arith in
           let f : start + x ≡ start + 2 ^ d + y = omega arith in
-          ap (run_at new) f ∙ (b.3 y s ∙ (sym (lpm_cut L true (bits_of d y) h) ∙ (ap (λ p. lpm L p h) (sym (bits_second d y s)) ∙ ap (λ (z : ℕ). lpm L (bits_of (d + 1) z) h) e)))
+          ap (run_hop_at new) f ∙ (b.3 y s ∙ (sym (lpm_cut L true (bits_of d y) h) ∙ (ap (λ p. lpm L p h) (sym (bits_second d y s)) ∙ ap (λ (z : ℕ). lpm L (bits_of (d + 1) z) h) e)))
     ]
 
 -- ---- as the sweep goes
@@ -163,8 +163,8 @@ swept_region d at start next h hop parts low high own old mid new some is step o
     (subst (λ (k : ℕ). Swept at (table_of at high) k (start + 2 ^ at) mid new) g (subst (λ (k : ℕ). Swept at (table_of at high) hop k mid new) step second)) in
     subst (λ (j : ℕ). Swept j (table_of j parts) h start old new) e (swept_both at start (table_of (at + 1) parts) h old mid new a b)
 
-pub tells : (f : Family) (L : Entries) (parts : List Part) (runs : List Run) → table_of (width f) parts ≡ of_family f L → Swept (width f) (table_of (width f) parts) 0 0 [] runs → Tells f L runs
+pub tells : (f : Family) (L : Entries) (parts : List Part) (runs : List Run) → table_of (width f) parts ≡ of_family f L → Swept (width f) (table_of (width f) parts) 0 0 [] runs → RunsTell f L runs
 tells f L parts runs e s =
     let r = s tt tt in
     let all : 0 + 2 ^ width f ≡ 2 ^ width f = omega arith in
-    (subst (λ (m : ℕ). Below m runs) all r.0, r.1, (λ n lt. let g : n ≡ 0 + n = omega arith in ap (run_at runs) g ∙ (r.3 n lt ∙ ap (λ T. lpm T (bits_of (width f) n) 0) e)))
+    (subst (λ (m : ℕ). Below m runs) all r.0, r.1, (λ n lt. let g : n ≡ 0 + n = omega arith in ap (run_hop_at runs) g ∙ (r.3 n lt ∙ ap (λ T. lpm T (bits_of (width f) n) 0) e)))

@@ -6,7 +6,7 @@ use Rattle.address_model.specs.declared.family.Family.{Family}
 use Rattle.cert_model.specs.Verdict.{No, NotSame}
 use Rattle.cert_check.specs.declared.runs.Run.{Run}
 use Rattle.cert_check.specs.declared.alike.Apart.{Apart}
-use Rattle.cert_check.specs.Runs.{run_at, Below}
+use Rattle.cert_check.specs.Runs.{run_hop_at, Below}
 
 -- where runs answer differently first that are the same, end with the hop h, and go on with x and with y
 abbrev pub next_apart : Run → Run → ℕ → Apart
@@ -16,9 +16,9 @@ next_apart x y h =
 
 -- the least number that gets different hops, with both; none where there is none
 abbrev pub IsFirstApart : List Run → List Run → Option Apart → Type 0
-IsFirstApart a b None = (n : ℕ) → run_at a n ≡ run_at b n
+IsFirstApart a b None = (n : ℕ) → run_hop_at a n ≡ run_hop_at b n
 IsFirstApart a b (Some x) =
-    (run_at a x.start ≡ x.first) × (run_at b x.start ≡ x.second) × (x.first ≢ x.second) × ((n : ℕ) → n < x.start → run_at a n ≡ run_at b n) × ((m : ℕ) → Below m a → Below m b → x.start < m)
+    (run_hop_at a x.start ≡ x.first) × (run_hop_at b x.start ≡ x.second) × (x.first ≢ x.second) × ((n : ℕ) → n < x.start → run_hop_at a n ≡ run_hop_at b n) × ((m : ℕ) → Below m a → Below m b → x.start < m)
 
 -- the same as what is wrong with a family's tables
 abbrev pub no_of : Family → Option Apart → Option No

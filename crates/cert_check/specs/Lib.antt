@@ -2,4 +2,4 @@ pub mod Runs
 pub mod Apart
 pub mod Marks
 pub mod Stack
-pub mod Seen
+pub mod Views

@@ -18,8 +18,8 @@ abbrev pub table_of : ℕ → List Part → Table
 table_of d parts = map (λ e. part_as d e) parts
 
 -- the hop of the last run that begins at the number or before it; 0 where none does
-abbrev pub run_at : List Run → ℕ → ℕ
-run_at runs n = fold (λ h r. cond (nat_le r.start n) r.hop h) 0 runs
+abbrev pub run_hop_at : List Run → ℕ → ℕ
+run_hop_at runs n = fold (λ h r. cond (nat_le r.start n) r.hop h) 0 runs
 
 -- the hop of the last run
 abbrev pub last_hop : List Run → ℕ
@@ -42,11 +42,11 @@ Noted start hop old new = new ≡ cond (nat_eq (last_hop old) hop) old (old ++ r
 abbrev pub Swept : ℕ → Table → ℕ → ℕ → List Run → List Run → Type 0
 Swept d L h start old new =
     Below start old → AreRuns 0 old →
-    Below (start + 2 ^ d) new × AreRuns 0 new × ((n : ℕ) → n < start → run_at new n ≡ run_at old n) × ((x : ℕ) → x < 2 ^ d → run_at new (start + x) ≡ lpm L (bits_of d x) h)
+    Below (start + 2 ^ d) new × AreRuns 0 new × ((n : ℕ) → n < start → run_hop_at new n ≡ run_hop_at old n) × ((x : ℕ) → x < 2 ^ d → run_hop_at new (start + x) ≡ lpm L (bits_of d x) h)
 
 -- the runs are those of all addresses of the family
-abbrev pub Tells : Family → Entries → List Run → Type 0
-Tells f L runs = Below (2 ^ width f) runs × AreRuns 0 runs × ((n : ℕ) → n < 2 ^ width f → run_at runs n ≡ lpm (of_family f L) (bits_of (width f) n) 0)
+abbrev pub RunsTell : Family → Entries → List Run → Type 0
+RunsTell f L runs = Below (2 ^ width f) runs × AreRuns 0 runs × ((n : ℕ) → n < 2 ^ width f → run_hop_at runs n ≡ lpm (of_family f L) (bits_of (width f) n) 0)
 
 -- the first so many runs begin at the number or before it, the others after it
 abbrev pub IsBegun : ℕ → List Run → ℕ → Type 0

@@ -7,14 +7,14 @@ use Rattle.address_model.specs.declared.family.Family.{Family}
 use Rattle.address_model.specs.declared.family.Family.TheVariants.{V4, V6}
 use Rattle.table_model.specs.Entries.{Entries, of_family}
 use Rattle.least_model.specs.Least.{bound}
-use Rattle.cert_model.specs.Rows.{CertRow, join_row, bound_row, whole}
+use Rattle.cert_model.specs.Rows.{CertRow, join_row, bound_row, whole_prefix}
 use Rattle.cert_model.specs.Right.{IsRight, leaf_item, join_item, joint_k}
 use Rattle.cert_model.specs.Right.{Item as ModelItem}
 use Rattle.cert_model.specs.Verdict.{No, Shape, LeafWrong, JoinWrong, all_get, are_halves, wrong_row}
-use Rattle.fib_addr.specs.Seen.{prefix_as}
+use Rattle.fib_addr.specs.Views.{prefix_as}
 use Rattle.cert_check.specs.declared.rows.Item.{Item}
 use Rattle.cert_check.specs.declared.rows.Runs.{Runs}
-use Rattle.cert_check.specs.Runs.{Tells, AreRuns, Below}
+use Rattle.cert_check.specs.Runs.{RunsTell, AreRuns, Below}
 
 abbrev pub item_as : Item → ModelItem
 item_as i = record { prefix = prefix_as i.prefix; hops = i.hops.items; k = i.k }
@@ -30,28 +30,28 @@ due_as (Some V4) = V4 ∷ V6 ∷ []
 due_as (Some V6) = V6 ∷ []
 
 -- no region's k is more than the leaves that it has, so the sum of all k with one more each is at most the rows read
-abbrev pub weight : List ModelItem → ℕ
-weight [] = 0
-weight (i ∷ st) = i.k + 1 + weight st
+abbrev pub leaf_weight : List ModelItem → ℕ
+leaf_weight [] = 0
+leaf_weight (i ∷ st) = i.k + 1 + leaf_weight st
 
 -- the runs are those of the routes
 abbrev pub TellsBoth : Entries → Runs → Type 0
-TellsBoth R runs = Tells V4 R runs.v4.items × Tells V6 R runs.v6.items
+TellsBoth R runs = RunsTell V4 R runs.v4.items × RunsTell V6 R runs.v6.items
 
 -- each region on the stack has its right set and k
 abbrev pub AllRight : Entries → List ModelItem → Type 0
 AllRight R st = AllByRecursion (λ i. IsRight R i.prefix i.hops i.k) st
 
 -- the bounds of the families that are done are right
-abbrev pub Told : Entries → Option Family → ℕ → ℕ → Type 0
-Told R (Some V4) v4 v6 = Unit {0}
-Told R (Some V6) v4 v6 = bound 32 (of_family V4 R) ≡ v4
-Told R None v4 v6 = (bound 32 (of_family V4 R) ≡ v4) × (bound 128 (of_family V6 R) ≡ v6)
+abbrev pub BoundsTold : Entries → Option Family → ℕ → ℕ → Type 0
+BoundsTold R (Some V4) v4 v6 = Unit {0}
+BoundsTold R (Some V6) v4 v6 = bound 32 (of_family V4 R) ≡ v4
+BoundsTold R None v4 v6 = (bound 32 (of_family V4 R) ≡ v4) × (bound 128 (of_family V6 R) ≡ v6)
 
 -- the row was read, and nothing or this is wrong with it
 abbrev pub RowRead : Entries → CertRow → ℕ → Option Family → List ModelItem → Option Family → List ModelItem → Option No → Type 0
 RowRead R row n due st due' st' None =
-    ((rows : List CertRow) → wrong_row R (row ∷ rows) (due_as due) st n ≡ wrong_row R rows (due_as due') st' (n + 1)) × (weight st' ≤ weight st + 1) × (AllRight R st → AllRight R st')
+    ((rows : List CertRow) → wrong_row R (row ∷ rows) (due_as due) st n ≡ wrong_row R rows (due_as due') st' (n + 1)) × (leaf_weight st' ≤ leaf_weight st + 1) × (AllRight R st → AllRight R st')
 RowRead R row n due st due' st' (Some x) = (rows : List CertRow) → wrong_row R (row ∷ rows) (due_as due) st n ≡ Some x
 
 -- a leaf row was read: all addresses get the hop and the leaf was put on top, or some don't
@@ -72,7 +72,7 @@ JoinRead p k n st st' (Some x) = (R : Entries) (f : Family) (due : List Family) 
 
 -- the whole region of the family was alone on the stack and was taken, or a bound may not stand here
 abbrev pub WholeTaken : Family → List ModelItem → List ModelItem → Option ModelItem → Type 0
-WholeTaken f st st' (Some i) = (st ≡ i ∷ []) × (same_prefix i.prefix (whole f) ≡ true) × (st' ≡ [])
+WholeTaken f st st' (Some i) = (st ≡ i ∷ []) × (same_prefix i.prefix (whole_prefix f) ≡ true) × (st' ≡ [])
 WholeTaken f st st' None = (R : Entries) (m n : ℕ) (due : List Family) (rows : List CertRow) → wrong_row R (bound_row f m ∷ rows) (f ∷ due) st n ≡ Some (Shape n)
 
 -- the family whose bound comes after this one's
@@ -81,8 +81,8 @@ next_due V4 = Some V6
 next_due V6 = None
 
 -- the bound of a family
-abbrev pub bound_in : Family → Entries → ℕ
-bound_in f R = bound (width f) (of_family f R)
+abbrev pub bound_due : Family → Entries → ℕ
+bound_due f R = bound (width f) (of_family f R)
 
 -- the top was taken from the stack, if there is one
 abbrev pub Popped : List ModelItem → List ModelItem → Option ModelItem → Type 0

@@ -4,10 +4,10 @@ ghost use Rattle.std.specs.Prelude.{◌≡◌, ◌↔◌, ◌<◌, ◌^◌, None
 ghost use Rattle.address_model.specs.Width.{width};
 ghost use Rattle.table_model.specs.Entries.{Entries, match_in, AlikeInBoth};
 ghost use Rattle.cert_model.specs.Verdict.{IsLeastDiffering, not_same, not_same_in};
-ghost use Rattle.fib_addr.specs.Seen.{addr_as, entry_as};
-ghost use Rattle.cert_check.specs.Runs.{AreRuns, Below, Tells};
+ghost use Rattle.fib_addr.specs.Views.{addr_as, entry_as};
+ghost use Rattle.cert_check.specs.Runs.{AreRuns, Below, RunsTell};
 ghost use Rattle.cert_check.specs.Apart.{next_apart, no_of, IsFirstApart};
-ghost use Rattle.cert_check.specs.Seen.{differ_as};
+ghost use Rattle.cert_check.specs.Views.{differ_as};
 
 use crate::runs::{Run, runs_of};
 use fib_addr::{Addr, Entry, Family, Hop};
@@ -113,7 +113,7 @@ pub(crate) fn differ_in(a: &[Run], b: &[Run], family: Family) -> Option<Differ>
     requires second { AreRuns 0 b.now }
     requires below { Below (2 ^ width family) a.now }
     requires below_too { Below (2 ^ width family) b.now }
-    ensures { (L M : Entries) → Tells family L a.now → Tells family M b.now → option_map differ_as result ≡ not_same_in L M family }
+    ensures { (L M : Entries) → RunsTell family L a.now → RunsTell family M b.now → option_map differ_as result ≡ not_same_in L M family }
 {
     differ_of(first_apart(a, b), family)
 }

@@ -2,7 +2,7 @@
 
 ghost use Rattle.std.specs.Prelude.{◌≡◌, map, option_map, IfOk};
 ghost use Rattle.cert_model.specs.Verdict.{twice};
-ghost use Rattle.fib_addr.specs.Seen.{entry_as, prefix_as};
+ghost use Rattle.fib_addr.specs.Views.{entry_as, prefix_as};
 
 use fib_addr::{Entry, Prefix};
 use std::alloc::{AllocError, Global};

@@ -8,15 +8,15 @@ ghost use Rattle.address_model.specs.Address.{same_prefix};
 ghost use Rattle.address_model.specs.Regions.{half_at};
 ghost use Rattle.address_model.specs.declared.family.Family.TheVariants.{V4, V6};
 ghost use Rattle.table_model.specs.Entries.{Entries};
-ghost use Rattle.cert_model.specs.Rows.{bound_row, whole};
+ghost use Rattle.cert_model.specs.Rows.{bound_row, whole_prefix};
 ghost use Rattle.cert_model.specs.Right.{bound_by};
 ghost use Rattle.cert_model.specs.Verdict.{wrong_row};
-ghost use Rattle.fib_addr.specs.Seen.{prefix_as};
-ghost use Rattle.cert_rows.specs.Seen.{row_as};
+ghost use Rattle.fib_addr.specs.Views.{prefix_as};
+ghost use Rattle.cert_rows.specs.Views.{row_as};
 ghost use Rattle.cert_check.specs.Marks.{AreMarks};
-ghost use Rattle.cert_check.specs.Runs.{Tells};
-ghost use Rattle.cert_check.specs.Seen.{no_as};
-ghost use Rattle.cert_check.specs.Stack.{item_as, stack_as, weight, TellsBoth, AllRight, Told, RowRead, LeafRead, JoinDone, JoinRead, WholeTaken, next_due, bound_in, Popped};
+ghost use Rattle.cert_check.specs.Runs.{RunsTell};
+ghost use Rattle.cert_check.specs.Views.{no_as};
+ghost use Rattle.cert_check.specs.Stack.{item_as, stack_as, leaf_weight, TellsBoth, AllRight, BoundsTold, RowRead, LeafRead, JoinDone, JoinRead, WholeTaken, next_due, bound_due, Popped};
 
 use crate::refusal::No;
 use crate::runs::{Run, holds};
@@ -59,7 +59,7 @@ pub struct Reading {
 
 /// The runs of a family.
 fn runs_in(runs: &Runs, family: Family) -> &[Run]
-    ensures { (R : Entries) → TellsBoth R runs.now → Tells family R result.now }
+    ensures { (R : Entries) → TellsBoth R runs.now → RunsTell family R result.now }
 {
     match family {
         Family::V4 => &runs.v4,
@@ -75,7 +75,7 @@ fn read_leaf(
     row: u64,
     stack: &mut Vec<Item>,
 ) -> Result<Option<No>, AllocError>
-    ensures weight { IfOk result (λ no. no ≡ None → weight (stack_as stack.new.items) ≤ weight (stack_as stack.old.items) + 1) }
+    ensures leaf_weight { IfOk result (λ no. no ≡ None → leaf_weight (stack_as stack.new.items) ≤ leaf_weight (stack_as stack.old.items) + 1) }
     ensures read { IfOk result (λ no. (R : Entries) → TellsBoth R runs.now → LeafRead R (prefix_as prefix.now) hop.0 row (stack_as stack.old.items) (stack_as stack.new.items) (option_map no_as no)) }
 {
     if !holds(runs_in(runs, prefix.family), prefix, hop.0) {
@@ -101,7 +101,7 @@ fn is_same(p: &Prefix, q: &Prefix) -> bool
 
 /// Whether the prefix is that of all addresses of the family.
 fn is_whole(prefix: &Prefix, family: Family) -> bool
-    ensures { result ≡ same_prefix (prefix_as prefix.now) (whole family) }
+    ensures { result ≡ same_prefix (prefix_as prefix.now) (whole_prefix family) }
 {
     is_same(prefix, &Prefix::whole(family))
 }
@@ -164,7 +164,7 @@ fn read_join(
 ) -> Result<Option<No>, AllocError>
     requires marks { AreMarks row marks.old.items }
     requires more { row + 1 < 2 ^ 64 }
-    requires weight { weight (stack_as stack.old.items) < row }
+    requires leaf_weight { leaf_weight (stack_as stack.old.items) < row }
     ensures marks { AreMarks (row + 1) marks.new.items }
     ensures read { IfOk result (λ no. JoinRead (prefix_as prefix.now) said row (stack_as stack.old.items) (stack_as stack.new.items) (option_map no_as no)) }
 {
@@ -220,7 +220,7 @@ fn end_family(family: Family, bound: u64, reading: &mut Reading)
     ensures due { reading.new.due ≡ next_due family }
     ensures marks { reading.new.marks ≡ reading.old.marks }
     ensures stack { reading.new.stack ≡ reading.old.stack }
-    ensures told { (R : Entries) → bound_in family R ≡ bound → Told R (Some family) reading.old.v4 reading.old.v6 → Told R (next_due family) reading.new.v4 reading.new.v6 }
+    ensures told { (R : Entries) → bound_due family R ≡ bound → BoundsTold R (Some family) reading.old.v4 reading.old.v6 → BoundsTold R (next_due family) reading.new.v4 reading.new.v6 }
 {
     match family {
         Family::V4 => {
@@ -236,10 +236,10 @@ fn end_family(family: Family, bound: u64, reading: &mut Reading)
 
 fn read_bound(family: Family, said: u64, row: u64, reading: &mut Reading) -> Option<No>
     requires due { reading.old.due ≡ Some family }
-    requires weight { weight (stack_as reading.old.stack.items) < row }
+    requires leaf_weight { leaf_weight (stack_as reading.old.stack.items) < row }
     ensures marks { reading.new.marks ≡ reading.old.marks }
     ensures read { (R : Entries) → RowRead R (bound_row family said) row reading.old.due (stack_as reading.old.stack.items) reading.new.due (stack_as reading.new.stack.items) (option_map no_as result) }
-    ensures told { result ≡ None → (R : Entries) → AllRight R (stack_as reading.old.stack.items) → Told R reading.old.due reading.old.v4 reading.old.v6 → Told R reading.new.due reading.new.v4 reading.new.v6 }
+    ensures told { result ≡ None → (R : Entries) → AllRight R (stack_as reading.old.stack.items) → BoundsTold R reading.old.due reading.old.v4 reading.old.v6 → BoundsTold R reading.new.due reading.new.v4 reading.new.v6 }
 {
     match whole_of(family, &mut reading.stack) {
         None => Some(No::Shape { row }),
@@ -264,11 +264,11 @@ fn read_row(
 ) -> Result<Option<No>, AllocError>
     requires marks { AreMarks number reading.old.marks.items }
     requires more { number + 1 < 2 ^ 64 }
-    requires weight { weight (stack_as reading.old.stack.items) < number }
+    requires leaf_weight { leaf_weight (stack_as reading.old.stack.items) < number }
     ensures marks { AreMarks (number + 1) reading.new.marks.items }
-    ensures weight { IfOk result (λ no. no ≡ None → weight (stack_as reading.new.stack.items) ≤ weight (stack_as reading.old.stack.items) + 1) }
+    ensures leaf_weight { IfOk result (λ no. no ≡ None → leaf_weight (stack_as reading.new.stack.items) ≤ leaf_weight (stack_as reading.old.stack.items) + 1) }
     ensures read { IfOk result (λ no. (R : Entries) → TellsBoth R runs.now → RowRead R (row_as row.now) number reading.old.due (stack_as reading.old.stack.items) reading.new.due (stack_as reading.new.stack.items) (option_map no_as no)) }
-    ensures told { IfOk result (λ no. no ≡ None → (R : Entries) → AllRight R (stack_as reading.old.stack.items) → Told R reading.old.due reading.old.v4 reading.old.v6 → Told R reading.new.due reading.new.v4 reading.new.v6) }
+    ensures told { IfOk result (λ no. no ≡ None → (R : Entries) → AllRight R (stack_as reading.old.stack.items) → BoundsTold R reading.old.due reading.old.v4 reading.old.v6 → BoundsTold R reading.new.due reading.new.v4 reading.new.v6) }
 {
     match reading.due {
         None => Ok(Some(No::Shape { row: number })),
@@ -306,7 +306,7 @@ pub(crate) fn read_rows(
     requires empty { stack_as reading.old.stack.items ≡ [] }
     requires marks { AreMarks 1 reading.old.marks.items }
     ensures read { IfOk result (λ no. (R : Entries) → TellsBoth R runs.now → option_map no_as no ≡ wrong_row R (map row_as rows.now) (V4 ∷ V6 ∷ []) [] 1) }
-    ensures told { IfOk result (λ no. no ≡ None → (R : Entries) → TellsBoth R runs.now → Told R None reading.new.v4 reading.new.v6) }
+    ensures told { IfOk result (λ no. no ≡ None → (R : Entries) → TellsBoth R runs.now → BoundsTold R None reading.new.v4 reading.new.v6) }
 {
     for i in 0..rows.len() {
         if let Some(no) = read_row(alloc, runs, &rows[i], i as u64 + 1, reading)? {

@@ -11,8 +11,8 @@ ghost use Rattle.address_model.specs.Width.{width};
 ghost use Rattle.table_model.specs.Table.{root, half};
 ghost use Rattle.table_model.specs.Entries.{Entries, of_family};
 ghost use Rattle.cert_model.specs.Verdict.{all_get};
-ghost use Rattle.fib_addr.specs.Seen.{entry_as, prefix_as};
-ghost use Rattle.cert_check.specs.Runs.{part_as, table_of, Noted, Swept, AreRuns, Tells, IsBegun, last_hop};
+ghost use Rattle.fib_addr.specs.Views.{entry_as, prefix_as};
+ghost use Rattle.cert_check.specs.Runs.{part_as, table_of, Noted, Swept, AreRuns, RunsTell, IsBegun, last_hop};
 
 use fib_addr::{Entry, Family, Prefix, bit_at};
 use std::alloc::{AllocError, Global};
@@ -153,7 +153,7 @@ pub(crate) fn runs_of(
     entries: &[Entry],
     family: Family,
 ) -> Result<Vec<Run>, AllocError>
-    ensures { IfOk result (λ v. Tells family (map entry_as entries.now) v.items) }
+    ensures { IfOk result (λ v. RunsTell family (map entry_as entries.now) v.items) }
 {
     let parts = parts_of(alloc, entries, family)?;
     let mut runs = Vec::new(alloc);
@@ -187,7 +187,7 @@ fn is_past(number: u128, prefix: &Prefix) -> bool
 
 /// Whether all addresses of the prefix get the hop.
 pub(crate) fn holds(runs: &[Run], prefix: &Prefix, hop: u16) -> bool
-    ensures { (L : Entries) → Tells prefix.now.family L runs.now → result ≡ all_get L (prefix_as prefix.now) hop }
+    ensures { (L : Entries) → RunsTell prefix.now.family L runs.now → result ≡ all_get L (prefix_as prefix.now) hop }
 {
     let place = begun(runs, prefix.bits);
     hop_before(runs, place) == hop && (place == runs.len() || is_past(runs[place].start, prefix))

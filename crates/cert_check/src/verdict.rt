@@ -8,10 +8,10 @@ ghost use Rattle.least_model.specs.Both.{LeastInBoth};
 ghost use Rattle.cert_model.specs.Right.{IsCertificate};
 ghost use Rattle.cert_model.specs.Verdict.{Twice, twice, wrong_row, too_many_in, verdict};
 ghost use Rattle.cert_model.specs.Verdict.{not_same as model_not_same};
-ghost use Rattle.fib_addr.specs.Seen.{entry_as};
-ghost use Rattle.cert_rows.specs.Seen.{row_as};
-ghost use Rattle.cert_check.specs.Seen.{differ_as, no_as, IfNo};
-ghost use Rattle.cert_check.specs.Stack.{TellsBoth, AreOfBoth, bound_in};
+ghost use Rattle.fib_addr.specs.Views.{entry_as};
+ghost use Rattle.cert_rows.specs.Views.{row_as};
+ghost use Rattle.cert_check.specs.Views.{differ_as, no_as, IfNo};
+ghost use Rattle.cert_check.specs.Stack.{TellsBoth, AreOfBoth, bound_due};
 
 use crate::alike::{Differ, differ_in};
 use crate::refusal::{CheckError, No};
@@ -34,7 +34,7 @@ fn runs_in_both(alloc: Global, entries: &[Entry]) -> Result<Runs, AllocError>
 }
 
 /// A prefix that stands twice in the routes, or else in the table.
-fn repeated(alloc: Global, routes: &[Entry], table: &[Entry]) -> Result<Option<No>, AllocError>
+fn find_repeat(alloc: Global, routes: &[Entry], table: &[Entry]) -> Result<Option<No>, AllocError>
     ensures { IfOk result (λ no. option_map no_as no ≡ option_or (option_map Twice (twice (map entry_as routes.now))) (option_map Twice (twice (map entry_as table.now)))) }
 {
     if let Some(prefix) = first_twice(alloc, routes)? {
@@ -86,7 +86,7 @@ fn count_of(entries: &[Entry], family: Family) -> u64
 }
 
 fn too_many(table: &[Entry], family: Family, bound: u64) -> Option<No>
-    ensures { (R : Entries) → bound_in family R ≡ bound → option_map no_as result ≡ too_many_in R (map entry_as table.now) family }
+    ensures { (R : Entries) → bound_due family R ≡ bound → option_map no_as result ≡ too_many_in R (map entry_as table.now) family }
 {
     let entries = count_of(table, family);
     if bound < entries {
@@ -133,7 +133,7 @@ fn first_wrong(
 ) -> Result<Option<No>, AllocError>
     ensures { IfOk result (λ no. option_map no_as no ≡ verdict (map entry_as routes.now) (map entry_as table.now) (map row_as rows.now)) }
 {
-    if let Some(no) = repeated(alloc, routes, table)? {
+    if let Some(no) = find_repeat(alloc, routes, table)? {
         return Ok(Some(no));
     }
     let runs = runs_in_both(alloc, routes)?;

@@ -14,8 +14,8 @@ use Rattle.least_model.specs.Least.{Least, set_at, k_at, bound}
 use Rattle.least_model.specs.Both.{LeastInBoth}
 use Rattle.least_model.proofs.Laws.{set_join, k_join, set_leaf, k_leaf, fresh_law}
 use Rattle.least_model.proofs.Cost.{k_alike}
-use Rattle.cert_model.specs.Rows.{CertRow, leaf_row, join_row, bound_row, whole, one_answer, leaf_or, region_rows, certificate_of}
-use Rattle.cert_model.specs.Right.{Item, leaf_item, join_item, Reads, HaveBound, IsCertificate}
+use Rattle.cert_model.specs.Rows.{CertRow, leaf_row, join_row, bound_row, whole_prefix, one_answer, leaf_or, region_rows, certificate_of}
+use Rattle.cert_model.specs.Right.{Item, leaf_item, join_item, StackReads, HaveBound, IsCertificate}
 use Rattle.cert_model.proofs.Regions.{get_all}
 use Rattle.cert_model.proofs.Answers.{one_answer_is}
 
@@ -26,16 +26,16 @@ abbrev item_at : Entries → Prefix → Item
 item_at R p = record { prefix = p; hops = set_at (width p.family) (of_family p.family R) p.bits; k = k_at (width p.family) (of_family p.family R) p.bits }
 
 reads_leaf : (R : Entries) (p : Prefix) (h : ℕ) (more : List CertRow) (st end : List Item) → IsPrefix p → ((a : List Bool) → length (p.bits ++ a) ≡ width p.family → table_of R p a ≡ h)
-    → Reads R more (item_at R p ∷ st) end → Reads R (leaf_row p h ∷ more) st end
+    → StackReads R more (item_at R p ∷ st) end → StackReads R (leaf_row p h ∷ more) st end
 reads_leaf R p h more st end s e r =
     let i : item_at R p ≡ leaf_item p h =
     ap (λ x. let i : Item = record { prefix = p; hops = x; k = k_at (width p.family) (of_family p.family R) p.bits } in i) (set_leaf (width p.family) (of_family p.family R) p.bits h s e)
     ∙ ap (λ n. let i : Item = record { prefix = p; hops = h ∷ []; k = n } in i) (k_leaf (width p.family) (of_family p.family R) p.bits h s e)
     in
-    (s, get_all R p h e, subst (λ (i : Item). Reads R more (i ∷ st) end) i r)
+    (s, get_all R p h e, subst (λ (i : Item). StackReads R more (i ∷ st) end) i r)
 
-reads_join : (R : Entries) (p : Prefix) (more : List CertRow) (st end : List Item) → length p.bits < width p.family → Reads R more (item_at R p ∷ st) end
-    → Reads R (join_row p (k_at (width p.family) (of_family p.family R) p.bits) ∷ more) (item_at R (half_at true p) ∷ item_at R (half_at false p) ∷ st) end
+reads_join : (R : Entries) (p : Prefix) (more : List CertRow) (st end : List Item) → length p.bits < width p.family → StackReads R more (item_at R p ∷ st) end
+    → StackReads R (join_row p (k_at (width p.family) (of_family p.family R) p.bits) ∷ more) (item_at R (half_at true p) ∷ item_at R (half_at false p) ∷ st) end
 reads_join R p more st end s r =
     let k = k_join (width p.family) (of_family p.family R) p.bits s in
     let low = item_at R (half_at false p) in
@@ -44,11 +44,11 @@ reads_join R p more st end s r =
     ap (λ x. let i : Item = record { prefix = p; hops = x; k = k_at (width p.family) (of_family p.family R) p.bits } in i) (set_join (width p.family) (of_family p.family R) p.bits s)
     ∙ ap (λ n. let i : Item = record { prefix = p; hops = (join_item p low high).hops; k = n } in i) k
     in
-    (s, refl, refl, k, subst (λ (i : Item). Reads R more (i ∷ st) end) i r)
+    (s, refl, refl, k, subst (λ (i : Item). StackReads R more (i ∷ st) end) i r)
 
 -- rows that put the region p on the stack
 abbrev Pushes : Entries → Prefix → List CertRow → Type 0
-Pushes R p rows = (more : List CertRow) (st end : List Item) → Reads R more (item_at R p ∷ st) end → Reads R (rows ++ more) st end
+Pushes R p rows = (more : List CertRow) (st end : List Item) → StackReads R more (item_at R p ∷ st) end → StackReads R (rows ++ more) st end
 
 pushes_leaf : (R : Entries) (p : Prefix) (h : ℕ) → IsPrefix p → ((a : List Bool) → length (p.bits ++ a) ≡ width p.family → table_of R p a ≡ h) → Pushes R p (leaf_row p h ∷ [])
 pushes_leaf R p h s e more st end r = reads_leaf R p h more st end s e r
@@ -56,10 +56,10 @@ pushes_leaf R p h s e more st end r = reads_leaf R p h more st end s e r
 pushes_join : (R : Entries) (p : Prefix) (low high : List CertRow) (k : ℕ) → length p.bits < width p.family → k ≡ k_at (width p.family) (of_family p.family R) p.bits
     → Pushes R (half_at false p) low → Pushes R (half_at true p) high → Pushes R p (low ++ (high ++ (join_row p k ∷ [])))
 pushes_join R p low high k s e l h more st end r =
-    let last : Reads R (join_row p k ∷ more) (item_at R (half_at true p) ∷ item_at R (half_at false p) ∷ st) end =
-    subst (λ (n : ℕ). Reads R (join_row p n ∷ more) (item_at R (half_at true p) ∷ item_at R (half_at false p) ∷ st) end) (sym e) (reads_join R p more st end s r)
+    let last : StackReads R (join_row p k ∷ more) (item_at R (half_at true p) ∷ item_at R (half_at false p) ∷ st) end =
+    subst (λ (n : ℕ). StackReads R (join_row p n ∷ more) (item_at R (half_at true p) ∷ item_at R (half_at false p) ∷ st) end) (sym e) (reads_join R p more st end s r)
     in
-    subst (λ (rows : List CertRow). Reads R rows st end)
+    subst (λ (rows : List CertRow). StackReads R rows st end)
     (sym (append_assoc low (high ++ (join_row p k ∷ [])) more ∙ ap (λ x. low ++ x) (append_assoc high (join_row p k ∷ []) more)))
     (l (high ++ (join_row p k ∷ more)) st end (h (join_row p k ∷ more) (item_at R (half_at false p) ∷ st) end last))
 
@@ -91,13 +91,13 @@ region_pushes R (suc d) f p s e =
     (region_pushes R d (side true f) (half_at true p) (omega (arith, length-append p.bits (true ∷ []))) (λ a n. e (true ∷ a) (ap suc n) ∙ sym (half_answer R p true a))))
 
 abbrev rows_in : Entries → Family → List CertRow
-rows_in R f = region_rows (width f) (answers (of_family f R) []) (whole f)
+rows_in R f = region_rows (width f) (answers (of_family f R) []) (whole_prefix f)
 
 pub have_bound : (R : Entries) (f : Family) → HaveBound R f (rows_in R f) (bound (width f) (of_family f R))
 have_bound R f =
-    let end : List Item = item_at R (whole f) ∷ [] in
-    let r : Reads R (rows_in R f ++ []) [] end = region_pushes R (width f) (answers (of_family f R) []) (whole f) (omega arith) (λ a l. refl) [] [] end refl in
-    ((item_at R (whole f)).hops, (item_at R (whole f)).k, subst (λ (rows : List CertRow). Reads R rows [] end) (append-nil (rows_in R f)) r, refl)
+    let end : List Item = item_at R (whole_prefix f) ∷ [] in
+    let r : StackReads R (rows_in R f ++ []) [] end = region_pushes R (width f) (answers (of_family f R) []) (whole_prefix f) (omega arith) (λ a l. refl) [] [] end refl in
+    ((item_at R (whole_prefix f)).hops, (item_at R (whole_prefix f)).k, subst (λ (rows : List CertRow). StackReads R rows [] end) (append-nil (rows_in R f)) r, refl)
 
 pub few : (R T : Entries) (f : Family) → Least (width f) (of_family f R) (of_family f T) → length (of_family f T) ≤ bound (width f) (of_family f R)
 few R T f l = let fresh = fresh_law (width f) (of_family f R) [] in omega (arith, l.1 _ fresh.0 fresh.1.0, fresh.2)

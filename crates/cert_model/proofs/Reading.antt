@@ -11,8 +11,8 @@ use Rattle.address_model.proofs.Same.{same_family_is, same_family_itself, same_p
 use Rattle.table_model.specs.Entries.{Entries, of_family}
 use Rattle.table_model.specs.Uniform.{AllGet}
 use Rattle.least_model.specs.Sets.{answers}
-use Rattle.cert_model.specs.Rows.{CertRow, leaf_row, join_row, bound_row, whole, one_answer}
-use Rattle.cert_model.specs.Right.{Item, leaf_item, join_item, joint_k, bound_by, Reads, HaveBound}
+use Rattle.cert_model.specs.Rows.{CertRow, leaf_row, join_row, bound_row, whole_prefix, one_answer}
+use Rattle.cert_model.specs.Right.{Item, leaf_item, join_item, joint_k, bound_by, StackReads, HaveBound}
 use Rattle.cert_model.specs.Verdict.{Shape, LeafWrong, JoinWrong, is_answer, all_get, are_halves, wrong_row, RowFits}
 use Rattle.cert_model.proofs.Regions.{get_bits, get_all}
 use Rattle.cert_model.proofs.Answers.{one_answer_is, one_answer_from}
@@ -48,7 +48,7 @@ halves_from p low high l h =
 
 -- ---- right rows are passed
 
-pub passes : (R : Entries) (rows more : List CertRow) (f : Family) (due : List Family) (st end : List Item) (n : ℕ) → Reads R rows st end
+pub passes : (R : Entries) (rows more : List CertRow) (f : Family) (due : List Family) (st end : List Item) (n : ℕ) → StackReads R rows st end
     → wrong_row R (rows ++ more) (f ∷ due) st n ≡ wrong_row R more (f ∷ due) end (n + length rows)
 unfolding wrong_row
 passes R [] more f due st end n r = ap (λ s. wrong_row R more (f ∷ due) s n) r ∙ ap (λ (m : ℕ). wrong_row R more (f ∷ due) end m) (let e : n ≡ n + 0 = omega arith in e)
@@ -67,8 +67,8 @@ pub passes_family : (R : Entries) (rows more : List CertRow) (f : Family) (due :
 unfolding wrong_row
 passes_family R rows more f due m n (S, k, r, b) = (
   n + length rows + 1,
-  passes R rows (bound_row f m ∷ more) f due [] (record { prefix = whole f; hops = S; k = k } ∷ []) n r
-      ∙ (cond-true _ _ _ (and_from _ _ (same_family_itself f) (same_prefix_itself (whole f))) ∙ cond-true _ _ _ (eq-eqb m (bound_by S k) b)),
+  passes R rows (bound_row f m ∷ more) f due [] (record { prefix = whole_prefix f; hops = S; k = k } ∷ []) n r
+      ∙ (cond-true _ _ _ (and_from _ _ (same_family_itself f) (same_prefix_itself (whole_prefix f))) ∙ cond-true _ _ _ (eq-eqb m (bound_by S k) b)),
 )
 
 -- ---- rows that are passed are right
@@ -80,12 +80,12 @@ Short st = AllByRecursion (λ (i : Item). IsPrefix i.prefix) st
 abbrev IsFront : Entries → List CertRow → Family → List Family → List Item → Type 0
 IsFront R rows f due st =
     (front : List CertRow) × (m : ℕ) × (more : List CertRow) × (S : List ℕ) × (k : ℕ) × (n : ℕ) × (rows ≡ front ++ (bound_row f m ∷ more))
-    × Reads R front st (record { prefix = whole f; hops = S; k = k } ∷ []) × (m ≡ bound_by S k) × (wrong_row R more due [] n ≡ None) × AllByRecursion RowFits more
+    × StackReads R front st (record { prefix = whole_prefix f; hops = S; k = k } ∷ []) × (m ≡ bound_by S k) × (wrong_row R more due [] n ≡ None) × AllByRecursion RowFits more
 
-front_step : (R : Entries) (row : CertRow) (rows : List CertRow) (f : Family) (due : List Family) (st after : List Item) → ((front : List CertRow) (end : List Item) → Reads R front after end → Reads R (row ∷ front) st end)
+front_step : (R : Entries) (row : CertRow) (rows : List CertRow) (f : Family) (due : List Family) (st after : List Item) → ((front : List CertRow) (end : List Item) → StackReads R front after end → StackReads R (row ∷ front) st end)
     → IsFront R rows f due after → IsFront R (row ∷ rows) f due st
 front_step R row rows f due st after go (front, m, more, S, k, n, e, r, b, w, a) =
-    (row ∷ front, m, more, S, k, n, ap (λ x. row ∷ x) e, go front (record { prefix = whole f; hops = S; k = k } ∷ []) r, b, w, a)
+    (row ∷ front, m, more, S, k, n, ap (λ x. row ∷ x) e, go front (record { prefix = whole_prefix f; hops = S; k = k } ∷ []) r, b, w, a)
 
 pub fronts : (R : Entries) (rows : List CertRow) (f : Family) (due : List Family) (st : List Item) (n : ℕ) → AllByRecursion RowFits rows → Short st → wrong_row R rows (f ∷ due) st n ≡ None → IsFront R rows f due st
 unfolding wrong_row
@@ -112,14 +112,14 @@ fronts R (join_row p m ∷ rows) f due (high ∷ low ∷ st) n a s e = by_tests 
     by_tests later false c t u z = cc
 fronts R (bound_row g m ∷ rows) f due [] n a s e = cc
 fronts R (bound_row g m ∷ rows) f due (i ∷ j ∷ st) n a s e = cc
-fronts R (bound_row g m ∷ rows) f due (i ∷ []) n a s e = by_tests (same_family g f && same_prefix i.prefix (whole f)) (nat_eq m (bound_by i.hops i.k)) refl refl e
+fronts R (bound_row g m ∷ rows) f due (i ∷ []) n a s e = by_tests (same_family g f && same_prefix i.prefix (whole_prefix f)) (nat_eq m (bound_by i.hops i.k)) refl refl e
   where
-    by_tests : (b c : Bool) → (same_family g f && same_prefix i.prefix (whole f)) ≡ b → nat_eq m (bound_by i.hops i.k) ≡ c
+    by_tests : (b c : Bool) → (same_family g f && same_prefix i.prefix (whole_prefix f)) ≡ b → nat_eq m (bound_by i.hops i.k) ≡ c
         → cond b (cond c (wrong_row R rows due [] (n + 1)) (Some (JoinWrong n m (bound_by i.hops i.k)))) (Some (Shape n)) ≡ None → IsFront R (bound_row g m ∷ rows) f due (i ∷ [])
     by_tests true true t u z =
-        let x = and_parts (same_family g f) (same_prefix i.prefix (whole f)) t in
+        let x = and_parts (same_family g f) (same_prefix i.prefix (whole_prefix f)) t in
         let fam : g ≡ f = same_family_is g f x.0 in
-        let top : i.prefix ≡ whole f = same_prefix_is i.prefix (whole f) x.1 in
+        let top : i.prefix ≡ whole_prefix f = same_prefix_is i.prefix (whole_prefix f) x.1 in
         ([], m, rows, i.hops, i.k, n + 1, ap (λ y. bound_row y m ∷ rows) fam, ap (λ y. let j : Item = record { prefix = y; hops = i.hops; k = i.k } in j ∷ []) top, eqb-true m (bound_by i.hops i.k) u, z, a.1)
     by_tests true false t u z = cc
     by_tests false c t u z = cc

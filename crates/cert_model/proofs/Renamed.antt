@@ -16,8 +16,8 @@ use Rattle.table_model.specs.Uniform.{AllGet}
 use Rattle.least_model.specs.Least.{candidates}
 use Rattle.least_model.proofs.Laws.{lpm_candidate}
 use Rattle.least_model.specs.Sets.{is_in, common, or_else, joint, one_if_empty, apart}
-use Rattle.cert_model.specs.Rows.{CertRow, leaf_row, join_row, bound_row, whole}
-use Rattle.cert_model.specs.Right.{Item, leaf_item, join_item, joint_k, Reads, HaveBound, IsCertificate}
+use Rattle.cert_model.specs.Rows.{CertRow, leaf_row, join_row, bound_row, whole_prefix}
+use Rattle.cert_model.specs.Right.{Item, leaf_item, join_item, joint_k, StackReads, HaveBound, IsCertificate}
 use Rattle.cert_model.specs.Renamed.{renamed, renamed_row, renamed_rows, hops_of_entries, KeepsApart}
 use Rattle.cert_model.proofs.Regions.{get_bits}
 
@@ -198,7 +198,7 @@ leaf_answered R p h s g =
 
 -- renamed rows lead from a renamed stack to a renamed stack
 reads_to : (to : ℕ → ℕ) (R : Entries) (rows : List CertRow) (st end : List Item) → to 0 ≡ 0 → KeepsApart to (hops_of_entries R) → AreAmong (hops_of_entries R) st
-    → Reads R rows st end → Reads (renamed to R) (renamed_rows to rows) (map (item_to to) st) (map (item_to to) end) × AreAmong (hops_of_entries R) end
+    → StackReads R rows st end → StackReads (renamed to R) (renamed_rows to rows) (map (item_to to) st) (map (item_to to) end) × AreAmong (hops_of_entries R) end
 reads_to to R [] st end z k a r = (ap (map (item_to to)) r, subst (AreAmong (hops_of_entries R)) r a)
 reads_to to R (leaf_row p h ∷ rows) st end z k a r =
     let more = reads_to to R rows (leaf_item p h ∷ st) end z k ((leaf_answered R p h r.0 r.1, tt), a) r.2 in
@@ -208,15 +208,15 @@ reads_to to R (join_row p n ∷ rows) (i ∷ []) end z k a r = absurd r
 reads_to to R (join_row p n ∷ rows) (high ∷ low ∷ st) end z k a r =
     let hops : List ℕ = hops_of_entries R in
     let more = reads_to to R rows (join_item p low high ∷ st) end z k (among_joint hops low.hops high.hops a.1.0 a.0, a.1.1) r.4 in
-    let next : Reads (renamed to R) (renamed_rows to rows) (join_item p (item_to to low) (item_to to high) ∷ map (item_to to) st) (map (item_to to) end) =
-    subst (λ (i : Item). Reads (renamed to R) (renamed_rows to rows) (i ∷ map (item_to to) st) (map (item_to to) end)) (sym (join_to to hops p low high k a.1.0 a.0)) more.0
+    let next : StackReads (renamed to R) (renamed_rows to rows) (join_item p (item_to to low) (item_to to high) ∷ map (item_to to) st) (map (item_to to) end) =
+    subst (λ (i : Item). StackReads (renamed to R) (renamed_rows to rows) (i ∷ map (item_to to) st) (map (item_to to) end)) (sym (join_to to hops p low high k a.1.0 a.0)) more.0
     in
     ((r.0, r.1, r.2, r.3 ∙ sym (k_to to hops low high k a.1.0 a.0), next), more.1)
 reads_to to R (bound_row f n ∷ rows) st end z k a r = absurd r
 
 bound_to : (to : ℕ → ℕ) (R : Entries) (f : Family) (rows : List CertRow) (n : ℕ) → to 0 ≡ 0 → KeepsApart to (hops_of_entries R) → HaveBound R f rows n → HaveBound (renamed to R) f (renamed_rows to rows) n
 bound_to to R f rows n z k (S, m, r, b) =
-    let end : List Item = record { prefix = whole f; hops = S; k = m } ∷ [] in
+    let end : List Item = record { prefix = whole_prefix f; hops = S; k = m } ∷ [] in
     let read = reads_to to R rows [] end z k tt r in
     let none : is_in 0 (map to S) ≡ is_in 0 S = ap (λ x. is_in x (map to S)) (sym z) ∙ in_to to (hops_of_entries R) 0 S k refl read.1.0 in
     (map to S, m, read.0, b ∙ ap (λ t. cond t m (m + 1)) (sym none))

@@ -12,8 +12,8 @@ use Rattle.least_model.specs.Sets.{joint, apart}
 use Rattle.least_model.specs.Least.{Least, set_at, k_at, bound}
 use Rattle.least_model.specs.Both.{LeastInBoth}
 use Rattle.least_model.proofs.Laws.{set_join, k_join, set_leaf, k_leaf, bound_law}
-use Rattle.cert_model.specs.Rows.{CertRow, leaf_row, join_row, bound_row, whole}
-use Rattle.cert_model.specs.Right.{IsRight, leaf, join, bound_by, Item, leaf_item, join_item, Reads, HaveBound, IsCertificate}
+use Rattle.cert_model.specs.Rows.{CertRow, leaf_row, join_row, bound_row, whole_prefix}
+use Rattle.cert_model.specs.Right.{IsRight, leaf, join, bound_by, Item, leaf_item, join_item, StackReads, HaveBound, IsCertificate}
 use Rattle.cert_model.proofs.Regions.{get_bits}
 
 abbrev set_in : Entries → Prefix → List ℕ
@@ -33,10 +33,10 @@ right_k {R = R} (join {p = p} {S = S} {T = T} n l r) =
     let gap : apart (set_in R (half_at false p)) (set_in R (half_at true p)) ≡ apart S T = ap (λ x. apart x (set_in R (half_at true p))) (right_set l) ∙ ap (apart S) (right_set r) in
     omega (arith, k_join (width p.family) (of_family p.family R) p.bits n, right_k l, right_k r, gap)
 
-pub right_bound : (R : Entries) (f : Family) (S : List ℕ) (k : ℕ) → IsRight R (whole f) S k → bound (width f) (of_family f R) ≡ bound_by S k
-right_bound R f S k r = ap (λ x. bound_by x (k_in R (whole f))) (right_set r) ∙ ap (bound_by S) (right_k r)
+pub right_bound : (R : Entries) (f : Family) (S : List ℕ) (k : ℕ) → IsRight R (whole_prefix f) S k → bound (width f) (of_family f R) ≡ bound_by S k
+right_bound R f S k r = ap (λ x. bound_by x (k_in R (whole_prefix f))) (right_set r) ∙ ap (bound_by S) (right_k r)
 
-pub certificate_law : (R T : Entries) (f : Family) (S : List ℕ) (k : ℕ) → IsRight R (whole f) S k → Alike (width f) (of_family f R) (of_family f T) → length (of_family f T) ≤ bound_by S k
+pub certificate_law : (R T : Entries) (f : Family) (S : List ℕ) (k : ℕ) → IsRight R (whole_prefix f) S k → Alike (width f) (of_family f R) (of_family f T) → length (of_family f T) ≤ bound_by S k
     → Least (width f) (of_family f R) (of_family f T)
 certificate_law R T f S k r e n = let b : bound (width f) (of_family f R) ≡ bound_by S k = right_bound R f S k r in (e, λ L t g. omega (arith, bound_law (width f) (of_family f R) L g))
 
@@ -45,7 +45,7 @@ certificate_law R T f S k r e n = let b : bound (width f) (of_family f R) ≡ bo
 abbrev IsRightItem : Entries → Item → Type 0
 IsRightItem R i = IsRight R i.prefix i.hops i.k
 
-reads_right : (R : Entries) (rows : List CertRow) (st end : List Item) → AllByRecursion (IsRightItem R) st → Reads R rows st end → AllByRecursion (IsRightItem R) end
+reads_right : (R : Entries) (rows : List CertRow) (st end : List Item) → AllByRecursion (IsRightItem R) st → StackReads R rows st end → AllByRecursion (IsRightItem R) end
 reads_right R [] st end a r = subst (AllByRecursion (IsRightItem R)) r a
 reads_right R (leaf_row p h ∷ rows) st end a r = reads_right R rows (leaf_item p h ∷ st) end (leaf r.0 r.1, a) r.2
 reads_right R (join_row p n ∷ rows) [] end a r = absurd r
@@ -59,7 +59,7 @@ reads_right R (bound_row f n ∷ rows) st end a r = absurd r
 -- the bound that right rows lead to is the least table's size
 pub bound_is : (R : Entries) (f : Family) (rows : List CertRow) (n : ℕ) → HaveBound R f rows n → bound (width f) (of_family f R) ≡ n
 bound_is R f rows n (S, k, r, b) =
-    let end : List Item = record { prefix = whole f; hops = S; k = k } ∷ [] in
+    let end : List Item = record { prefix = whole_prefix f; hops = S; k = k } ∷ [] in
     right_bound R f S k (reads_right R rows [] end tt r).0 ∙ sym b
 
 alike_in : (R T : Entries) (f : Family) → AlikeInBoth R T → Alike (width f) (of_family f R) (of_family f T)

@@ -10,7 +10,7 @@ use Rattle.address_model.specs.declared.family.Family.TheVariants.{V4, V6}
 use Rattle.table_model.specs.Entries.{Entries, of_family, AlikeInBoth}
 use Rattle.table_model.specs.Uniform.{AllGet}
 use Rattle.least_model.specs.Sets.{is_in, joint, apart}
-use Rattle.cert_model.specs.Rows.{CertRow, leaf_row, join_row, bound_row, whole}
+use Rattle.cert_model.specs.Rows.{CertRow, leaf_row, join_row, bound_row, whole_prefix}
 
 -- The set and the k of a region, by rules. A leaf has the one hop of its addresses, and k 0. A join has the common hops of
 -- its halves and the sum of their k, or where there are none all their hops and one more.
@@ -43,18 +43,18 @@ join_item p low high = record { prefix = p; hops = joint low.hops high.hops; k =
 
 -- The rows are leaf and join rows that are right for the routes, and lead from the one stack to the other: a leaf is put on
 -- top, a join takes its halves from the top, the upper first, and puts itself there.
-abbrev pub Reads : Entries → List CertRow → List Item → List Item → Type 0
-Reads R [] st end = st ≡ end
-Reads R (leaf_row p h ∷ rows) st end = IsPrefix p × AllGet R p h × Reads R rows (leaf_item p h ∷ st) end
-Reads R (join_row p n ∷ rows) (high ∷ low ∷ st) end =
-    (length p.bits < width p.family) × (low.prefix ≡ half_at false p) × (high.prefix ≡ half_at true p) × (n ≡ joint_k low high) × Reads R rows (join_item p low high ∷ st) end
-Reads R (join_row p n ∷ rows) (i ∷ []) end = ⊥
-Reads R (join_row p n ∷ rows) [] end = ⊥
-Reads R (bound_row f n ∷ rows) st end = ⊥
+abbrev pub StackReads : Entries → List CertRow → List Item → List Item → Type 0
+StackReads R [] st end = st ≡ end
+StackReads R (leaf_row p h ∷ rows) st end = IsPrefix p × AllGet R p h × StackReads R rows (leaf_item p h ∷ st) end
+StackReads R (join_row p n ∷ rows) (high ∷ low ∷ st) end =
+    (length p.bits < width p.family) × (low.prefix ≡ half_at false p) × (high.prefix ≡ half_at true p) × (n ≡ joint_k low high) × StackReads R rows (join_item p low high ∷ st) end
+StackReads R (join_row p n ∷ rows) (i ∷ []) end = ⊥
+StackReads R (join_row p n ∷ rows) [] end = ⊥
+StackReads R (bound_row f n ∷ rows) st end = ⊥
 
 -- the rows lead from nothing to the whole region of the family, and this is its bound
 abbrev pub HaveBound : Entries → Family → List CertRow → ℕ → Type 0
-HaveBound R f rows n = (S : List ℕ) × (k : ℕ) × Reads R rows [] (record { prefix = whole f; hops = S; k = k } ∷ []) × (n ≡ bound_by S k)
+HaveBound R f rows n = (S : List ℕ) × (k : ℕ) × StackReads R rows [] (record { prefix = whole_prefix f; hops = S; k = k } ∷ []) × (n ≡ bound_by S k)
 
 -- The rows prove the table T least for the routes R: neither has a prefix twice, both answer alike, and the rows are right
 -- for the routes: those of IPv4 with its bound, then those of IPv6 with its bound, and no more. In each family the table has

@@ -17,8 +17,8 @@ pub data CertRow : Type 0 where
   bound_row : Family → ℕ → CertRow
 
 -- the prefix of all addresses of the family
-abbrev pub whole : Family → Prefix
-whole f = record { family = f; bits = [] }
+abbrev pub whole_prefix : Family → Prefix
+whole_prefix f = record { family = f; bits = [] }
 
 -- the one hop of both, if there is one
 abbrev pub same_hop : Option ℕ → Option ℕ → Option ℕ
@@ -44,7 +44,7 @@ region_rows (suc d) f p =
 
 -- the rows of all addresses of a family, and its bound
 abbrev pub family_rows : Family → Entries → List CertRow
-family_rows f R = region_rows (width f) (answers (of_family f R) []) (whole f) ++ (bound_row f (bound (width f) (of_family f R)) ∷ [])
+family_rows f R = region_rows (width f) (answers (of_family f R) []) (whole_prefix f) ++ (bound_row f (bound (width f) (of_family f R)) ∷ [])
 
 -- the certificate that routes have
 abbrev pub certificate_of : Entries → List CertRow

@@ -16,7 +16,7 @@ use Rattle.address_model.specs.declared.family.Family.TheVariants.{V4, V6}
 use Rattle.table_model.specs.Entries.{Entries, of_family, match_in}
 use Rattle.least_model.specs.Sets.{side, answers}
 use Rattle.least_model.specs.Least.{bound}
-use Rattle.cert_model.specs.Rows.{CertRow, leaf_row, join_row, bound_row, whole, one_answer}
+use Rattle.cert_model.specs.Rows.{CertRow, leaf_row, join_row, bound_row, whole_prefix, one_answer}
 use Rattle.cert_model.specs.Right.{Item, leaf_item, join_item, joint_k, bound_by}
 
 -- What is wrong. `Twice`: the prefix stands twice in the routes or in the table. `NotSame`: the address gets the first hop
@@ -99,7 +99,7 @@ wrong_row R (join_row p k ∷ rows) (f ∷ due) (high ∷ low ∷ st) n =
 wrong_row R (join_row p k ∷ rows) (f ∷ due) (i ∷ []) n = Some (Shape n)
 wrong_row R (join_row p k ∷ rows) (f ∷ due) [] n = Some (Shape n)
 wrong_row R (bound_row g m ∷ rows) (f ∷ due) (i ∷ []) n =
-    cond (same_family g f && same_prefix i.prefix (whole f)) (cond (nat_eq m (bound_by i.hops i.k)) (wrong_row R rows due [] (n + 1)) (Some (JoinWrong n m (bound_by i.hops i.k)))) (Some (Shape n))
+    cond (same_family g f && same_prefix i.prefix (whole_prefix f)) (cond (nat_eq m (bound_by i.hops i.k)) (wrong_row R rows due [] (n + 1)) (Some (JoinWrong n m (bound_by i.hops i.k)))) (Some (Shape n))
 wrong_row R (bound_row g m ∷ rows) (f ∷ due) (i ∷ j ∷ st) n = Some (Shape n)
 wrong_row R (bound_row g m ∷ rows) (f ∷ due) [] n = Some (Shape n)
 

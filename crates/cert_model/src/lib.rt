@@ -13,7 +13,7 @@ ghost use Rattle.table_model.specs.Table.{Table, IsTable, Alike};
 ghost use Rattle.table_model.specs.Entries.{Entries, of_family, match_in, AlikeInBoth};
 ghost use Rattle.least_model.specs.Least.{Least};
 ghost use Rattle.least_model.specs.Both.{LeastInBoth};
-ghost use Rattle.cert_model.specs.Rows.{CertRow, whole, one_answer, certificate_of};
+ghost use Rattle.cert_model.specs.Rows.{CertRow, whole_prefix, one_answer, certificate_of};
 ghost use Rattle.cert_model.specs.Right.{IsRight, bound_by, IsCertificate};
 ghost use Rattle.cert_model.specs.Renamed.{renamed, renamed_rows, hops_of_entries, KeepsApart};
 ghost use Rattle.cert_model.specs.Verdict.{No, NotSame, IsLeastDiffering, RowFits, twice, not_same, too_many_in, verdict};
@@ -25,7 +25,7 @@ pub fn one_answer_law()
 
 /// By the rules for sets and k, an alike table with at most the bound's entries is least.
 pub fn certificate_law()
-    ensures { (R T : Entries) (f : Family) (S : List ℕ) (k : ℕ) → IsRight R (whole f) S k → Alike (width f) (of_family f R) (of_family f T) →
+    ensures { (R T : Entries) (f : Family) (S : List ℕ) (k : ℕ) → IsRight R (whole_prefix f) S k → Alike (width f) (of_family f R) (of_family f T) →
         length (of_family f T) ≤ bound_by S k → Least (width f) (of_family f R) (of_family f T) }
 {}
 

@@ -19,7 +19,7 @@ use Rattle.cost_cert.specs.declared.error.PrintedError.{PrintedError}
 use Rattle.cost_cert.specs.declared.error.PrintedError.TheVariants as error
 use Rattle.cost_cert.specs.declared.printed.Printed.{Printed}
 use Rattle.cost_cert.specs.Printed.{IsRead}
-use Rattle.cost_cert.specs.Steps.{hops_after, used_after, Refused, Taken, TakesLine}
+use Rattle.cost_cert.specs.Steps.{hops_after_row, used_after, Refused, Taken, TakesLine}
 
 abbrev made : Entries → Entries → List CertRow → List Address → Used
 made routes least cert hops = record { routes = routes; least = least; cert = cert; hops = hops }
@@ -76,8 +76,8 @@ empty_line p n line lines left text e t l = record {
 
 -- ---- a line with a row
 
-hops_are : (old : Used) (rows : List PrintedRow) (row : PrintedRow) → old ≡ used_of rows → hops_in (rows ++ row ∷ []) ≡ hops_after old.hops row
-hops_are old rows row k = hops_more rows row ∙ ap (λ (u : Used). hops_after u.hops row) (sym k)
+hops_are : (old : Used) (rows : List PrintedRow) (row : PrintedRow) → old ≡ used_of rows → hops_in (rows ++ row ∷ []) ≡ hops_after_row old.hops row
+hops_are old rows row k = hops_more rows row ∙ ap (λ (u : Used). hops_after_row u.hops row) (sym k)
 
 row_fits : (n : ℕ) (old new : Used) (rows : List PrintedRow) (row : PrintedRow) → old ≡ used_of rows → new ≡ used_after old row → length new.hops ≤ most_hops → with_row n rows (Ok row) ≡ Ok (rows ++ row ∷ [])
 row_fits n old new rows row k e few =
@@ -105,7 +105,7 @@ taken_line old new n line lines left text e t taken l = by_read (line_in line) r
 bad_row : (n why : ℕ) (old : Used) (rows : List PrintedRow) (read : Result PrintedRow ℕ) → old ≡ used_of rows → Refused why old read → with_row n rows read ≡ Err (record { line = n; why = why })
 bad_row n why old rows (Err reason) k h = ap (λ (w : ℕ). let bad : BadLine = record { line = n; why = w } in Err bad) (sym h)
 bad_row n why old rows (Ok row) k h =
-    let len : length (hops_in (rows ++ row ∷ [])) ≡ length (hops_after old.hops row) = ap length (hops_are old rows row k) in
+    let len : length (hops_in (rows ++ row ∷ [])) ≡ length (hops_after_row old.hops row) = ap length (hops_are old rows row k) in
     cond-true _ _ _ (lt-ltb most_hops (length (hops_in (rows ++ row ∷ []))) (omega (arith, len, h.1)))
     ∙ ap (λ (w : ℕ). let bad : BadLine = record { line = n; why = w } in Err bad) (sym h.0)
 

@@ -1,10 +1,10 @@
 -- What a clause sees of printed rows, and of what is kept of them.
 use Rattle.std.specs.Prelude.{◌≡◌, Result, Ok, Err, map, option_map}
-use Rattle.fib_addr.specs.Seen.{addr_as, prefix_as, entry_as}
+use Rattle.fib_addr.specs.Views.{addr_as, prefix_as, entry_as}
 use Rattle.printed_model.specs.Rows.{Count, Records, Skipped, Events, Routes, Entries, Nodes, Leaves, PrintedRow, route_row, add_row, replace_row, remove_row, answer_row, visits_row, table_row, least_row, cert_leaf_row, cert_join_row, cert_bound_row, report_row}
 use Rattle.printed_model.specs.Texts.{BadLine}
 use Rattle.printed_model.specs.Used.{Used}
-use Rattle.cert_rows.specs.Seen.{row_as}
+use Rattle.cert_rows.specs.Views.{row_as}
 use Rattle.cost_cert.specs.declared.printed_row.Count as code_count
 use Rattle.cost_cert.specs.declared.printed_row.Count.TheVariants as count
 use Rattle.cost_cert.specs.declared.printed_row.PrintedRow as code_printed

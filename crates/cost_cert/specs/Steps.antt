@@ -16,16 +16,16 @@ abbrev pub hops_with : List Address → Option Address → List Address
 hops_with hops hop = fold with_hop hops (option_to_list hop)
 
 -- the hops after a row
-abbrev pub hops_after : List Address → PrintedRow → List Address
-hops_after hops row = fold with_hop hops (numbered_hop row)
+abbrev pub hops_after_row : List Address → PrintedRow → List Address
+hops_after_row hops row = fold with_hop hops (numbered_hop row)
 
 -- what is used of the rows before and of this one
 abbrev pub used_after : Used → PrintedRow → Used
 used_after u row = record {
-  routes = u.routes ++ route_entry (hops_after u.hops row) row;
-  least = u.least ++ least_entry (hops_after u.hops row) row;
-  cert = u.cert ++ cert_part (hops_after u.hops row) row;
-  hops = hops_after u.hops row;
+  routes = u.routes ++ route_entry (hops_after_row u.hops row) row;
+  least = u.least ++ least_entry (hops_after_row u.hops row) row;
+  cert = u.cert ++ cert_part (hops_after_row u.hops row) row;
+  hops = hops_after_row u.hops row;
 }
 
 -- what taking a hop returned: there is one too many, or no memory, or what P says
@@ -36,7 +36,7 @@ Numbers (Err hop_error.NoMemory) hops P = Unit {0}
 
 -- why a line is bad that has this row, or that has none for this reason
 abbrev pub Refused : ℕ → Used → Result PrintedRow ℕ → Type 0
-Refused why old (Ok row) = (why ≡ too_many_hops) × (most_hops < length (hops_after old.hops row))
+Refused why old (Ok row) = (why ≡ too_many_hops) × (most_hops < length (hops_after_row old.hops row))
 Refused why old (Err reason) = why ≡ reason
 
 -- the row is taken

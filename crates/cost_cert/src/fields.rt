@@ -2,7 +2,7 @@
 
 ghost use Rattle.std.specs.Prelude.{◌≡◌, bytes_eq, option_map};
 ghost use Rattle.octet_fields.specs.Gives.{Gives};
-ghost use Rattle.fib_addr.specs.Seen.{addr_as, prefix_as};
+ghost use Rattle.fib_addr.specs.Views.{addr_as, prefix_as};
 ghost use Rattle.printed_model.specs.Reading.{address_field, count_field, family_field, hop_field, next_field, number_field, one_field, prefix_field, two_fields};
 ghost use Rattle.cost_cert.specs.Printed.{count_as};
 

@@ -2,12 +2,12 @@
 
 ghost use Rattle.std.specs.Prelude.{◌≡◌, ◌≤◌, [], length, option_map};
 ghost use Rattle.fib_addr.specs.Hops.{most_hops};
-ghost use Rattle.fib_addr.specs.Seen.{addr_as};
+ghost use Rattle.fib_addr.specs.Views.{addr_as};
 ghost use Rattle.printed_model.specs.Reading.{line_in};
 ghost use Rattle.printed_model.specs.Used.{hop_number, printed_in, used_of};
 ghost use Rattle.cost_cert.specs.Printed.{IsRead, printed_as, printed_row_as};
 ghost use Rattle.cost_cert.specs.declared.error.PrintedError.TheVariants as printed_error;
-ghost use Rattle.cost_cert.specs.Steps.{Numbers, TakesLine, hops_after, hops_with, used_after};
+ghost use Rattle.cost_cert.specs.Steps.{Numbers, TakesLine, hops_after_row, hops_with, used_after};
 
 use crate::error::{BadRow, PrintedError};
 use crate::printed_row::{PrintedRow, read_row};
@@ -39,7 +39,7 @@ fn bad_row(line: u64, why: u8) -> PrintedError
 }
 
 /// The number of a hop, and `Hop::NONE` for none.
-fn numbered(hops: &mut HopTable, hop: Option<Addr>) -> Result<Hop, HopError>
+fn number_hop(hops: &mut HopTable, hop: Option<Addr>) -> Result<Hop, HopError>
     requires { length hops.old.list ≤ most_hops }
     ensures { Numbers result (hops_with hops.old.list (option_map addr_as hop)) (λ h. (hops.new.list ≡ hops_with hops.old.list (option_map addr_as hop)) × (h.0 ≡ hop_number hops.new.list (option_map addr_as hop))) }
 {
@@ -65,19 +65,19 @@ impl Printed {
     /// Keeps what a checker uses of one more row.
     fn take(&mut self, row: &PrintedRow) -> Result<(), HopError>
         requires { length self.old.hops.list ≤ most_hops }
-        ensures { Numbers result (hops_after self.old.hops.list (printed_row_as row.now)) (λ _. printed_as self.new ≡ used_after (printed_as self.old) (printed_row_as row.now)) }
+        ensures { Numbers result (hops_after_row self.old.hops.list (printed_row_as row.now)) (λ _. printed_as self.new ≡ used_after (printed_as self.old) (printed_row_as row.now)) }
     {
         match *row {
             PrintedRow::Route(prefix, addr) => {
-                let hop = numbered(&mut self.hops, Some(addr))?;
+                let hop = number_hop(&mut self.hops, Some(addr))?;
                 self.routes.push(Entry { prefix, hop })?;
             }
             PrintedRow::Least(prefix, hop) => {
-                let hop = numbered(&mut self.hops, hop)?;
+                let hop = number_hop(&mut self.hops, hop)?;
                 self.least.push(Entry { prefix, hop })?;
             }
             PrintedRow::Leaf(prefix, hop) => {
-                let hop = numbered(&mut self.hops, hop)?;
+                let hop = number_hop(&mut self.hops, hop)?;
                 self.rows.push(Row::Leaf(prefix, hop))?;
             }
             PrintedRow::Join(prefix, k) => self.rows.push(Row::Join(prefix, k))?,

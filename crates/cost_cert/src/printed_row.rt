@@ -16,7 +16,7 @@
 
 ghost use Rattle.std.specs.Prelude.{option_map};
 ghost use Rattle.octet_fields.specs.Gives.{Gives};
-ghost use Rattle.fib_addr.specs.Seen.{prefix_as, addr_as};
+ghost use Rattle.fib_addr.specs.Views.{prefix_as, addr_as};
 ghost use Rattle.printed_model.specs.Reading.{answer_in, bound_in, cert_in, change_in, entry_in, join_in, line_in, named_in, part_in, report_in, route_in, row_in, signed_in, visits_in};
 ghost use Rattle.cost_cert.specs.Printed.{printed_row_as};
 

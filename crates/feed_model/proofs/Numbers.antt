@@ -13,7 +13,7 @@ use Rattle.std.proofs.lemmas.Grind.{flat_map-append}
 use Rattle.std.proofs.lemmas.List.Sums.{fold-append}
 use Rattle.address_model.specs.Address.{Address, Prefix, same_address, same_prefix}
 use Rattle.table_model.specs.Changes.{Add, Replace}
-use Rattle.route_model.specs.Events.{Elem, Put, Cut, prefix_of}
+use Rattle.route_model.specs.Events.{Elem, Put, Cut, elem_prefix}
 use Rattle.route_model.specs.Choice.{Place, Offer, Candidates, same_place, place_cmp, after_elem, after_elems, is_chosen, chosen_in, routes_of, chosen_for}
 use Rattle.fib_addr.specs.Hops.{most_hops, number_of, hop_at, with_hop}
 use Rattle.fib_addr.proofs.HopLists.{brought_number, folded_distinct, folded_stays, none_distinct, number_holds, number_range}
@@ -194,7 +194,7 @@ pub change_stays : (hops : List Address) (held : Candidates) (elem : Elem) (elem
 change_stays hops held elem elems a = by_choice (chosen_for held p) (chosen_for (after_elem held elem) p) refl
   where
     p : Prefix
-    p = prefix_of elem
+    p = elem_prefix elem
 
     same : (hop : Address) → chosen_for (after_elem held elem) p ≡ Some hop → number_in (hops_after hops elems) hop ≡ number_in hops hop
     same hop e = number_in_stays hops elems hop (found_value (IsNumbered hops) p (routes_of (after_elem held elem)) hop a e)

@@ -13,7 +13,7 @@ use Rattle.address_model.proofs.Same.{same_address_is, same_prefix_is, same_pref
 use Rattle.table_model.specs.Entries.{Entries, with_entry}
 use Rattle.table_model.specs.Changes.{Change, Replace, additions, is_held, after_change, after_changes, sum_of}
 use Rattle.table_model.proofs.Sums.{sum_of-additions}
-use Rattle.route_model.specs.Events.{Elem, Put, Cut, prefix_of}
+use Rattle.route_model.specs.Events.{Elem, Put, Cut, elem_prefix}
 use Rattle.route_model.specs.Choice.{Candidates, AreCandidates, IsElem, after_elem, after_elems, chosen_for, routes_of}
 use Rattle.route_model.proofs.Keyed.{same_entries, all_put, sorted_put, lookup-put, all_cut, sorted_cut, lookup-cut}
 use Rattle.route_model.proofs.Places.{prefix_key}
@@ -42,35 +42,35 @@ entries_at_prefixes hops held a = subst (AllByRecursion IsPrefix) (sym (keys_num
 
 -- ---- one elementary event
 
-at_prefix : (elem : Elem) → IsElem elem → IsPrefix (prefix_of elem)
+at_prefix : (elem : Elem) → IsElem elem → IsPrefix (elem_prefix elem)
 at_prefix (Put peer prefix path hop) e = e.0
 at_prefix (Cut peer prefix) e = e.0
 
 abbrev new_entry : List Address → Candidates → Elem → Option ℕ
-new_entry hops held elem = option_map (number_in hops) (chosen_for (after_elem held elem) (prefix_of elem))
+new_entry hops held elem = option_map (number_in hops) (chosen_for (after_elem held elem) (elem_prefix elem))
 
 -- what a look-up finds after the event: at its prefix the new route, elsewhere the old one
 entry_after : (hops : List Address) (held : Candidates) (elem : Elem) (q : Prefix) → AreCandidates held → IsElem elem
-    → lookup (same_prefix q) (entries_of hops (after_elem held elem)) ≡ cond (same_prefix q (prefix_of elem)) (new_entry hops held elem) (lookup (same_prefix q) (entries_of hops held))
-entry_after hops held elem q a e = by_test (same_prefix q (prefix_of elem)) refl
+    → lookup (same_prefix q) (entries_of hops (after_elem held elem)) ≡ cond (same_prefix q (elem_prefix elem)) (new_entry hops held elem) (lookup (same_prefix q) (entries_of hops held))
+entry_after hops held elem q a e = by_test (same_prefix q (elem_prefix elem)) refl
   where
-    elsewhere : same_prefix q (prefix_of elem) ≡ false → (b : Bool) → same_prefix (prefix_of elem) q ≡ b → b ≡ false
+    elsewhere : same_prefix q (elem_prefix elem) ≡ false → (b : Bool) → same_prefix (elem_prefix elem) q ≡ b → b ≡ false
     elsewhere n true t =
-        let i : prefix_of elem ≡ q = same_prefix_is (prefix_of elem) q t in
-        sym (same_prefix_itself (prefix_of elem)) ∙ (ap (λ x. same_prefix x (prefix_of elem)) i ∙ n)
+        let i : elem_prefix elem ≡ q = same_prefix_is (elem_prefix elem) q t in
+        sym (same_prefix_itself (elem_prefix elem)) ∙ (ap (λ x. same_prefix x (elem_prefix elem)) i ∙ n)
     elsewhere n false t = refl
 
-    by_test : (b : Bool) → same_prefix q (prefix_of elem) ≡ b → lookup (same_prefix q) (entries_of hops (after_elem held elem)) ≡ cond b (new_entry hops held elem) (lookup (same_prefix q) (entries_of hops held))
+    by_test : (b : Bool) → same_prefix q (elem_prefix elem) ≡ b → lookup (same_prefix q) (entries_of hops (after_elem held elem)) ≡ cond b (new_entry hops held elem) (lookup (same_prefix q) (entries_of hops held))
     by_test true t =
-        ap (λ x. lookup (same_prefix x) (entries_of hops (after_elem held elem))) (same_prefix_is q (prefix_of elem) t)
-        ∙ entry_at hops (after_elem held elem) (prefix_of elem)
+        ap (λ x. lookup (same_prefix x) (entries_of hops (after_elem held elem))) (same_prefix_is q (elem_prefix elem) t)
+        ∙ entry_at hops (after_elem held elem) (elem_prefix elem)
     by_test false t =
         entry_at hops (after_elem held elem) q
-        ∙ (ap (option_map (number_in hops)) (chosen_elsewhere held elem q a e (elsewhere t (same_prefix (prefix_of elem) q) refl)) ∙ sym (entry_at hops held q))
+        ∙ (ap (option_map (number_in hops)) (chosen_elsewhere held elem q a e (elsewhere t (same_prefix (elem_prefix elem) q) refl)) ∙ sym (entry_at hops held q))
 
 -- a table with these look-ups is the table after the event
 is_after : (hops : List Address) (held : Candidates) (elem : Elem) (L : Entries) → AreCandidates held → IsElem elem → IsStrictlySortedBy prefix_cmp (keys_of L) → AllByRecursion IsPrefix (keys_of L)
-    → ((q : Prefix) → lookup (same_prefix q) L ≡ cond (same_prefix q (prefix_of elem)) (new_entry hops held elem) (lookup (same_prefix q) (entries_of hops held))) → L ≡ entries_of hops (after_elem held elem)
+    → ((q : Prefix) → lookup (same_prefix q) L ≡ cond (same_prefix q (elem_prefix elem)) (new_entry hops held elem) (lookup (same_prefix q) (entries_of hops held))) → L ≡ entries_of hops (after_elem held elem)
 is_after hops held elem L a e s x h =
     let b = candidates_after held elem a e in
     same_entries prefix_key L (entries_of hops (after_elem held elem)) s (entries_sorted hops _ b) x (entries_at_prefixes hops _ b) (λ q. h q ∙ sym (entry_after hops held elem q a e))
@@ -79,7 +79,7 @@ step : (hops : List Address) (held : Candidates) (elem : Elem) → AreCandidates
 step hops held elem a e = by_choice (chosen_for held p) refl (chosen_for after p) refl
   where
     p : Prefix
-    p = prefix_of elem
+    p = elem_prefix elem
 
     after : Candidates
     after = after_elem held elem

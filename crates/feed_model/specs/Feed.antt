@@ -4,7 +4,7 @@ use Rattle.std.specs.List.{AllByRecursion}
 use Rattle.address_model.specs.Address.{Address, Prefix, same_address}
 use Rattle.table_model.specs.Entries.{Entries}
 use Rattle.table_model.specs.Changes.{Change, Add, Replace, Remove, additions}
-use Rattle.route_model.specs.Events.{Elem, Put, Cut, prefix_of}
+use Rattle.route_model.specs.Events.{Elem, Put, Cut, elem_prefix}
 use Rattle.route_model.specs.Choice.{Candidates, after_elem, chosen_for, routes_of}
 use Rattle.fib_addr.specs.Hops.{hop_at, most_hops, number_of, with_hop}
 
@@ -62,7 +62,7 @@ change_of hops p (Some old) (Some hop) = if same_address old hop then [] else Re
 
 -- the change that an elementary event makes, which is at its prefix
 abbrev pub change_by : List Address → Candidates → Elem → List Change
-change_by hops held elem = change_of hops (prefix_of elem) (chosen_for held (prefix_of elem)) (chosen_for (after_elem held elem) (prefix_of elem))
+change_by hops held elem = change_of hops (elem_prefix elem) (chosen_for held (elem_prefix elem)) (chosen_for (after_elem held elem) (elem_prefix elem))
 
 -- changes with the number of their event
 abbrev pub at_event : ℕ → List Change → List (ℕ × Change)

@@ -15,7 +15,7 @@ words_in (Ok words) = texts_of words.items
 words_in (Err e) = []
 
 -- the outcome is one of these words, and the due one; out has what is due
-pub record EndsBy (words : List (List ℕ)) (content : List ℕ → Option (List ℕ)) (old new : Option (List ℕ)) (outcome : Outcome) : Type 0 where
+pub record ProgramEndsBy (words : List (List ℕ)) (content : List ℕ → Option (List ℕ)) (old new : Option (List ℕ)) (outcome : Outcome) : Type 0 where
   pub exact : Meets (due words content) outcome
   pub own : IsOf (command_of words) outcome
   pub writes : Writes (text_due (due words content)) old new outcome

@@ -4,7 +4,7 @@
 ghost use Rattle.std.specs.Prelude.{◌≡◌, IfErr};
 ghost use Rattle.std.specs.IoError.{error_kind};
 ghost use Rattle.fib_main.specs.Ends.{TellsOf};
-ghost use Rattle.fib.specs.Ends.{EndsBy, words_in};
+ghost use Rattle.fib.specs.Ends.{ProgramEndsBy, words_in};
 
 use fib_io::{FileInputs, Inputs, Sink, StdSink};
 use fib_main::{Outcome, run_fib, tell};
@@ -27,7 +27,7 @@ fn outcome_of<I: Inputs, O: Sink, E: Sink>(
     out: &mut O,
     err: &mut E,
 ) -> Outcome
-    ensures ends { EndsBy (words_in words) (I.content inputs.old) (O.written out.old)
+    ensures ends { ProgramEndsBy (words_in words) (I.content inputs.old) (O.written out.old)
         (O.written out.new) result }
     ensures tells { TellsOf result (E.written err.old) (E.written err.new) (E.faults err.old)
         (E.faults err.new) }

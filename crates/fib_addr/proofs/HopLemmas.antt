@@ -17,7 +17,7 @@ use Rattle.std.proofs.Common.{Result, Ok, Err}
 use Rattle.std.specs.Prelude.{◌↔◌, IfOk, IfSome, IsErr, IsSome, if◌then◌else◌}
 use Rattle.fib_addr.specs.declared.addr.Addr.{Addr}
 use Rattle.fib_addr.specs.declared.entry.Hop.{Hop}
-use Rattle.fib_addr.specs.Seen.{addr_as}
+use Rattle.fib_addr.specs.Views.{addr_as}
 use Rattle.fib_addr.specs.Hops.{most_hops, number_of, hop_at, with_hop}
 use Rattle.fib_addr.proofs.Parts.{same_bits-nat_eq}
 use Rattle.fib_addr.proofs.HopLists.{number_from, number_holds, number_there, number_within, none_distinct, with_hop_distinct}

@@ -7,7 +7,7 @@ use Rattle.address_model.specs.Order.{family_cmp, filled, prefix_cmp}
 use Rattle.address_model.proofs.BitLaws.{value-bits_of}
 use Rattle.address_model.proofs.Families.{family_order}
 use Rattle.fib_addr.specs.declared.prefix.Prefix.{Prefix}
-use Rattle.fib_addr.specs.Seen.{prefix_as}
+use Rattle.fib_addr.specs.Views.{prefix_as}
 use Rattle.fib_addr.specs.Order.{code_cmp}
 use Rattle.fib_addr.proofs.Parts.{bits_filled, length_prefix}
 

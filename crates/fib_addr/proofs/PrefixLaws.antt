@@ -16,7 +16,7 @@ use Rattle.address_model.specs.Address.{Address, Prefix, IsAddress, IsPrefix, fi
 use Rattle.address_model.specs.declared.family.Family.{Family}
 use Rattle.address_model.specs.declared.family.Family.TheVariants.{V4, V6}
 use Rattle.fib_addr.specs.Groups.{groups_of}
-use Rattle.fib_addr.specs.Text.{bits_text, address_in, address_text, first_address, number_in, prefix_of, prefix_in, prefix_text, is_slash}
+use Rattle.fib_addr.specs.Text.{bits_text, address_in, address_text, first_address, number_below, prefix_from, prefix_in, prefix_text, is_slash}
 use Rattle.fib_addr.proofs.HopLemmas.{none_passes}
 use Rattle.fib_addr.proofs.Texts.{dots}
 use Rattle.fib_addr.proofs.Numbers.{number_is, number_read}
@@ -73,12 +73,12 @@ prefix_written p h =
     let len = length p.bits in
     let front : address_in (address_text a) ≡ Some a = written_is_read a (first_is_address p h) in
     let most : width p.family ≤ 128 = width_most p.family in
-    let back : number_in (width p.family + 1) (decimal len) ≡ Some len = number_read (width p.family + 1) len (omega arith) (omega arith) in
+    let back : number_below (width p.family + 1) (decimal len) ≡ Some len = number_read (width p.family + 1) len (omega arith) (omega arith) in
     let past : list_any is_set (drop len (p.bits ++ replicate n false)) ≡ false = ap (list_any is_set) (drop-append-add' p.bits (replicate n false)) ∙ none_in_zeros n in
     ap prefix_in (append_assoc (address_text a) (codes "/") (decimal len))
     ∙ (parts_of (address_text a) (decimal len) (no_slash_written a.family a.bits)
-    ∙ (ap (option_and_then (λ x. option_and_then (prefix_of x) (number_in (width x.family + 1) (decimal len)))) front
-    ∙ (ap (option_and_then (prefix_of a)) back
+    ∙ (ap (option_and_then (λ x. option_and_then (prefix_from x) (number_below (width x.family + 1) (decimal len)))) front
+    ∙ (ap (option_and_then (prefix_from a)) back
     ∙ (ap (λ (t : Bool). cond t None (Some (first_bits len a))) past
     ∙ ap (λ x. let q : Prefix = record { family = p.family; bits = x } in Some q) (take-append_seam p.bits (replicate n false))))))
   where
@@ -116,7 +116,7 @@ record IsPrefixText (text : List ℕ) (p : Prefix) : Type 0 where
   rest : list_any is_set (drop len a.bits) ≡ false
   prefix : p ≡ first_bits len a
 
-prefix_of_is : (a : Address) (len : ℕ) (p : Prefix) → prefix_of a len ≡ Some p → (list_any is_set (drop len a.bits) ≡ false) × (p ≡ first_bits len a)
+prefix_of_is : (a : Address) (len : ℕ) (p : Prefix) → prefix_from a len ≡ Some p → (list_any is_set (drop len a.bits) ≡ false) × (p ≡ first_bits len a)
 prefix_of_is a len p e = by_test (list_any is_set (drop len a.bits)) refl e
   where
     by_test : (t : Bool) → list_any is_set (drop len a.bits) ≡ t → cond t None (Some (first_bits len a)) ≡ Some p → (list_any is_set (drop len a.bits) ≡ false) × (p ≡ first_bits len a)
@@ -129,8 +129,8 @@ prefix_is_text text p e = by_slash (list_any is_slash text) refl e
     by_slash : (t : Bool) → list_any is_slash text ≡ t → cond t (of_parts (before_first is_slash text) (after_first is_slash text)) None ≡ Some p → IsPrefixText text p
     by_slash false t f = absurd cc
     by_slash true t f =
-        let x = then_some_is (λ (a : Address). option_and_then (prefix_of a) (number_in (width a.family + 1) (after_first is_slash text))) (address_in (before_first is_slash text)) p f in
-        let y = then_some_is (prefix_of x.0) (number_in (width x.0.family + 1) (after_first is_slash text)) p x.2 in
+        let x = then_some_is (λ (a : Address). option_and_then (prefix_from a) (number_below (width a.family + 1) (after_first is_slash text))) (address_in (before_first is_slash text)) p f in
+        let y = then_some_is (prefix_from x.0) (number_below (width x.0.family + 1) (after_first is_slash text)) p x.2 in
         let z = prefix_of_is x.0 y.0 p y.2 in
         record {
           a = x.0;

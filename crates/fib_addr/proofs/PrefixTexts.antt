@@ -14,8 +14,8 @@ use Rattle.address_model.proofs.BitLaws.{length-bits_of}
 use Rattle.address_model.proofs.Same.{same_family_itself}
 use Rattle.fib_addr.specs.declared.addr.Addr.{Addr}
 use Rattle.fib_addr.specs.declared.prefix.Prefix as code_prefix
-use Rattle.fib_addr.specs.Seen.{addr_as, prefix_as}
-use Rattle.fib_addr.specs.Text.{address_in, first_address, number_in, prefix_of, prefix_in, is_slash}
+use Rattle.fib_addr.specs.Views.{addr_as, prefix_as}
+use Rattle.fib_addr.specs.Text.{address_in, first_address, number_below, prefix_from, prefix_in, is_slash}
 use Rattle.fib_addr.proofs.HopLemmas.{same_is, same_code, any_before}
 
 abbrev pub is_set : Bool → Bool
@@ -38,7 +38,7 @@ slash_place text k e = by_test (nat_lt (position_or_len is_slash text) (length t
     by_test false t f = absurd cc
 
 abbrev pub of_parts : List ℕ → List ℕ → Option Prefix
-of_parts front back = option_and_then (λ a. option_and_then (prefix_of a) (number_in (width a.family + 1) back)) (address_in front)
+of_parts front back = option_and_then (λ a. option_and_then (prefix_from a) (number_below (width a.family + 1) back)) (address_in front)
 
 with_slash : (text : List ℕ) (k : ℕ) → Some k ≡ position is_slash text → prefix_in text ≡ of_parts (take k text) (drop (k + 1) text)
 with_slash text k e =
@@ -82,20 +82,20 @@ filled_same f len bits h w =
 -- ---- what the reader answers
 
 pub prefix_read : (text : List ℕ) (k len w : ℕ) (a first : Addr) (p : code_prefix.Prefix) (test : Bool) (result : Option code_prefix.Prefix)
-    → Some k ≡ position is_slash text → Some (addr_as a) ≡ address_in (take k text) → Some len ≡ number_in (w + 1) (take (length text - (k + 1)) (drop (k + 1) text)) → w ≡ width a.family → len ≤ w
+    → Some k ≡ position is_slash text → Some (addr_as a) ≡ address_in (take k text) → Some len ≡ number_below (w + 1) (take (length text - (k + 1)) (drop (k + 1) text)) → w ≡ width a.family → len ≤ w
     → prefix_as p ≡ first_bits len (addr_as a) → addr_as first ≡ first_address (prefix_as p) → test ≡ same_code first a → result ≡ then_some test p
     → option_map prefix_as result ≡ prefix_in text
 prefix_read text k len w a first p test result slash front back wide fits is_first is_filled t r =
     let A = addr_as a in
     let long : length A.bits ≡ width a.family = length-bits_of (width a.family) a.bits in
-    let back_is : number_in (width a.family + 1) (drop (k + 1) text) ≡ Some len = ap (λ (n : ℕ). number_in (n + 1) (drop (k + 1) text)) (sym wide) ∙ sym (back ∙ ap (number_in (w + 1)) (take_rest text (k + 1))) in
+    let back_is : number_below (width a.family + 1) (drop (k + 1) text) ≡ Some len = ap (λ (n : ℕ). number_below (n + 1) (drop (k + 1) text)) (sym wide) ∙ sym (back ∙ ap (number_below (w + 1)) (take_rest text (k + 1))) in
     let same : test ≡ not (list_any is_set (drop len A.bits)) =
     t ∙ (same_is first a ∙ (ap (λ x. same_address x A) (is_filled ∙ ap first_address is_first) ∙ filled_same a.family len A.bits (omega arith) long)) in
     ap (option_map prefix_as) r
     ∙ (by_test (list_any is_set (drop len A.bits)) test same
     ∙ sym (with_slash text k slash
-    ∙ (ap (option_and_then (λ x. option_and_then (prefix_of x) (number_in (width x.family + 1) (drop (k + 1) text)))) (sym front)
-    ∙ ap (option_and_then (prefix_of A)) back_is)))
+    ∙ (ap (option_and_then (λ x. option_and_then (prefix_from x) (number_below (width x.family + 1) (drop (k + 1) text)))) (sym front)
+    ∙ ap (option_and_then (prefix_from A)) back_is)))
   where
     by_test : (b s : Bool) → s ≡ not b → option_map prefix_as (then_some s p) ≡ cond b None (Some (first_bits len (addr_as a)))
     by_test true true e = absurd cc

@@ -15,7 +15,7 @@ use Rattle.address_model.specs.Bits.{bits_of, value_of, octet_bits}
 use Rattle.address_model.specs.Address.{Address}
 use Rattle.address_model.specs.declared.family.Family.TheVariants.{V4}
 use Rattle.address_model.proofs.BitLaws.{length-bits_of, value-bits_of}
-use Rattle.fib_addr.specs.Text.{octet_of, bits_text, number_in, octets_in, ipv4_in, is_dot}
+use Rattle.fib_addr.specs.Text.{octet_of, bits_text, number_below, octets_in, ipv4_in, is_dot}
 
 digits_no_dot : (cs : List ℕ) → AllDigits 10 cs → AllByRecursion (λ b. is_dot b ≡ false) cs
 digits_no_dot [] h = tt
@@ -49,7 +49,7 @@ bytes_eq_is (x ∷ xs) (y ∷ ys) e =
     let b : xs ≡ ys = bytes_eq_is xs ys h.1 in
     cc
 
-number_read : (n : ℕ) → n < 256 → number_in 256 (decimal n) ≡ Some n
+number_read : (n : ℕ) → n < 256 → number_below 256 (decimal n) ≡ Some n
 number_read n h =
     let v : digits_value 10 (decimal n) ≡ n = (decimal_is_IsNumeral n (omega arith)).1 in
     ap (λ x. if bytes_eq (decimal x) (decimal n) && nat_lt x 256 then Some x else None) v
@@ -97,7 +97,7 @@ record IsRead (parts : List (List ℕ)) (octets : List ℕ) : Type 0 where
   octets_are : octets ≡ a ∷ b ∷ c ∷ d ∷ []
   parts_are : parts ≡ decimal a ∷ decimal b ∷ decimal c ∷ decimal d ∷ []
 
-number_is : (text : List ℕ) (n : ℕ) → number_in 256 text ≡ Some n → (text ≡ decimal n) × (n < 256)
+number_is : (text : List ℕ) (n : ℕ) → number_below 256 text ≡ Some n → (text ≡ decimal n) × (n < 256)
 number_is text n e = by_test (bytes_eq (decimal (digits_value 10 text)) text) (nat_lt (digits_value 10 text) 256) refl refl e
   where
     by_test : (s t : Bool) → bytes_eq (decimal (digits_value 10 text)) text ≡ s → nat_lt (digits_value 10 text) 256 ≡ t → cond (s && t) (Some (digits_value 10 text)) None ≡ Some n → (text ≡ decimal n) × (n < 256)
@@ -111,9 +111,9 @@ octets_read (p ∷ []) octets e = absurd cc
 octets_read (p ∷ q ∷ []) octets e = absurd cc
 octets_read (p ∷ q ∷ r ∷ []) octets e = absurd cc
 octets_read (p ∷ q ∷ r ∷ s ∷ t ∷ more) octets e = absurd cc
-octets_read (p ∷ q ∷ r ∷ s ∷ []) octets e = by_numbers (number_in 256 p) (number_in 256 q) (number_in 256 r) (number_in 256 s) refl refl refl refl e
+octets_read (p ∷ q ∷ r ∷ s ∷ []) octets e = by_numbers (number_below 256 p) (number_below 256 q) (number_below 256 r) (number_below 256 s) refl refl refl refl e
   where
-    by_numbers : (w x y z : Option ℕ) → number_in 256 p ≡ w → number_in 256 q ≡ x → number_in 256 r ≡ y → number_in 256 s ≡ z
+    by_numbers : (w x y z : Option ℕ) → number_below 256 p ≡ w → number_below 256 q ≡ x → number_below 256 r ≡ y → number_below 256 s ≡ z
         → option_and_then (λ i. option_and_then (λ j. option_and_then (λ k. option_map (λ l. i ∷ j ∷ k ∷ l ∷ []) z) y) x) w ≡ Some octets → IsRead (p ∷ q ∷ r ∷ s ∷ []) octets
     by_numbers (Some i) (Some j) (Some k) (Some l) a b c d f =
         let m = number_is p i a in

@@ -1,4 +1,4 @@
-pub mod Seen
+pub mod Views
 pub mod Groups
 pub mod Text
 pub mod Hops

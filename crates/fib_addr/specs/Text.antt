@@ -32,13 +32,13 @@ abbrev pub prefix_text : Prefix → List ℕ
 prefix_text p = address_text (first_address p) ++ codes "/" ++ decimal (length p.bits)
 
 -- the number below a bound whose decimal text this is; so it has no sign and no leading zero
-abbrev pub number_in : ℕ → List ℕ → Option ℕ
-number_in bound text = if bytes_eq (decimal (digits_value 10 text)) text && nat_lt (digits_value 10 text) bound then Some (digits_value 10 text) else None
+abbrev pub number_below : ℕ → List ℕ → Option ℕ
+number_below bound text = if bytes_eq (decimal (digits_value 10 text)) text && nat_lt (digits_value 10 text) bound then Some (digits_value 10 text) else None
 
 -- four decimal numbers below 256
 abbrev pub octets_in : List (List ℕ) → Option (List ℕ)
 octets_in (a ∷ b ∷ c ∷ d ∷ []) =
-    option_and_then (λ w. option_and_then (λ x. option_and_then (λ y. option_map (λ z. w ∷ x ∷ y ∷ z ∷ []) (number_in 256 d)) (number_in 256 c)) (number_in 256 b)) (number_in 256 a)
+    option_and_then (λ w. option_and_then (λ x. option_and_then (λ y. option_map (λ z. w ∷ x ∷ y ∷ z ∷ []) (number_below 256 d)) (number_below 256 c)) (number_below 256 b)) (number_below 256 a)
 octets_in parts = None
 
 -- '.'
@@ -62,11 +62,11 @@ abbrev pub address_in : List ℕ → Option Address
 address_in text = if list_any is_dot text then ipv4_in text else ipv6_in text
 
 -- the prefix of an address and its length, where the bits past the length are 0
-abbrev pub prefix_of : Address → ℕ → Option Prefix
-prefix_of a len = if list_any (λ b. b) (drop len a.bits) then None else Some (first_bits len a)
+abbrev pub prefix_from : Address → ℕ → Option Prefix
+prefix_from a len = if list_any (λ b. b) (drop len a.bits) then None else Some (first_bits len a)
 
 -- the prefix that a text stands for: an address, a slash, and a decimal number of at most its width (RFC 4632, 3.1, and RFC 4291, 2.3)
 abbrev pub prefix_in : List ℕ → Option Prefix
 prefix_in text = if list_any is_slash text
-    then option_and_then (λ a. option_and_then (prefix_of a) (number_in (width a.family + 1) (after_first is_slash text))) (address_in (before_first is_slash text))
+    then option_and_then (λ a. option_and_then (prefix_from a) (number_below (width a.family + 1) (after_first is_slash text))) (address_in (before_first is_slash text))
     else None

@@ -19,7 +19,7 @@ pub struct Addr {
 impl Addr {
     ghost use Rattle.address_model.specs.Bits.{bits_of, octet_bits};
     ghost use Rattle.address_model.specs.declared.family.Family.TheVariants.{V4, V6};
-    ghost use Rattle.fib_addr.specs.Seen.{addr_as};
+    ghost use Rattle.fib_addr.specs.Views.{addr_as};
 
     /// The IPv4 address of these bits.
     pub fn v4(bits: u32) -> Addr

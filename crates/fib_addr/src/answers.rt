@@ -7,7 +7,7 @@ ghost use Rattle.address_model.specs.Address.{same_prefix};
 ghost use Rattle.address_model.specs.declared.family.Family.{Family};
 ghost use Rattle.table_model.specs.Entries.{Entries};
 ghost use Rattle.table_model.specs.Uniform.{AllGet, TwoDiffer};
-ghost use Rattle.fib_addr.specs.Seen.{prefix_as};
+ghost use Rattle.fib_addr.specs.Views.{prefix_as};
 
 use crate::entry::Hop;
 use crate::prefix::Prefix;

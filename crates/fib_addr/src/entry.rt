@@ -2,7 +2,7 @@
 
 ghost use Rattle.std.specs.Prelude.{◌≡◌, ◌++◌, OnOk, map};
 ghost use Rattle.std.specs.Option.{option_to_list};
-ghost use Rattle.fib_addr.specs.Seen.{entry_as, prefix_as};
+ghost use Rattle.fib_addr.specs.Views.{entry_as, prefix_as};
 
 use crate::prefix::Prefix;
 use std::alloc::AllocError;

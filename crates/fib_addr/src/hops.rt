@@ -9,7 +9,7 @@ ghost use Rattle.std.specs.List.{IsDistinct};
 ghost use Rattle.address_model.specs.Address.{same_address};
 ghost use Rattle.indexmap.specs.IndexSet.{spare};
 ghost use Rattle.fib_addr.specs.Hops.{Hops, most_hops, number_of, hop_at, with_hop};
-ghost use Rattle.fib_addr.specs.Seen.{addr_as};
+ghost use Rattle.fib_addr.specs.Views.{addr_as};
 ghost use Rattle.fib_addr.specs.declared.hops.HopError.TheVariants as hop_error;
 
 use crate::addr::Addr;
@@ -70,7 +70,7 @@ impl Model for HopTable {
 }
 
 /// The number of the hop at a place.
-fn numbered(place: usize) -> Hop
+fn hop_at_place(place: usize) -> Hop
     requires { place < MOST_HOPS }
     ensures { result.0 ≡ place + 1 }
 {
@@ -144,7 +144,7 @@ impl HopTable {
         if self.hops.len() == MOST_HOPS {
             return Err(HopsFull);
         }
-        Ok(numbered(self.hops.len()))
+        Ok(hop_at_place(self.hops.len()))
     }
 
     /// The hop's number, `None` exactly where it isn't held. It is the hop's alone: `addr` of the number is the hop.
@@ -153,7 +153,7 @@ impl HopTable {
         ensures addr { IfSome result (λ hop. hop_at self.now.list hop.0 ≡ Some (addr_as addr.now)) }
     {
         let place = self.hops.get_index_of(addr)?;
-        Some(numbered(place))
+        Some(hop_at_place(place))
     }
 
     /// The hop of a number, `None` exactly where no held hop has it: `Hop::NONE` is no hop's, and of so many hops each number

@@ -6,7 +6,7 @@ ghost use Rattle.std.specs.List.{list_any};
 ghost use Rattle.std.specs.Net.Text as Text;
 ghost use Rattle.address_model.specs.Bits.{bits_of};
 ghost use Rattle.fib_addr.specs.Groups.{groups_of, ipv6_text};
-ghost use Rattle.fib_addr.specs.Seen.{addr_as};
+ghost use Rattle.fib_addr.specs.Views.{addr_as};
 ghost use Rattle.fib_addr.specs.Text.{ipv6_in, is_dot};
 
 use crate::addr::Addr;

@@ -13,7 +13,7 @@ ghost use Rattle.table_model.specs.Entries.{Entries};
 ghost use Rattle.table_model.specs.Uniform.{AllGet, TwoDiffer};
 ghost use Rattle.fib_addr.specs.Hops.{hop_at, number_of, with_hop};
 ghost use Rattle.fib_addr.specs.Order.{code_cmp};
-ghost use Rattle.fib_addr.specs.Seen.{prefix_as};
+ghost use Rattle.fib_addr.specs.Views.{prefix_as};
 ghost use Rattle.fib_addr.specs.Text.{address_in, address_text, prefix_in, prefix_text};
 ghost use Rattle.fib_addr.specs.declared.prefix.Prefix as code_prefix;
 

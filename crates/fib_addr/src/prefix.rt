@@ -33,7 +33,7 @@ fn upper(bits: u128, unused: u8) -> u128
 }
 
 /// The bits with so many of the lowest ones cleared.
-fn cleared(bits: u128, unused: u8) -> u128
+fn clear_low(bits: u128, unused: u8) -> u128
     requires { unused ≤ 128 }
     ensures { result ≡ bits / 2 ^ unused * 2 ^ unused }
 {
@@ -77,7 +77,7 @@ pub fn bit_at(bits: u128, place: u8) -> bool
 impl Prefix {
     ghost use Rattle.address_model.specs.Address.{contains, first_bits};
     ghost use Rattle.address_model.specs.Regions.{half_at, is_within};
-    ghost use Rattle.fib_addr.specs.Seen.{addr_as, prefix_as};
+    ghost use Rattle.fib_addr.specs.Views.{addr_as, prefix_as};
     ghost use Rattle.fib_addr.specs.Text.{first_address};
 
     /// The prefix of all addresses of the family.
@@ -96,7 +96,7 @@ impl Prefix {
         requires { len ≤ width addr.now.family }
         ensures { prefix_as result ≡ first_bits len (addr_as addr.now) }
     {
-        let bits = cleared(addr.bits, addr.family.width() - len);
+        let bits = clear_low(addr.bits, addr.family.width() - len);
         Prefix {
             family: addr.family,
             bits,

@@ -6,8 +6,8 @@
 
 ghost use Rattle.std.specs.Prelude.{◌≡◌, ◌+◌, ◌≤◌, ◌++◌, codes, decimal, length, take, option_map, position, IfSome};
 ghost use Rattle.std.specs.Net.Text.{ipv4_text};
-ghost use Rattle.fib_addr.specs.Seen.{addr_as, prefix_as};
-ghost use Rattle.fib_addr.specs.Text.{address_in, ipv4_in, is_slash, number_in, prefix_in, address_text, prefix_text};
+ghost use Rattle.fib_addr.specs.Views.{addr_as, prefix_as};
+ghost use Rattle.fib_addr.specs.Text.{address_in, ipv4_in, is_slash, number_below, prefix_in, address_text, prefix_text};
 
 use crate::addr::Addr;
 use crate::ipv6::{put_ipv6, read_ipv6};
@@ -47,7 +47,7 @@ pub fn read_addr(text: &[u8]) -> Option<Addr>
 /// Reads a decimal number of at most `most`, from the text's first octet to its last, without a sign or leading zeros. `None`
 /// exactly where the text is anything else.
 pub fn read_number(text: &[u8], most: u64) -> Option<u64>
-    ensures value { result ≡ number_in (most + 1) text.now }
+    ensures value { result ≡ number_below (most + 1) text.now }
     ensures fits { IfSome result (λ number. number ≤ most) }
 {
     let number = str::from_utf8(text).ok()?.parse::<u64>().ok()?;

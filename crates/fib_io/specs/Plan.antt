@@ -12,7 +12,7 @@ abbrev pub fails_next : Plan → Bool
 fails_next plan = list_any (λ number. number == next_call plan) plan.failing.items
 
 -- no call was made, and the calls of these numbers are to fail
-pub record IsFresh (plan : Plan) (failing : List ℕ) : Type 0 where
+pub record IsNewPlan (plan : Plan) (failing : List ℕ) : Type 0 where
   pub unused : plan.calls ≡ 0
   pub numbers : plan.failing.items ≡ failing
 

@@ -51,7 +51,7 @@ pub struct MemInputs {
 }
 
 impl MemInputs {
-    ghost use Rattle.fib_io.specs.Plan.{IsFresh};
+    ghost use Rattle.fib_io.specs.Plan.{IsNewPlan};
     ghost use Rattle.fib_io.specs.MemInputs.{read_plan};
 
     /// Holds these octets under these names. Of two pairs with one name the first counts. The reads with the
@@ -59,7 +59,7 @@ impl MemInputs {
     pub fn new(names: Vec<(String, Vec<u8>)>, failing: Vec<u64>) -> MemInputs
         ensures content { ⟦<MemInputs as Inputs>⟧.content result ≡ held_under names.items }
         ensures faults { ⟦<MemInputs as Inputs>⟧.faults result ≡ (λ _. 0) }
-        ensures plan { IsFresh (read_plan result) failing.items }
+        ensures plan { IsNewPlan (read_plan result) failing.items }
     {
         MemInputs {
             names,

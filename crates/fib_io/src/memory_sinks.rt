@@ -31,7 +31,7 @@ pub struct MemSink {
 }
 
 impl MemSink {
-    ghost use Rattle.fib_io.specs.Plan.{IsFresh};
+    ghost use Rattle.fib_io.specs.Plan.{IsNewPlan};
     ghost use Rattle.fib_io.specs.MemSink.{room_left, write_plan};
 
     /// Takes memory for `room` octets. The writes with the numbers of `failing` fail, where the first write has
@@ -40,7 +40,7 @@ impl MemSink {
         ensures written { IfOk result (λ sink. ⟦<MemSink as Sink>⟧.written sink ≡ Some []) }
         ensures faults { IfOk result (λ sink. ⟦<MemSink as Sink>⟧.faults sink ≡ 0) }
         ensures room { IfOk result (λ sink. room_left sink ≡ room) }
-        ensures plan { IfOk result (λ sink. IsFresh (write_plan sink) failing.items) }
+        ensures plan { IfOk result (λ sink. IsNewPlan (write_plan sink) failing.items) }
     {
         let octets = Vec::with_capacity(alloc, room)?;
         Ok(MemSink {

@@ -15,11 +15,11 @@ pub struct Plan {
 }
 
 impl Plan {
-    ghost use Rattle.fib_io.specs.Plan.{IsFresh, IsNext, fails_next};
+    ghost use Rattle.fib_io.specs.Plan.{IsNewPlan, IsNext, fails_next};
 
     /// The plan before the first call.
     pub fn new(failing: Vec<u64>) -> Plan
-        ensures { IsFresh result failing.items }
+        ensures { IsNewPlan result failing.items }
     {
         Plan { failing, calls: 0 }
     }

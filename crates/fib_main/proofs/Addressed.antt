@@ -16,7 +16,7 @@ use Rattle.least_model.specs.Sets.{is_in, common, or_else, side, set_of, smalles
 use Rattle.least_model.specs.Both.{aggregate_in, aggregate_in_both}
 use Rattle.least_model.proofs.Laws.{lpm_candidate}
 use Rattle.cert_model.specs.Rows.{CertRow, half_at, same_hop, one_answer, leaf_or, region_rows, family_rows, certificate_of}
-use Rattle.route_model.specs.Events.{Elem, prefix_of}
+use Rattle.route_model.specs.Events.{Elem, elem_prefix}
 use Rattle.route_model.specs.Choice.{Candidates, after_elem, after_elems, chosen_for, routes_of}
 use Rattle.feed_model.specs.Feed.{at_event, brought, change_by, change_of, changes_from, entries_of, hops_after, load_changes, number_in}
 use Rattle.feed_model.proofs.Numbers.{routes_numbered}
@@ -205,7 +205,7 @@ unfolding changes_from
 changes_have hops n held [] = tt
 changes_have hops n held (elem ∷ elems) =
     both (λ (c : ℕ × Change). ChangeHasHop hops c.1) (at_event n (change_by hops held elem)) (changes_from hops (n + 1) (after_elem held elem) elems)
-    (change_has hops n (prefix_of elem) (chosen_for held (prefix_of elem)) (chosen_for (after_elem held elem) (prefix_of elem))) (changes_have hops (n + 1) (after_elem held elem) elems)
+    (change_has hops n (elem_prefix elem) (chosen_for held (elem_prefix elem)) (chosen_for (after_elem held elem) (elem_prefix elem))) (changes_have hops (n + 1) (after_elem held elem) elems)
 
 added_have : (hops : List Address) (routes : List (Prefix × Address)) → ChangesHave hops (at_event 0 (additions (map (λ (r : Prefix × Address). (r.0, number_in hops r.1)) routes)))
 added_have hops [] = tt

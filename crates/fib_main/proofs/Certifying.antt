@@ -17,10 +17,10 @@ use Rattle.least_model.specs.Both.{aggregate_in_both}
 use Rattle.least_model.specs.Least.{aggregate, bound}
 use Rattle.least_model.specs.Sets.{answers}
 use Rattle.least_model.proofs.Laws.{fresh_law}
-use Rattle.cert_model.specs.Rows.{CertRow, bound_row, certificate_of, family_rows, region_rows, whole}
+use Rattle.cert_model.specs.Rows.{CertRow, bound_row, certificate_of, family_rows, region_rows, whole_prefix}
 use Rattle.cert_model.specs.Right.{IsCertificate}
 use Rattle.cert_model.proofs.Postorder.{completeness_law}
-use Rattle.cert_rows.specs.Seen.{row_as}
+use Rattle.cert_rows.specs.Views.{row_as}
 use Rattle.cert_rows.specs.declared.row.Row as code
 use Rattle.fib_main.specs.declared.trees.Trees.{Trees}
 use Rattle.fib_main.specs.Held.{AreBoth, Hold, tree_of}
@@ -68,7 +68,7 @@ certified_least R old s =
 -- the rows of a family's tree
 proved : (f : Family) (E : Entries) (trees : Trees) (W : List CertRow) → (tree_of f trees).family ≡ f → W ≡ family_rows (tree_of f trees).family (tree_of f trees).routes → Hold E trees → W ≡ family_rows f E
 proved f E trees W s w h =
-    w ∙ (ap (λ g. family_rows g (tree_of f trees).routes) s ∙ ap (λ T. region_rows (width f) (answers T []) (whole f) ++ (bound_row f (bound (width f) T) ∷ [])) (h f).0)
+    w ∙ (ap (λ g. family_rows g (tree_of f trees).routes) s ∙ ap (λ T. region_rows (width f) (answers T []) (whole_prefix f) ++ (bound_row f (bound (width f) T) ∷ [])) (h f).0)
 
 pub both_proved : (E : Entries) (trees : Trees) (four six all : List code.Row) → AreBoth trees
     → map row_as four ≡ family_rows trees.v4.family trees.v4.routes → map row_as six ≡ family_rows trees.v6.family trees.v6.routes → all ≡ four ++ six → Hold E trees

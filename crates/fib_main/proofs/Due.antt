@@ -12,15 +12,15 @@ use Rattle.fib_main.specs.declared.outcome.Outcome.{Outcome}
 use Rattle.fib_main.specs.declared.outcome.Outcome.TheVariants.{Done, CheckNo, Usage, ReadFault, WriteFault, NoMemory, TooLarge, Malformed, HopsFull, BadLine}
 use Rattle.fib_main.specs.declared.outcome.Which.TheVariants.{Dump, Updates}
 use Rattle.fib_main.specs.declared.state.State.{State}
-use Rattle.fib_main.specs.Stops.{Stop, Untold, Refused, Is, Fails}
-use Rattle.fib_main.specs.Due.{Feed, feed_at, printed, told_at, text_of, with_text}
+use Rattle.fib_main.specs.Stops.{Stop, Untold, Refused, IsDueIfTold, FailsDue}
+use Rattle.fib_main.specs.Due.{Feed, feed_at, printed, told_at, printed_text, with_text}
 use Rattle.fib_main.specs.Ends.{OneRose, ReadsBy, after, feeds_named}
 use Rattle.fib_addr.specs.declared.addr.Addr.{Addr}
 use Rattle.fib_addr.specs.declared.prefix.Prefix.{Prefix}
 use Rattle.fib_main.specs.declared.report.Fed.{Fed}
-use Rattle.fib_addr.specs.Seen.{route_as}
-use Rattle.fib_main.specs.Seen.{changes_as}
-use Rattle.fib_main.specs.Standing.{Stands, Has, IsFed}
+use Rattle.fib_addr.specs.Views.{route_as}
+use Rattle.fib_main.specs.Views.{changes_as}
+use Rattle.fib_main.specs.Standing.{StateStands, StateHas, IsFed}
 
 refused_not_ok : {X : Type 0} (o : Outcome) (x : X) → Err (Refused o) ≡ Ok x → ⊥
 refused_not_ok o x e = cc
@@ -36,12 +36,12 @@ same_ok x y e = cc
 
 -- ---- one part after another
 
-is_then : {X Y : Type 0} (d : Result X Stop) (f : X → Result Y Stop) (x : X) (y : Y) → Is d (Ok x) → Is (f x) (Ok y) → Is (d >>= f) (Ok y)
+is_then : {X Y : Type 0} (d : Result X Stop) (f : X → Result Y Stop) (x : X) (y : Y) → IsDueIfTold d (Ok x) → IsDueIfTold (f x) (Ok y) → IsDueIfTold (d >>= f) (Ok y)
 is_then (Err Untold) f x y i j = tt
 is_then (Err (Refused o)) f x y i j = absurd (refused_not_ok o x i)
-is_then {Y = Y} (Ok z) f x y i j = subst (λ w. Is (f w) (fine y)) (sym (same_ok z x i)) j
+is_then {Y = Y} (Ok z) f x y i j = subst (λ w. IsDueIfTold (f w) (fine y)) (sym (same_ok z x i)) j
 
-fails_untold : {X : Type 0} (Y : Type 0) (o : Outcome) (d : Result X Stop) → Fails o d → Fails {Y = Y} o (Err Untold)
+fails_untold : {X : Type 0} (Y : Type 0) (o : Outcome) (d : Result X Stop) → FailsDue o d → FailsDue {Y = Y} o (Err Untold)
 fails_untold Y Done d f = f
 fails_untold Y (CheckNo x) d f = f
 fails_untold Y WriteFault d f = f
@@ -53,22 +53,22 @@ fails_untold Y (Malformed input number rule) d f = tt
 fails_untold Y (HopsFull event) d f = tt
 fails_untold Y (BadLine input line why) d f = tt
 
-fails_then : {X Y : Type 0} (o : Outcome) (d : Result X Stop) (f : X → Result Y Stop) (x : X) → Is d (Ok x) → Fails o (f x) → Fails o (d >>= f)
+fails_then : {X Y : Type 0} (o : Outcome) (d : Result X Stop) (f : X → Result Y Stop) (x : X) → IsDueIfTold d (Ok x) → FailsDue o (f x) → FailsDue o (d >>= f)
 fails_then {Y = Y} o (Err Untold) f x i j = fails_untold Y o (f x) j
 fails_then o (Err (Refused p)) f x i j = absurd (refused_not_ok p x i)
-fails_then o (Ok z) f x i j = subst (λ w. Fails o (f w)) (sym (same_ok z x i)) j
+fails_then o (Ok z) f x i j = subst (λ w. FailsDue o (f w)) (sym (same_ok z x i)) j
 
 abbrev stopped : {X : Type 0} → Outcome → Result X Stop
 stopped o = Err (Refused o)
 
-is_first : {X Y : Type 0} (o : Outcome) (d : Result X Stop) (f : X → Result Y Stop) → Is d (Err (Refused o)) → Is (d >>= f) (Err (Refused o))
+is_first : {X Y : Type 0} (o : Outcome) (d : Result X Stop) (f : X → Result Y Stop) → IsDueIfTold d (Err (Refused o)) → IsDueIfTold (d >>= f) (Err (Refused o))
 is_first o (Err Untold) f i = tt
 is_first {Y = Y} o (Err (Refused p)) f i = let same : p ≡ o = refused_same p o i in ap (λ (q : Outcome). Err (Refused q)) same where
   refused_same : {X : Type 0} (p o : Outcome) → stopped {X = X} p ≡ stopped o → p ≡ o
   refused_same p o e = cc
 is_first o (Ok z) f i = absurd (ok_not_refused z o i)
 
-fails_first : {X Y : Type 0} (o : Outcome) (d : Result X Stop) (f : X → Result Y Stop) → Fails o d → Fails o (d >>= f)
+fails_first : {X Y : Type 0} (o : Outcome) (d : Result X Stop) (f : X → Result Y Stop) → FailsDue o d → FailsDue o (d >>= f)
 fails_first Done d f j = j
 fails_first (CheckNo x) d f j = j
 fails_first WriteFault d f j = j
@@ -85,30 +85,30 @@ fails_first (BadLine input line why) d f j = is_first (BadLine input line why) d
 abbrev Content : Type 0
 Content = List ℕ → Option (List ℕ)
 
-pub load_fails : (content : Content) (named : Named) (asks : List Address) (o : Outcome) → Fails o (feed_at content Dump [] (Some named.dump)) → Fails o (with_text (told_at content named asks))
+pub load_fails : (content : Content) (named : Named) (asks : List Address) (o : Outcome) → FailsDue o (feed_at content Dump [] (Some named.dump)) → FailsDue o (with_text (told_at content named asks))
 unfolding told_at
 load_fails content named asks o f =
-    fails_first o (told_at content named asks) (λ p. Ok (text_of p))
+    fails_first o (told_at content named asks) (λ p. Ok (printed_text p))
     (fails_first o (feed_at content Dump [] (Some named.dump)) (λ load. feed_at content Updates load.elems named.updates >>= λ updates. Ok (printed load updates asks)) f)
 
-pub updates_fail : (content : Content) (named : Named) (asks : List Address) (o : Outcome) (load : Feed) → Is (feed_at content Dump [] (Some named.dump)) (Ok load) → Fails o (feed_at content Updates load.elems named.updates) → Fails o (with_text (told_at content named asks))
+pub updates_fail : (content : Content) (named : Named) (asks : List Address) (o : Outcome) (load : Feed) → IsDueIfTold (feed_at content Dump [] (Some named.dump)) (Ok load) → FailsDue o (feed_at content Updates load.elems named.updates) → FailsDue o (with_text (told_at content named asks))
 unfolding told_at
 updates_fail content named asks o load i f =
-    fails_first o (told_at content named asks) (λ p. Ok (text_of p))
+    fails_first o (told_at content named asks) (λ p. Ok (printed_text p))
     (fails_then o (feed_at content Dump [] (Some named.dump)) (λ load. feed_at content Updates load.elems named.updates >>= λ updates. Ok (printed load updates asks)) load i
     (fails_first o (feed_at content Updates load.elems named.updates) (λ updates. Ok (printed load updates asks)) f))
 
-pub all_due : (content : Content) (named : Named) (asks : List Address) (load updates : Feed) (text : List ℕ) → Is (feed_at content Dump [] (Some named.dump)) (Ok load) → Is (feed_at content Updates load.elems named.updates) (Ok updates) → text ≡ text_of (printed load updates asks) → Is (with_text (told_at content named asks)) (Ok text)
+pub all_due : (content : Content) (named : Named) (asks : List Address) (load updates : Feed) (text : List ℕ) → IsDueIfTold (feed_at content Dump [] (Some named.dump)) (Ok load) → IsDueIfTold (feed_at content Updates load.elems named.updates) (Ok updates) → text ≡ printed_text (printed load updates asks) → IsDueIfTold (with_text (told_at content named asks)) (Ok text)
 unfolding told_at
 all_due content named asks load updates text i j e =
-    is_then (told_at content named asks) (λ p. Ok (text_of p)) (printed load updates asks) text
+    is_then (told_at content named asks) (λ p. Ok (printed_text p)) (printed load updates asks) text
     (is_then (feed_at content Dump [] (Some named.dump)) (λ load. feed_at content Updates load.elems named.updates >>= λ updates. Ok (printed load updates asks)) load (printed load updates asks) i
     (is_then (feed_at content Updates load.elems named.updates) (λ updates. Ok (printed load updates asks)) updates (printed load updates asks) j refl))
     (ap fine (sym e))
 
 -- ---- the inputs that are read
 
-after_is : {X : Type 0} (d : Result X Stop) (x : X) (names : List (List ℕ)) → Is d (Ok x) → after d names ≡ names
+after_is : {X : Type 0} (d : Result X Stop) (x : X) (names : List (List ℕ)) → IsDueIfTold d (Ok x) → after d names ≡ names
 after_is (Err Untold) x names i = refl
 after_is (Err (Refused o)) x names i = absurd (refused_not_ok o x i)
 after_is (Ok y) x names i = refl
@@ -125,7 +125,7 @@ reads_more cause more before now (Malformed input number rule) f r = r
 reads_more cause more before now (HopsFull event) f r = r
 reads_more cause more before now (BadLine input line why) f r = r
 
-pub updates_read : (content : Content) (named : Named) (load : Feed) (before mid now : List ℕ → ℕ) (o : Outcome) → Is (feed_at content Dump [] (Some named.dump)) (Ok load) → mid ≡ before → ReadsBy (OneRose (option_to_list named.updates) mid now) mid now o
+pub updates_read : (content : Content) (named : Named) (load : Feed) (before mid now : List ℕ → ℕ) (o : Outcome) → IsDueIfTold (feed_at content Dump [] (Some named.dump)) (Ok load) → mid ≡ before → ReadsBy (OneRose (option_to_list named.updates) mid now) mid now o
     → ReadsBy (OneRose (feeds_named content named) before now) before now o
 updates_read content named load before mid now o i same r =
     let at : ReadsBy (OneRose (option_to_list named.updates) before now) before now o = subst (λ b. ReadsBy (OneRose (option_to_list named.updates) b now) b now o) same r in
@@ -134,11 +134,11 @@ updates_read content named load before mid now o i same r =
 
 -- ---- where the inputs begin
 
-pub stands_new : (state : State) → state.candidates.candidates ≡ [] → state.hops.list ≡ [] → state.changes.items ≡ [] → Stands Dump [] [] state
+pub stands_new : (state : State) → state.candidates.candidates ≡ [] → state.hops.list ≡ [] → state.changes.items ≡ [] → StateStands Dump [] [] state
 unfolding full_at
 stands_new state c h n = record { candidates = c; hops = h; few = rw h (omega arith); fits = refl; proper = tt; changes = λ more. ap changes_as n }
 
-pub stands_updates : (elems : List Elem) (state : State) → Stands Dump [] elems state → Stands Updates elems [] state
+pub stands_updates : (elems : List Elem) (state : State) → StateStands Dump [] elems state → StateStands Updates elems [] state
 unfolding full_at changes_from
 stands_updates elems state s = record {
   candidates = s.candidates ∙ ap (after_elems []) (sym (append-nil elems));
@@ -149,5 +149,5 @@ stands_updates elems state s = record {
   changes = λ more. s.changes more;
 }
 
-pub fed_all : (load updates : Feed) (chosen : List (Prefix × Addr)) (fed : Fed) (before state : State) → map route_as chosen ≡ routes_of before.candidates.candidates → fed.loaded.now ≡ chosen → Has Dump [] load fed.load before → Has Updates load.elems updates fed.updates state → IsFed load updates fed state
+pub fed_all : (load updates : Feed) (chosen : List (Prefix × Addr)) (fed : Fed) (before state : State) → map route_as chosen ≡ routes_of before.candidates.candidates → fed.loaded.now ≡ chosen → StateHas Dump [] load fed.load before → StateHas Updates load.elems updates fed.updates state → IsFed load updates fed state
 fed_all load updates chosen fed before state r e h u = record { loaded = ap (map route_as) e ∙ (r ∙ ap routes_of h.stands.candidates); counted = h.counted; has = u }

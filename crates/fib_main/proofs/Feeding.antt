@@ -7,7 +7,7 @@ use Rattle.route_model.proofs.Elems.{elems_more}
 use Rattle.octet_fields.specs.Field.{◌>>=◌, steps, until_end}
 use Rattle.reading_model.specs.Record.{Record, record_at}
 use Rattle.reading_model.specs.Input.{Progress, Stopped, start, record_in, counted, or_stop, read_record, input}
-use Rattle.reading_model.specs.Reading.{Reads}
+use Rattle.reading_model.specs.Reading.{ReadsEvents}
 use Rattle.feed_model.specs.Feed.{hops_after, full_at}
 use Rattle.feed_model.proofs.Numbers.{full_in_front}
 use Rattle.mrt_frame.specs.Records.{fault_of}
@@ -23,14 +23,14 @@ use Rattle.fib_main.specs.declared.state.FeedError.{FeedError}
 use Rattle.fib_main.specs.declared.state.FeedError.TheVariants.{Malformed, HopsFull, NoMemory}
 use Rattle.fib_main.specs.Stops.{Refused, event_in}
 use Rattle.fib_main.specs.Due.{read_part, elems_in, feed_in, feed_of}
-use Rattle.fib_main.specs.Standing.{Stands, IsFull, Brings, TakesAll, next_elems, of_read}
+use Rattle.fib_main.specs.Standing.{StateStands, IsFull, StateBrings, StateTakesAll, next_elems, of_read}
 
 -- this much of the input was read, and the state has what it brings
 pub record Going (which : Which) (before : List Elem) (octets : List ℕ) (reader : Reader) (state : State) (events : ℕ) : Type 0 where
   pub read : Progress
-  pub stands : reading.Stands octets read reader
+  pub stands : reading.ReaderStands octets read reader
   pub counted : events ≡ length (elems_in before read)
-  pub held : Stands which before (elems_in before read) state
+  pub held : StateStands which before (elems_in before read) state
 
 -- ---- the elementary events of more events
 
@@ -40,19 +40,19 @@ in_more before read next events e =
     ap (λ h. elems_in before read ++ elems_after h events) (fold-append after_elem [] before (elems_in before read))
     ∙ (sym (elems_more held read.events events) ∙ ap (elems_after held) (sym e))
 
-pub going_start : (which : Which) (before : List Elem) (octets : List ℕ) (reader : Reader) (state : State) → reading.Stands octets start reader → Stands which before [] state → Going which before octets reader state 0
+pub going_start : (which : Which) (before : List Elem) (octets : List ℕ) (reader : Reader) (state : State) → reading.ReaderStands octets start reader → StateStands which before [] state → Going which before octets reader state 0
 unfolding elems_after
 going_start which before octets reader state r s = record { read = start; stands = r; counted = refl; held = s }
 
 -- ---- one record more
 
 pub going_next : (which : Which) (before : List Elem) (octets : List ℕ) (old new : Reader) (mid state : State) (events n : ℕ) (more : List Event) → Going which before octets old mid events → reading.TakesEvents old more new
-    → ((done : List Elem) → events ≡ length done → Stands which before done mid → (n ≡ length (done ++ next_elems before done more)) × Stands which before (done ++ next_elems before done more) state) → Going which before octets new state n
+    → ((done : List Elem) → events ≡ length done → StateStands which before done mid → (n ≡ length (done ++ next_elems before done more)) × StateStands which before (done ++ next_elems before done more) state) → Going which before octets new state n
 going_next which before octets old new mid state events n more g t taken =
     let next : Progress = record { peers = reading.peers new; events = g.read.events ++ more; records = new.records; skipped = new.skipped } in
     let now = taken (elems_in before g.read) g.counted g.held in
     let same = in_more before g.read next more refl in
-    record { read = next; stands = t.stands octets g.read g.stands; counted = now.0 ∙ ap length same; held = subst (λ es. Stands which before es state) same now.1 }
+    record { read = next; stands = t.stands octets g.read g.stands; counted = now.0 ∙ ap length same; held = subst (λ es. StateStands which before es state) same now.1 }
 
 -- ---- what is read grows
 
@@ -94,17 +94,17 @@ steps_grow (suc n) p (b ∷ octets) = by_step (read_record p (b ∷ octets)) ref
         (one.0 ++ more.0, more.1 ∙ (ap (λ es. es ++ more.0) one.1 ∙ append_assoc p.events one.0 more.0))
     by_step (Err stopped) e ih = ([], ap (λ (q : Progress). q.events) (record_stops p (b ∷ octets) stopped e) ∙ sym (append-nil p.events))
 
-input_grows : (octets left : List ℕ) (read : Progress) → Reads octets read left → Grows read (input octets)
+input_grows : (octets left : List ℕ) (read : Progress) → ReadsEvents octets read left → Grows read (input octets)
 input_grows octets left read r =
     let same : input octets ≡ until_end read_record read (left ++ []) = ap input (sym (append-nil octets)) ∙ r.whatever [] in
     subst (Grows read) (sym same) (steps_grow (length (left ++ [])) read (left ++ []))
 
 -- ---- refusals
 
-reads_on : (octets : List ℕ) (read : Progress) (reader : Reader) → reading.refusal reader ≡ None → reading.Stands octets read reader → Reads octets read (reading.left reader)
+reads_on : (octets : List ℕ) (read : Progress) (reader : Reader) → reading.reader_refusal reader ≡ None → reading.ReaderStands octets read reader → ReadsEvents octets read (reading.reader_left reader)
 reads_on octets read reader none s = rw none at s.goes_on
 
-full_due : (which : Which) (before : List Elem) (octets left : List ℕ) (read : Progress) (n : ℕ) → Reads octets read left → IsFull before (elems_in before read) n → feed_of which before octets ≡ Err (Refused (outcome.HopsFull (event_in which n)))
+full_due : (which : Which) (before : List Elem) (octets left : List ℕ) (read : Progress) (n : ℕ) → ReadsEvents octets read left → IsFull before (elems_in before read) n → feed_of which before octets ≡ Err (Refused (outcome.HopsFull (event_in which n)))
 unfolding feed_of
 full_due which before octets left read n r full =
     let grown = input_grows octets left read r in
@@ -112,37 +112,37 @@ full_due which before octets left read n r full =
     let at : full_at (hops_after [] before) (elems_in before (read_part (input octets))) ≡ Some n = ap (full_at (hops_after [] before)) all ∙ full_in_front (hops_after [] before) (elems_in before read) (next_elems before (elems_in before read) grown.0) n full in
     rw at refl
 
-pub refused_hops : (which : Which) (before : List Elem) (octets : List ℕ) (old new : Reader) (mid state : State) (events : ℕ) (more : List Event) (error : FeedError) → Going which before octets old mid events → reading.TakesEvents old more new → TakesAll which events more mid (Err error) state
-    → Brings which before (Err error) state (feed_of which before octets)
+pub refused_hops : (which : Which) (before : List Elem) (octets : List ℕ) (old new : Reader) (mid state : State) (events : ℕ) (more : List Event) (error : FeedError) → Going which before octets old mid events → reading.TakesEvents old more new → StateTakesAll which events more mid (Err error) state
+    → StateBrings which before (Err error) state (feed_of which before octets)
 refused_hops which before octets old new mid state events more (HopsFull n) g t taken =
     let next : Progress = record { peers = reading.peers new; events = g.read.events ++ more; records = new.records; skipped = new.skipped } in
     let full = subst (λ es. IsFull before es n) (in_more before g.read next more refl) (taken before (elems_in before g.read) g.counted g.held) in
-    full_due which before octets (reading.left new) next n (reads_on octets next new t.refuses (t.stands octets g.read g.stands)) full
+    full_due which before octets (reading.reader_left new) next n (reads_on octets next new t.refuses (t.stands octets g.read g.stands)) full
 refused_hops which before octets old new mid state events more (Malformed malformed) g t taken = absurd taken
 refused_hops which before octets old new mid state events more NoMemory g t taken = tt
 
-fault_due : (which : Which) (before : List Elem) (octets : List ℕ) (read : Progress) (malformed : code_malformed.Malformed) (state : State) → Stands which before (elems_in before read) state → reading.IsFault octets read (fault_of malformed) → feed_of which before octets ≡ Err (Refused (outcome.Malformed which malformed.number malformed.rule))
+fault_due : (which : Which) (before : List Elem) (octets : List ℕ) (read : Progress) (malformed : code_malformed.Malformed) (state : State) → StateStands which before (elems_in before read) state → reading.IsFault octets read (fault_of malformed) → feed_of which before octets ≡ Err (Refused (outcome.Malformed which malformed.number malformed.rule))
 unfolding feed_of
 fault_due which before octets read malformed state s f = rw (f.1, s.fits, f.0) refl
 
-pub refused_read : (which : Which) (before : List Elem) (octets : List ℕ) (old new : Reader) (state : State) (events : ℕ) (error : EventsError) → Going which before octets old state events → reading.Failed old error new → Brings which before (Err (of_read error)) state (feed_of which before octets)
+pub refused_read : (which : Which) (before : List Elem) (octets : List ℕ) (old new : Reader) (state : State) (events : ℕ) (error : EventsError) → Going which before octets old state events → reading.Failed old error new → StateBrings which before (Err (of_read error)) state (feed_of which before octets)
 refused_read which before octets old new state events (read.Malformed malformed) g t = fault_due which before octets g.read malformed state g.held (t.tells octets g.read g.stands)
 refused_read which before octets old new state events read.NoMemory g t = tt
 
-pub going_still : (which : Which) (before : List Elem) (octets : List ℕ) (old new : Reader) (state : State) (events : ℕ) → Going which before octets old state events → reading.TakesNothing old new → Going which before octets new state events
+pub going_still : (which : Which) (before : List Elem) (octets : List ℕ) (old new : Reader) (state : State) (events : ℕ) → Going which before octets old state events → reading.ReaderTakesNothing old new → Going which before octets new state events
 going_still which before octets old new state events g nothing = record { read = g.read; stands = nothing.stands octets g.read g.stands; counted = g.counted; held = g.held }
 
-pub refused_end : (which : Which) (before : List Elem) (octets : List ℕ) (reader : Reader) (state : State) (events : ℕ) (malformed : code_malformed.Malformed) → Going which before octets reader state events → reading.Tells reader (Err malformed) → Brings which before (Err (Malformed malformed)) state (feed_of which before octets)
+pub refused_end : (which : Which) (before : List Elem) (octets : List ℕ) (reader : Reader) (state : State) (events : ℕ) (malformed : code_malformed.Malformed) → Going which before octets reader state events → reading.ReaderTells reader (Err malformed) → StateBrings which before (Err (Malformed malformed)) state (feed_of which before octets)
 refused_end which before octets reader state events malformed g t = fault_due which before octets g.read malformed state g.held (t octets g.read g.stands)
 
 -- ---- the end
 
-whole_due : (which : Which) (before : List Elem) (octets : List ℕ) (read : Progress) (state : State) → Stands which before (elems_in before read) state → input octets ≡ Ok read → feed_of which before octets ≡ Ok (feed_in before read)
+whole_due : (which : Which) (before : List Elem) (octets : List ℕ) (read : Progress) (state : State) → StateStands which before (elems_in before read) state → input octets ≡ Ok read → feed_of which before octets ≡ Ok (feed_in before read)
 unfolding feed_of
 whole_due which before octets read state s e = rw (e, s.fits) refl
 
-pub brings_all : (which : Which) (before : List Elem) (octets : List ℕ) (old reader : Reader) (state : State) (events records skipped : ℕ) → Going which before octets old state events → reading.TakesNothing old reader → reading.Tells reader (Ok tt) → records ≡ reader.records → skipped ≡ reader.skipped
-    → Brings which before (Ok (record { records = records; skipped = skipped; events = events })) state (feed_of which before octets)
+pub brings_all : (which : Which) (before : List Elem) (octets : List ℕ) (old reader : Reader) (state : State) (events records skipped : ℕ) → Going which before octets old state events → reading.ReaderTakesNothing old reader → reading.ReaderTells reader (Ok tt) → records ≡ reader.records → skipped ≡ reader.skipped
+    → StateBrings which before (Ok (record { records = records; skipped = skipped; events = events })) state (feed_of which before octets)
 brings_all which before octets old reader state events records skipped g nothing t r k =
     let s = nothing.stands octets g.read g.stands in (
       feed_in before g.read,

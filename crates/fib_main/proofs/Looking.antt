@@ -18,7 +18,7 @@ use Rattle.least_model.specs.Least.{Least, aggregate}
 use Rattle.least_model.proofs.Laws.{fresh_law}
 use Rattle.orig_tree.proofs.Places.{family_is}
 use Rattle.fib_addr.specs.declared.entry.Entry.{Entry}
-use Rattle.fib_addr.specs.Seen.{entry_as}
+use Rattle.fib_addr.specs.Views.{entry_as}
 use Rattle.fib_main.specs.declared.trees.Trees.{Trees}
 use Rattle.fib_main.specs.Held.{AreBoth, Given, Hold, only, tree_of}
 

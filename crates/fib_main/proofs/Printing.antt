@@ -22,15 +22,15 @@ use Rattle.printed_model.specs.Numbered.{of_route, of_least, of_cert, IsOther, H
 use Rattle.printed_model.specs.Used.{printed_in, used_of}
 use Rattle.printed_model.proofs.Few.{printed_read}
 use Rattle.printed_model.proofs.Renamed.{printed_proves}
-use Rattle.fib_report.specs.Seen.{Told}
-use Rattle.fib_report.specs.Rows.{change_by, of_answer, of_change, of_table, printed_rows, report_rows}
+use Rattle.fib_report.specs.Views.{Told}
+use Rattle.fib_report.specs.Rows.{change_row, of_answer, of_change, table_entry_row, printed_rows, report_rows}
 use Rattle.fib_words.specs.Commands.{Named, Asked, Run}
 use Rattle.fib_main.specs.declared.report.Fed.{Fed}
 use Rattle.fib_main.specs.declared.state.State.{State}
-use Rattle.fib_main.specs.Due.{Feed, Printed, output_at, printed, ran, run_at, text_of, with_text}
+use Rattle.fib_main.specs.Due.{Feed, Printed, output_at, printed, ran, run_at, printed_text, with_text}
 use Rattle.fib_main.specs.Proves.{ChecksYes, IfRan, PrintsYes}
 use Rattle.fib_main.specs.Standing.{IsFed}
-use Rattle.fib_main.specs.Stops.{Stop, Untold, Refused, Is}
+use Rattle.fib_main.specs.Stops.{Stop, Untold, Refused, IsDueIfTold}
 use Rattle.fib_main.proofs.Certifying.{certified_least}
 use Rattle.fib_main.proofs.Telling.{entries_sorted}
 
@@ -52,16 +52,16 @@ both_other : (xs ys : List PrintedRow) → AllByRecursion IsOther xs → AllByRe
 both_other [] ys a b = b
 both_other (x ∷ xs) ys a b = (a.0, both_other xs ys a.1 b)
 
-change_other : (hops : List Address) (event : ℕ) (c : Change) → IsOther (change_by hops event c)
+change_other : (hops : List Address) (event : ℕ) (c : Change) → IsOther (change_row hops event c)
 change_other hops event (Add p h) = tt
 change_other hops event (Replace p h) = tt
 change_other hops event (Remove p) = tt
 
-between_other : (hops : List Address) (told : Told) → AllByRecursion IsOther (map (of_change hops) told.changes ++ map (of_answer hops) told.answers ++ map (of_table hops) told.table)
+between_other : (hops : List Address) (told : Told) → AllByRecursion IsOther (map (of_change hops) told.changes ++ map (of_answer hops) told.answers ++ map (table_entry_row hops) told.table)
 between_other hops told =
-    both_other (map (of_change hops) told.changes ++ map (of_answer hops) told.answers) (map (of_table hops) told.table)
+    both_other (map (of_change hops) told.changes ++ map (of_answer hops) told.answers) (map (table_entry_row hops) told.table)
     (both_other (map (of_change hops) told.changes) (map (of_answer hops) told.answers) (all_other (of_change hops) (λ c. change_other hops c.0 c.1) told.changes) (all_other (of_answer hops) (λ a. tt) told.answers))
-    (all_other (of_table hops) (λ e. tt) told.table)
+    (all_other (table_entry_row hops) (λ e. tt) told.table)
 
 -- ---- the hops
 
@@ -79,7 +79,7 @@ have_hops hops (r ∷ routes) n =
 -- ---- the text
 
 pub checks_yes : (load updates : Feed) (fed : Fed) (state : State) (asks : List Address) (run : Told) (text : List ℕ) → IsFed load updates fed state → run ≡ (printed load updates asks).told
-    → AllByRecursion IsRow (printed_rows state.hops.list run) → text ≡ text_of (printed load updates asks) → ChecksYes text
+    → AllByRecursion IsRow (printed_rows state.hops.list run) → text ≡ printed_text (printed load updates asks) → ChecksYes text
 checks_yes load updates fed state asks run text f r proper e =
     let elems : List Elem = load.elems ++ updates.elems in
     let hops : List Address = hops_after [] elems in
@@ -88,14 +88,14 @@ checks_yes load updates fed state asks run text f r proper e =
     let R : Entries = entries_of hops held in
     let T : Entries = aggregate_in_both R R in
     let C : List CertRow = certificate_of R in
-    let between : List PrintedRow = map (of_change hops) told.changes ++ map (of_answer hops) told.answers ++ map (of_table hops) told.table in
+    let between : List PrintedRow = map (of_change hops) told.changes ++ map (of_answer hops) told.answers ++ map (table_entry_row hops) told.table in
     let after : List PrintedRow = report_rows told.report in
     let s = f.has.stands in
     let few : length hops ≤ most_hops = subst (λ h. length h ≤ most_hops) s.hops s.few in
     let cert : IsCertificate R T C = certified_least R R (entries_sorted hops held (candidates_stay [] elems none_yet s.proper)) in
     let others = between_other hops told in
     let same : printed_rows hops told ≡ rows_with hops R T C between after =
-    parted (flat_map (of_route hops) R) (map (of_change hops) told.changes) (map (of_answer hops) told.answers) (map (of_table hops) told.table) (map (of_least hops) T) (map (of_cert hops) C) after
+    parted (flat_map (of_route hops) R) (map (of_change hops) told.changes) (map (of_answer hops) told.answers) (map (table_entry_row hops) told.table) (map (of_least hops) T) (map (of_cert hops) C) after
     in
     let all : AllByRecursion IsRow (rows_with hops R T C between after) =
     subst (AllByRecursion IsRow) same (subst (λ h. AllByRecursion IsRow (printed_rows h told)) s.hops (subst (λ x. AllByRecursion IsRow (printed_rows state.hops.list x)) r proper))
@@ -118,11 +118,11 @@ fine x = Ok x
 same_fine : {A : Type 0} (x y : A) → fine x ≡ fine y → x ≡ y
 same_fine x y e = cc
 
-pub run_yes : (content : List ℕ → Option (List ℕ)) (named : Named) (asked : Asked) (text : List ℕ) → asked ≡ Run named → Is (with_text (run_at content named)) (Ok text) → ChecksYes text → IfRan (output_at content asked) PrintsYes
+pub run_yes : (content : List ℕ → Option (List ℕ)) (named : Named) (asked : Asked) (text : List ℕ) → asked ≡ Run named → IsDueIfTold (with_text (run_at content named)) (Ok text) → ChecksYes text → IfRan (output_at content asked) PrintsYes
 unfolding output_at
 run_yes content named asked text a i says = rw a (by_run (run_at content named) i)
   where
-    by_run : (d : Result Printed Stop) → Is (with_text d) (fine text) → IfRan (ran d) PrintsYes
-    by_run (Ok p) i = subst ChecksYes (sym (same_fine (text_of p) text i)) says
+    by_run : (d : Result Printed Stop) → IsDueIfTold (with_text d) (fine text) → IfRan (ran d) PrintsYes
+    by_run (Ok p) i = subst ChecksYes (sym (same_fine (printed_text p) text i)) says
     by_run (Err Untold) i = tt
     by_run (Err (Refused o)) i = tt

@@ -9,8 +9,8 @@ use Rattle.printed_model.specs.Texts.{BadLine}
 use Rattle.printed_model.specs.Used.{Used, printed_in}
 use Rattle.fib_words.specs.Commands.{Named, Asked, Run, Check, command_of}
 use Rattle.fib_main.specs.declared.outcome.Which.TheVariants as which
-use Rattle.fib_main.specs.Stops.{Stop, Untold, Refused, rowed, Is}
-use Rattle.fib_main.specs.Due.{Printed, Reply, ran, checked, due, input_at, output_at, run_at, usage, used_at, text_of, with_text, with_reply}
+use Rattle.fib_main.specs.Stops.{Stop, Untold, Refused, rowed, IsDueIfTold}
+use Rattle.fib_main.specs.Due.{Printed, Reply, ran, checked, due, input_at, output_at, run_at, usage, used_at, printed_text, with_text, with_reply}
 use Rattle.fib_main.specs.Proves.{IfChecked, Decides, YesProves}
 use Rattle.fib_main.proofs.Fitting.{read_fits}
 
@@ -26,12 +26,12 @@ fine x = Ok x
 same_fine : {A : Type 0} (x y : A) → fine x ≡ fine y → x ≡ y
 same_fine x y e = cc
 
-pub ran_replied : (content : List ℕ → Option (List ℕ)) (named : Named) (asked : Asked) (text : List ℕ) (reply : Reply) → asked ≡ Run named → reply ≡ record { text = text; wrong = None } → Is (with_text (run_at content named)) (Ok text) → Is (with_reply (output_at content asked)) (Ok reply)
+pub ran_replied : (content : List ℕ → Option (List ℕ)) (named : Named) (asked : Asked) (text : List ℕ) (reply : Reply) → asked ≡ Run named → reply ≡ record { text = text; wrong = None } → IsDueIfTold (with_text (run_at content named)) (Ok text) → IsDueIfTold (with_reply (output_at content asked)) (Ok reply)
 unfolding output_at
 ran_replied content named asked text reply a r i = rw (a, r) (by_run (run_at content named) i)
   where
-    by_run : (d : Result Printed Stop) → Is (with_text d) (fine text) → Is (with_reply (ran d)) (fine (plain text))
-    by_run (Ok p) i = ap (λ t. fine (plain t)) (same_fine (text_of p) text i)
+    by_run : (d : Result Printed Stop) → IsDueIfTold (with_text d) (fine text) → IsDueIfTold (with_reply (ran d)) (fine (plain text))
+    by_run (Ok p) i = ap (λ t. fine (plain t)) (same_fine (printed_text p) text i)
     by_run (Err Untold) i = tt
     by_run (Err (Refused o)) i = absurd cc
 

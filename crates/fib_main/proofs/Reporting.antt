@@ -6,9 +6,9 @@ use Rattle.address_model.specs.Address.{Address}
 use Rattle.table_model.specs.Entries.{Entries, match_in}
 use Rattle.fib_addr.specs.declared.addr.Addr.{Addr}
 use Rattle.fib_addr.specs.declared.entry.Hop.{Hop}
-use Rattle.fib_addr.specs.Seen.{addr_as}
+use Rattle.fib_addr.specs.Views.{addr_as}
 use Rattle.fib_main.specs.Due.{answers_to}
-use Rattle.fib_main.specs.Seen.{answers_as}
+use Rattle.fib_main.specs.Views.{answers_as}
 use Rattle.fib_main.proofs.Steps.{take_next}
 
 pub one_answer : (routes : Entries) (asks : List Addr) (i : ℕ) (a : Addr) (h : Hop) (answers more : List (Addr × Hop)) → i < length asks → a ≡ get_or asks i a → h.0 ≡ match_in routes (addr_as a) → answers_as answers ≡ answers_to routes (map addr_as (take i asks)) → more ≡ answers ++ (a, h) ∷ [] → answers_as more ≡ answers_to routes (map addr_as (take (i + 1) asks))

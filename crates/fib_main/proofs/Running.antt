@@ -17,7 +17,7 @@ use Rattle.fib_words.specs.Commands.{Named, Asked, Run, Check, command_of}
 use Rattle.printed_model.specs.Used.{Used}
 use Rattle.fib_main.specs.declared.outcome.Which.{Which}
 use Rattle.fib_main.specs.declared.outcome.Which.TheVariants.{Dump, Updates}
-use Rattle.fib_main.specs.Stops.{Stop, few_hops, whole}
+use Rattle.fib_main.specs.Stops.{Stop, few_hops, whole_records}
 use Rattle.fib_main.specs.Due.{Feed, Printed, printed, input_at, asks_at, feed_at, feed_of, feed_in, elems_in, read_part, told_at, run_at, used_at, output_at, ran, checked, due, usage, answers_to}
 use Rattle.fib_main.specs.Proves.{IfRan}
 use Rattle.fib_main.specs.Runs.{IfDue, SumsUp, Forwards, Answers, HasLeast, Certified, HasHops}
@@ -40,9 +40,9 @@ same_feed f g e = cc
 
 feed_proper : (which : Which) (before : List Elem) (octets : List ℕ) (feed : Feed) → AllByRecursion IsElem before → feed_of which before octets ≡ Ok feed → AllByRecursion IsElem feed.elems
 unfolding feed_of
-feed_proper which before octets feed p e = by_input (input octets) refl (few_ok which (full_at (hops_after [] before) (elems_in before (read_part (input octets)))) (whole which (input octets) >>= λ read. Ok (feed_in before read)) feed e)
+feed_proper which before octets feed p e = by_input (input octets) refl (few_ok which (full_at (hops_after [] before) (elems_in before (read_part (input octets)))) (whole_records which (input octets) >>= λ read. Ok (feed_in before read)) feed e)
   where
-    by_input : (r : Result Progress Stopped) → input octets ≡ r → (whole which r >>= λ read. Ok (feed_in before read)) ≡ Ok feed → AllByRecursion IsElem feed.elems
+    by_input : (r : Result Progress Stopped) → input octets ≡ r → (whole_records which r >>= λ read. Ok (feed_in before read)) ≡ Ok feed → AllByRecursion IsElem feed.elems
     by_input (Ok read) is e = subst (λ (f : Feed). AllByRecursion IsElem f.elems) (same_feed (feed_in before read) feed e) (elems_of_events (after_elems [] before) read.events (candidates_stay [] before none_yet p) (read_events octets read is))
     by_input (Err stopped) is e = absurd cc
 

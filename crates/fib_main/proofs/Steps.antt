@@ -22,15 +22,15 @@ use Rattle.route_model.proofs.Elems.{elems_more}
 use Rattle.feed_model.specs.Feed.{AreNumbered, hops_after, full_at, change_of, change_by, changes_from, at_event, number_in}
 use Rattle.feed_model.proofs.Numbers.{hops_more, full_in_front, full_behind, routes_numbered, change_stays}
 use Rattle.fib_addr.specs.Hops.{number_of, with_hop, most_hops}
-use Rattle.fib_addr.specs.Seen.{addr_as}
+use Rattle.fib_addr.specs.Views.{addr_as}
 use Rattle.fib_addr.specs.declared.addr.Addr.{Addr}
 use Rattle.fib_addr.proofs.HopLemmas.{new_is_not}
 use Rattle.fib_report.specs.declared.run.Change as code_change
-use Rattle.fib_report.specs.Seen.{change_as}
+use Rattle.fib_report.specs.Views.{change_as}
 use Rattle.route_choice.specs.Held.{IsChoice}
 use Rattle.route_choice.specs.declared.choice.Choice.{Choice}
-use Rattle.fib_addr.specs.Seen.{prefix_as}
-use Rattle.fib_prefix.specs.Seen.{elem_as}
+use Rattle.fib_addr.specs.Views.{prefix_as}
+use Rattle.fib_prefix.specs.Views.{elem_as}
 use Rattle.fib_prefix.specs.declared.event.Peer as code_peer
 use Rattle.fib_addr.specs.declared.prefix.Prefix as code_prefix
 use Rattle.fib_prefix.specs.declared.event.Elem as code_elem
@@ -38,8 +38,8 @@ use Rattle.fib_prefix.specs.declared.event.Elem.TheVariants as code_variant
 use Rattle.fib_main.specs.declared.outcome.Which.{Which}
 use Rattle.fib_main.specs.declared.outcome.Which.TheVariants.{Asks, Dump, Updates, Printed}
 use Rattle.fib_main.specs.declared.state.State.{State}
-use Rattle.fib_main.specs.Seen.{changes_as}
-use Rattle.fib_main.specs.Standing.{kept, Stands, IsFull, Takes, TakesAll, next_elems}
+use Rattle.fib_main.specs.Views.{changes_as}
+use Rattle.fib_main.specs.Standing.{kept, StateStands, IsFull, StateTakes, StateTakesAll, next_elems}
 
 is_prefix : (p : code_prefix.Prefix) → IsPrefix (prefix_as p)
 is_prefix p = let P : ℕ → Type 0 = λ n. n ≤ width p.family in subst P (sym (length_prefix (width p.family) p.len p.bits p.fits)) p.fits
@@ -78,10 +78,10 @@ unfolding full_at
 fits_one hops elem few = ap (λ t. cond t (Some 1) (option_map suc None)) (le-ltb most_hops (length (hops_after hops (elem ∷ []))) few)
 
 -- the hops of a state after what came before it in its input
-hops_here : (which : Which) (before done : List Elem) (state : State) → Stands which before done state → hops_after (hops_after [] before) done ≡ state.hops.list
+hops_here : (which : Which) (before done : List Elem) (state : State) → StateStands which before done state → hops_after (hops_after [] before) done ≡ state.hops.list
 hops_here which before done state s = sym (hops_more [] before done) ∙ sym s.hops
 
-pub full_here : (which : Which) (before done : List Elem) (elem : Elem) (state : State) (event : ℕ) → event ≡ length (done ++ elem ∷ []) → Stands which before done state → most_hops < length (hops_after state.hops.list (elem ∷ [])) → IsFull before (done ++ elem ∷ []) event
+pub full_here : (which : Which) (before done : List Elem) (elem : Elem) (state : State) (event : ℕ) → event ≡ length (done ++ elem ∷ []) → StateStands which before done state → most_hops < length (hops_after state.hops.list (elem ∷ [])) → IsFull before (done ++ elem ∷ []) event
 full_here which before done elem state event counted s over =
     let one : full_at (hops_after (hops_after [] before) done) (elem ∷ []) ≡ Some 1 = ap (λ hs. full_at hs (elem ∷ [])) (hops_here which before done state s) ∙ full_one state.hops.list elem over in
     let n : length done + 1 ≡ event = omega (arith, counted, length-append done (elem ∷ [])) in
@@ -153,10 +153,10 @@ all_push : (P : Elem → Type 0) (xs : List Elem) (x : Elem) → AllByRecursion 
 all_push P [] x a p = (p, tt)
 all_push P (y ∷ xs) x a p = (a.0, all_push P xs x a.1 p)
 
-pub stands_after : (which : Which) (before done : List Elem) (elem : Elem) (old new : State) (event : ℕ) → IsElem elem → event ≡ length (done ++ elem ∷ []) → Stands which before done old
+pub stands_after : (which : Which) (before done : List Elem) (elem : Elem) (old new : State) (event : ℕ) → IsElem elem → event ≡ length (done ++ elem ∷ []) → StateStands which before done old
     → new.candidates.candidates ≡ after_elem old.candidates.candidates elem → new.hops.list ≡ hops_after old.hops.list (elem ∷ []) → (length old.hops.list ≤ most_hops → length new.hops.list ≤ most_hops)
     → Adds which event (change_by new.hops.list old.candidates.candidates elem) (changes_as old.changes.items) (changes_as new.changes.items)
-    → Stands which before (done ++ elem ∷ []) new
+    → StateStands which before (done ++ elem ∷ []) new
 stands_after which before done elem old new event is counted s held more few adds = record {
   candidates = candidates;
   hops = hops;
@@ -189,10 +189,10 @@ stands_after which before done elem old new event is counted s held more few add
       subst (λ h. AreNumbered new.hops.list h) (sym candidates ∙ held) (subst (λ hs. AreNumbered hs (after_elems [] (before ++ (done ++ elem ∷ [])))) (sym hops) at)
 
 -- the same where the event's choice is told
-pub stands_next : (which : Which) (before done : List Elem) (elem : Elem) (old new : State) (event : ℕ) (choice : Choice) → IsElem elem → event ≡ length (done ++ elem ∷ []) → Stands which before done old
+pub stands_next : (which : Which) (before done : List Elem) (elem : Elem) (old new : State) (event : ℕ) (choice : Choice) → IsElem elem → event ≡ length (done ++ elem ∷ []) → StateStands which before done old
     → new.candidates.candidates ≡ after_elem old.candidates.candidates elem → new.hops.list ≡ hops_after old.hops.list (elem ∷ []) → (length old.hops.list ≤ most_hops → length new.hops.list ≤ most_hops) → IsChoice old.candidates.candidates elem choice
     → Adds which event (change_of new.hops.list (prefix_as choice.prefix) (option_map addr_as choice.before) (option_map addr_as choice.after)) (changes_as old.changes.items) (changes_as new.changes.items)
-    → Stands which before (done ++ elem ∷ []) new
+    → StateStands which before (done ++ elem ∷ []) new
 stands_next which before done elem old new event choice is counted s held more few chosen adds =
     let now : change_of new.hops.list (prefix_as choice.prefix) (option_map addr_as choice.before) (option_map addr_as choice.after) ≡ change_by new.hops.list old.candidates.candidates elem = rw (chosen.prefix, chosen.before, chosen.after) refl in
     stands_after which before done elem old new event is counted s held more few (subst (λ cs. Adds which event cs (changes_as old.changes.items) (changes_as new.changes.items)) now adds)
@@ -208,7 +208,7 @@ next_more before done xs ys =
     ∙ ap (λ zs. done ++ zs) (ap (λ h. elems_after held xs ++ elems_after h ys) same ∙ sym (elems_more held xs ys))
 
 -- those of one event are the ones that the candidates give
-pub next_one : (which : Which) (before done : List Elem) (event : Event) (state : State) → Stands which before done state → next_elems before done (event ∷ []) ≡ elems_of state.candidates.candidates event
+pub next_one : (which : Which) (before done : List Elem) (event : Event) (state : State) → StateStands which before done state → next_elems before done (event ∷ []) ≡ elems_of state.candidates.candidates event
 unfolding elems_after
 next_one which before done event state s = append-nil (elems_of (after_elems [] (before ++ done)) event) ∙ ap (λ h. elems_of h event) (sym s.candidates)
 
@@ -240,11 +240,11 @@ pub record Apart (which : Which) (before : List Elem) (n : ℕ) (elem : Elem) (m
   pub front : List Elem
   pub rest : List Elem
   pub counted : n ≡ length (front ++ elem ∷ [])
-  pub stands : Stands which before front mid
+  pub stands : StateStands which before front mid
   pub same : (front ++ elem ∷ []) ++ rest ≡ all
 
-pub refused_step : (which : Which) (count n : ℕ) (events : List Event) (elem : Elem) (old mid new after : State) (error : FeedError) → Takes {T = Unit {0}} which n (elem ∷ []) mid (Err error) new
-    → ((before done : List Elem) → count ≡ length done → Stands which before done old → Apart which before n elem mid (done ++ next_elems before done events)) → TakesAll which count events old (Err error) after
+pub refused_step : (which : Which) (count n : ℕ) (events : List Event) (elem : Elem) (old mid new after : State) (error : FeedError) → StateTakes {T = Unit {0}} which n (elem ∷ []) mid (Err error) new
+    → ((before done : List Elem) → count ≡ length done → StateStands which before done old → Apart which before n elem mid (done ++ next_elems before done events)) → StateTakesAll which count events old (Err error) after
 refused_step which count n events elem old mid new after (HopsFull m) taken at = λ before done counted s.
     let a = at before done counted s in
     subst (λ xs. IsFull before xs m) a.same (full_more before (a.front ++ elem ∷ []) a.rest m (taken before a.front a.counted a.stands))
@@ -256,11 +256,11 @@ pub record ApartEvents (which : Which) (before : List Elem) (n : ℕ) (event : E
   pub front : List Elem
   pub rest : List Elem
   pub counted : n ≡ length front
-  pub stands : Stands which before front mid
+  pub stands : StateStands which before front mid
   pub same : (front ++ next_elems before front (event ∷ [])) ++ rest ≡ all
 
-pub refused_event : (which : Which) (count n : ℕ) (events : List Event) (event : Event) (old mid new after : State) (error : FeedError) → TakesAll which n (event ∷ []) mid (Err error) new
-    → ((before done : List Elem) → count ≡ length done → Stands which before done old → ApartEvents which before n event mid (done ++ next_elems before done events)) → TakesAll which count events old (Err error) after
+pub refused_event : (which : Which) (count n : ℕ) (events : List Event) (event : Event) (old mid new after : State) (error : FeedError) → StateTakesAll which n (event ∷ []) mid (Err error) new
+    → ((before done : List Elem) → count ≡ length done → StateStands which before done old → ApartEvents which before n event mid (done ++ next_elems before done events)) → StateTakesAll which count events old (Err error) after
 refused_event which count n events event old mid new after (HopsFull m) taken at = λ before done counted s.
     let a = at before done counted s in
     subst (λ xs. IsFull before xs m) a.same (full_more before (a.front ++ next_elems before a.front (event ∷ [])) a.rest m (taken before a.front a.counted a.stands))

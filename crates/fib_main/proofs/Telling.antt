@@ -9,7 +9,7 @@ use Rattle.table_model.specs.Entries.{Entries}
 use Rattle.table_model.specs.Changes.{additions}
 use Rattle.least_model.specs.Both.{aggregate_in_both}
 use Rattle.cert_model.specs.Rows.{certificate_of}
-use Rattle.cert_rows.specs.Seen.{row_as}
+use Rattle.cert_rows.specs.Views.{row_as}
 use Rattle.route_model.specs.Events.{Elem}
 use Rattle.route_model.specs.Choice.{Candidates, AreCandidates, after_elems, routes_of}
 use Rattle.route_model.proofs.Choices.{routes_sorted}
@@ -19,15 +19,15 @@ use Rattle.feed_model.specs.Feed.{hops_after, entries_of, load_changes, changes_
 use Rattle.fib_addr.specs.declared.addr.Addr.{Addr}
 use Rattle.fib_addr.specs.declared.prefix.Prefix.{Prefix}
 use Rattle.fib_addr.specs.declared.entry.Entry.{Entry}
-use Rattle.fib_addr.specs.Seen.{addr_as, entry_as, route_as}
+use Rattle.fib_addr.specs.Views.{addr_as, entry_as, route_as}
 use Rattle.fib_report.specs.declared.run.Change.{Change}
 use Rattle.fib_report.specs.declared.run.Report.{Report}
-use Rattle.fib_report.specs.Seen.{Told}
+use Rattle.fib_report.specs.Views.{Told}
 use Rattle.fib_report.specs.Rows.{run_text}
 use Rattle.fib_main.specs.declared.report.Fed.{Fed}
 use Rattle.fib_main.specs.declared.state.State.{State}
-use Rattle.fib_main.specs.Due.{Feed, answers_to, counts, changes_of, printed, text_of}
-use Rattle.fib_main.specs.Seen.{answers_as, changes_as, numbered, totals}
+use Rattle.fib_main.specs.Due.{Feed, answers_to, counts, changes_of, printed, printed_text}
+use Rattle.fib_main.specs.Views.{answers_as, changes_as, numbered, totals}
 use Rattle.fib_main.specs.Held.{IsLooked}
 use Rattle.fib_main.specs.declared.report.Looked.{Looked}
 use Rattle.fib_main.specs.Standing.{IsFed, IsCounted}
@@ -75,6 +75,6 @@ told_is load updates fed state asks routes loaded table chosen looked changes re
     let report_is : report ≡ counts load updates (entries_of hops held) = m ∙ counted load updates fed (entries_of hops held) routes n f.counted f.has.counted entries len in
     rw (entries, all, answered, again, least, proof, report_is) refl
 
-pub text_is : (load updates : Feed) (fed : Fed) (state : State) (asks : List Address) (run : Told) (old new : List ℕ) → IsFed load updates fed state → run ≡ (printed load updates asks).told → new ≡ old ++ run_text state.hops.list run → old ≡ [] → new ≡ text_of (printed load updates asks)
+pub text_is : (load updates : Feed) (fed : Fed) (state : State) (asks : List Address) (run : Told) (old new : List ℕ) → IsFed load updates fed state → run ≡ (printed load updates asks).told → new ≡ old ++ run_text state.hops.list run → old ≡ [] → new ≡ printed_text (printed load updates asks)
 text_is load updates fed state asks run old new f r grown empty =
     grown ∙ (ap (λ o. o ++ run_text state.hops.list run) empty ∙ (ap (λ h. run_text h run) f.has.stands.hops ∙ ap (run_text (hops_after [] (load.elems ++ updates.elems))) r))

@@ -4,16 +4,16 @@ use Rattle.std.specs.Prelude.{option_map}
 use Rattle.fib_io.specs.Octets.{Adds, AddsSome}
 use Rattle.cert_model.specs.Verdict.{No}
 use Rattle.cert_check.specs.declared.refusal.No as code
-use Rattle.cert_check.specs.Seen.{no_as}
+use Rattle.cert_check.specs.Views.{no_as}
 use Rattle.fib_words.specs.Commands.{Asked, Run, Check}
-use Rattle.fib_main.specs.declared.checking.Reply as code_reply
+use Rattle.fib_main.specs.declared.check.Reply as code_reply
 use Rattle.fib_main.specs.declared.outcome.Outcome.{Outcome}
 use Rattle.fib_main.specs.declared.outcome.Outcome.TheVariants.{Done, CheckNo, Usage, ReadFault, WriteFault, NoMemory, TooLarge, Malformed, HopsFull, BadLine}
-use Rattle.fib_main.specs.Stops.{Stop, Untold, Refused, Is, Fails}
+use Rattle.fib_main.specs.Stops.{Stop, Untold, Refused, IsDueIfTold, FailsDue}
 use Rattle.fib_main.specs.Due.{Output, Checked, Reply, ran, reply_of, told_at, output_text, with_reply, wrong_in}
 use Rattle.fib_main.specs.Ends.{EndsBy, IsDue}
 use Rattle.fib_main.specs.Owned.{IsOf, Owns}
-use Rattle.fib_main.specs.Untold.{Fits, FitsSome, GivesSome}
+use Rattle.fib_main.specs.Untold.{FitsUntold, FitsSome, GivesSome}
 
 -- memory may run out whatever the words are
 pub memory_some : (content : List ℕ → Option (List ℕ)) (asked : Option Asked) → GivesSome content asked (Err NoMemory)
@@ -43,7 +43,7 @@ stopped o = Err (Refused o)
 refused_same : (p o : Outcome) → stopped p ≡ stopped o → o ≡ p
 refused_same p o e = cc
 
-ends_fit : (d : Result Output Stop) (text : List ℕ) (w : Option No) (old new : Option (List ℕ)) (o : Outcome) → Is (with_reply d) (fine (record { text = text; wrong = w })) → EndsBy w o → Adds old new text → Fits d old new o
+ends_fit : (d : Result Output Stop) (text : List ℕ) (w : Option No) (old new : Option (List ℕ)) (o : Outcome) → IsDueIfTold (with_reply d) (fine (record { text = text; wrong = w })) → EndsBy w o → Adds old new text → FitsUntold d old new o
 ends_fit (Err (Refused p)) text w old new o i e a = absurd cc
 ends_fit (Err Untold) text w old new Done i e a = (tt, tt)
 ends_fit (Err Untold) text w old new (CheckNo x) i e a = (tt, tt)
@@ -58,17 +58,17 @@ ends_fit d text w old new (Malformed input number rule) i e a = absurd (no_end w
 ends_fit d text w old new (HopsFull event) i e a = absurd (no_end w (HopsFull event) (λ f. cc) (λ x f. cc) e)
 ends_fit d text w old new (BadLine input line why) i e a = absurd (no_end w (BadLine input line why) (λ f. cc) (λ x f. cc) e)
 
-fault_fits : (d : Result Output Stop) (text : List ℕ) (w : Option No) (old new : Option (List ℕ)) → Is (with_reply d) (fine (record { text = text; wrong = w })) → AddsSome old new text → Fits d old new WriteFault
+fault_fits : (d : Result Output Stop) (text : List ℕ) (w : Option No) (old new : Option (List ℕ)) → IsDueIfTold (with_reply d) (fine (record { text = text; wrong = w })) → AddsSome old new text → FitsUntold d old new WriteFault
 fault_fits (Ok output) text w old new i a = (tt, subst (λ t. AddsSome old new t) (sym (replied output text w i).0) a)
 fault_fits (Err Untold) text w old new i a = (tt, tt)
 fault_fits (Err (Refused p)) text w old new i a = absurd cc
 
-is_stop : (d : Result Output Stop) (o : Outcome) → Is (with_reply d) (Err (Refused o)) → IsDue d o
+is_stop : (d : Result Output Stop) (o : Outcome) → IsDueIfTold (with_reply d) (Err (Refused o)) → IsDue d o
 is_stop (Ok output) o i = absurd cc
 is_stop (Err Untold) o i = tt
 is_stop (Err (Refused p)) o i = refused_same p o i
 
-stop_fits : (d : Result Output Stop) (o : Outcome) (old new : Option (List ℕ)) → Fails o (with_reply d) → new ≡ old → Fits d old new o
+stop_fits : (d : Result Output Stop) (o : Outcome) (old new : Option (List ℕ)) → FailsDue o (with_reply d) → new ≡ old → FitsUntold d old new o
 stop_fits d Done old new f same = absurd f
 stop_fits d (CheckNo x) old new f same = absurd f
 stop_fits d WriteFault old new f same = absurd f

@@ -12,13 +12,13 @@ abbrev pub verdict_of : Used → Option No
 verdict_of used = verdict used.routes used.least used.cert
 
 -- the hop of this number, or `none`
-abbrev pub hop_field : List Address → ℕ → List ℕ
-hop_field hops n = hop_text (codes "none") (hop_at hops n)
+abbrev pub verdict_hop : List Address → ℕ → List ℕ
+verdict_hop hops n = hop_text (codes "none") (hop_at hops n)
 
 -- what is wrong, in fields; the hops have these numbers
 abbrev pub no_fields : List Address → No → List (List ℕ)
 no_fields hops (Twice p) = codes "no" ∷ codes "twice" ∷ prefix_text p ∷ []
-no_fields hops (NotSame a want has) = codes "no" ∷ codes "notsame" ∷ address_text a ∷ hop_field hops want ∷ hop_field hops has ∷ []
+no_fields hops (NotSame a want has) = codes "no" ∷ codes "notsame" ∷ address_text a ∷ verdict_hop hops want ∷ verdict_hop hops has ∷ []
 no_fields hops (Shape n) = codes "no" ∷ codes "shape" ∷ decimal n ∷ []
 no_fields hops (LeafWrong n) = codes "no" ∷ codes "leafwrong" ∷ decimal n ∷ []
 no_fields hops (JoinWrong n said due) = codes "no" ∷ codes "joinwrong" ∷ decimal n ∷ decimal said ∷ decimal due ∷ []

@@ -10,7 +10,7 @@ use Rattle.route_model.specs.Events.{Elem}
 use Rattle.route_model.specs.Choice.{after_elems, elems_after}
 use Rattle.reading_model.specs.Input.{Progress, Stopped, input}
 use Rattle.feed_model.specs.Feed.{hops_after, full_at, entries_of, load_changes, changes_from}
-use Rattle.fib_report.specs.Seen.{Told}
+use Rattle.fib_report.specs.Views.{Told}
 use Rattle.fib_report.specs.Rows.{run_text}
 use Rattle.fib_report.specs.declared.run.Report.{Report}
 use Rattle.cert_model.specs.Verdict.{No}
@@ -20,7 +20,7 @@ use Rattle.fib_main.specs.declared.outcome.Outcome.TheVariants.{Usage}
 use Rattle.fib_main.specs.declared.outcome.Which.{Which}
 use Rattle.fib_main.specs.declared.outcome.Which.TheVariants.{Asks, Dump, Updates}
 use Rattle.fib_main.specs.declared.outcome.Which.TheVariants as which
-use Rattle.fib_main.specs.Stops.{Stop, Refused, told, sized, lined, rowed, whole, few_hops}
+use Rattle.fib_main.specs.Stops.{Stop, Refused, told_content, sized, lined, rowed, whole_records, few_hops}
 use Rattle.fib_main.specs.Asks.{asks_in}
 use Rattle.fib_main.specs.Checks.{verdict_of, verdict_text}
 
@@ -31,7 +31,7 @@ usage (Some asked) = Ok asked
 -- the octets of an input
 unfoldable pub input_at : (List ℕ → Option (List ℕ)) → Which → List ℕ → Result (List ℕ) Stop
 input_at content which name = do
-  octets ← told (content name)
+  octets ← told_content (content name)
   sized which octets
 
 -- the addresses that are asked for, none where no asks are named
@@ -68,7 +68,7 @@ feed_in before read = record { elems = elems_in before read; records = read.reco
 unfoldable pub feed_of : Which → List Elem → List ℕ → Result Feed Stop
 feed_of which before octets =
     few_hops which (full_at (hops_after [] before) (elems_in before (read_part (input octets))))
-    (whole which (input octets) >>= λ read. Ok (feed_in before read))
+    (whole_records which (input octets) >>= λ read. Ok (feed_in before read))
 
 -- nothing comes of an input that isn't named
 unfoldable pub feed_at : (List ℕ → Option (List ℕ)) → Which → List Elem → Option (List ℕ) → Result Feed Stop
@@ -126,11 +126,11 @@ run_at content named = do
   told_at content named asks
 
 -- the text of a run's rows
-abbrev pub text_of : Printed → List ℕ
-text_of p = run_text p.hops p.told
+abbrev pub printed_text : Printed → List ℕ
+printed_text p = run_text p.hops p.told
 
 abbrev pub with_text : Result Printed Stop → Result (List ℕ) Stop
-with_text printed = printed >>= λ p. Ok (text_of p)
+with_text printed = printed >>= λ p. Ok (printed_text p)
 
 -- what a check uses of the printed text of this name, or the text's refusal
 unfoldable pub used_at : (List ℕ → Option (List ℕ)) → List ℕ → Result Used Stop
@@ -167,7 +167,7 @@ wrong_in (Checked used) = verdict_of used
 
 -- the text of the rows
 abbrev pub output_text : Output → List ℕ
-output_text (Ran p) = text_of p
+output_text (Ran p) = printed_text p
 output_text (Checked used) = verdict_text used.hops (verdict_of used)
 
 -- a text, and what is wrong where it says so

@@ -4,7 +4,7 @@ use Rattle.fib_io.specs.Causes.{Rose}
 use Rattle.fib_io.specs.Octets.{Adds, AddsSome}
 use Rattle.cert_model.specs.Verdict.{No}
 use Rattle.cert_check.specs.declared.refusal.No as code
-use Rattle.cert_check.specs.Seen.{no_as}
+use Rattle.cert_check.specs.Views.{no_as}
 use Rattle.fib_main.specs.declared.outcome.Which.{Which}
 use Rattle.fib_main.specs.declared.outcome.Which.TheVariants.{Asks, Dump, Updates, Printed}
 use Rattle.fib_main.specs.declared.outcome.Outcome.{Outcome}
@@ -104,17 +104,17 @@ name_of Updates = codes "updates"
 name_of Printed = codes "printed"
 
 -- the line for an outcome
-abbrev pub line_of : Outcome → List ℕ
-line_of Done = []
-line_of (CheckNo x) = codes "fib: no\n"
-line_of Usage = codes "fib: usage\n"
-line_of ReadFault = codes "fib: read fault\n"
-line_of WriteFault = codes "fib: write fault\n"
-line_of NoMemory = codes "fib: no memory\n"
-line_of (TooLarge input) = codes "fib: too large " ++ name_of input ++ codes "\n"
-line_of (Malformed input number rule) = codes "fib: malformed " ++ name_of input ++ codes " record " ++ decimal number ++ codes " rule " ++ decimal rule ++ codes "\n"
-line_of (HopsFull event) = codes "fib: too many hops at event " ++ decimal event ++ codes "\n"
-line_of (BadLine input line why) = codes "fib: bad line " ++ name_of input ++ codes " " ++ decimal line ++ codes " why " ++ decimal why ++ codes "\n"
+abbrev pub outcome_line : Outcome → List ℕ
+outcome_line Done = []
+outcome_line (CheckNo x) = codes "fib: no\n"
+outcome_line Usage = codes "fib: usage\n"
+outcome_line ReadFault = codes "fib: read fault\n"
+outcome_line WriteFault = codes "fib: write fault\n"
+outcome_line NoMemory = codes "fib: no memory\n"
+outcome_line (TooLarge input) = codes "fib: too large " ++ name_of input ++ codes "\n"
+outcome_line (Malformed input number rule) = codes "fib: malformed " ++ name_of input ++ codes " record " ++ decimal number ++ codes " rule " ++ decimal rule ++ codes "\n"
+outcome_line (HopsFull event) = codes "fib: too many hops at event " ++ decimal event ++ codes "\n"
+outcome_line (BadLine input line why) = codes "fib: bad line " ++ name_of input ++ codes " " ++ decimal line ++ codes " why " ++ decimal why ++ codes "\n"
 
 abbrev pub status_of : Outcome → ℕ
 status_of Done = 0
@@ -129,13 +129,13 @@ status_of (HopsFull event) = 7
 status_of (BadLine input line why) = 8
 
 -- err has the line at its end, or its count rose and it has a front of the line
-abbrev pub Tells : List ℕ → Option (List ℕ) → Option (List ℕ) → ℕ → ℕ → Type 0
-Tells line old new before now = (Adds old new line × (now ≡ before)) ⊎ (AddsSome old new line × Rose before now)
+abbrev pub LineTold : List ℕ → Option (List ℕ) → Option (List ℕ) → ℕ → ℕ → Type 0
+LineTold line old new before now = (Adds old new line × (now ≡ before)) ⊎ (AddsSome old new line × Rose before now)
 
 -- err has the outcome's line, and at Done it is as it was
 abbrev pub TellsOf : Outcome → Option (List ℕ) → Option (List ℕ) → ℕ → ℕ → Type 0
 TellsOf Done old new before now = (new ≡ old) × (now ≡ before)
-TellsOf outcome old new before now = Tells (line_of outcome) old new before now
+TellsOf outcome old new before now = LineTold (outcome_line outcome) old new before now
 
 -- With no fault of reading and none of writing, what is due comes, or memory ran out.
 abbrev pub Completes : Result Output Stop → Type 0 → Type 0 → Outcome → Type 0

@@ -7,14 +7,14 @@ use Rattle.address_model.specs.declared.family.Family.TheVariants.{V4, V6}
 use Rattle.table_model.specs.Entries.{Entries, of_family, in_order}
 use Rattle.least_model.specs.Both.{aggregate_in_both}
 use Rattle.cert_model.specs.Rows.{certificate_of}
-use Rattle.cert_rows.specs.Seen.{row_as}
-use Rattle.orig_tree.specs.Seen.{Labels}
-use Rattle.fib_addr.specs.Seen.{entry_as}
+use Rattle.cert_rows.specs.Views.{row_as}
+use Rattle.orig_tree.specs.Views.{Labels}
+use Rattle.fib_addr.specs.Views.{entry_as}
 use Rattle.ortc.specs.declared.table.Fresh.{Fresh}
 use Rattle.fib_main.specs.declared.trees.Trees.{Trees}
 use Rattle.fib_main.specs.declared.report.Looked.{Looked}
 use Rattle.fib_main.specs.Due.{answers_to}
-use Rattle.fib_main.specs.Seen.{answers_as}
+use Rattle.fib_main.specs.Views.{answers_as}
 
 -- the tree of a family
 abbrev pub tree_of : Family → Trees → Labels
@@ -38,7 +38,7 @@ abbrev pub Hold : Entries → Trees → Type 0
 Hold E trees = (f : Family) → (of_family f (tree_of f trees).routes ≡ of_family f E) × (of_family f (tree_of f trees).entries ≡ of_family f E)
 
 -- of these routes: the aggregate, and the certificate that it is least
-pub record IsFresh (routes : Entries) (fresh : Fresh) : Type 0 where
+pub record IsFreshOf (routes : Entries) (fresh : Fresh) : Type 0 where
   pub table : map entry_as fresh.table.items ≡ aggregate_in_both routes routes
   pub proof : map row_as fresh.proof.items ≡ certificate_of routes
 

@@ -2,7 +2,7 @@ pub mod Asks
 pub mod Stops
 pub mod Checks
 pub mod Due
-pub mod Seen
+pub mod Views
 pub mod Held
 pub mod Standing
 pub mod Ends

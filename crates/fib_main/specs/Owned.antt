@@ -5,7 +5,7 @@ use Rattle.fib_main.specs.declared.outcome.Which.{Which}
 use Rattle.fib_main.specs.declared.outcome.Which.TheVariants.{Asks, Dump, Updates, Printed}
 use Rattle.fib_main.specs.declared.outcome.Outcome.{Outcome}
 use Rattle.fib_main.specs.declared.outcome.Outcome.TheVariants.{Done, CheckNo, Usage, ReadFault, WriteFault, NoMemory, TooLarge, Malformed, HopsFull, BadLine}
-use Rattle.fib_main.specs.declared.checking.Reply as code_reply
+use Rattle.fib_main.specs.declared.check.Reply as code_reply
 
 -- the command names this input
 abbrev pub HasInput : Asked → Which → Type 0
@@ -72,6 +72,6 @@ Owns (Some (Run named)) reply = reply.no ≡ None
 Owns (Some (Check name)) reply = Unit {0}
 
 -- a call was stopped at this input
-abbrev pub Stopped : {X : Type 0} → Which → Result X Outcome → Type 0
-Stopped which (Ok x) = ⊥
-Stopped which (Err outcome) = StopsAt which outcome
+abbrev pub StoppedAt : {X : Type 0} → Which → Result X Outcome → Type 0
+StoppedAt which (Ok x) = ⊥
+StoppedAt which (Err outcome) = StopsAt which outcome

@@ -7,7 +7,7 @@ use Rattle.printed_model.specs.Used.{Used, printed_in}
 use Rattle.fib_words.specs.Commands.{Asked, Run, Check}
 use Rattle.fib_main.specs.Stops.{Stop}
 use Rattle.fib_main.specs.Checks.{verdict_of}
-use Rattle.fib_main.specs.Due.{Output, Ran, Checked, Printed, text_of}
+use Rattle.fib_main.specs.Due.{Output, Ran, Checked, Printed, printed_text}
 
 -- nothing is wrong exactly where the rows are a certificate that the least table is least for the routes
 abbrev pub Decides : Used → Type 0
@@ -32,7 +32,7 @@ pub record ChecksYes (text : List ℕ) : Type 0 where
 
 -- so is the text of what is printed
 abbrev pub PrintsYes : Printed → Type 0
-PrintsYes p = ChecksYes (text_of p)
+PrintsYes p = ChecksYes (printed_text p)
 
 -- where a run is due, this holds of what is to be printed
 abbrev pub IfRan : Result Output Stop → (Printed → Type 0) → Type 0

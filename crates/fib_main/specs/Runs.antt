@@ -9,7 +9,7 @@ use Rattle.cert_model.specs.Right.{IsCertificate}
 use Rattle.cert_model.specs.Rows.{CertRow, leaf_row, join_row, bound_row}
 use Rattle.printed_model.specs.Numbered.{HaveHops}
 use Rattle.feed_model.specs.Feed.{changes_in}
-use Rattle.fib_report.specs.Seen.{Told}
+use Rattle.fib_report.specs.Views.{Told}
 use Rattle.fib_main.specs.Stops.{Stop}
 use Rattle.fib_main.specs.Due.{Output, Printed}
 use Rattle.fib_main.specs.Proves.{IfRan}

@@ -18,9 +18,9 @@ use Rattle.fib_main.specs.declared.state.FeedError.TheVariants.{Malformed, HopsF
 use Rattle.fib_main.specs.declared.report.Fed.{Fed}
 use Rattle.mrt_read.specs.declared.reader.EventsError.{EventsError}
 use Rattle.mrt_read.specs.declared.reader.EventsError.TheVariants as read
-use Rattle.fib_addr.specs.Seen.{route_as}
-use Rattle.fib_main.specs.Seen.{changes_as}
-use Rattle.fib_main.specs.Stops.{Stop, Refused, Is, Fails, event_in}
+use Rattle.fib_addr.specs.Views.{route_as}
+use Rattle.fib_main.specs.Views.{changes_as}
+use Rattle.fib_main.specs.Stops.{Stop, Refused, IsDueIfTold, FailsDue, event_in}
 use Rattle.fib_main.specs.Due.{Feed}
 
 -- the changes that are kept of an input's elementary events: those of updates
@@ -31,7 +31,7 @@ kept Printed hops held elems = []
 kept Updates hops held elems = changes_from hops 1 held elems
 
 -- The state after these elementary events of an input, which came after earlier ones. Its hops are few enough, and the changes that it keeps are those of the input, whatever hops get numbers later.
-pub record Stands (which : Which) (before elems : List Elem) (state : State) : Type 0 where
+pub record StateStands (which : Which) (before elems : List Elem) (state : State) : Type 0 where
   pub candidates : state.candidates.candidates ≡ after_elems [] (before ++ elems)
   pub hops : state.hops.list ≡ hops_after [] (before ++ elems)
   pub few : length state.hops.list ≤ most_hops
@@ -44,22 +44,22 @@ abbrev pub IsFull : List Elem → List Elem → ℕ → Type 0
 IsFull before elems n = full_at (hops_after [] before) elems ≡ Some n
 
 -- what became of a state that took elementary events, the last of which has this number in its input
-abbrev pub Takes : {T : Type 0} → Which → ℕ → List Elem → State → Result T FeedError → State → Type 0
-Takes which event elems old (Ok x) new = (before done : List Elem) → event ≡ length (done ++ elems) → Stands which before done old → Stands which before (done ++ elems) new
-Takes which event elems old (Err (HopsFull n)) new = (before done : List Elem) → event ≡ length (done ++ elems) → Stands which before done old → IsFull before (done ++ elems) n
-Takes which event elems old (Err (Malformed malformed)) new = ⊥
-Takes which event elems old (Err NoMemory) new = Unit {0}
+abbrev pub StateTakes : {T : Type 0} → Which → ℕ → List Elem → State → Result T FeedError → State → Type 0
+StateTakes which event elems old (Ok x) new = (before done : List Elem) → event ≡ length (done ++ elems) → StateStands which before done old → StateStands which before (done ++ elems) new
+StateTakes which event elems old (Err (HopsFull n)) new = (before done : List Elem) → event ≡ length (done ++ elems) → StateStands which before done old → IsFull before (done ++ elems) n
+StateTakes which event elems old (Err (Malformed malformed)) new = ⊥
+StateTakes which event elems old (Err NoMemory) new = Unit {0}
 
 -- the elementary events of events that come after others
 abbrev pub next_elems : List Elem → List Elem → List Event → List Elem
 next_elems before done events = elems_after (after_elems [] (before ++ done)) events
 
 -- the same of events, after so many elementary events of the input
-abbrev pub TakesAll : Which → ℕ → List Event → State → Result ℕ FeedError → State → Type 0
-TakesAll which count events old (Ok n) new = (before done : List Elem) → count ≡ length done → Stands which before done old → (n ≡ length (done ++ next_elems before done events)) × Stands which before (done ++ next_elems before done events) new
-TakesAll which count events old (Err (HopsFull n)) new = (before done : List Elem) → count ≡ length done → Stands which before done old → IsFull before (done ++ next_elems before done events) n
-TakesAll which count events old (Err (Malformed malformed)) new = ⊥
-TakesAll which count events old (Err NoMemory) new = Unit {0}
+abbrev pub StateTakesAll : Which → ℕ → List Event → State → Result ℕ FeedError → State → Type 0
+StateTakesAll which count events old (Ok n) new = (before done : List Elem) → count ≡ length done → StateStands which before done old → (n ≡ length (done ++ next_elems before done events)) × StateStands which before (done ++ next_elems before done events) new
+StateTakesAll which count events old (Err (HopsFull n)) new = (before done : List Elem) → count ≡ length done → StateStands which before done old → IsFull before (done ++ next_elems before done events) n
+StateTakesAll which count events old (Err (Malformed malformed)) new = ⊥
+StateTakesAll which count events old (Err NoMemory) new = Unit {0}
 
 -- the counts are those of what an input brings
 pub record IsCounted (feed : Feed) (counts : Counts) : Type 0 where
@@ -68,9 +68,9 @@ pub record IsCounted (feed : Feed) (counts : Counts) : Type 0 where
   pub events : counts.events ≡ length feed.elems
 
 -- the state has what the input brings, and it was counted
-pub record Has (which : Which) (before : List Elem) (feed : Feed) (counts : Counts) (state : State) : Type 0 where
+pub record StateHas (which : Which) (before : List Elem) (feed : Feed) (counts : Counts) (state : State) : Type 0 where
   pub counted : IsCounted feed counts
-  pub stands : Stands which before feed.elems state
+  pub stands : StateStands which before feed.elems state
 
 -- a refusal of a reader, as one of an input
 abbrev pub of_read : EventsError → FeedError
@@ -84,18 +84,18 @@ refusal_of which (Malformed malformed) = outcome.Malformed which malformed.numbe
 refusal_of which NoMemory = outcome.NoMemory
 
 -- what was brought is what the definition gives, unless memory ran out
-abbrev pub Brings : Which → List Elem → Result Counts FeedError → State → Result Feed Stop → Type 0
-Brings which before (Ok counts) new due = (feed : Feed) × (due ≡ Ok feed) × Has which before feed counts new
-Brings which before (Err NoMemory) new due = Unit {0}
-Brings which before (Err error) new due = due ≡ Err (Refused (refusal_of which error))
+abbrev pub StateBrings : Which → List Elem → Result Counts FeedError → State → Result Feed Stop → Type 0
+StateBrings which before (Ok counts) new due = (feed : Feed) × (due ≡ Ok feed) × StateHas which before feed counts new
+StateBrings which before (Err NoMemory) new due = Unit {0}
+StateBrings which before (Err error) new due = due ≡ Err (Refused (refusal_of which error))
 
 -- the same of a call that reads the input too
-abbrev pub Feeds : Which → List Elem → Result Counts Outcome → State → Result Feed Stop → Type 0
-Feeds which before (Ok counts) new due = (feed : Feed) × Has which before feed counts new × Is due (Ok feed)
-Feeds which before (Err o) new due = Fails o due
+abbrev pub StateFeeds : Which → List Elem → Result Counts Outcome → State → Result Feed Stop → Type 0
+StateFeeds which before (Ok counts) new due = (feed : Feed) × StateHas which before feed counts new × IsDueIfTold due (Ok feed)
+StateFeeds which before (Err o) new due = FailsDue o due
 
 -- what was loaded, and the state after the updates
 pub record IsFed (load updates : Feed) (fed : Fed) (state : State) : Type 0 where
   pub loaded : map route_as fed.loaded.now ≡ routes_of (after_elems [] load.elems)
   pub counted : IsCounted load fed.load
-  pub has : Has Updates load.elems updates fed.updates state
+  pub has : StateHas Updates load.elems updates fed.updates state

@@ -14,9 +14,9 @@ pub data Stop : Type 0 where
   Refused : Outcome → Stop
 
 -- the content of an input, where it is told
-abbrev pub told : Option (List ℕ) → Result (List ℕ) Stop
-told None = Err Untold
-told (Some octets) = Ok octets
+abbrev pub told_content : Option (List ℕ) → Result (List ℕ) Stop
+told_content None = Err Untold
+told_content (Some octets) = Ok octets
 
 -- octets that are few enough for an input: 2^36 at most
 unfoldable pub sized : Which → List ℕ → Result (List ℕ) Stop
@@ -33,9 +33,9 @@ rowed (Ok used) = Ok used
 rowed (Err bad) = Err (Refused (BadLine Printed bad.line bad.why))
 
 -- records that break no rule, or the first that does
-abbrev pub whole : Which → Result Progress Stopped → Result Progress Stop
-whole which (Ok read) = Ok read
-whole which (Err stopped) = Err (Refused (Malformed which stopped.read.records stopped.rule))
+abbrev pub whole_records : Which → Result Progress Stopped → Result Progress Stop
+whole_records which (Ok read) = Ok read
+whole_records which (Err stopped) = Err (Refused (Malformed which stopped.read.records stopped.rule))
 
 -- the event that a refusal names: those of a dump are the load, event 0
 abbrev pub event_in : Which → ℕ → ℕ
@@ -50,21 +50,21 @@ few_hops which None next = next
 few_hops which (Some n) next = Err (Refused (HopsFull (event_in which n)))
 
 -- what is due is this, if all that it rests on is told
-abbrev pub Is : {Y : Type 0} → Result Y Stop → Result Y Stop → Type 0
-Is (Err Untold) answer = Unit {0}
-Is (Err (Refused o)) answer = Err (Refused o) ≡ answer
-Is (Ok y) answer = Ok y ≡ answer
+abbrev pub IsDueIfTold : {Y : Type 0} → Result Y Stop → Result Y Stop → Type 0
+IsDueIfTold (Err Untold) answer = Unit {0}
+IsDueIfTold (Err (Refused o)) answer = Err (Refused o) ≡ answer
+IsDueIfTold (Ok y) answer = Ok y ≡ answer
 
 -- An error is the refusal that is due, or a fault of reading or want of memory in its place.
-abbrev pub Fails : {Y : Type 0} → Outcome → Result Y Stop → Type 0
-Fails Done due = ⊥
-Fails (CheckNo x) due = ⊥
-Fails WriteFault due = ⊥
-Fails NoMemory due = Unit {0}
-Fails ReadFault due = Unit {0}
-Fails o due = Is due (Err (Refused o))
+abbrev pub FailsDue : {Y : Type 0} → Outcome → Result Y Stop → Type 0
+FailsDue Done due = ⊥
+FailsDue (CheckNo x) due = ⊥
+FailsDue WriteFault due = ⊥
+FailsDue NoMemory due = Unit {0}
+FailsDue ReadFault due = Unit {0}
+FailsDue o due = IsDueIfTold due (Err (Refused o))
 
 -- What a call returned, seen by view, is what is due, but for faults and want of memory.
-abbrev pub Gives : {X Y : Type 0} → (X → Y) → Result X Outcome → Result Y Stop → Type 0
-Gives view (Ok x) due = Is due (Ok (view x))
-Gives view (Err o) due = Fails o due
+abbrev pub GivesDue : {X Y : Type 0} → (X → Y) → Result X Outcome → Result Y Stop → Type 0
+GivesDue view (Ok x) due = IsDueIfTold due (Ok (view x))
+GivesDue view (Err o) due = FailsDue o due

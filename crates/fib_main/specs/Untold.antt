@@ -4,35 +4,35 @@ use Rattle.std.specs.declared.vec.Vec.{Vec}
 use Rattle.address_model.specs.Address.{Address}
 use Rattle.printed_model.specs.Used.{Used}
 use Rattle.fib_words.specs.Commands.{Asked, Named, Run, Check}
-use Rattle.fib_main.specs.declared.checking.Reply as code_reply
+use Rattle.fib_main.specs.declared.check.Reply as code_reply
 use Rattle.fib_main.specs.declared.outcome.Which.TheVariants.{Asks, Printed}
 use Rattle.fib_main.specs.declared.outcome.Outcome.{Outcome}
-use Rattle.fib_main.specs.Stops.{Stop, Gives}
+use Rattle.fib_main.specs.Stops.{Stop, GivesDue}
 use Rattle.fib_main.specs.Due.{Output, Checked, ran, told_at, with_reply, with_text}
 use Rattle.fib_main.specs.Ends.{Meets, Writes, text_due}
-use Rattle.fib_main.specs.Owned.{StopsAt, Stopped}
-use Rattle.fib_main.specs.Seen.{reply_as}
+use Rattle.fib_main.specs.Owned.{StopsAt, StoppedAt}
+use Rattle.fib_main.specs.Views.{reply_as}
 
 -- the outcome is the due one, and out has what is due
-abbrev pub Fits : Result Output Stop → Option (List ℕ) → Option (List ℕ) → Outcome → Type 0
-Fits d old new outcome = Meets d outcome × Writes (text_due d) old new outcome
+abbrev pub FitsUntold : Result Output Stop → Option (List ℕ) → Option (List ℕ) → Outcome → Type 0
+FitsUntold d old new outcome = Meets d outcome × Writes (text_due d) old new outcome
 
 -- Whatever the asks hold: they are refused, or all is as due of some asks, with the dump and the updates. Whatever a printed text holds: it is refused, or all is as due of some rows.
 abbrev pub FitsSome : (List ℕ → Option (List ℕ)) → Option Asked → Option (List ℕ) → Option (List ℕ) → Outcome → Type 0
 FitsSome content None old new outcome = Unit {0}
-FitsSome content (Some (Run named)) old new outcome = StopsAt Asks outcome ⊎ ((asks : List Address) × Fits (ran (told_at content named asks)) old new outcome)
-FitsSome content (Some (Check name)) old new outcome = StopsAt Printed outcome ⊎ ((used : Used) × Fits (Ok (Checked used)) old new outcome)
+FitsSome content (Some (Run named)) old new outcome = StopsAt Asks outcome ⊎ ((asks : List Address) × FitsUntold (ran (told_at content named asks)) old new outcome)
+FitsSome content (Some (Check name)) old new outcome = StopsAt Printed outcome ⊎ ((used : Used) × FitsUntold (Ok (Checked used)) old new outcome)
 
 -- the same of the text of a run's rows
 abbrev pub TextOfSome : {X : Type 0} → (List ℕ → Option (List ℕ)) → Named → Result (Vec ℕ X) Outcome → Type 0
-TextOfSome content named result = Stopped Asks result ⊎ ((asks : List Address) × Gives (λ v. v.items) result (with_text (told_at content named asks)))
+TextOfSome content named result = StoppedAt Asks result ⊎ ((asks : List Address) × GivesDue (λ v. v.items) result (with_text (told_at content named asks)))
 
 -- the same of the reply to a printed text
 abbrev pub ReplyOfSome : Result code_reply.Reply Outcome → Type 0
-ReplyOfSome result = Stopped Printed result ⊎ ((used : Used) × Gives reply_as result (with_reply (Ok (Checked used))))
+ReplyOfSome result = StoppedAt Printed result ⊎ ((used : Used) × GivesDue reply_as result (with_reply (Ok (Checked used))))
 
 -- the same of a reply to a command
 abbrev pub GivesSome : (List ℕ → Option (List ℕ)) → Option Asked → Result code_reply.Reply Outcome → Type 0
 GivesSome content None result = Unit {0}
-GivesSome content (Some (Run named)) result = Stopped Asks result ⊎ ((asks : List Address) × Gives reply_as result (with_reply (ran (told_at content named asks))))
+GivesSome content (Some (Run named)) result = StoppedAt Asks result ⊎ ((asks : List Address) × GivesDue reply_as result (with_reply (ran (told_at content named asks))))
 GivesSome content (Some (Check name)) result = ReplyOfSome result

@@ -1,7 +1,7 @@
 //! The addresses that are asked for: one on each line that isn't empty.
 
 ghost use Rattle.std.specs.Prelude.{◌≡◌, map};
-ghost use Rattle.fib_addr.specs.Seen.{addr_as};
+ghost use Rattle.fib_addr.specs.Views.{addr_as};
 ghost use Rattle.fib_main.specs.Asks.{asks_in};
 ghost use Rattle.fib_main.specs.Reads.{IsList};
 ghost use Rattle.fib_main.specs.declared.asks.AskError.TheVariants.{NoMemory};

@@ -3,7 +3,7 @@
 ghost use Rattle.std.specs.Prelude.{List, []};
 ghost use Rattle.route_model.specs.Events.{Elem};
 ghost use Rattle.fib_main.specs.Due.{feed_of};
-ghost use Rattle.fib_main.specs.Standing.{Brings, Stands};
+ghost use Rattle.fib_main.specs.Standing.{StateBrings, StateStands};
 
 use crate::outcome::Which;
 use crate::state::{FeedError, State, take_events};
@@ -28,7 +28,7 @@ pub fn feed(
     which: Which,
     octets: &[u8],
 ) -> Result<Counts, FeedError>
-    ensures { (before : List Elem) → Stands which before [] state.old → Brings which before result state.new (feed_of which before octets.now) }
+    ensures { (before : List Elem) → StateStands which before [] state.old → StateBrings which before result state.new (feed_of which before octets.now) }
 {
     let mut reader = Reader::new(alloc);
     reader.feed(octets)?;

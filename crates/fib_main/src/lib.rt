@@ -7,15 +7,15 @@
 #![tactic(auto)]
 
 mod asks;
-mod checking;
+mod check;
 mod feed;
 mod outcome;
-mod reading;
 mod report;
 mod run;
 mod state;
+mod top_call;
 mod trees;
 
 pub use cert_check::No;
 pub use outcome::{MOST_LINE, Outcome, Which};
-pub use run::{run_fib, tell};
+pub use top_call::{run_fib, tell};

@@ -2,7 +2,7 @@
 
 ghost use Rattle.std.specs.Prelude.{◌≡◌, ◌+◌, ◌++◌, ◌≤◌, decimal, length};
 ghost use Rattle.arrayvec.specs.ArrayString.{array_string_len};
-ghost use Rattle.fib_main.specs.Ends.{line_of, name_of, status_of};
+ghost use Rattle.fib_main.specs.Ends.{outcome_line, name_of, status_of};
 ghost use Rattle.fib_main.specs.declared.outcome.Outcome.TheVariants.{Malformed as IsMalformed, HopsFull as IsHopsFull, BadLine as IsBadLine, TooLarge as IsTooLarge};
 
 use arrayvec::ArrayString;
@@ -98,8 +98,8 @@ fn push_number(line: &mut Line, number: u64)
 }
 
 /// `fib: malformed INPUT record NUMBER rule RULE`.
-fn malformed(input: Which, number: u64, rule: u8) -> Line
-    ensures { result.bytes ≡ line_of (IsMalformed input number rule) }
+fn malformed_line(input: Which, number: u64, rule: u8) -> Line
+    ensures { result.bytes ≡ outcome_line (IsMalformed input number rule) }
 {
     let mut line = Line::new();
     line.push_str("fib: malformed ");
@@ -114,7 +114,7 @@ fn malformed(input: Which, number: u64, rule: u8) -> Line
 
 /// `fib: too many hops at event EVENT`.
 fn hops_full(event: u64) -> Line
-    ensures { result.bytes ≡ line_of (IsHopsFull event) }
+    ensures { result.bytes ≡ outcome_line (IsHopsFull event) }
 {
     let mut line = Line::new();
     line.push_str("fib: too many hops at event ");
@@ -125,7 +125,7 @@ fn hops_full(event: u64) -> Line
 
 /// `fib: bad line INPUT LINE why WHY`.
 fn bad_line(input: Which, number: u64, why: u8) -> Line
-    ensures { result.bytes ≡ line_of (IsBadLine input number why) }
+    ensures { result.bytes ≡ outcome_line (IsBadLine input number why) }
 {
     let mut line = Line::new();
     line.push_str("fib: bad line ");
@@ -140,7 +140,7 @@ fn bad_line(input: Which, number: u64, why: u8) -> Line
 
 /// `fib: too large INPUT`.
 fn too_large(input: Which) -> Line
-    ensures { result.bytes ≡ line_of (IsTooLarge input) }
+    ensures { result.bytes ≡ outcome_line (IsTooLarge input) }
 {
     let mut line = Line::new();
     line.push_str("fib: too large ");
@@ -180,7 +180,7 @@ impl Outcome {
 
     /// The line that tells it, with its line feed; nothing for Done.
     pub fn line(&self) -> Line
-        ensures { result.bytes ≡ line_of self.now }
+        ensures { result.bytes ≡ outcome_line self.now }
     {
         match *self {
             Outcome::Done => plain(""),
@@ -192,7 +192,7 @@ impl Outcome {
                 input,
                 number,
                 rule,
-            } => malformed(input, number, rule),
+            } => malformed_line(input, number, rule),
             Outcome::HopsFull { event } => hops_full(event),
             Outcome::BadLine { input, line, why } => bad_line(input, line, why),
             Outcome::NoMemory => plain("fib: no memory\n"),

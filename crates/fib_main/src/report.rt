@@ -10,13 +10,13 @@ ghost use Rattle.address_model.specs.Order.{prefix_cmp};
 ghost use Rattle.table_model.specs.Entries.{Entries};
 ghost use Rattle.table_model.specs.Changes.{additions};
 ghost use Rattle.feed_model.specs.Feed.{at_event};
-ghost use Rattle.fib_addr.specs.Seen.{addr_as, entry_as};
-ghost use Rattle.fib_main.specs.Due.{answers_to, Feed, printed, text_of};
-ghost use Rattle.fib_report.specs.Seen.{run_as};
+ghost use Rattle.fib_addr.specs.Views.{addr_as, entry_as};
+ghost use Rattle.fib_main.specs.Due.{answers_to, Feed, printed, printed_text};
+ghost use Rattle.fib_report.specs.Views.{run_as};
 ghost use Rattle.fib_main.specs.Standing.{IsFed};
 ghost use Rattle.fib_main.specs.Held.{AreBoth, Hold, IsLooked};
 ghost use Rattle.fib_main.specs.Proves.{ChecksYes};
-ghost use Rattle.fib_main.specs.Seen.{answers_as, changes_as, numbered, totals};
+ghost use Rattle.fib_main.specs.Views.{answers_as, changes_as, numbered, totals};
 
 use crate::feed::Counts;
 use crate::state::{State, number};
@@ -140,7 +140,7 @@ pub struct Fed<'a> {
 }
 
 /// All that is told.
-fn told(alloc: Global, state: &State, fed: &Fed<'_>, asks: &[Addr]) -> Result<Run, AllocError>
+fn report_of(alloc: Global, state: &State, fed: &Fed<'_>, asks: &[Addr]) -> Result<Run, AllocError>
     ensures { (load updates : Feed) → IsFed load updates fed.now state.now → IfOk result (λ run. run_as run ≡ (printed load updates (map addr_as asks.now)).told) }
 {
     let routes = entries(alloc, &state.hops, &state.candidates.routes()?)?;
@@ -164,14 +164,14 @@ pub fn write_text(
     fed: &Fed<'_>,
     asks: &[Addr],
 ) -> Result<Vec<u8>, AllocError>
-    ensures text { (load updates : Feed) → IsFed load updates fed.now state.now → IfOk result (λ text. text.items ≡ text_of (printed load updates (map addr_as asks.now))) }
+    ensures text { (load updates : Feed) → IsFed load updates fed.now state.now → IfOk result (λ text. text.items ≡ printed_text (printed load updates (map addr_as asks.now))) }
     ensures yes { (load updates : Feed) → IsFed load updates fed.now state.now → IfOk result (λ text. ChecksYes text.items) }
 {
     let mut text = Vec::new(alloc);
     write_run(
         alloc,
         &mut text,
-        &told(alloc, state, fed, asks)?,
+        &report_of(alloc, state, fed, asks)?,
         &state.hops,
     )?;
     Ok(text)

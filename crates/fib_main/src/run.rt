@@ -1,193 +1,276 @@
-//! The top call: from the words and the inputs to the octets of the output.
+//! From the words and the inputs to the text that is due.
 
-ghost use Rattle.std.specs.Prelude.{◌≡◌, ℕ, ◌<◌, List, option_map};
+ghost use Rattle.std.specs.Prelude.{◌≡◌, ◌≤◌, ◌^◌, List, [], Some, None, length, map, IfErr, IfOk, IsSome, OnErr, OnOk, option_to_list};
 ghost use Rattle.fib_io.specs.Causes.{Rose};
-ghost use Rattle.cert_check.specs.Seen.{no_as};
-ghost use Rattle.fib_main.specs.Ends.{Completes, EndsBy, Meets, OneRose, ReadsFrom, TellsOf, text_due, Writes, WritesBy};
-ghost use Rattle.fib_main.specs.Owned.{IsOf};
-ghost use Rattle.fib_main.specs.Proves.{AddsFrontOfYes, AddsYes, Decides, IfChecked, IfRan, IsRun, PrintsYes, YesProves};
-ghost use Rattle.fib_main.specs.Runs.{Answers, Certified, Forwards, HasHops, HasLeast, IfDue, SumsUp};
-ghost use Rattle.fib_main.specs.Untold.{FitsSome};
-ghost use Rattle.fib_main.specs.Words.{asked_by, due_by, read_by};
+ghost use Rattle.fib_addr.specs.Views.{addr_as};
+ghost use Rattle.fib_main.specs.Due.{asks_at, checked, feed_at, input_at, output_at, reply_at, run_at, told_at, used_at, with_reply, with_text};
+ghost use Rattle.fib_main.specs.Ends.{feeds_named, OneRose, reads_asked, reads_named, ReadsFor};
+ghost use Rattle.fib_main.specs.Owned.{HasRecords, IsOf, Owns, StopsAt, StopsIn};
+ghost use Rattle.fib_main.specs.Proves.{ChecksYes, IfRan, IsRun, PrintsYes};
+ghost use Rattle.fib_main.specs.Views.{reply_as};
+ghost use Rattle.fib_main.specs.Standing.{StateFeeds, refusal_of, StateStands};
+ghost use Rattle.fib_main.specs.Stops.{GivesDue, event_in};
+ghost use Rattle.fib_main.specs.Untold.{GivesSome, ReplyOfSome, TextOfSome};
+ghost use Rattle.fib_main.specs.Words.{asked_by, due_by, read_by, texts_of};
+ghost use Rattle.fib_words.specs.Commands.{asked_as, Check, named_as, Run};
+ghost use Rattle.route_model.specs.Events.{Elem};
 
-use crate::outcome::Outcome;
-use crate::reading::reply_for;
-use cert_check::No;
-use fib_io::{Inputs, Sink, write_all};
+use crate::asks::{AskError, read_asks};
+use crate::check::{Reply, check_text};
+use crate::feed::{Counts, feed};
+use crate::outcome::{Outcome, Which};
+use crate::report::{Fed, write_text};
+use crate::state::{FeedError, State};
+use cost_cert::PrintedError;
+use fib_io::{Inputs, ReadError, read_whole};
+use fib_prefix::Addr;
+use fib_words::{CommandWords, RunWords, WordsError, read_words};
 use std::alloc::Global;
 
-/// The outcome at the end: Done, or what a check finds wrong.
-fn end_of(no: Option<No>) -> Outcome
-    ensures { EndsBy (option_map no_as no) result }
+/// What is wrong with a line where an address is due.
+const NO_ADDRESS: u8 = 1;
+
+/// The octets of an input.
+#[tactic(auto, unfolding(crate::specs::Due::input_at, crate::specs::Stops::sized))]
+fn octets_of<I: Inputs>(
+    alloc: Global,
+    inputs: &mut I,
+    name: &str,
+    which: Which,
+) -> Result<Vec<u8>, Outcome>
+    ensures due { GivesDue (λ v. v.items) result (input_at (I.content inputs.old) which name.now) }
+    ensures stops { IfErr result (StopsAt which) }
+    ensures most { IfOk result (λ v. length v.items ≤ 2 ^ 36) }
+    ensures same { I.content inputs.new ≡ I.content inputs.old }
+    ensures cause { ReadsFor (Rose (I.faults inputs.old name.now) (I.faults inputs.new name.now)) (I.faults inputs.old) (I.faults inputs.new) result }
 {
-    match no {
-        None => Outcome::Done,
-        Some(no) => Outcome::CheckNo(no),
+    match read_whole(alloc, inputs, name) {
+        Ok(octets) => Ok(octets),
+        Err(ReadError::Fault) => Err(Outcome::ReadFault),
+        Err(ReadError::NoMemory) => Err(Outcome::NoMemory),
+        Err(ReadError::TooLarge) => Err(Outcome::TooLarge { input: which }),
     }
 }
 
-/// The outcome, with nothing told of it yet.
-#[tactic(auto, using(crate::proofs::Untold::own_end, crate::proofs::Untold::own_fault, crate::proofs::Untold::some_ends, crate::proofs::Untold::some_fault, crate::proofs::Untold::some_stop), unfolding(crate::specs::Due::reply_at))]
-fn outcome_of<I: Inputs, O: Sink>(
+/// The addresses that are asked for, none where no asks are named.
+#[tactic(auto, unfolding(crate::specs::Due::asks_at))]
+fn asks_of<I: Inputs>(
     alloc: Global,
-    words: &[String],
     inputs: &mut I,
-    out: &mut O,
-) -> Outcome
-    ensures exact { Meets (due_by words.now (I.content inputs.old)) result }
-    ensures read { ReadsFrom (read_by words.now (I.content inputs.old)) (I.faults inputs.old)
-        (I.faults inputs.new) result }
-    ensures write { WritesBy (O.faults out.old) (O.faults out.new) result }
-    ensures out { Writes (text_due (due_by words.now (I.content inputs.old))) (O.written out.old)
-        (O.written out.new) result }
-    ensures own { IsOf (asked_by words.now) result }
-    ensures some { FitsSome (I.content inputs.old) (asked_by words.now) (O.written out.old)
-        (O.written out.new) result }
+    command: &RunWords<'_>,
+) -> Result<Vec<Addr>, Outcome>
+    ensures due { GivesDue (λ v. map addr_as v.items) result (asks_at (I.content inputs.old) (named_as command.now).asks) }
+    ensures stops { IfErr result (StopsAt Which.Asks) }
+    ensures named { OnErr result (IsSome (named_as command.now).asks) }
     ensures same { I.content inputs.new ≡ I.content inputs.old }
-    ensures printed { result ≡ Outcome.Done → IsRun (asked_by words.now) → AddsYes
-        (O.written out.old) (O.written out.new) }
-    ensures front { result ≡ Outcome.WriteFault → IsRun (asked_by words.now) → AddsFrontOfYes
-        (O.written out.old) (O.written out.new) }
-    ensures due_yes { result ≡ Outcome.Done → IfRan
-        (due_by words.now (I.content inputs.old)) PrintsYes }
+    ensures cause { ReadsFor (OneRose (option_to_list (named_as command.now).asks) (I.faults inputs.old) (I.faults inputs.new)) (I.faults inputs.old) (I.faults inputs.new) result }
 {
-    match reply_for(alloc, words, inputs) {
-        Ok(reply) => match write_all(out, &reply.text) {
-            Ok(()) => end_of(reply.no),
-            Err(_) => Outcome::WriteFault,
+    let Some(name) = command.asks else {
+        return Ok(Vec::new(alloc));
+    };
+    let octets = octets_of(alloc, inputs, name, Which::Asks)?;
+    match read_asks(alloc, &octets) {
+        Ok(asks) => Ok(asks),
+        Err(AskError::BadLine(line)) => Err(Outcome::BadLine {
+            input: Which::Asks,
+            line,
+            why: NO_ADDRESS,
+        }),
+        Err(AskError::NoMemory) => Err(Outcome::NoMemory),
+    }
+}
+
+/// The event that a refusal names: those of a dump are the load, event 0.
+fn event_in(which: Which, event: u64) -> u64
+    ensures { result ≡ event_in which event }
+{
+    match which {
+        Which::Updates => event,
+        Which::Asks | Which::Dump | Which::Printed => 0,
+    }
+}
+
+/// The outcome where an input brings nothing.
+fn outcome_of_refusal(which: Which, error: FeedError) -> Outcome
+    ensures { result ≡ refusal_of which error }
+{
+    match error {
+        FeedError::Malformed(malformed) => Outcome::Malformed {
+            input: which,
+            number: malformed.number,
+            rule: malformed.rule,
         },
-        Err(outcome) => outcome,
+        FeedError::HopsFull(event) => Outcome::HopsFull {
+            event: event_in(which, event),
+        },
+        FeedError::NoMemory => Outcome::NoMemory,
     }
 }
 
-/// Writes the outcome's line to err, where a fault is passed over.
-pub fn tell<E: Sink>(outcome: Outcome, err: &mut E)
-    ensures { TellsOf outcome (E.written err.old) (E.written err.new) (E.faults err.old)
-        (E.faults err.new) }
+/// Takes what an input brings.
+#[tactic(auto, unfolding(crate::specs::Due::feed_at))]
+fn feed_of<I: Inputs>(
+    alloc: Global,
+    inputs: &mut I,
+    state: &mut State,
+    which: Which,
+    name: &str,
+) -> Result<Counts, Outcome>
+    ensures due { (before : List Elem) → StateStands which before [] state.old → StateFeeds which before result state.new (feed_at (I.content inputs.old) which before (Some name.now)) }
+    ensures stops { HasRecords which → IfErr result (StopsAt which) }
+    ensures same { I.content inputs.new ≡ I.content inputs.old }
+    ensures cause { ReadsFor (Rose (I.faults inputs.old name.now) (I.faults inputs.new name.now)) (I.faults inputs.old) (I.faults inputs.new) result }
 {
-    if outcome != Outcome::Done {
-        let _ = write_all(err, outcome.line().as_bytes());
+    let octets = octets_of(alloc, inputs, name, which)?;
+    feed(alloc, state, which, &octets).map_err(|error| outcome_of_refusal(which, error))
+}
+
+/// Takes what the updates bring, if any are named.
+#[tactic(auto, unfolding(crate::specs::Due::feed_at))]
+fn updates_of<I: Inputs>(
+    alloc: Global,
+    inputs: &mut I,
+    state: &mut State,
+    command: &RunWords<'_>,
+) -> Result<Counts, Outcome>
+    ensures due { (before : List Elem) → StateStands Which.Updates before [] state.old → StateFeeds Which.Updates before result state.new (feed_at (I.content inputs.old) Which.Updates before (named_as command.now).updates) }
+    ensures stops { IfErr result (StopsAt Which.Updates) }
+    ensures named { OnErr result (IsSome (named_as command.now).updates) }
+    ensures same { I.content inputs.new ≡ I.content inputs.old }
+    ensures cause { ReadsFor (OneRose (option_to_list (named_as command.now).updates) (I.faults inputs.old) (I.faults inputs.new)) (I.faults inputs.old) (I.faults inputs.new) result }
+{
+    match command.updates {
+        Some(name) => feed_of(alloc, inputs, state, Which::Updates, name),
+        None => Ok(Counts {
+            records: 0,
+            skipped: 0,
+            events: 0,
+        }),
     }
 }
 
-/// The outcome, told to err.
-fn ended<I: Inputs, O: Sink, E: Sink>(
+/// Takes the dump and the updates, and gives the text.
+#[tactic(auto, unfolding(crate::specs::Due::told_at))]
+fn text_of<I: Inputs>(
     alloc: Global,
-    words: &[String],
     inputs: &mut I,
-    out: &mut O,
-    err: &mut E,
-) -> Outcome
-    ensures exact { Meets (due_by words.now (I.content inputs.old)) result }
-    ensures read { ReadsFrom (read_by words.now (I.content inputs.old)) (I.faults inputs.old)
-        (I.faults inputs.new) result }
-    ensures write { WritesBy (O.faults out.old) (O.faults out.new) result }
-    ensures out { Writes (text_due (due_by words.now (I.content inputs.old))) (O.written out.old)
-        (O.written out.new) result }
-    ensures own { IsOf (asked_by words.now) result }
-    ensures some { FitsSome (I.content inputs.old) (asked_by words.now) (O.written out.old)
-        (O.written out.new) result }
+    command: &RunWords<'_>,
+    asks: &[Addr],
+) -> Result<Vec<u8>, Outcome>
+    ensures due { GivesDue (λ v. v.items) result (with_text (told_at (I.content inputs.old) (named_as command.now) (map addr_as asks.now))) }
+    ensures stops { IfErr result (StopsIn (Run (named_as command.now))) }
+    ensures yes { IfOk result (λ text. ChecksYes text.items) }
     ensures same { I.content inputs.new ≡ I.content inputs.old }
-    ensures printed { result ≡ Outcome.Done → IsRun (asked_by words.now) → AddsYes
-        (O.written out.old) (O.written out.new) }
-    ensures front { result ≡ Outcome.WriteFault → IsRun (asked_by words.now) → AddsFrontOfYes
-        (O.written out.old) (O.written out.new) }
-    ensures due_yes { result ≡ Outcome.Done → IfRan
-        (due_by words.now (I.content inputs.old)) PrintsYes }
-    ensures err { TellsOf result (E.written err.old) (E.written err.new) (E.faults err.old)
-        (E.faults err.new) }
+    ensures cause { ReadsFor (OneRose (feeds_named (I.content inputs.old) (named_as command.now)) (I.faults inputs.old) (I.faults inputs.new)) (I.faults inputs.old) (I.faults inputs.new) result }
 {
-    let outcome = outcome_of(alloc, words, inputs, out);
-    tell(outcome, err);
-    outcome
+    let mut state = State::new(alloc);
+    let load = feed_of(alloc, inputs, &mut state, Which::Dump, command.dump)?;
+    let Ok(loaded) = state.candidates.routes() else {
+        return Err(Outcome::NoMemory);
+    };
+    let updates = updates_of(alloc, inputs, &mut state, command)?;
+    let fed = Fed {
+        loaded: &loaded,
+        load,
+        updates,
+    };
+    match write_text(alloc, &state, &fed, asks) {
+        Ok(text) => Ok(text),
+        Err(_) => Err(Outcome::NoMemory),
+    }
 }
 
-/// Does what the words say: reads the inputs that they name, and writes the rows of a run, or the verdict on a printed text,
-/// to `out`.
-///
-/// What is due is a function of the words and of what the inputs hold. The outcome is the due one, but that a fault of
-/// reading or want of memory may come before it, and a fault of writing in place of Done and of CheckNo. Nothing is written
-/// to `out` before all is accepted. Every outcome but Done is told by one line to `err`, and a fault of `err` changes nothing.
-///
-/// It costs n log n in the octets read and the rows written, and the routes' number times the lengths of their prefixes. In
-/// memory are, at most, one input twice while it is read, the candidates of all peers, the trees of the routes while they are
-/// looked up, and the whole text. A check keeps the text, its routes, least table and certificate, and the runs of both tables.
-#[tactic(auto, using(crate::proofs::Completing::completes, crate::proofs::Running::sums_up, crate::proofs::Running::forwards, crate::proofs::Running::answers, crate::proofs::Running::least, crate::proofs::Running::certified, crate::proofs::Running::addressed, crate::proofs::Replies::decides, crate::proofs::Replies::yes_proves))]
-pub fn run_fib<I: Inputs, O: Sink, E: Sink>(
+/// Takes the asks, the dump and the updates, and gives the text.
+#[tactic(auto, unfolding(crate::specs::Due::run_at))]
+fn run_for<I: Inputs>(
+    alloc: Global,
+    inputs: &mut I,
+    command: &RunWords<'_>,
+) -> Result<Vec<u8>, Outcome>
+    ensures due { GivesDue (λ v. v.items) result (with_text (run_at (I.content inputs.old) (named_as command.now))) }
+    ensures some { TextOfSome (I.content inputs.old) (named_as command.now) result }
+    ensures stops { IfErr result (StopsIn (Run (named_as command.now))) }
+    ensures yes { IfOk result (λ text. ChecksYes text.items) }
+    ensures same { I.content inputs.new ≡ I.content inputs.old }
+    ensures cause { ReadsFor (OneRose (reads_named (I.content inputs.old) (named_as command.now)) (I.faults inputs.old) (I.faults inputs.new)) (I.faults inputs.old) (I.faults inputs.new) result }
+{
+    let asks = asks_of(alloc, inputs, command)?;
+    text_of(alloc, inputs, command, &asks)
+}
+
+/// Takes a printed text, and gives the reply to it.
+#[tactic(auto, unfolding(crate::specs::Due::used_at))]
+fn check_for<I: Inputs>(alloc: Global, inputs: &mut I, name: &str) -> Result<Reply, Outcome>
+    ensures due { GivesDue reply_as result (with_reply (checked (used_at (I.content inputs.old) name.now))) }
+    ensures some { ReplyOfSome result }
+    ensures stops { IfErr result (StopsAt Which.Printed) }
+    ensures same { I.content inputs.new ≡ I.content inputs.old }
+    ensures cause { ReadsFor (Rose (I.faults inputs.old name.now) (I.faults inputs.new name.now)) (I.faults inputs.old) (I.faults inputs.new) result }
+{
+    let octets = octets_of(alloc, inputs, name, Which::Printed)?;
+    match check_text(alloc, &octets) {
+        Ok(reply) => Ok(reply),
+        Err(PrintedError::BadRow(bad)) => Err(Outcome::BadLine {
+            input: Which::Printed,
+            line: bad.line,
+            why: bad.why,
+        }),
+        Err(PrintedError::NoMemory) => Err(Outcome::NoMemory),
+    }
+}
+
+/// The reply that is this text, with nothing wrong.
+fn reply_of(text: Vec<u8>) -> Reply
+    ensures { reply_as result ≡ record { text = text.items; wrong = None } }
+{
+    Reply { text, no: None }
+}
+
+/// The reply to what the words ask for.
+#[tactic(auto, unfolding(crate::specs::Due::output_at))]
+fn reply_to<I: Inputs>(
+    alloc: Global,
+    inputs: &mut I,
+    command: &CommandWords<'_>,
+) -> Result<Reply, Outcome>
+    ensures due { GivesDue reply_as result (with_reply (output_at (I.content inputs.old) (asked_as command.now))) }
+    ensures some { GivesSome (I.content inputs.old) (Some (asked_as command.now)) result }
+    ensures stops { IfErr result (StopsIn (asked_as command.now)) }
+    ensures owns { IfOk result (Owns (Some (asked_as command.now))) }
+    ensures yes { IsRun (Some (asked_as command.now)) → IfOk result (λ reply. ChecksYes reply.text.items) }
+    ensures due_yes { OnOk result (IfRan (output_at (I.content inputs.old) (asked_as command.now)) PrintsYes) }
+    ensures same { I.content inputs.new ≡ I.content inputs.old }
+    ensures cause { ReadsFor (OneRose (reads_asked (I.content inputs.old) (Some (asked_as command.now))) (I.faults inputs.old) (I.faults inputs.new)) (I.faults inputs.old) (I.faults inputs.new) result }
+{
+    match command {
+        CommandWords::Run(run) => {
+            let text = run_for(alloc, inputs, run)?;
+            Ok(reply_of(text))
+        }
+        CommandWords::Check(printed) => check_for(alloc, inputs, printed),
+    }
+}
+
+/// The reply to the words.
+#[tactic(auto, unfolding(crate::specs::Due::due, crate::specs::Due::reply_at, crate::specs::Ends::reads))]
+pub fn reply_for<I: Inputs>(
     alloc: Global,
     words: &[String],
     inputs: &mut I,
-    out: &mut O,
-    err: &mut E,
-) -> Outcome
-    // The outcome is the due one, but for faults and want of memory.
-    ensures exact { Meets (due_by words.now (I.content inputs.old)) result }
-
-    // A fault of reading has its cause in an input that was to be read, and nothing else leaves a count risen.
-    ensures read { ReadsFrom (read_by words.now (I.content inputs.old)) (I.faults inputs.old)
-        (I.faults inputs.new) result }
-
-    // A fault of writing has its cause in out.
-    ensures write { WritesBy (O.faults out.old) (O.faults out.new) result }
-
-    // Out has the due text at Done and at CheckNo, a front of it at a fault of writing, and else nothing new.
-    ensures out { Writes (text_due (due_by words.now (I.content inputs.old))) (O.written out.old)
-        (O.written out.new) result }
-
-    // Err has the outcome's line, and nothing new at Done.
-    ensures err { TellsOf result (E.written err.old) (E.written err.new) (E.faults err.old)
-        (E.faults err.new) }
-
-    // The words have the outcome, whether or not an input tells what it holds.
-    ensures own { IsOf (asked_by words.now) result }
-
-    // Where the asks of a run or the text of a check don't tell, all is as it is due of some that there could be.
-    ensures some { FitsSome (I.content inputs.old) (asked_by words.now) (O.written out.old)
-        (O.written out.new) result }
-
-    // No content changes.
+) -> Result<Reply, Outcome>
+    ensures due { GivesDue reply_as result (reply_at (texts_of words.now) (I.content inputs.old)) }
+    ensures some { GivesSome (I.content inputs.old) (asked_by words.now) result }
+    ensures own { IfErr result (IsOf (asked_by words.now)) }
+    ensures owns { IfOk result (Owns (asked_by words.now)) }
+    ensures yes { IsRun (asked_by words.now) → IfOk result (λ reply. ChecksYes reply.text.items) }
+    ensures due_yes { OnOk result (IfRan (due_by words.now (I.content inputs.old)) PrintsYes) }
     ensures same { I.content inputs.new ≡ I.content inputs.old }
-
-    // Where a count rose, the outcome says so.
-    ensures risen_input { (name : List ℕ) → I.faults inputs.old name < I.faults inputs.new name →
-        result ≡ Outcome.ReadFault }
-    ensures risen_out { O.faults out.old < O.faults out.new → result ≡ Outcome.WriteFault }
-
-    // With contents told and no count risen the due outcome comes, unless memory runs out.
-    ensures complete { Completes (due_by words.now (I.content inputs.old))
-        (OneRose (read_by words.now (I.content inputs.old)) (I.faults inputs.old)
-        (I.faults inputs.new)) (Rose (O.faults out.old) (O.faults out.new)) result }
-
-    // What is due to be printed of a run: the changes add up to the table, the table sends every address where the routes send it,
-    // each answer is the longest match among the routes, and the least table sends every address where the routes send it
-    // and has no more entries in either family than any table that does.
-    ensures sum { IfDue (due_by words.now (I.content inputs.old)) SumsUp }
-    ensures forwards { IfDue (due_by words.now (I.content inputs.old)) Forwards }
-    ensures answers { IfDue (due_by words.now (I.content inputs.old)) Answers }
-    ensures least { IfDue (due_by words.now (I.content inputs.old)) HasLeast }
-
-    // The printed rows prove the printed least table least, to whoever trusts the rules of certificates alone.
-    ensures certified { IfDue (due_by words.now (I.content inputs.old)) Certified }
-
-    // What is due to be printed has its addresses: different numbers have different hops, each route has a hop and so its row,
-    // and every other number that is told is 0 or has a hop.
-    ensures addressed { IfRan (due_by words.now (I.content inputs.old)) HasHops }
-
-    // At Done of a run out has one text more, to which a check says yes: it is read again as rows with a certificate, whatever
-    // numbers the reader gives the hops. At a fault of writing it has a front of such a text. Where the inputs tell what they
-    // hold, the due text is such a text.
-    ensures printed { result ≡ Outcome.Done → IsRun (asked_by words.now) → AddsYes
-        (O.written out.old) (O.written out.new) }
-    ensures front { result ≡ Outcome.WriteFault → IsRun (asked_by words.now) → AddsFrontOfYes
-        (O.written out.old) (O.written out.new) }
-    ensures due_yes { result ≡ Outcome.Done → IfRan
-        (due_by words.now (I.content inputs.old)) PrintsYes }
-
-    // A check that is due says yes exactly where the printed rows are a certificate, whoever wrote them. The printed least
-    // table then sends every address where the printed routes send it, and has no more entries in either family than any
-    // table that does.
-    ensures proved { IfChecked (due_by words.now (I.content inputs.old)) Decides }
-    ensures yes { IfChecked (due_by words.now (I.content inputs.old)) YesProves }
+    ensures cause { ReadsFor (OneRose (read_by words.now (I.content inputs.old)) (I.faults inputs.old) (I.faults inputs.new)) (I.faults inputs.old) (I.faults inputs.new) result }
 {
-    ended(alloc, words, inputs, out, err)
+    let command = match read_words(alloc, words) {
+        Ok(command) => command,
+        Err(WordsError::Usage) => return Err(Outcome::Usage),
+        Err(WordsError::NoMemory) => return Err(Outcome::NoMemory),
+    };
+    reply_to(alloc, inputs, &command)
 }

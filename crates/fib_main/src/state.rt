@@ -1,14 +1,14 @@
 //! What the inputs bring: candidates, the numbers of next hops, and the changes that updates make.
 
 ghost use Rattle.std.specs.Prelude.{◌≡◌, ◌≤◌, ◌<◌, ◌∷◌, [], length, map, option_map, IfOk, OnOk, IsErrOf, option_to_list};
-ghost use Rattle.fib_addr.specs.Seen.{addr_as, prefix_as};
-ghost use Rattle.fib_prefix.specs.Seen.{elem_as, event_as};
+ghost use Rattle.fib_addr.specs.Views.{addr_as, prefix_as};
+ghost use Rattle.fib_prefix.specs.Views.{elem_as, event_as};
 ghost use Rattle.route_model.specs.Choice.{after_elem};
 ghost use Rattle.route_choice.specs.Held.{IsChoice};
 ghost use Rattle.feed_model.specs.Feed.{change_of, hops_after, number_in};
 ghost use Rattle.fib_addr.specs.Hops.{most_hops};
-ghost use Rattle.fib_report.specs.Seen.{change_as};
-ghost use Rattle.fib_main.specs.Standing.{of_read, Takes, TakesAll};
+ghost use Rattle.fib_report.specs.Views.{change_as};
+ghost use Rattle.fib_main.specs.Standing.{of_read, StateTakes, StateTakesAll};
 ghost use Rattle.fib_main.specs.declared.state.FeedError.TheVariants.{Malformed as IsMalformed, NoMemory as IsNoMemory};
 
 use crate::outcome::Which;
@@ -135,7 +135,7 @@ fn number_hop(hops: &mut HopTable, elem: &Elem) -> Result<(), HopError>
 /// Takes the elementary event of this number: its hop gets a number, and the candidates change. Of updates it keeps the change
 /// that it makes; of a dump nobody asks for it.
 fn step(state: &mut State, which: Which, event: u64, elem: &Elem) -> Result<(), FeedError>
-    ensures { Takes which event (elem_as elem.now ∷ []) state.old result state.new }
+    ensures { StateTakes which event (elem_as elem.now ∷ []) state.old result state.new }
 {
     match number_hop(&mut state.hops, elem) {
         Ok(()) => {}
@@ -156,7 +156,7 @@ fn step(state: &mut State, which: Which, event: u64, elem: &Elem) -> Result<(), 
 
 /// Takes an event after so many elementary events, and gives how many there are then.
 fn take_event(state: &mut State, which: Which, before: u64, event: &Event) -> Result<u64, FeedError>
-    ensures { TakesAll which before (event_as event.now ∷ []) state.old result state.new }
+    ensures { StateTakesAll which before (event_as event.now ∷ []) state.old result state.new }
 {
     let elems = state.candidates.elementary(event)?;
     let mut count = before;
@@ -177,7 +177,7 @@ pub fn take_events(
     before: u64,
     events: &[Event],
 ) -> Result<u64, FeedError>
-    ensures { TakesAll which before (map event_as events.now) state.old result state.new }
+    ensures { StateTakesAll which before (map event_as events.now) state.old result state.new }
 {
     let mut count = before;
     for event in events {

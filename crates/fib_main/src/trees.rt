@@ -2,8 +2,8 @@
 
 ghost use Rattle.std.specs.Prelude.{◌≡◌, [], ◌∷◌, ◌++◌, IfOk, OnOk, map};
 ghost use Rattle.table_model.specs.Entries.{Entries, match_in, with_entry};
-ghost use Rattle.fib_addr.specs.Seen.{addr_as, entry_as};
-ghost use Rattle.fib_main.specs.Held.{AreBoth, Given, Hold, IsFresh};
+ghost use Rattle.fib_addr.specs.Views.{addr_as, entry_as};
+ghost use Rattle.fib_main.specs.Held.{AreBoth, Given, Hold, IsFreshOf};
 
 use fib_prefix::{Addr, Entry, Family, Hop};
 use orig_tree::Tree;
@@ -74,7 +74,7 @@ impl Trees {
     /// The least table that sends every address where the routes send it, with the rows that prove it least; IPv4 first.
     pub fn least(&self, alloc: Global) -> Result<Fresh, AllocError>
         requires { AreBoth self.now }
-        ensures { (routes : Entries) → Hold routes self.now → IfOk result (IsFresh routes) }
+        ensures { (routes : Entries) → Hold routes self.now → IfOk result (IsFreshOf routes) }
     {
         let mut least = fresh(alloc, &self.v4)?;
         let v6 = fresh(alloc, &self.v6)?;

@@ -11,11 +11,11 @@ use Rattle.address_model.specs.Order.{family_cmp}
 use Rattle.address_model.proofs.BitLaws.{value-bits_of}
 use Rattle.address_model.proofs.Families.{family_order}
 use Rattle.fib_addr.specs.declared.addr.Addr.{Addr}
-use Rattle.fib_addr.specs.Seen.{addr_as, prefix_as}
+use Rattle.fib_addr.specs.Views.{addr_as, prefix_as}
 use Rattle.fib_addr.specs.Order.{code_cmp}
 use Rattle.fib_addr.proofs.Ordering.{cmp_is}
 use Rattle.fib_prefix.specs.declared.event.Peer.{Peer}
-use Rattle.fib_prefix.specs.Seen.{peer_as}
+use Rattle.fib_prefix.specs.Views.{peer_as}
 use Rattle.fib_prefix.specs.Order.{code_peer_cmp}
 use Rattle.route_model.specs.Events.{peer_cmp}
 use Rattle.route_model.proofs.Places.{peer_key, prefix_key}

@@ -2,7 +2,7 @@
 
 ghost use Rattle.std.specs.Prelude.{◌≡◌};
 ghost use Rattle.fib_prefix.specs.Order.{code_peer_cmp};
-ghost use Rattle.fib_prefix.specs.Seen.{peer_as};
+ghost use Rattle.fib_prefix.specs.Views.{peer_as};
 ghost use Rattle.fib_prefix.specs.declared.event.Peer as code_peer;
 ghost use Rattle.route_model.specs.Events.{peer_cmp};
 

@@ -9,10 +9,10 @@ use Rattle.address_model.specs.Width.{width}
 use Rattle.address_model.proofs.BitLaws.{length-bits_of}
 use Rattle.fib_addr.specs.declared.addr.Addr.{Addr}
 use Rattle.fib_addr.specs.declared.prefix.Prefix.{Prefix}
-use Rattle.fib_addr.specs.Seen.{addr_as, prefix_as}
+use Rattle.fib_addr.specs.Views.{addr_as, prefix_as}
 use Rattle.fib_addr.proofs.Parts.{length_prefix}
 use Rattle.printed_model.specs.Rows.{PrintedRow, IsHop, IsRow, route_row}
-use Rattle.printed_model.specs.Numbered.{route_by}
+use Rattle.printed_model.specs.Numbered.{route_row_by}
 
 pub address_proper : (a : Addr) → IsAddress (addr_as a)
 address_proper a = length-bits_of (width a.family) a.bits
@@ -31,8 +31,8 @@ both_proper [] b p q = q
 both_proper (x ∷ a) b p q = (p.0, both_proper a b p.1 q)
 
 -- the row of a route, where it has a hop
-pub route_proper : (p : Model) (hop : Option Addr) (o : Option Address) (a : Addr) → hop ≡ Some a → option_map addr_as hop ≡ o → IsRow (route_row p (addr_as a)) → AllByRecursion IsRow (route_by p o)
-route_proper p hop o a is same row = let s : Some (addr_as a) ≡ o = sym (ap (option_map addr_as) is) ∙ same in subst (λ o. AllByRecursion IsRow (route_by p o)) s (row, tt)
+pub route_proper : (p : Model) (hop : Option Addr) (o : Option Address) (a : Addr) → hop ≡ Some a → option_map addr_as hop ≡ o → IsRow (route_row p (addr_as a)) → AllByRecursion IsRow (route_row_by p o)
+route_proper p hop o a is same row = let s : Some (addr_as a) ≡ o = sym (ap (option_map addr_as) is) ∙ same in subst (λ o. AllByRecursion IsRow (route_row_by p o)) s (row, tt)
 
 -- the rows of one more item
 pub more_proper : {X Y : Type 0} (rows : Y → List PrintedRow) (seen : X → Y) (xs : List X) (i : ℕ) (x : X) → i < length xs → x ≡ get_or xs i x

@@ -5,24 +5,24 @@ use Rattle.table_model.specs.Changes.{Change, Add, Replace, Remove}
 use Rattle.fib_addr.specs.Hops.{hop_at}
 use Rattle.printed_model.specs.Rows.{Records, Skipped, Events, Routes, Entries, PrintedRow, add_row, replace_row, remove_row, answer_row, table_row, report_row, text_of}
 use Rattle.printed_model.specs.Numbered.{of_route, of_least, of_cert}
-use Rattle.fib_report.specs.Seen.{Told}
+use Rattle.fib_report.specs.Views.{Told}
 use Rattle.fib_report.specs.declared.run.Report.{Report}
 
 -- ---- the row of an item, with the address of its hop; a number that no hop has is no hop
 
-abbrev pub change_by : List Address → ℕ → Change → PrintedRow
-change_by hops event (Add p h) = add_row event p (hop_at hops h)
-change_by hops event (Replace p h) = replace_row event p (hop_at hops h)
-change_by hops event (Remove p) = remove_row event p
+abbrev pub change_row : List Address → ℕ → Change → PrintedRow
+change_row hops event (Add p h) = add_row event p (hop_at hops h)
+change_row hops event (Replace p h) = replace_row event p (hop_at hops h)
+change_row hops event (Remove p) = remove_row event p
 
 abbrev pub of_change : List Address → ℕ × Change → PrintedRow
-of_change hops c = change_by hops c.0 c.1
+of_change hops c = change_row hops c.0 c.1
 
 abbrev pub of_answer : List Address → Address × ℕ → PrintedRow
 of_answer hops a = answer_row a.0 (hop_at hops a.1)
 
-abbrev pub of_table : List Address → Prefix × ℕ → PrintedRow
-of_table hops e = table_row e.0 (hop_at hops e.1)
+abbrev pub table_entry_row : List Address → Prefix × ℕ → PrintedRow
+table_entry_row hops e = table_row e.0 (hop_at hops e.1)
 
 abbrev pub report_rows : Report → List PrintedRow
 report_rows r = report_row Records r.records ∷ report_row Skipped r.skipped ∷ report_row Events r.events ∷ report_row Routes r.routes ∷ report_row Entries r.entries ∷ []
@@ -35,7 +35,7 @@ printed_rows hops run =
     flat_map (of_route hops) run.routes
     ++ map (of_change hops) run.changes
     ++ map (of_answer hops) run.answers
-    ++ map (of_table hops) run.table
+    ++ map (table_entry_row hops) run.table
     ++ map (of_least hops) run.least
     ++ map (of_cert hops) run.cert
     ++ report_rows run.report

@@ -4,7 +4,7 @@
 //! call takes memory; each costs the length of its text.
 
 ghost use Rattle.std.specs.Prelude.{◌≡◌, option_map};
-ghost use Rattle.fib_addr.specs.Seen.{addr_as};
+ghost use Rattle.fib_addr.specs.Views.{addr_as};
 ghost use Rattle.printed_model.specs.Rows.{count_name, family_name, hop_text};
 ghost use Rattle.cost_cert.specs.Printed.{count_as};
 

@@ -2,7 +2,7 @@
 //! a row costs its length.
 
 ghost use Rattle.std.specs.Prelude.{◌≤◌, ◌∷◌, [], codes, decimal, length, map, option_map, OnOk};
-ghost use Rattle.fib_addr.specs.Seen.{addr_as, prefix_as};
+ghost use Rattle.fib_addr.specs.Views.{addr_as, prefix_as};
 ghost use Rattle.fib_addr.specs.Text.{address_text, prefix_text};
 ghost use Rattle.printed_model.specs.Rows.{IsRow, count_name, family_name, hop_text, line_of, line};
 ghost use Rattle.cost_cert.specs.Printed.{count_as, printed_row_as};

@@ -17,13 +17,13 @@
 
 ghost use Rattle.std.specs.Prelude.{◌≡◌, ◌≤◌, [], ◌++◌, flat_map, length, map, IfOk, OnOk, OnErr, Some};
 ghost use Rattle.std.specs.List.{AllByRecursion};
-ghost use Rattle.fib_addr.specs.Seen.{addr_as, entry_as};
+ghost use Rattle.fib_addr.specs.Views.{addr_as, entry_as};
 ghost use Rattle.cost_cert.specs.Printed.{printed_row_as};
-ghost use Rattle.cert_rows.specs.Seen.{row_as};
+ghost use Rattle.cert_rows.specs.Views.{row_as};
 ghost use Rattle.printed_model.specs.Rows.{IsRow, text_of, line};
-ghost use Rattle.fib_report.specs.Rows.{of_answer, of_change, of_table, printed_rows, report_rows, run_text};
+ghost use Rattle.fib_report.specs.Rows.{of_answer, of_change, table_entry_row, printed_rows, report_rows, run_text};
 ghost use Rattle.printed_model.specs.Numbered.{of_cert, of_least, of_route};
-ghost use Rattle.fib_report.specs.Seen.{change_as, run_as};
+ghost use Rattle.fib_report.specs.Views.{change_as, run_as};
 ghost use Rattle.csv.specs.Writing.{text_written};
 ghost use Rattle.fib_report.specs.Writing.{AddsRows, IsAtRow};
 
@@ -128,8 +128,8 @@ fn put_table<W: Write + Drop>(
     hops: &HopTable,
 ) -> Result<(), AllocError>
     requires { IsAtRow out.old }
-    ensures added { OnOk result (AddsRows W.contents out.old out.new (text_of (map (of_table hops.now.list) (map entry_as table.now)))) }
-    ensures proper { OnOk result (AllByRecursion IsRow (map (of_table hops.now.list) (map entry_as table.now))) }
+    ensures added { OnOk result (AddsRows W.contents out.old out.new (text_of (map (table_entry_row hops.now.list) (map entry_as table.now)))) }
+    ensures proper { OnOk result (AllByRecursion IsRow (map (table_entry_row hops.now.list) (map entry_as table.now))) }
 {
     for entry in table {
         put_row(out, PrintedRow::Table(entry.prefix, hops.addr(entry.hop)))?;

@@ -1,7 +1,7 @@
 //! What a run tells.
 //!
 //! Plain lists, in the order in which they are to be written. Hops stand as their numbers in a `HopTable`, which the report
-//! is given beside the run. `specs/Seen.antt` says what contracts see of it.
+//! is given beside the run. `specs/Views.antt` says what contracts see of it.
 
 use cost_cert::Row;
 use fib_addr::{Addr, Entry, Hop, Prefix};

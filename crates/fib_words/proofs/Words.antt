@@ -17,7 +17,7 @@ use Rattle.clap.proofs.WalkLemmas.{first_value-rows}
 use Rattle.clap.proofs.OnLiterals.{clap_on_literals}
 use Rattle.fib_words.specs.declared.WordsError.{WordsError}
 use Rattle.fib_words.specs.declared.WordsError.TheVariants.{Usage, NoMemory}
-use Rattle.fib_words.specs.Commands.{fib_app, takes, is_empty, Run, Check, asked_in, named_in, command_of, IsCommand}
+use Rattle.fib_words.specs.Commands.{fib_app, takes, is_empty, Run, Check, asked_in, named_by, command_of, IsCommand}
 
 fib_free : is_simple_and_free fib_app ≡ true
 unfolding clap_on_literals
@@ -68,7 +68,7 @@ entered_check None rows e f = absurd cc
 entered_check (Some p) rows e f =
     let name : p.0 ≡ codes "check" = cc in
     let same : p.1 ≡ rows = cc in
-    ap (λ n. cond (bytes_eq n (codes "run")) (option_map Run (named_in p.1)) (cond (bytes_eq n (codes "check")) (option_map Check (first_of (codes "printed") p.1)) None)) name
+    ap (λ n. cond (bytes_eq n (codes "run")) (option_map Run (named_by p.1)) (cond (bytes_eq n (codes "check")) (option_map Check (first_of (codes "printed") p.1)) None)) name
     ∙ ap (λ r. option_map Check (first_of (codes "printed") r)) same
 
 pub check_is : (m check : ArgMatches) (printed : Option Text) → subcommand_name_of m ≡ Some (codes "check") → option_map (λ (p : Text × List Row). p.1) (subcommand_rows_of m) ≡ Some (rows_of (found_of check)) → printed ≡ first_value (found_of check) (codes "printed") → option_and_then asked_in (subcommand_rows_of m) ≡ option_map Check printed
@@ -78,5 +78,5 @@ check_is m check printed e f g =
 
 -- ---- the names in the matches of a run
 
-pub names_is : (m : ArgMatches) (d u a : Option Text) → d ≡ first_value (found_of m) (codes "dump") → u ≡ first_value (found_of m) (codes "updates") → a ≡ first_value (found_of m) (codes "ask") → option_map (λ dump. record { dump = dump; updates = u; asks = a }) d ≡ named_in (rows_of (found_of m))
+pub names_is : (m : ArgMatches) (d u a : Option Text) → d ≡ first_value (found_of m) (codes "dump") → u ≡ first_value (found_of m) (codes "updates") → a ≡ first_value (found_of m) (codes "ask") → option_map (λ dump. record { dump = dump; updates = u; asks = a }) d ≡ named_by (rows_of (found_of m))
 names_is m d u a e f g = rw (e, f, g, first_value-rows (found_of m) (codes "dump"), first_value-rows (found_of m) (codes "updates"), first_value-rows (found_of m) (codes "ask")) refl

@@ -51,8 +51,8 @@ is_empty (x ∷ xs) = false
 abbrev pub takes : List Text → Bool
 takes words = is_empty (fault_of fib_app words)
 
-abbrev pub named_in : List Row → Option Named
-named_in rows = option_map (λ dump. record { dump = dump; updates = first_of (codes "updates") rows; asks = first_of (codes "ask") rows }) (first_of (codes "dump") rows)
+abbrev pub named_by : List Row → Option Named
+named_by rows = option_map (λ dump. record { dump = dump; updates = first_of (codes "updates") rows; asks = first_of (codes "ask") rows }) (first_of (codes "dump") rows)
 
 -- a run, or the check of a printed text
 pub data Asked : Type 0 where
@@ -62,7 +62,7 @@ pub data Asked : Type 0 where
 -- what a command with its names asks for
 abbrev pub asked_in : Text × List Row → Option Asked
 asked_in entered =
-    if bytes_eq entered.0 (codes "run") then option_map Run (named_in entered.1)
+    if bytes_eq entered.0 (codes "run") then option_map Run (named_by entered.1)
     else (if bytes_eq entered.0 (codes "check") then option_map Check (first_of (codes "printed") entered.1) else None)
 
 -- what the words ask for, where the definition takes them

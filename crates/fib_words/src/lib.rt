@@ -9,7 +9,7 @@ ghost use Rattle.std.specs.Option.{option_and_then};
 ghost use Rattle.std.specs.String.{string_bytes};
 ghost use Rattle.clap.specs.Words.{app_of, found_of, rows_of, subcommand_rows_of, with_rule};
 ghost use Rattle.clap.specs.Values.{kind_of};
-ghost use Rattle.fib_words.specs.Commands.{asked_as, asked_in, check_app, command_of, fib_app, HasApp, IsCommand, IsLocal, named_as, named_in, option_rule, run_app, word_rule};
+ghost use Rattle.fib_words.specs.Commands.{asked_as, asked_in, check_app, command_of, fib_app, HasApp, IsCommand, IsLocal, named_as, named_by, option_rule, run_app, word_rule};
 ghost use Rattle.fib_words.specs.declared.WordsError.TheVariants.{NoMemory};
 
 use clap::error::ErrorKind;
@@ -111,7 +111,7 @@ fn fib_command<'a>(alloc: Global) -> Result<Command<'a>, AllocError>
 
 /// The names in the matches of `run`.
 fn named<'a>(matches: &ArgMatches<'a>) -> Option<RunWords<'a>>
-    ensures { option_map named_as result ≡ named_in (rows_of (found_of matches.now)) }
+    ensures { option_map named_as result ≡ named_by (rows_of (found_of matches.now)) }
 {
     let dump = matches.get_str("dump")?;
     Some(RunWords {
@@ -137,7 +137,7 @@ fn command_in<'a>(matches: &ArgMatches<'a>) -> Option<CommandWords<'a>>
     ensures { option_map asked_as result ≡ option_and_then asked_in (subcommand_rows_of matches.now) }
 {
     if let Some(run) = matches.subcommand_matches("run") {
-        let names = named(run)?;
+        let names = run_words(run)?;
         return Some(CommandWords::Run(names));
     }
     let check = matches.subcommand_matches("check")?;

@@ -7,14 +7,14 @@ use Rattle.table_model.specs.Table.{Entry, Table, lpm, longest, longer, hop_or, 
 use Rattle.least_model.specs.Regions.{IsWithin, lift}
 use Rattle.least_model.specs.Least.{Least, LeastWithin}
 use Rattle.least_model.specs.Sets.{is_in, joint, apart, side, set_of, k_of, agg, answers, smallest}
-use Rattle.least_model.specs.Least.{Gives}
+use Rattle.least_model.specs.Least.{GivesAnswers}
 use Rattle.least_model.specs.Least.{IsCost, IsBest, candidates, set_at, k_at, bound, aggregate}
 use Rattle.least_model.proofs.Join.{length_lift, distinct_lift, short_lift, all_weaker}
 use Rattle.least_model.proofs.Sets.{miss, without_entry, with_entry, of_the_set, filled, filled_joint, in_first, in_rest, in_smallest, not_missed, in_is_zero}
 use Rattle.least_model.proofs.Cost.{lower, agg_answers, agg_length, agg_table, set_filled, set_values, set_alike, k_alike, set_more, k_more, set_uniform, k_uniform}
 use Rattle.least_model.proofs.Region.{lpm_within, length_cut_most, lpm_lift, within_lift}
 
-pub region_lower : (w : ℕ) (R : Table) (p : List Bool) (h : ℕ) → length p ≤ w → (L : Table) → IsWithin p L → Gives w R p h L → k_at w R p + miss h (set_at w R p) ≤ length L
+pub region_lower : (w : ℕ) (R : Table) (p : List Bool) (h : ℕ) → length p ≤ w → (L : Table) → IsWithin p L → GivesAnswers w R p h L → k_at w R p + miss h (set_at w R p) ≤ length L
 region_lower w R p h s L i g =
     omega (
       arith,
@@ -22,7 +22,7 @@ region_lower w R p h s L i g =
       lower (w - length p) (answers R p) (cut p L) h (λ a l. sym (lpm_within p L a h i) ∙ g a (let e : length (p ++ a) ≡ w = omega (arith, length-append p a) in e)),
     )
 
-pub aggregate_gives : (w : ℕ) (R : Table) (p : List Bool) (h : ℕ) (old : Table) → length p ≤ w → Gives w R p h (aggregate w R p h old)
+pub aggregate_gives : (w : ℕ) (R : Table) (p : List Bool) (h : ℕ) (old : Table) → length p ≤ w → GivesAnswers w R p h (aggregate w R p h old)
 aggregate_gives w R p h old s a l =
     let d = w - length p in
     let e : length a ≡ d = omega (arith, length-append p a) in

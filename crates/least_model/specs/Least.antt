@@ -10,20 +10,20 @@ abbrev pub Least : ℕ → Table → Table → Type 0
 Least w R T = Alike w R T × ((L : Table) → IsTable w L → Alike w R L → length T ≤ length L)
 
 -- under h, L answers in the region p as R does: h is what an address gets from L that no entry of L matches
-abbrev pub Gives : ℕ → Table → List Bool → ℕ → Table → Type 0
-Gives w R p h L = (a : List Bool) → length (p ++ a) ≡ w → lpm L (p ++ a) h ≡ lpm R (p ++ a) 0
+abbrev pub GivesAnswers : ℕ → Table → List Bool → ℕ → Table → Type 0
+GivesAnswers w R p h L = (a : List Bool) → length (p ++ a) ≡ w → lpm L (p ++ a) h ≡ lpm R (p ++ a) 0
 
 -- k is what the region p costs under h: a table of k entries within p gives R's answers there, and none of fewer does
 abbrev pub IsCost : ℕ → Table → List Bool → ℕ → ℕ → Type 0
 IsCost w R p h k =
-    ((L : Table) × IsTable w L × IsWithin p L × Gives w R p h L × (length L ≡ k))
-    × ((L : Table) → IsTable w L → IsWithin p L → Gives w R p h L → k ≤ length L)
+    ((L : Table) × IsTable w L × IsWithin p L × GivesAnswers w R p h L × (length L ≡ k))
+    × ((L : Table) → IsTable w L → IsWithin p L → GivesAnswers w R p h L → k ≤ length L)
 
 -- of the tables within p that under h give R's answers there, T is one that has the fewest entries
 abbrev pub LeastWithin : ℕ → Table → List Bool → ℕ → Table → Type 0
 LeastWithin w R p h T =
-    IsTable w T × IsWithin p T × Gives w R p h T
-    × ((L : Table) → IsTable w L → IsWithin p L → Gives w R p h L → length T ≤ length L)
+    IsTable w T × IsWithin p T × GivesAnswers w R p h T
+    × ((L : Table) → IsTable w L → IsWithin p L → GivesAnswers w R p h L → length T ≤ length L)
 
 -- none and the hops of R
 abbrev pub candidates : Table → List ℕ

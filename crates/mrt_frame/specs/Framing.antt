@@ -2,8 +2,8 @@
 use Rattle.std.specs.Prelude.{◌≡◌, ℕ, ◌+◌, ◌<◌, ◌⊎◌, ◌==◌, if◌then◌else◌, List, [], ◌∷◌, ◌++◌, length, drop, Option, Some, None, option_map, IfSome, IfNone, Result, Ok, Err}
 use Rattle.std.specs.Borrow.{MutBor, Fml}
 use Rattle.std.specs.Io.BufRead.{Rests}
-use Rattle.reading_model.specs.Record.{Record, Fault, record_at, cut}
-use Rattle.reading_model.specs.Pieces.{Takes, Breaks}
+use Rattle.reading_model.specs.Record.{Record, Fault, record_at, records_in}
+use Rattle.reading_model.specs.Pieces.{TakesRecords, Breaks}
 use Rattle.mrt_frame.specs.Records.{record_of, fault_of}
 use Rattle.mrt_frame.specs.contracts.Framer.{the_row}
 use Rattle.mrt_frame.specs.declared.Framed.{Framed}
@@ -11,29 +11,29 @@ use Rattle.mrt_frame.specs.declared.Framer.{Framer}
 use Rattle.mrt_frame.specs.declared.Malformed.{Malformed}
 
 -- the octets fed and not taken
-abbrev pub left : Framer → List ℕ
-left framer = drop framer.at framer.kept.items
+abbrev pub framer_left : Framer → List ℕ
+framer_left framer = drop framer.at framer.kept.items
 
 -- how many records were taken
-abbrev pub count : Framer → ℕ
-count framer = framer.number
+abbrev pub framer_count : Framer → ℕ
+framer_count framer = framer.number
 
 -- the refusal that is kept
-abbrev pub refusal : Framer → Option Fault
-refusal framer = option_map fault_of framer.refused
+abbrev pub framer_refusal : Framer → Option Fault
+framer_refusal framer = option_map fault_of framer.refused
 
 -- Of the octets fed the framer gave these records, and keeps the octets after them or the refusal of what follows.
-pub record Stands (fed : List ℕ) (taken : List Record) (framer : Framer) : Type 0 where
-  pub counts : count framer ≡ length taken
-  pub goes_on : IfNone (refusal framer) (Takes fed taken (left framer))
-  pub refuses : IfSome (refusal framer) (Breaks fed)
+pub record FramerStands (fed : List ℕ) (taken : List Record) (framer : Framer) : Type 0 where
+  pub counts : framer_count framer ≡ length taken
+  pub goes_on : IfNone (framer_refusal framer) (TakesRecords fed taken (framer_left framer))
+  pub refuses : IfSome (framer_refusal framer) (Breaks fed)
 
 -- the framer was fed this piece more
-pub record Feeds (old : Framer) (piece : List ℕ) (new : Framer) : Type 0 where
-  pub leaves : left new ≡ left old ++ piece
-  pub counts : count new ≡ count old
-  pub refuses : refusal new ≡ refusal old
-  pub stands : (fed : List ℕ) (taken : List Record) → Stands fed taken old → Stands (fed ++ piece) taken new
+pub record FramerFeeds (old : Framer) (piece : List ℕ) (new : Framer) : Type 0 where
+  pub leaves : framer_left new ≡ framer_left old ++ piece
+  pub counts : framer_count new ≡ framer_count old
+  pub refuses : framer_refusal new ≡ framer_refusal old
+  pub stands : (fed : List ℕ) (taken : List Record) → FramerStands fed taken old → FramerStands (fed ++ piece) taken new
 
 -- the refusal that is kept comes first
 abbrev pub kept_or : {A : Type 0} → Option Fault → Result A Fault → Result A Fault
@@ -41,17 +41,17 @@ kept_or (Some fault) other = Err fault
 kept_or None other = other
 
 -- the record that stands at the front, or the refusal of its Length; nothing where a header or a body is cut
-abbrev pub next_in : ℕ → Result (Record × List ℕ) ℕ → Result (Option Record) Fault
-next_in number (Ok read) = Ok (Some read.0)
-next_in number (Err rule) = if rule == 3 then Err (record { number = number; rule = 3 }) else Ok None
+abbrev pub framer_next_in : ℕ → Result (Record × List ℕ) ℕ → Result (Option Record) Fault
+framer_next_in number (Ok read) = Ok (Some read.0)
+framer_next_in number (Err rule) = if rule == 3 then Err (record { number = number; rule = 3 }) else Ok None
 
 -- what comes next
-abbrev pub next_of : Framer → Result (Option Record) Fault
-next_of framer = kept_or (refusal framer) (next_in (count framer) (record_at (left framer)))
+abbrev pub framer_next : Framer → Result (Option Record) Fault
+framer_next framer = kept_or (framer_refusal framer) (framer_next_in (framer_count framer) (record_at (framer_left framer)))
 
 -- a refusal is kept, or no whole record and no bad header is left
-abbrev pub IsUsedUp : Framer → Type 0
-IsUsedUp framer = IfNone (refusal framer) (next_of framer ≡ Ok None)
+abbrev pub FramerIsUsedUp : Framer → Type 0
+FramerIsUsedUp framer = IfNone (framer_refusal framer) (framer_next framer ≡ Ok None)
 
 -- the octets that were left before the last record was taken
 abbrev pub left_before : Framer → List ℕ
@@ -60,61 +60,61 @@ left_before framer = drop framer.last framer.kept.items
 -- a record was taken, and not yet given back
 pub record HasTaken (framer : Framer) : Type 0 where
   pub behind : framer.last < framer.at
-  pub counted : 0 < count framer
+  pub counted : 0 < framer_count framer
 
 -- nothing was fed, taken or given back
-pub record IsUnchanged (old new : Framer) : Type 0 where
-  pub leaves : left new ≡ left old
+pub record FramerIsUnchanged (old new : Framer) : Type 0 where
+  pub leaves : framer_left new ≡ framer_left old
   pub before : left_before new ≡ left_before old
-  pub counts : count new ≡ count old
-  pub refuses : refusal new ≡ refusal old
+  pub counts : framer_count new ≡ framer_count old
+  pub refuses : framer_refusal new ≡ framer_refusal old
   pub has_taken : HasTaken old → HasTaken new
-  pub stands : (fed : List ℕ) (taken : List Record) → Stands fed taken old → Stands fed taken new
+  pub stands : (fed : List ℕ) (taken : List Record) → FramerStands fed taken old → FramerStands fed taken new
 
 -- the record taken last is the next one again
 pub record TakesBack (old new : Framer) : Type 0 where
-  pub leaves : left new ≡ left_before old
-  pub counts : count old ≡ count new + 1
-  pub refuses : refusal new ≡ refusal old
+  pub leaves : framer_left new ≡ left_before old
+  pub counts : framer_count old ≡ framer_count new + 1
+  pub refuses : framer_refusal new ≡ framer_refusal old
 
 -- a record was taken
 pub record TakesRecord (old : Framer) (r : Record) (new : Framer) : Type 0 where
-  pub front : record_at (left old) ≡ Ok (r, left new)
-  pub shorter : length (left new) < length (left old)
-  pub counts : count new ≡ count old + 1
-  pub refuses : refusal new ≡ None
+  pub front : record_at (framer_left old) ≡ Ok (r, framer_left new)
+  pub shorter : length (framer_left new) < length (framer_left old)
+  pub counts : framer_count new ≡ framer_count old + 1
+  pub refuses : framer_refusal new ≡ None
   pub has_taken : HasTaken new
-  pub before : left_before new ≡ left old
-  pub stands : (fed : List ℕ) (taken : List Record) → Stands fed taken old → Stands fed (taken ++ r ∷ []) new
+  pub before : left_before new ≡ framer_left old
+  pub stands : (fed : List ℕ) (taken : List Record) → FramerStands fed taken old → FramerStands fed (taken ++ r ∷ []) new
 
 -- a header or a body is cut, and nothing was taken
-pub record TakesNothing (old new : Framer) : Type 0 where
-  pub is_cut : (record_at (left new) ≡ Err 1) ⊎ (record_at (left new) ≡ Err 2)
-  pub leaves : left new ≡ left old
-  pub counts : count new ≡ count old
-  pub refuses : refusal new ≡ None
-  pub used_up : IsUsedUp new
-  pub stands : (fed : List ℕ) (taken : List Record) → Stands fed taken old → Stands fed taken new
+pub record FramerTakesNothing (old new : Framer) : Type 0 where
+  pub is_cut : (record_at (framer_left new) ≡ Err 1) ⊎ (record_at (framer_left new) ≡ Err 2)
+  pub leaves : framer_left new ≡ framer_left old
+  pub counts : framer_count new ≡ framer_count old
+  pub refuses : framer_refusal new ≡ None
+  pub used_up : FramerIsUsedUp new
+  pub stands : (fed : List ℕ) (taken : List Record) → FramerStands fed taken old → FramerStands fed taken new
 
 -- the refusal is kept
-pub record Refuses (old : Framer) (fault : Fault) (new : Framer) : Type 0 where
-  pub leaves : left new ≡ left old
-  pub counts : count new ≡ count old
-  pub refuses : refusal new ≡ Some fault
-  pub used_up : IsUsedUp new
-  pub breaks : (fed : List ℕ) (taken : List Record) → Stands fed taken old → Breaks fed fault
-  pub tells : (fed : List ℕ) (taken : List Record) → Stands fed taken old → cut fed ≡ Err fault
-  pub stands : (fed : List ℕ) (taken : List Record) → Stands fed taken old → Stands fed taken new
+pub record FramerRefuses (old : Framer) (fault : Fault) (new : Framer) : Type 0 where
+  pub leaves : framer_left new ≡ framer_left old
+  pub counts : framer_count new ≡ framer_count old
+  pub refuses : framer_refusal new ≡ Some fault
+  pub used_up : FramerIsUsedUp new
+  pub breaks : (fed : List ℕ) (taken : List Record) → FramerStands fed taken old → Breaks fed fault
+  pub tells : (fed : List ℕ) (taken : List Record) → FramerStands fed taken old → records_in fed ≡ Err fault
+  pub stands : (fed : List ℕ) (taken : List Record) → FramerStands fed taken old → FramerStands fed taken new
 
 -- how the framer stands after it gave this
-abbrev pub Took : Framer → Result (Option Framed) Malformed → Framer → Type 0
-Took old (Ok (Some framed)) new = TakesRecord old (record_of framed) new
-Took old (Ok None) new = TakesNothing old new
-Took old (Err malformed) new = Refuses old (fault_of malformed) new
+abbrev pub FramerTook : Framer → Result (Option Framed) Malformed → Framer → Type 0
+FramerTook old (Ok (Some framed)) new = TakesRecord old (record_of framed) new
+FramerTook old (Ok None) new = FramerTakesNothing old new
+FramerTook old (Err malformed) new = FramerRefuses old (fault_of malformed) new
 
 -- the framer, once the record that it lent is given back
 abbrev pub LendsNext : MutBor Framer → Result (Option Framed) Malformed → Fml
-LendsNext framer result = Rests the_row framer (Took framer.now result)
+LendsNext framer result = Rests the_row framer (FramerTook framer.now result)
 
 -- at the end of the input nothing may be left
 abbrev pub end_in : ℕ → List ℕ → Result (Record × List ℕ) ℕ → Result (Unit {0}) Fault
@@ -122,10 +122,10 @@ end_in number octets (Ok read) = Ok tt
 end_in number octets (Err rule) = if length octets == 0 then Ok tt else Err (record { number = number; rule = rule })
 
 -- what is said of the end of the input
-abbrev pub end_of : Framer → Result (Unit {0}) Fault
-end_of framer = kept_or (refusal framer) (end_in (count framer) (left framer) (record_at (left framer)))
+abbrev pub framer_end : Framer → Result (Unit {0}) Fault
+framer_end framer = kept_or (framer_refusal framer) (end_in (framer_count framer) (framer_left framer) (record_at (framer_left framer)))
 
 -- all that was fed is these records, or breaks this rule
-abbrev pub Tells : Framer → Result (Unit {0}) Malformed → Type 0
-Tells framer (Ok x) = (fed : List ℕ) (taken : List Record) → Stands fed taken framer → cut fed ≡ Ok taken
-Tells framer (Err malformed) = (fed : List ℕ) (taken : List Record) → Stands fed taken framer → cut fed ≡ Err (fault_of malformed)
+abbrev pub FramerTells : Framer → Result (Unit {0}) Malformed → Type 0
+FramerTells framer (Ok x) = (fed : List ℕ) (taken : List Record) → FramerStands fed taken framer → records_in fed ≡ Ok taken
+FramerTells framer (Err malformed) = (fed : List ℕ) (taken : List Record) → FramerStands fed taken framer → records_in fed ≡ Err (fault_of malformed)

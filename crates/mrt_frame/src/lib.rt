@@ -107,13 +107,13 @@ pub struct Framer {
 
 impl Framer {
     ghost use Rattle.std.specs.Borrow.{sem};
-    ghost use Rattle.mrt_frame.specs.Framing.{end_of, Feeds, HasTaken, IsUnchanged, IsUsedUp, left, LendsNext, next_of, refusal, Stands, TakesBack, Tells};
+    ghost use Rattle.mrt_frame.specs.Framing.{framer_end, FramerFeeds, HasTaken, FramerIsUnchanged, FramerIsUsedUp, framer_left, LendsNext, framer_next, framer_refusal, FramerStands, TakesBack, FramerTells};
 
     /// A framer that was fed nothing.
     pub fn new(alloc: Global) -> Framer
-        ensures nothing { left result ≡ [] }
-        ensures going { refusal result ≡ None }
-        ensures stands { Stands [] [] result }
+        ensures nothing { framer_left result ≡ [] }
+        ensures going { framer_refusal result ≡ None }
+        ensures stands { FramerStands [] [] result }
     {
         Framer {
             kept: Vec::new(alloc),
@@ -126,8 +126,8 @@ impl Framer {
 
     /// Adds the piece to what was fed; where memory runs out, the framer is as it was.
     pub fn feed(&mut self, piece: &[u8]) -> Result<(), AllocError>
-        ensures ok { OnOk result (Feeds self.old piece.now self.new) }
-        ensures err { OnErr result (IsUnchanged self.old self.new) }
+        ensures ok { OnOk result (FramerFeeds self.old piece.now self.new) }
+        ensures err { OnErr result (FramerIsUnchanged self.old self.new) }
     {
         self.kept.extend_from_slice(piece)
     }
@@ -136,7 +136,7 @@ impl Framer {
     ///
     /// A Length over the limit is refused with rule 3 as soon as its header is there, and then for good.
     pub fn next(&mut self) -> Result<Option<Framed<'_>>, Malformed>
-        ensures gives { answer_of (option_map record_of) result ≡ next_of self.old }
+        ensures gives { answer_of (option_map record_of) result ≡ framer_next self.old }
         ensures* after { sem 𝓛 (LendsNext self.entry result) }
     {
         if let Some(refused) = self.refused {
@@ -180,9 +180,9 @@ impl Framer {
     ///
     /// It is asked once `next` gives no further record.
     pub fn finish(&self) -> Result<(), Malformed>
-        requires { IsUsedUp self.now }
-        ensures gives { answer_of (λ x. x) result ≡ end_of self.now }
-        ensures tells { Tells self.now result }
+        requires { FramerIsUsedUp self.now }
+        ensures gives { answer_of (λ x. x) result ≡ framer_end self.now }
+        ensures tells { FramerTells self.now result }
     {
         if let Some(refused) = self.refused {
             return Err(refused);

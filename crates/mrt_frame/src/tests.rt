@@ -1,7 +1,7 @@
 //! Two records in pieces of several sizes, a record that is given back, and inputs that are cut or have a Length over the
 //! limit.
 ghost use Rattle.std.specs.Prelude.{OnOk};
-ghost use Rattle.mrt_frame.specs.Framing.{IsUsedUp};
+ghost use Rattle.mrt_frame.specs.Framing.{FramerIsUsedUp};
 
 use super::*;
 use std::test::Fail;
@@ -27,7 +27,7 @@ const LONG: [u8; 12] = [
 
 /// Takes the whole records: their subtypes, and their bodies one after another.
 fn take_whole(framer: &mut Framer, subs: &mut Vec<u16>, bodies: &mut Vec<u8>) -> Result<(), Fail>
-    ensures { OnOk result (IsUsedUp framer.new) }
+    ensures { OnOk result (FramerIsUsedUp framer.new) }
 {
     while let Some(framed) = framer.next()? {
         subs.push(framed.sub)?;
@@ -51,7 +51,7 @@ fn take_twice(framer: &mut Framer) -> Result<Option<[(u16, usize); 2]>, Malforme
 
 /// What is said once the records of the input are taken.
 fn end_of(framer: &mut Framer) -> Result<(), Malformed>
-    ensures { IsUsedUp framer.new }
+    ensures { FramerIsUsedUp framer.new }
 {
     while let Some(_framed) = framer.next()? {}
     framer.finish()

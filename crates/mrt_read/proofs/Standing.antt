@@ -5,7 +5,7 @@ use Rattle.route_model.specs.Events.{Peer, Event}
 use Rattle.octet_fields.specs.Field.{◌>>=◌}
 use Rattle.reading_model.specs.Record.{Record, Fault, record_at, at_record}
 use Rattle.reading_model.specs.Input.{Progress, start, record_in, counted, input}
-use Rattle.reading_model.specs.Reading.{Reads, ReadsNo}
+use Rattle.reading_model.specs.Reading.{ReadsEvents, ReadsNo}
 use Rattle.reading_model.proofs.Reading.{reading_starts, reading_takes, reading_breaks, reading_too_long, reading_ends_cut, reading_ends}
 use Rattle.mrt_frame.specs.Framing as framing
 use Rattle.mrt_frame.specs.Records.{answer_of}
@@ -13,32 +13,32 @@ use Rattle.mrt_frame.specs.declared.Malformed.{Malformed}
 use Rattle.wire_fields.specs.declared.refusal.Refusal.{Refusal}
 use Rattle.wire_fields.specs.declared.refusal.Refusal.TheVariants.{Rule}
 use Rattle.mrt_read.specs.Next as next
-use Rattle.mrt_read.specs.Seen.{told_events}
-use Rattle.mrt_read.specs.Standing.{left, peers, refusal, Stands, next_in, IsUsedUp, IsFault, TakesEvents, Refuses, end_of, Tells}
+use Rattle.mrt_read.specs.Views.{told_events}
+use Rattle.mrt_read.specs.Standing.{reader_left, peers, reader_refusal, ReaderStands, reader_next_in, ReaderIsUsedUp, IsFault, TakesEvents, ReaderRefuses, reader_end, ReaderTells}
 use Rattle.mrt_read.specs.declared.reader.Reader.{Reader}
 use Rattle.mrt_read.specs.declared.reader.NextRecord.{NextRecord}
 
 -- ---- a refusal is kept, or none is
 
-stands_on : (fed : List ℕ) (read : Progress) (r : Reader) → refusal r ≡ None → read.peers ≡ peers r → read.records ≡ r.records → read.skipped ≡ r.skipped → Reads fed read (left r) → Stands fed read r
+stands_on : (fed : List ℕ) (read : Progress) (r : Reader) → reader_refusal r ≡ None → read.peers ≡ peers r → read.records ≡ r.records → read.skipped ≡ r.skipped → ReadsEvents fed read (reader_left r) → ReaderStands fed read r
 stands_on fed read r none p n k t = record { peers = p; records = n; skipped = k; goes_on = rw none t; refuses = rw none tt }
 
-reads_of : (fed : List ℕ) (read : Progress) (r : Reader) → refusal r ≡ None → Stands fed read r → Reads fed read (left r)
+reads_of : (fed : List ℕ) (read : Progress) (r : Reader) → reader_refusal r ≡ None → ReaderStands fed read r → ReadsEvents fed read (reader_left r)
 reads_of fed read r none s = rw none at s.goes_on
 
 stops : (fed : List ℕ) (read : Progress) (rule : ℕ) → ReadsNo fed (record { read = read; rule = rule }) → input fed ≡ Err (record { read = read; rule = rule })
 stops fed read rule b = ap input (sym (append-nil fed)) ∙ b.whatever []
 
-refused_of : (fed : List ℕ) (read : Progress) (r : Reader) (fault : Fault) → refusal r ≡ Some fault → Stands fed read r → IsFault fed read fault
+refused_of : (fed : List ℕ) (read : Progress) (r : Reader) (fault : Fault) → reader_refusal r ≡ Some fault → ReaderStands fed read r → IsFault fed read fault
 refused_of fed read r fault kept s = let both = rw kept at s.refuses in (both.0, stops fed read fault.rule both.1)
 
-pub stands_at_start : (r : Reader) → refusal r ≡ None → left r ≡ [] → peers r ≡ None → r.records ≡ 0 → r.skipped ≡ 0 → Stands [] start r
+pub stands_at_start : (r : Reader) → reader_refusal r ≡ None → reader_left r ≡ [] → peers r ≡ None → r.records ≡ 0 → r.skipped ≡ 0 → ReaderStands [] start r
 stands_at_start r none empty p n k = stands_on [] start r none (sym p) (sym n) (sym k) (rw empty reading_starts)
 
-pub refuses_again : (r : Reader) (fault : Fault) → refusal r ≡ Some fault → Refuses r fault r
+pub refuses_again : (r : Reader) (fault : Fault) → reader_refusal r ≡ Some fault → ReaderRefuses r fault r
 refuses_again r fault kept = record { refuses = kept; peers = refl; records = refl; skipped = refl; tells = λ fed read s. refused_of fed read r fault kept s; stands = λ fed read s. s }
 
-pub tells_refused : (r : Reader) (fault : Fault) → refusal r ≡ Some fault → (fed : List ℕ) (read : Progress) → Stands fed read r → IsFault fed read fault
+pub tells_refused : (r : Reader) (fault : Fault) → reader_refusal r ≡ Some fault → (fed : List ℕ) (read : Progress) → ReaderStands fed read r → IsFault fed read fault
 tells_refused r fault kept fed read s = refused_of fed read r fault kept s
 
 -- ---- a record more
@@ -52,7 +52,7 @@ same_progress read table (Some v) events records skipped e n none some = rw (e, 
 abbrev pub source : Reader → next.Source
 source r = record { framer = r.framer; table = r.table }
 
-pub takes_events : (old new : Reader) (told : NextRecord) (events : List Event) → refusal old ≡ None → refusal new ≡ None → next.ReadsRecord (source old) told (source new)
+pub takes_events : (old new : Reader) (told : NextRecord) (events : List Event) → reader_refusal old ≡ None → reader_refusal new ≡ None → next.ReadsRecord (source old) told (source new)
     → events ≡ told_events (next.events_of told) → new.records ≡ old.records + 1 → IfNone (next.events_of told) (new.skipped ≡ old.skipped + 1) → IfSome (next.events_of told) (λ v. new.skipped ≡ old.skipped) → TakesEvents old events new
 takes_events old new told events none still r e n skips keeps = record {
   shorter = r.shorter;
@@ -60,24 +60,24 @@ takes_events old new told events none still r e n skips keeps = record {
   refuses = still;
   stands = λ fed read s.
       let says : record_in read.peers r.read ≡ Ok (peers new, next.events_of told) = rw s.peers r.says in
-      let on = reading_takes fed (left old) (left new) read r.read (peers new, next.events_of told) (reads_of fed read old none s) r.front says in
+      let on = reading_takes fed (reader_left old) (reader_left new) read r.read (peers new, next.events_of told) (reads_of fed read old none s) r.front says in
       let same = same_progress read (peers new) (next.events_of told) events new.records new.skipped e (rw s.records n) (rw s.skipped skips) (rw s.skipped keeps) in
       stands_on fed _ new still refl refl refl (rw same at on);
 }
 
-pub went_on : (old new : next.Source) (given : Option NextRecord) (told : NextRecord) → given ≡ Some told → next.Goes old (Ok given) new → next.ReadsRecord old told new
+pub went_on : (old new : next.Source) (given : Option NextRecord) (told : NextRecord) → given ≡ Some told → next.NextGoes old (Ok given) new → next.ReadsRecord old told new
 went_on old new given told is goes = rw is at goes
 
-pub went_wrong : (old new : next.Source) (why : Refusal) (rule : ℕ) → why ≡ Rule rule → next.Fails old why new → next.BreaksRule old rule × (new.table ≡ old.table)
+pub went_wrong : (old new : next.Source) (why : Refusal) (rule : ℕ) → why ≡ Rule rule → next.NextFails old why new → next.BreaksRule old rule × (new.table ≡ old.table)
 went_wrong old new why rule is fails = rw is at fails
 
 -- ---- a rule is broken
 
-breaks : (old : Reader) (rule : ℕ) → refusal old ≡ None → next.BreaksRule (source old) rule → (fed : List ℕ) (read : Progress) → Stands fed read old → ReadsNo fed (record { read = read; rule = rule })
-breaks old rule none (inl over) fed read s = rw over.1 (reading_too_long fed (left old) read (reads_of fed read old none s) over.0)
-breaks old rule none (inr b) fed read s = reading_breaks fed (left old) b.1 read b.0 rule (reads_of fed read old none s) b.2 (rw s.peers b.3)
+breaks : (old : Reader) (rule : ℕ) → reader_refusal old ≡ None → next.BreaksRule (source old) rule → (fed : List ℕ) (read : Progress) → ReaderStands fed read old → ReadsNo fed (record { read = read; rule = rule })
+breaks old rule none (inl over) fed read s = rw over.1 (reading_too_long fed (reader_left old) read (reads_of fed read old none s) over.0)
+breaks old rule none (inr b) fed read s = reading_breaks fed (reader_left old) b.1 read b.0 rule (reads_of fed read old none s) b.2 (rw s.peers b.3)
 
-pub refuses_rule : (old new : Reader) (fault : Fault) → refusal old ≡ None → fault.number ≡ old.records → next.BreaksRule (source old) fault.rule → refusal new ≡ Some fault → new.records ≡ old.records → new.skipped ≡ old.skipped → peers new ≡ peers old → Refuses old fault new
+pub refuses_rule : (old new : Reader) (fault : Fault) → reader_refusal old ≡ None → fault.number ≡ old.records → next.BreaksRule (source old) fault.rule → reader_refusal new ≡ Some fault → new.records ≡ old.records → new.skipped ≡ old.skipped → peers new ≡ peers old → ReaderRefuses old fault new
 refuses_rule old new fault none number b kept n k p = record {
   refuses = kept;
   peers = p;
@@ -116,24 +116,24 @@ next_some number table r e = said (record_in table r) e where
   said (Ok told) e = absurd cc
   said (Err rule) e = absurd cc
 
-ended : (r : Reader) (front : Result (Record × List ℕ) ℕ) → refusal r ≡ None → next_in r.records (peers r) front ≡ Ok None → (result : Result (Unit {0}) Malformed) → answer_of (λ x. x) result ≡ framing.end_in r.records (left r) front → record_at (left r) ≡ front → Tells r result
+ended : (r : Reader) (front : Result (Record × List ℕ) ℕ) → reader_refusal r ≡ None → reader_next_in r.records (peers r) front ≡ Ok None → (result : Result (Unit {0}) Malformed) → answer_of (λ x. x) result ≡ framing.end_in r.records (reader_left r) front → record_at (reader_left r) ≡ front → ReaderTells r result
 ended r (Ok front) none e result gives is = absurd (next_some r.records (peers r) front.0 e)
-ended r (Err rule) none e result gives is = at_end (left r) refl result gives where
-  at_end : (octets : List ℕ) → left r ≡ octets → (result : Result (Unit {0}) Malformed) → answer_of (λ x. x) result ≡ framing.end_in r.records octets (Err rule) → Tells r result
+ended r (Err rule) none e result gives is = at_end (reader_left r) refl result gives where
+  at_end : (octets : List ℕ) → reader_left r ≡ octets → (result : Result (Unit {0}) Malformed) → answer_of (λ x. x) result ≡ framing.end_in r.records octets (Err rule) → ReaderTells r result
   at_end [] empty (Ok x) gives = λ fed read s. reading_ends fed read (rw empty at (reads_of fed read r none s))
   at_end [] empty (Err malformed) gives = absurd (err_not_ok _ _ gives)
   at_end (b ∷ octets) some (Ok x) gives = absurd (ok_not_err x (record { number = r.records; rule = rule }) (gives ∙ not_empty r.records b octets rule))
   at_end (b ∷ octets) some (Err malformed) gives = λ fed read s.
       let same = same_fault _ _ (gives ∙ not_empty r.records b octets rule) in
-      (ap (λ (f : Fault). f.number) same ∙ sym s.records, reading_ends_cut fed (left r) read malformed.rule (reads_of fed read r none s) (omega (arith, ap length some)) (is ∙ ap Err (sym (ap (λ (f : Fault). f.rule) same))))
+      (ap (λ (f : Fault). f.number) same ∙ sym s.records, reading_ends_cut fed (reader_left r) read malformed.rule (reads_of fed read r none s) (omega (arith, ap length some)) (is ∙ ap Err (sym (ap (λ (f : Fault). f.rule) same))))
 
 nothing_next : (refused : Option Fault) (comes : Result (Option (List Event)) Fault) → refused ≡ None → IfNone refused (framing.kept_or refused comes ≡ Ok None) → comes ≡ Ok None
 nothing_next None comes e used = used
 nothing_next (Some fault) comes e used = absurd cc
 
-pub tells : (r : Reader) (result : Result (Unit {0}) Malformed) → refusal r ≡ None → framing.refusal r.framer ≡ None → framing.count r.framer ≡ r.records → IsUsedUp r → answer_of (λ x. x) result ≡ framing.end_of r.framer → Tells r result
+pub tells : (r : Reader) (result : Result (Unit {0}) Malformed) → reader_refusal r ≡ None → framing.framer_refusal r.framer ≡ None → framing.framer_count r.framer ≡ r.records → ReaderIsUsedUp r → answer_of (λ x. x) result ≡ framing.framer_end r.framer → ReaderTells r result
 tells r result none going counts used gives =
-    ended r (record_at (left r)) none (nothing_next (refusal r) _ none used) result (rw (going, counts) at gives) refl
+    ended r (record_at (reader_left r)) none (nothing_next (reader_refusal r) _ none used) result (rw (going, counts) at gives) refl
 
-pub ends_as : (r : Reader) (result : Result (Unit {0}) Malformed) → refusal r ≡ None → framing.refusal r.framer ≡ None → framing.count r.framer ≡ r.records → answer_of (λ x. x) result ≡ framing.end_of r.framer → answer_of (λ x. x) result ≡ end_of r
+pub ends_as : (r : Reader) (result : Result (Unit {0}) Malformed) → reader_refusal r ≡ None → framing.framer_refusal r.framer ≡ None → framing.framer_count r.framer ≡ r.records → answer_of (λ x. x) result ≡ framing.framer_end r.framer → answer_of (λ x. x) result ≡ reader_end r
 ends_as r result none going counts gives = rw none (rw (going, counts) at gives)

@@ -3,8 +3,8 @@
 ghost use Rattle.std.specs.Prelude.{◌≡◌, ◌≤◌, None, OnErr, OnOk, []};
 ghost use Rattle.std.specs.Option.{ForNone};
 ghost use Rattle.mrt_frame.specs.Framing as framing;
-ghost use Rattle.mrt_frame.specs.Framing.{count};
-ghost use Rattle.mrt_read.specs.Next.{Goes};
+ghost use Rattle.mrt_frame.specs.Framing.{framer_count};
+ghost use Rattle.mrt_read.specs.Next.{NextGoes};
 ghost use Rattle.reading_model.specs.Input.{start};
 
 use fib_prefix::Event;
@@ -39,8 +39,8 @@ fn read_next(
     framer: &mut Framer,
     table: &mut Option<PeerTable>,
 ) -> Result<Option<NextRecord>, Refusal>
-    requires { framing.refusal framer.old ≡ None }
-    ensures { Goes (record { framer = framer.old; table = table.old }) result (record { framer = framer.new; table = table.new }) }
+    requires { framing.framer_refusal framer.old ≡ None }
+    ensures { NextGoes (record { framer = framer.old; table = table.old }) result (record { framer = framer.new; table = table.new }) }
 {
     match framer.next() {
         Err(malformed) => Err(Refusal::Rule(malformed.rule)),
@@ -66,19 +66,19 @@ pub struct Reader {
     refused: Option<Malformed>,
     records: u64,
     skipped: u64,
-    ghost going: { ForNone refused ((framing.refusal framer ≡ None) × (count framer ≡ records)) },
+    ghost going: { ForNone refused ((framing.framer_refusal framer ≡ None) × (framer_count framer ≡ records)) },
     ghost counted: { skipped ≤ records },
 }
 
 impl Reader {
-    ghost use Rattle.mrt_read.specs.Standing.{Answers, end_of, Feeds, IsUnchanged, IsUsedUp, left, next_of, records_of, refusal, skipped_of, Stands, Tells, Took};
+    ghost use Rattle.mrt_read.specs.Standing.{ReaderAnswers, reader_end, ReaderFeeds, ReaderIsUnchanged, ReaderIsUsedUp, reader_left, reader_next, reader_records, reader_refusal, reader_skipped, ReaderStands, ReaderTells, ReaderTook};
     ghost use Rattle.mrt_frame.specs.Records.{answer_of};
 
     /// A reader that was fed nothing.
     pub fn new(alloc: Global) -> Reader
-        ensures nothing { left result ≡ [] }
-        ensures going { refusal result ≡ None }
-        ensures stands { Stands [] start result }
+        ensures nothing { reader_left result ≡ [] }
+        ensures going { reader_refusal result ≡ None }
+        ensures stands { ReaderStands [] start result }
     {
         Reader {
             alloc,
@@ -92,8 +92,8 @@ impl Reader {
 
     /// Adds the piece to what was fed; where memory runs out, the reader is as it was.
     pub fn feed(&mut self, piece: &[u8]) -> Result<(), AllocError>
-        ensures ok { OnOk result (Feeds self.old piece.now self.new) }
-        ensures err { OnErr result (IsUnchanged self.old self.new) }
+        ensures ok { OnOk result (ReaderFeeds self.old piece.now self.new) }
+        ensures err { OnErr result (ReaderIsUnchanged self.old self.new) }
     {
         self.framer.feed(piece)
     }
@@ -104,8 +104,8 @@ impl Reader {
     /// The first record that breaks a rule is refused, for good, and none of its events is given. Where memory runs out,
     /// the reader is as it was.
     pub fn take_events(&mut self) -> Result<Option<Vec<Event>>, EventsError>
-        ensures gives { Answers result (next_of self.old) }
-        ensures after { Took self.old result self.new }
+        ensures gives { ReaderAnswers result (reader_next self.old) }
+        ensures after { ReaderTook self.old result self.new }
     {
         if let Some(refused) = self.refused {
             return Err(EventsError::Malformed(refused));
@@ -138,9 +138,9 @@ impl Reader {
     /// It may be asked only once `take_events` gives no further events, or a refusal: a whole record that is left would be
     /// passed over.
     pub fn finish(&self) -> Result<(), Malformed>
-        requires { IsUsedUp self.now }
-        ensures gives { answer_of (λ x. x) result ≡ end_of self.now }
-        ensures tells { Tells self.now result }
+        requires { ReaderIsUsedUp self.now }
+        ensures gives { answer_of (λ x. x) result ≡ reader_end self.now }
+        ensures tells { ReaderTells self.now result }
     {
         if let Some(refused) = self.refused {
             return Err(refused);
@@ -150,14 +150,14 @@ impl Reader {
 
     /// How many whole records were read, skipped ones too, the refused one not.
     pub fn records(&self) -> u64
-        ensures { result ≡ records_of self.now }
+        ensures { result ≡ reader_records self.now }
     {
         self.records
     }
 
     /// How many of them were skipped.
     pub fn skipped_records(&self) -> u64
-        ensures { result ≡ skipped_of self.now }
+        ensures { result ≡ reader_skipped self.now }
     {
         self.skipped
     }

@@ -1,6 +1,6 @@
 //! An input of five records in pieces of several sizes, and inputs that end or break off wrongly.
 ghost use Rattle.std.specs.Prelude.{OnOk};
-ghost use Rattle.mrt_read.specs.Standing.{IsUsedUp};
+ghost use Rattle.mrt_read.specs.Standing.{ReaderIsUsedUp};
 
 use super::*;
 use fib_prefix::{Addr, Event, Family, Peer, Prefix};
@@ -35,7 +35,7 @@ const CUT: &[u8] = b"\x00\x00\x00\x00\x00\x0d\x00\x02\x00\x00\x00\x11\
 
 /// Takes the events of all whole records.
 fn take_all(reader: &mut Reader, events: &mut Vec<Event>) -> Result<(), Fail>
-    ensures { OnOk result (IsUsedUp reader.new) }
+    ensures { OnOk result (ReaderIsUsedUp reader.new) }
 {
     while let Some(more) = reader.take_events()? {
         events.extend_from_slice(&more)?;

@@ -2,9 +2,9 @@
 use Rattle.std.specs.Prelude.{List, map, Option, option_map}
 use Rattle.std.specs.declared.vec.Vec.{Vec}
 use Rattle.route_model.specs.Events.{Peer, Event}
-use Rattle.fib_prefix.specs.Seen.{peer_as, event_as}
+use Rattle.fib_prefix.specs.Views.{peer_as, event_as}
 use Rattle.fib_prefix.specs.declared.event.Event as code_event
-use Rattle.mrt_records.specs.declared.table.PeerTable.{PeerTable}
+use Rattle.mrt_records.specs.declared.peer_table.PeerTable.{PeerTable}
 
 -- its peers, by their index
 abbrev pub peers_of : PeerTable → List Peer

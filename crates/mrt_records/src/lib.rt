@@ -7,14 +7,14 @@
 //! Reading costs the body's octets, in memory too.
 #![tactic(auto)]
 
+mod bgp4mp;
 mod number;
+mod peer_table;
 mod record;
 mod rib;
-mod session;
-mod table;
 
+pub use peer_table::PeerTable;
 pub use record::read_record;
-pub use table::PeerTable;
 pub use wire_fields::Refusal;
 
 #[cfg(test)]

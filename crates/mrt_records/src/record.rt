@@ -1,14 +1,14 @@
 //! Records, by their types and subtypes.
 
 ghost use Rattle.std.specs.Prelude.{◌≡◌, map, option_copied, OnErr};
-ghost use Rattle.fib_prefix.specs.Seen.{event_as};
+ghost use Rattle.fib_prefix.specs.Views.{event_as};
 ghost use Rattle.wire_fields.specs.Gives.{GivesInMemory};
 ghost use Rattle.reading_model.specs.Input.{record_in, rib_behind};
 ghost use Rattle.mrt_records.specs.Views.{peers_in, read_as};
 
+use crate::bgp4mp::read_bgp4mp;
+use crate::peer_table::PeerTable;
 use crate::rib::read_rib;
-use crate::session::read_bgp4mp;
-use crate::table::PeerTable;
 use fib_prefix::{Event, Family};
 use std::alloc::Global;
 use wire_fields::{Refusal, rule};

@@ -3,14 +3,14 @@
 ghost use Rattle.std.specs.Prelude.{map, option_map, ◌≡◌, []};
 ghost use Rattle.octet_fields.specs.Field.{one_more, times};
 ghost use Rattle.octet_fields.specs.Gives.{Gives};
-ghost use Rattle.fib_addr.specs.Seen.{addr_as, prefix_as};
-ghost use Rattle.fib_prefix.specs.Seen.{peer_as, event_as};
-ghost use Rattle.reading_model.specs.Rib.{entry_at, entry_hop, rib};
+ghost use Rattle.fib_addr.specs.Views.{addr_as, prefix_as};
+ghost use Rattle.fib_prefix.specs.Views.{peer_as, event_as};
+ghost use Rattle.reading_model.specs.Rib.{rib_entry_at, entry_hop, rib};
 ghost use Rattle.bgp_attrs.specs.Views.{listed_as};
 ghost use Rattle.wire_fields.specs.Gives.{GivesInMemory};
 ghost use Rattle.mrt_records.specs.Views.{peers_of};
 
-use crate::table::PeerTable;
+use crate::peer_table::PeerTable;
 use bgp_attrs::{Attrs, Place, read_attrs};
 use bgp_update::event_of;
 use fib_prefix::{Addr, Event, Family, Peer, Prefix};
@@ -30,14 +30,14 @@ fn hop_of_entry(family: Family, attrs: &Attrs) -> Option<Addr>
 }
 
 /// The event of the entry at the front, and what follows it.
-#[tactic(auto, unfolding(reading_model::specs::Rib::entry_at))]
+#[tactic(auto, unfolding(reading_model::specs::Rib::rib_entry_at))]
 fn entry<'a>(
     peers: &[Peer],
     family: Family,
     prefix: Prefix,
     bytes: &'a [u8],
 ) -> Result<(Event, &'a [u8]), u8>
-    ensures { Gives (λ x. (event_as x.0, x.1.now)) result (entry_at (map peer_as peers.now) family (prefix_as prefix) bytes.now) }
+    ensures { Gives (λ x. (event_as x.0, x.1.now)) result (rib_entry_at (map peer_as peers.now) family (prefix_as prefix) bytes.now) }
 {
     let (index, rest) = u16_at(rule::RIB, bytes)?;
     let Some(peer) = peers.get(usize::from(index)) else {
@@ -60,7 +60,7 @@ fn entries<'a>(
     count: u16,
     bytes: &'a [u8],
 ) -> Result<(Vec<Event>, &'a [u8]), Refusal>
-    ensures { GivesInMemory (λ x. (map event_as x.0.items, x.1.now)) result (times (one_more (entry_at (map peer_as peers.now) family (prefix_as prefix))) count [] bytes.now) }
+    ensures { GivesInMemory (λ x. (map event_as x.0.items, x.1.now)) result (times (one_more (rib_entry_at (map peer_as peers.now) family (prefix_as prefix))) count [] bytes.now) }
 {
     let mut events = Vec::new(alloc);
     let mut rest = bytes;

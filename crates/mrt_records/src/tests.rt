@@ -2,8 +2,8 @@
 //! refused.
 
 use super::*;
+use crate::bgp4mp::read_bgp4mp;
 use crate::rib::read_rib;
-use crate::session::read_bgp4mp;
 use fib_prefix::{Addr, Event, Family, Peer, Prefix};
 use std::alloc::{AllocError, Global};
 use std::test::Fail;

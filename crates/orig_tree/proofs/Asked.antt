@@ -10,7 +10,7 @@ use Rattle.table_model.specs.Table.{Table, lpm}
 use Rattle.table_model.specs.Entries.{Entries, of_family, of_table, match_in}
 use Rattle.table_model.specs.Uniform.{AllGet, TwoDiffer}
 use Rattle.fib_addr.specs.declared.prefix.Prefix as code
-use Rattle.orig_tree.specs.Seen.{InPlace, Fits}
+use Rattle.orig_tree.specs.Views.{InPlace, Fits}
 use Rattle.orig_tree.specs.Uniform.{EachGets, TwoGet, IsUniform}
 use Rattle.orig_tree.proofs.Places.{family_is}
 use Rattle.orig_tree.proofs.Telling.{fits_in_place}

@@ -5,8 +5,8 @@ use Rattle.std.proofs.lemmas.Bool.{eqb-true, eqb-false}
 use Rattle.table_model.specs.Table.{Table, here}
 use Rattle.least_model.specs.Regions.{lift, join}
 use Rattle.least_model.proofs.Join.{lpm_join_low, lpm_join_high}
-use Rattle.orig_tree.specs.Seen.{Fits}
-use Rattle.orig_tree.specs.Cover.{Shows, Allows, Within, Reached, ReachedBy, IsCover, both, stopped, covered}
+use Rattle.orig_tree.specs.Views.{Fits}
+use Rattle.orig_tree.specs.Cover.{Shows, Allows, Within, SomeGets, ReachedBy, IsCover, both, stopped, covered}
 use Rattle.orig_tree.specs.declared.cover.Cover.{Cover}
 use Rattle.orig_tree.specs.declared.cover.Hops.{Hops}
 use Rattle.orig_tree.specs.declared.cover.Hops.TheVariants.{Zero, One, Many}
@@ -16,7 +16,7 @@ pub bare_cover : (c : Cover) → c.passes ≡ true → c.hops ≡ Zero → IsCov
 bare_cover c p h = record {
   each = λ n f a l. (None, (λ g. refl), p);
   passed = λ n f t. (replicate n true, length-replicate n true, λ g. refl);
-  reached = λ n f. subst (λ (x : Hops). ReachedBy (λ g. Reached n [] (Some g)) x) (sym h) tt;
+  reached = λ n f. subst (λ (x : Hops). ReachedBy (λ g. SomeGets n [] (Some g)) x) (sym h) tt;
 }
 
 -- what fits
@@ -59,7 +59,7 @@ bare_passes_by c (Some g) s w = absurd (not_shown [] g s)
 bare_passes : (c : Cover) → IsCover [] c → c.passes ≡ true
 bare_passes c k = let t = k.each 0 tt [] refl in bare_passes_by c t.0 t.1 t.2
 
-bare_hops_by : (hops : Hops) → ReachedBy (λ g. Reached 0 [] (Some g)) hops → hops ≡ Zero
+bare_hops_by : (hops : Hops) → ReachedBy (λ g. SomeGets 0 [] (Some g)) hops → hops ≡ Zero
 bare_hops_by Zero r = refl
 bare_hops_by (One x) r = absurd (not_shown r.0 x r.2)
 bare_hops_by Many r = absurd (not_shown r.3.0 r.0 r.3.2)
@@ -133,21 +133,21 @@ within_label (Some g) cl ch None w = stopped_own g (cl.passes || ch.passes) (bot
 within_label (Some g) cl ch (Some k) w = stopped_old g (cl.passes || ch.passes) (both cl.hops ch.hops) k w
 
 -- what is reached
-reach_low : (n : ℕ) (label : Option ℕ) (low high : Table) (x : Option ℕ) → Reached n low x → Reached (suc n) (join label low high) (after label x)
+reach_low : (n : ℕ) (label : Option ℕ) (low high : Table) (x : Option ℕ) → SomeGets n low x → SomeGets (suc n) (join label low high) (after label x)
 reach_low n label low high x r = (false ∷ r.0, ap suc r.1, shows_low label low high r.0 x r.2)
 
-reach_high : (n : ℕ) (label : Option ℕ) (low high : Table) (x : Option ℕ) → Reached n high x → Reached (suc n) (join label low high) (after label x)
+reach_high : (n : ℕ) (label : Option ℕ) (low high : Table) (x : Option ℕ) → SomeGets n high x → SomeGets (suc n) (join label low high) (after label x)
 reach_high n label low high x r = (true ∷ r.0, ap suc r.1, shows_high label low high r.0 x r.2)
 
 after_some : (label : Option ℕ) (k : ℕ) → after label (Some k) ≡ Some k
 after_some None k = refl
 after_some (Some g) k = refl
 
-reach_low_hop : (n : ℕ) (label : Option ℕ) (low high : Table) (k : ℕ) → Reached n low (Some k) → Reached (suc n) (join label low high) (Some k)
-reach_low_hop n label low high k r = subst (λ (x : Option ℕ). Reached (suc n) (join label low high) x) (after_some label k) (reach_low n label low high (Some k) r)
+reach_low_hop : (n : ℕ) (label : Option ℕ) (low high : Table) (k : ℕ) → SomeGets n low (Some k) → SomeGets (suc n) (join label low high) (Some k)
+reach_low_hop n label low high k r = subst (λ (x : Option ℕ). SomeGets (suc n) (join label low high) x) (after_some label k) (reach_low n label low high (Some k) r)
 
-reach_high_hop : (n : ℕ) (label : Option ℕ) (low high : Table) (k : ℕ) → Reached n high (Some k) → Reached (suc n) (join label low high) (Some k)
-reach_high_hop n label low high k r = subst (λ (x : Option ℕ). Reached (suc n) (join label low high) x) (after_some label k) (reach_high n label low high (Some k) r)
+reach_high_hop : (n : ℕ) (label : Option ℕ) (low high : Table) (k : ℕ) → SomeGets n high (Some k) → SomeGets (suc n) (join label low high) (Some k)
+reach_high_hop n label low high k r = subst (λ (x : Option ℕ). SomeGets (suc n) (join label low high) x) (after_some label k) (reach_high n label low high (Some k) r)
 
 module _ (r s : ℕ → Type 0) (f : (g : ℕ) → r g → s g) where
   reached_map : (hops : Hops) → ReachedBy r hops → ReachedBy s hops
@@ -169,9 +169,9 @@ module _ (r : ℕ → Type 0) where
   reached_stopped g true hops o w = reached_both hops (One g) w (o refl)
   reached_stopped g false hops o w = w
 
-reach_passed : (n : ℕ) (label : Option ℕ) (low high : Table) (cl ch : Cover) → IsCover low cl → IsCover high ch → Fits n low → Fits n high → (cl.passes || ch.passes) ≡ true → Reached (suc n) (join label low high) (after label None)
+reach_passed : (n : ℕ) (label : Option ℕ) (low high : Table) (cl ch : Cover) → IsCover low cl → IsCover high ch → Fits n low → Fits n high → (cl.passes || ch.passes) ≡ true → SomeGets (suc n) (join label low high) (after label None)
 reach_passed n label low high cl ch l h fl fh e =
-    let P : Bool → Type 0 = λ t. cl.passes ≡ t → Reached (suc n) (join label low high) (after label None) in
+    let P : Bool → Type 0 = λ t. cl.passes ≡ t → SomeGets (suc n) (join label low high) (after label None) in
     (elim cl.passes as P [
       | true ↦ λ t. reach_low n label low high None (l.passed n fl t)
       | false ↦ λ t. reach_high n label low high None (h.passed n fh (sym (ap (λ u. u || ch.passes) t) ∙ e))
@@ -190,30 +190,30 @@ level_each label low high cl ch l h (suc n) f (true ∷ a) e =
     let t = h.each n (fits_high n label low high f) a (omega arith) in
     (after label t.0, shows_high label low high a t.0 t.1, within_label label cl ch t.0 (within_joined_right cl ch t.0 t.2))
 
-level_passed : (label : Option ℕ) (low high : Table) (cl ch : Cover) → IsCover low cl → IsCover high ch → (n : ℕ) → Fits n (join label low high) → (covered label cl ch).passes ≡ true → Reached n (join label low high) None
+level_passed : (label : Option ℕ) (low high : Table) (cl ch : Cover) → IsCover low cl → IsCover high ch → (n : ℕ) → Fits n (join label low high) → (covered label cl ch).passes ≡ true → SomeGets n (join label low high) None
 level_passed None low high cl ch l h zero f e = ([], refl, shows_end None low high)
 level_passed None low high cl ch l h (suc n) f e = reach_passed n None low high cl ch l h (fits_low n None low high f) (fits_high n None low high f) e
 level_passed (Some g) low high cl ch l h n f e = cc
 
-reached_level : (label : Option ℕ) (low high : Table) (cl ch : Cover) → IsCover low cl → IsCover high ch → (n : ℕ) → Fits (suc n) (join label low high) → ReachedBy (λ g. Reached (suc n) (join label low high) (Some g)) (both cl.hops ch.hops)
+reached_level : (label : Option ℕ) (low high : Table) (cl ch : Cover) → IsCover low cl → IsCover high ch → (n : ℕ) → Fits (suc n) (join label low high) → ReachedBy (λ g. SomeGets (suc n) (join label low high) (Some g)) (both cl.hops ch.hops)
 reached_level label low high cl ch l h n f =
-    reached_both (λ g. Reached (suc n) (join label low high) (Some g)) cl.hops ch.hops
-    (reached_map (λ g. Reached n low (Some g)) (λ g. Reached (suc n) (join label low high) (Some g)) (reach_low_hop n label low high) cl.hops (l.reached n (fits_low n label low high f)))
-    (reached_map (λ g. Reached n high (Some g)) (λ g. Reached (suc n) (join label low high) (Some g)) (reach_high_hop n label low high) ch.hops (h.reached n (fits_high n label low high f)))
+    reached_both (λ g. SomeGets (suc n) (join label low high) (Some g)) cl.hops ch.hops
+    (reached_map (λ g. SomeGets n low (Some g)) (λ g. SomeGets (suc n) (join label low high) (Some g)) (reach_low_hop n label low high) cl.hops (l.reached n (fits_low n label low high f)))
+    (reached_map (λ g. SomeGets n high (Some g)) (λ g. SomeGets (suc n) (join label low high) (Some g)) (reach_high_hop n label low high) ch.hops (h.reached n (fits_high n label low high f)))
 
 bare_both : (label : Option ℕ) (low high : Table) (cl ch : Cover) → IsCover low cl → IsCover high ch → Fits 0 (join label low high) → both cl.hops ch.hops ≡ Zero
 bare_both label low high cl ch l h f =
     ap (λ x. both x ch.hops) (bare_hops cl (subst (λ (r : Table). IsCover r cl) (no_low label low high f) l))
     ∙ bare_hops ch (subst (λ (r : Table). IsCover r ch) (no_high label low high f) h)
 
-level_reached : (label : Option ℕ) (low high : Table) (cl ch : Cover) → IsCover low cl → IsCover high ch → (n : ℕ) → Fits n (join label low high) → ReachedBy (λ g. Reached n (join label low high) (Some g)) (covered label cl ch).hops
-level_reached None low high cl ch l h zero f = subst (λ (x : Hops). ReachedBy (λ g. Reached 0 (join None low high) (Some g)) x) (sym (bare_both None low high cl ch l h f)) tt
+level_reached : (label : Option ℕ) (low high : Table) (cl ch : Cover) → IsCover low cl → IsCover high ch → (n : ℕ) → Fits n (join label low high) → ReachedBy (λ g. SomeGets n (join label low high) (Some g)) (covered label cl ch).hops
+level_reached None low high cl ch l h zero f = subst (λ (x : Hops). ReachedBy (λ g. SomeGets 0 (join None low high) (Some g)) x) (sym (bare_both None low high cl ch l h f)) tt
 level_reached (Some k) low high cl ch l h zero f =
-    reached_stopped (λ g. Reached 0 (join (Some k) low high) (Some g)) k (cl.passes || ch.passes) (both cl.hops ch.hops) (λ e. ([], refl, shows_end (Some k) low high))
-    (subst (λ (x : Hops). ReachedBy (λ g. Reached 0 (join (Some k) low high) (Some g)) x) (sym (bare_both (Some k) low high cl ch l h f)) tt)
+    reached_stopped (λ g. SomeGets 0 (join (Some k) low high) (Some g)) k (cl.passes || ch.passes) (both cl.hops ch.hops) (λ e. ([], refl, shows_end (Some k) low high))
+    (subst (λ (x : Hops). ReachedBy (λ g. SomeGets 0 (join (Some k) low high) (Some g)) x) (sym (bare_both (Some k) low high cl ch l h f)) tt)
 level_reached None low high cl ch l h (suc n) f = reached_level None low high cl ch l h n f
 level_reached (Some k) low high cl ch l h (suc n) f =
-    reached_stopped (λ g. Reached (suc n) (join (Some k) low high) (Some g)) k (cl.passes || ch.passes) (both cl.hops ch.hops)
+    reached_stopped (λ g. SomeGets (suc n) (join (Some k) low high) (Some g)) k (cl.passes || ch.passes) (both cl.hops ch.hops)
     (reach_passed n (Some k) low high cl ch l h (fits_low n (Some k) low high f) (fits_high n (Some k) low high f))
     (reached_level (Some k) low high cl ch l h n f)
 

@@ -8,9 +8,9 @@ use Rattle.address_model.specs.Bits.{bits_of}
 use Rattle.table_model.specs.Table.{Table, lpm, inherit}
 use Rattle.least_model.specs.Regions.{join}
 use Rattle.least_model.proofs.Join.{lpm_join_low, lpm_join_high}
-use Rattle.orig_tree.specs.Seen.{Fits}
-use Rattle.orig_tree.specs.Walk.{Walks, behind, walks_of, rows_of, edited, picked}
-use Rattle.orig_tree.specs.Cover.{Shows, Allows, Within, Reached, ReachedBy, IsCover, only_by, only_of}
+use Rattle.orig_tree.specs.Views.{Fits}
+use Rattle.orig_tree.specs.Walk.{Walks, behind, walks_of, rows_of, edited, labelled}
+use Rattle.orig_tree.specs.Cover.{Shows, Allows, Within, SomeGets, ReachedBy, IsCover, only_by, only_of}
 use Rattle.orig_tree.specs.Slots.{AreCovers, Retold}
 use Rattle.orig_tree.specs.Uniform.{EachGets, TwoGet, IsUniform}
 use Rattle.orig_tree.specs.declared.cover.Cover.{Cover}
@@ -76,19 +76,19 @@ told_here Entry h route entry new_route new_entry low high node left q e w t =
     ap (λ x. walks_of new_route.hop x low high) t.0 ∙ ap (λ s. walks_of s.hop h low high) t.2 ∙ assign_entry Entry h route.hop entry.hop low high node left q e refl w
 
 same_hops : (label : Label) (route entry new_route new_entry : Slot) (low high : Walks) →
-    Retold label (picked label route.hop entry.hop) route entry new_route new_entry low high → walks_of new_route.hop new_entry.hop low high ≡ walks_of route.hop entry.hop low high
+    Retold label (labelled label route.hop entry.hop) route entry new_route new_entry low high → walks_of new_route.hop new_entry.hop low high ≡ walks_of route.hop entry.hop low high
 same_hops Route route entry new_route new_entry low high t = ap (λ x. walks_of x new_entry.hop low high) t.0 ∙ ap (λ s. walks_of route.hop s.hop low high) t.2
 same_hops Entry route entry new_route new_entry low high t = ap (λ x. walks_of new_route.hop x low high) t.0 ∙ ap (λ s. walks_of s.hop entry.hop low high) t.2
 
 pub told_high : (label : Label) (h own : Option ℕ) (route entry new_route new_entry : Slot) (low high node after : Walks) (left q : ℕ) → left ≢ 0 → true ≡ nat_eq (bit_at q (left - 1)) 1 → walks_of route.hop entry.hop low high ≡ node →
-    own ≡ picked label route.hop entry.hop → after ≡ edited label (bits_of (left - 1) q) h high → Retold label own route entry new_route new_entry low after →
+    own ≡ labelled label route.hop entry.hop → after ≡ edited label (bits_of (left - 1) q) h high → Retold label own route entry new_route new_entry low after →
     walks_of new_route.hop new_entry.hop low after ≡ edited label (bits_of left q) h node
 told_high label h own route entry new_route new_entry low high node after left q e b w o a t =
     same_hops label route entry new_route new_entry low after (subst (λ (x : Option ℕ). Retold label x route entry new_route new_entry low after) o t)
     ∙ assign_high label h route.hop entry.hop low high node after left q e b w a
 
 pub told_low : (label : Label) (h own : Option ℕ) (route entry new_route new_entry : Slot) (low high node after : Walks) (left q : ℕ) → left ≢ 0 → false ≡ nat_eq (bit_at q (left - 1)) 1 → walks_of route.hop entry.hop low high ≡ node →
-    own ≡ picked label route.hop entry.hop → after ≡ edited label (bits_of (left - 1) q) h low → Retold label own route entry new_route new_entry after high →
+    own ≡ labelled label route.hop entry.hop → after ≡ edited label (bits_of (left - 1) q) h low → Retold label own route entry new_route new_entry after high →
     walks_of new_route.hop new_entry.hop after high ≡ edited label (bits_of left q) h node
 told_low label h own route entry new_route new_entry low high node after left q e b w o a t =
     same_hops label route entry new_route new_entry after high (subst (λ (x : Option ℕ). Retold label x route entry new_route new_entry after high) o t)
@@ -113,11 +113,11 @@ two_differ n h rows u v a b la lb ea eb d = (a, b, la, lb, refl, refl, λ e. d (
 uniform_hops : (n h : ℕ) (rows : Table) (c : Cover) (hops : Hops) → c.hops ≡ hops → IsCover rows c → Fits n rows → IsUniform n rows h [] (only_by c.passes hops h)
 uniform_hops n h rows c Zero z k f = all_inherit n h rows c z (k.each n f)
 uniform_hops n h rows c Many z k f =
-    let r : ReachedBy (λ g. Reached n rows (Some g)) Many = subst (λ (y : Hops). ReachedBy (λ g. Reached n rows (Some g)) y) z (k.reached n f) in
+    let r : ReachedBy (λ g. SomeGets n rows (Some g)) Many = subst (λ (y : Hops). ReachedBy (λ g. SomeGets n rows (Some g)) y) z (k.reached n f) in
     two_differ n h rows r.0 r.1 r.3.0 r.4.0 r.3.1 r.4.1 (r.3.2 h) (r.4.2 h) r.2
 uniform_hops n h rows c (One x) z k f =
     let P : Bool → Bool → Type 0 = λ s t. c.passes ≡ s → nat_eq x h ≡ t → IsUniform n rows h [] (cond (s && not t) None (Some x)) in
-    let r : Reached n rows (Some x) = subst (λ (y : Hops). ReachedBy (λ g. Reached n rows (Some g)) y) z (k.reached n f) in
+    let r : SomeGets n rows (Some x) = subst (λ (y : Hops). ReachedBy (λ g. SomeGets n rows (Some g)) y) z (k.reached n f) in
     (elim c.passes as (λ s. P s (nat_eq x h)) [
       | true ↦ elim (nat_eq x h) as (λ t. P true t) [
         | true ↦ λ s t. all_one n h x rows c z (λ e. sym (eqb-true x h t)) (k.each n f)
@@ -148,12 +148,12 @@ uniform_high n h label low high p None (a, b, la, lb, pa, pb, d) = (true ∷ a, 
 uniform_high n h label low high p (Some k) u = high_all n h label low high p k u
 
 module _ (label : Label) (route entry : Option ℕ) (low high node : Walks) (left q inherited hop : ℕ) (result : Option ℕ) where
-  pub uniform_high_step : walks_of route entry low high ≡ node → left ≢ 0 → true ≡ nat_eq (bit_at q (left - 1)) 1 → hop ≡ unwrap_or (picked label route entry) inherited →
+  pub uniform_high_step : walks_of route entry low high ≡ node → left ≢ 0 → true ≡ nat_eq (bit_at q (left - 1)) 1 → hop ≡ unwrap_or (labelled label route entry) inherited →
       ((n : ℕ) → left - 1 ≤ n → Fits n (rows_of label high) → IsUniform n (rows_of label high) hop (bits_of (left - 1) q) result) →
       (n : ℕ) → left ≤ n → Fits n (rows_of label node) → IsUniform n (rows_of label node) inherited (bits_of left q) result
   uniform_high_step w e b o u zero l f = absurd (omega arith)
   uniform_high_step w e b o u (suc n) l f =
-      let own = picked label route entry in
+      let own = labelled label route entry in
       let f' : Fits (suc n) (join own (rows_of label low) (rows_of label high)) = subst (λ (r : Table). Fits (suc n) r) (ap (rows_of label) (sym w) ∙ rows_level label route entry low high) f in
       let v = u n (omega arith) (fits_high n own (rows_of label low) (rows_of label high) f') in
       let v' : IsUniform n (rows_of label high) (inherit own inherited) (bits_of (left - 1) q) result = subst (λ (h : ℕ). IsUniform n (rows_of label high) h (bits_of (left - 1) q) result) (o ∙ sym (given_is own inherited)) v in
@@ -161,12 +161,12 @@ module _ (label : Label) (route entry : Option ℕ) (low high node : Walks) (lef
       subst (λ (p : List Bool). IsUniform (suc n) (rows_of label node) inherited p result) (sym (first_one left q e b))
       (subst (λ (r : Table). IsUniform (suc n) r inherited (true ∷ bits_of (left - 1) q) result) (sym (ap (rows_of label) (sym w) ∙ rows_level label route entry low high)) s)
 
-  pub uniform_low_step : walks_of route entry low high ≡ node → left ≢ 0 → false ≡ nat_eq (bit_at q (left - 1)) 1 → hop ≡ unwrap_or (picked label route entry) inherited →
+  pub uniform_low_step : walks_of route entry low high ≡ node → left ≢ 0 → false ≡ nat_eq (bit_at q (left - 1)) 1 → hop ≡ unwrap_or (labelled label route entry) inherited →
       ((n : ℕ) → left - 1 ≤ n → Fits n (rows_of label low) → IsUniform n (rows_of label low) hop (bits_of (left - 1) q) result) →
       (n : ℕ) → left ≤ n → Fits n (rows_of label node) → IsUniform n (rows_of label node) inherited (bits_of left q) result
   uniform_low_step w e b o u zero l f = absurd (omega arith)
   uniform_low_step w e b o u (suc n) l f =
-      let own = picked label route entry in
+      let own = labelled label route entry in
       let f' : Fits (suc n) (join own (rows_of label low) (rows_of label high)) = subst (λ (r : Table). Fits (suc n) r) (ap (rows_of label) (sym w) ∙ rows_level label route entry low high) f in
       let v = u n (omega arith) (fits_low n own (rows_of label low) (rows_of label high) f') in
       let v' : IsUniform n (rows_of label low) (inherit own inherited) (bits_of (left - 1) q) result = subst (λ (h : ℕ). IsUniform n (rows_of label low) h (bits_of (left - 1) q) result) (o ∙ sym (given_is own inherited)) v in
@@ -178,11 +178,11 @@ uniform_bare : (label : Label) (link : Option (Box Walks Global)) (hop left q : 
 uniform_bare label link hop left q e n l f a la b = ap (λ r. lpm r a hop) (ap (rows_of label) (behind_none link e) ∙ rows_nothing label)
 
 module _ (label : Label) (route entry : Option ℕ) (node : Walks) (left q inherited hop : ℕ) where
-  pub uniform_no_high : (low : Walks) (high : Option (Box Walks Global)) → walks_of route entry low (behind high) ≡ node → left ≢ 0 → true ≡ nat_eq (bit_at q (left - 1)) 1 → hop ≡ unwrap_or (picked label route entry) inherited → high ≡ None →
+  pub uniform_no_high : (low : Walks) (high : Option (Box Walks Global)) → walks_of route entry low (behind high) ≡ node → left ≢ 0 → true ≡ nat_eq (bit_at q (left - 1)) 1 → hop ≡ unwrap_or (labelled label route entry) inherited → high ≡ None →
       (n : ℕ) → left ≤ n → Fits n (rows_of label node) → IsUniform n (rows_of label node) inherited (bits_of left q) (Some hop)
   uniform_no_high low high w e b o g = uniform_high_step label route entry low (behind high) node left q inherited hop (Some hop) w e b o (uniform_bare label high hop (left - 1) q g)
 
-  pub uniform_no_low : (low : Option (Box Walks Global)) (high : Walks) → walks_of route entry (behind low) high ≡ node → left ≢ 0 → false ≡ nat_eq (bit_at q (left - 1)) 1 → hop ≡ unwrap_or (picked label route entry) inherited → low ≡ None →
+  pub uniform_no_low : (low : Option (Box Walks Global)) (high : Walks) → walks_of route entry (behind low) high ≡ node → left ≢ 0 → false ≡ nat_eq (bit_at q (left - 1)) 1 → hop ≡ unwrap_or (labelled label route entry) inherited → low ≡ None →
       (n : ℕ) → left ≤ n → Fits n (rows_of label node) → IsUniform n (rows_of label node) inherited (bits_of left q) (Some hop)
   uniform_no_low low high w e b o g = uniform_low_step label route entry (behind low) high node left q inherited hop (Some hop) w e b o (uniform_bare label low hop (left - 1) q g)
 

@@ -18,7 +18,7 @@ use Rattle.table_model.specs.Entries.{Entries, of_family, match_in, with_entry, 
 use Rattle.table_model.proofs.Sums.{all_placed, sorted_placed}
 pub use Rattle.least_model.proofs.Both.{family_is}
 use Rattle.orig_tree.specs.Edits.{put, without}
-use Rattle.orig_tree.specs.Seen.{InPlace, Labels}
+use Rattle.orig_tree.specs.Views.{InPlace, Labels}
 
 -- longest match among a family's entries
 pub match_is : (f g : Family) (w q n : ℕ) (L : Table) (E : Entries) → g ≡ f → w ≡ width f → of_table f L ≡ E → n ≡ lpm L (bits_of w q) 0 →

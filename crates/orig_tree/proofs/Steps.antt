@@ -9,13 +9,13 @@ use Rattle.table_model.specs.Table.{Table, lpm, inherit}
 use Rattle.table_model.proofs.Cut.{lpm_nil}
 use Rattle.least_model.specs.Regions.{join}
 use Rattle.least_model.proofs.Join.{root_join, lpm_join_low, lpm_join_high}
-use Rattle.orig_tree.specs.Walk.{Walks, behind, nothing, walks_of, rows_of, edited, Allowed, AreMadeTo, picked, has_node}
+use Rattle.orig_tree.specs.Walk.{Walks, behind, no_walks, walks_of, rows_of, edited, Allowed, AreMadeTo, labelled, has_node}
 use Rattle.orig_tree.specs.declared.node.Label.{Label}
 use Rattle.orig_tree.specs.declared.node.Label.TheVariants.{Route, Entry}
 use Rattle.orig_tree.proofs.Paths.{no_bits, first_one, first_zero}
 use Rattle.orig_tree.proofs.Lists.{edit_low, edit_high, edit_own}
 
-pub rows_level : (label : Label) (route entry : Option ℕ) (low high : Walks) → rows_of label (walks_of route entry low high) ≡ join (picked label route entry) (rows_of label low) (rows_of label high)
+pub rows_level : (label : Label) (route entry : Option ℕ) (low high : Walks) → rows_of label (walks_of route entry low high) ≡ join (labelled label route entry) (rows_of label low) (rows_of label high)
 rows_level Route route entry low high = refl
 rows_level Entry route entry low high = refl
 
@@ -27,36 +27,36 @@ given_is None h = refl
 given_is (Some g) h = refl
 
 pub answer_here : (label : Label) (route entry : Option ℕ) (low high node : Walks) (left q inherited hop : ℕ) →
-    walks_of route entry low high ≡ node → left ≡ 0 → hop ≡ unwrap_or (picked label route entry) inherited →
+    walks_of route entry low high ≡ node → left ≡ 0 → hop ≡ unwrap_or (labelled label route entry) inherited →
     hop ≡ lpm (rows_of label node) (bits_of left q) inherited
 answer_here label route entry low high node left q inherited hop w e h =
-    h ∙ sym (given_is (picked label route entry) inherited)
+    h ∙ sym (given_is (labelled label route entry) inherited)
     ∙ sym (ap (λ n. lpm (rows_of label n) (bits_of left q) inherited) (sym w)
     ∙ ap (λ p. lpm (rows_of label (walks_of route entry low high)) p inherited) (no_bits left q e)
     ∙ ap (λ r. lpm r [] inherited) (rows_level label route entry low high)
-    ∙ lpm_join_end (picked label route entry) (rows_of label low) (rows_of label high) inherited)
+    ∙ lpm_join_end (labelled label route entry) (rows_of label low) (rows_of label high) inherited)
 
 pub answer_high : (label : Label) (route entry : Option ℕ) (low high node : Walks) (left q inherited hop out : ℕ) →
-    walks_of route entry low high ≡ node → left ≢ 0 → true ≡ nat_eq (bit_at q (left - 1)) 1 → hop ≡ unwrap_or (picked label route entry) inherited →
+    walks_of route entry low high ≡ node → left ≢ 0 → true ≡ nat_eq (bit_at q (left - 1)) 1 → hop ≡ unwrap_or (labelled label route entry) inherited →
     out ≡ lpm (rows_of label high) (bits_of (left - 1) q) hop →
     out ≡ lpm (rows_of label node) (bits_of left q) inherited
 answer_high label route entry low high node left q inherited hop out w e b h o =
-    o ∙ ap (lpm (rows_of label high) (bits_of (left - 1) q)) (h ∙ sym (given_is (picked label route entry) inherited))
+    o ∙ ap (lpm (rows_of label high) (bits_of (left - 1) q)) (h ∙ sym (given_is (labelled label route entry) inherited))
     ∙ sym (ap (λ n. lpm (rows_of label n) (bits_of left q) inherited) (sym w)
     ∙ ap (λ p. lpm (rows_of label (walks_of route entry low high)) p inherited) (first_one left q e b)
     ∙ ap (λ r. lpm r (true ∷ bits_of (left - 1) q) inherited) (rows_level label route entry low high)
-    ∙ lpm_join_high (picked label route entry) (rows_of label low) (rows_of label high) (bits_of (left - 1) q) inherited)
+    ∙ lpm_join_high (labelled label route entry) (rows_of label low) (rows_of label high) (bits_of (left - 1) q) inherited)
 
 pub answer_low : (label : Label) (route entry : Option ℕ) (low high node : Walks) (left q inherited hop out : ℕ) →
-    walks_of route entry low high ≡ node → left ≢ 0 → false ≡ nat_eq (bit_at q (left - 1)) 1 → hop ≡ unwrap_or (picked label route entry) inherited →
+    walks_of route entry low high ≡ node → left ≢ 0 → false ≡ nat_eq (bit_at q (left - 1)) 1 → hop ≡ unwrap_or (labelled label route entry) inherited →
     out ≡ lpm (rows_of label low) (bits_of (left - 1) q) hop →
     out ≡ lpm (rows_of label node) (bits_of left q) inherited
 answer_low label route entry low high node left q inherited hop out w e b h o =
-    o ∙ ap (lpm (rows_of label low) (bits_of (left - 1) q)) (h ∙ sym (given_is (picked label route entry) inherited))
+    o ∙ ap (lpm (rows_of label low) (bits_of (left - 1) q)) (h ∙ sym (given_is (labelled label route entry) inherited))
     ∙ sym (ap (λ n. lpm (rows_of label n) (bits_of left q) inherited) (sym w)
     ∙ ap (λ p. lpm (rows_of label (walks_of route entry low high)) p inherited) (first_zero left q e b)
     ∙ ap (λ r. lpm r (false ∷ bits_of (left - 1) q) inherited) (rows_level label route entry low high)
-    ∙ lpm_join_low (picked label route entry) (rows_of label low) (rows_of label high) (bits_of (left - 1) q) inherited)
+    ∙ lpm_join_low (labelled label route entry) (rows_of label low) (rows_of label high) (bits_of (left - 1) q) inherited)
 
 -- edits
 edited_low : (label : Label) (p : List Bool) (h route entry : Option ℕ) (low high : Walks) → edited label (false ∷ p) h (walks_of route entry low high) ≡ walks_of route entry (edited label p h low) high
@@ -104,24 +104,24 @@ has_high p route entry low high =
     ∙ ap (λ t. t || has_node (true ∷ p) (map (λ q. true ∷ q) high.nodes)) (has_other true false p low.nodes (λ e. cc))
     ∙ has_map true p high.nodes
 
-pub rows_nothing : (label : Label) → rows_of label nothing ≡ []
+pub rows_nothing : (label : Label) → rows_of label no_walks ≡ []
 rows_nothing Route = refl
 rows_nothing Entry = refl
 
-lpm_nothing : (label : Label) (low : Walks) (p : List Bool) (hop : ℕ) → low ≡ nothing → hop ≡ lpm (rows_of label low) p hop
+lpm_nothing : (label : Label) (low : Walks) (p : List Bool) (hop : ℕ) → low ≡ no_walks → hop ≡ lpm (rows_of label low) p hop
 lpm_nothing label low p hop e = sym (ap (λ w. lpm (rows_of label w) p hop) e ∙ ap (λ r. lpm r p hop) (rows_nothing label))
 
-pub behind_none : (link : Option (Box Walks Global)) → link ≡ None → behind link ≡ nothing
+pub behind_none : (link : Option (Box Walks Global)) → link ≡ None → behind link ≡ no_walks
 behind_none link e = ap behind e
 
 pub miss_high : (label : Label) (route entry : Option ℕ) (low : Walks) (high : Option (Box Walks Global)) (node : Walks) (left q inherited hop : ℕ) →
-    walks_of route entry low (behind high) ≡ node → left ≢ 0 → true ≡ nat_eq (bit_at q (left - 1)) 1 → hop ≡ unwrap_or (picked label route entry) inherited →
+    walks_of route entry low (behind high) ≡ node → left ≢ 0 → true ≡ nat_eq (bit_at q (left - 1)) 1 → hop ≡ unwrap_or (labelled label route entry) inherited →
     high ≡ None → hop ≡ lpm (rows_of label node) (bits_of left q) inherited
 miss_high label route entry low high node left q inherited hop w e b h o =
     answer_high label route entry low (behind high) node left q inherited hop hop w e b h (lpm_nothing label (behind high) _ hop (behind_none high o))
 
 pub miss_low : (label : Label) (route entry : Option ℕ) (low : Option (Box Walks Global)) (high : Walks) (node : Walks) (left q inherited hop : ℕ) →
-    walks_of route entry (behind low) high ≡ node → left ≢ 0 → false ≡ nat_eq (bit_at q (left - 1)) 1 → hop ≡ unwrap_or (picked label route entry) inherited →
+    walks_of route entry (behind low) high ≡ node → left ≢ 0 → false ≡ nat_eq (bit_at q (left - 1)) 1 → hop ≡ unwrap_or (labelled label route entry) inherited →
     low ≡ None → hop ≡ lpm (rows_of label node) (bits_of left q) inherited
 miss_low label route entry low high node left q inherited hop w e b h o =
     answer_low label route entry (behind low) high node left q inherited hop hop w e b h (lpm_nothing label (behind low) _ hop (behind_none low o))
@@ -169,7 +169,7 @@ allowed_low (Some h) route entry low high node left q e b w a =
     sym (has_low (bits_of (left - 1) q) route entry low high) ∙ ap (λ p. has_node p (walks_of route entry low high).nodes) (sym (first_zero left q e b)) ∙ ap (λ n. has_node (bits_of left q) n.nodes) w ∙ a
 
 -- nothing is edited where nothing may be set
-pub edited_nothing : (label : Label) (h : Option ℕ) (p : List Bool) → Allowed p h [] → nothing ≡ edited label p h nothing
+pub edited_nothing : (label : Label) (h : Option ℕ) (p : List Bool) → Allowed p h [] → no_walks ≡ edited label p h no_walks
 edited_nothing Route None p a = refl
 edited_nothing Entry None p a = refl
 edited_nothing label (Some h) p a = cc
@@ -225,13 +225,13 @@ module _ (route entry : Option ℕ) (low high after node : Walks) (left q : ℕ)
   made_low n b w m (true ∷ p) h = inl (ap (λ n. has_node (true ∷ p) n.nodes) (sym w) ∙ (has_high p route entry low high ∙ (sym (has_high p route entry after high) ∙ h)))
 
 -- a new node has none but itself
-pub made_new : (node link new : Walks) (k : List Bool) → node ≡ walks_of None None nothing nothing → AreMadeTo k node.nodes new.nodes → AreMadeTo k link.nodes new.nodes
+pub made_new : (node link new : Walks) (k : List Bool) → node ≡ walks_of None None no_walks no_walks → AreMadeTo k node.nodes new.nodes → AreMadeTo k link.nodes new.nodes
 unfolding same_bits
 made_new node link new k w m p h = elim (m p h) [
   | inl x ↦ inr (itself p (ap (λ n. has_node p n.nodes) (sym w) ∙ x))
   | inr y ↦ inr y
 ]
   where
-    itself : (p : List Bool) → has_node p (walks_of None None nothing nothing).nodes ≡ true → begins p k ≡ true
+    itself : (p : List Bool) → has_node p (walks_of None None no_walks no_walks).nodes ≡ true → begins p k ≡ true
     itself [] h = refl
     itself (b ∷ p) h = cc

@@ -12,12 +12,12 @@ use Rattle.table_model.specs.Table.{Table, here}
 use Rattle.table_model.specs.Entries.{Entries, of_table}
 use Rattle.table_model.proofs.Cut.{entry}
 use Rattle.least_model.specs.Regions.{lift, join}
-use Rattle.fib_addr.specs.Seen.{prefix_as}
+use Rattle.fib_addr.specs.Views.{prefix_as}
 use Rattle.fib_addr.specs.declared.prefix.Prefix as code
 use Rattle.fib_addr.proofs.Parts.{length_prefix}
-use Rattle.orig_tree.specs.Walk.{Walks, nothing, walks_of, rows_of, picked}
+use Rattle.orig_tree.specs.Walk.{Walks, no_walks, walks_of, rows_of, labelled}
 use Rattle.orig_tree.specs.declared.node.Label.{Label}
-use Rattle.orig_tree.specs.Seen.{Fits}
+use Rattle.orig_tree.specs.Views.{Fits}
 use Rattle.orig_tree.proofs.Steps.{rows_level, rows_nothing}
 
 lift_append : (p : List Bool) (L M : Table) → lift p (L ++ M) ≡ lift p L ++ lift p M
@@ -42,7 +42,7 @@ pub told_own : (p : Prefix) (o : Option ℕ) → map (λ h. (p, h)) (option_to_l
 told_own p None = refl
 told_own p (Some g) = ap (λ z. ((let x : Prefix = record { family = p.family; bits = z } in x), g) ∷ []) (sym (append-nil p.bits))
 
-pub told_nothing : (label : Label) (p : code.Prefix) (w : Walks) (E : Entries) → w ≡ nothing → E ≡ E ++ of_table p.family (lift (prefix_as p).bits (rows_of label w))
+pub told_nothing : (label : Label) (p : code.Prefix) (w : Walks) (E : Entries) → w ≡ no_walks → E ≡ E ++ of_table p.family (lift (prefix_as p).bits (rows_of label w))
 told_nothing label p w E e = sym (ap (λ z. E ++ of_table p.family (lift (prefix_as p).bits (rows_of label z))) e ∙ (ap (λ z. E ++ of_table p.family (lift (prefix_as p).bits z)) (rows_nothing label) ∙ append-nil E))
 
 -- one more bit
@@ -75,7 +75,7 @@ fits_lower n o L M f = fits_down n false L (fits_front n (lift (false ∷ []) L)
 fits_upper : (n : ℕ) (o : Option ℕ) (L M : Table) → Fits n (join o L M) → Fits (n - 1) M
 fits_upper n o L M f = fits_down n true M (fits_back n (lift (false ∷ []) L) (lift (true ∷ []) M) (fits_back n (here o) (lift (false ∷ []) L ++ lift (true ∷ []) M) f))
 
-fits_node : (n : ℕ) (label : Label) (route entry : Option ℕ) (low high node : Walks) → walks_of route entry low high ≡ node → Fits n (rows_of label node) → Fits n (join (picked label route entry) (rows_of label low) (rows_of label high))
+fits_node : (n : ℕ) (label : Label) (route entry : Option ℕ) (low high node : Walks) → walks_of route entry low high ≡ node → Fits n (rows_of label node) → Fits n (join (labelled label route entry) (rows_of label low) (rows_of label high))
 fits_node n label route entry low high node w f = subst (λ (L : Table). Fits n L) (ap (rows_of label) (sym w) ∙ rows_level label route entry low high) f
 
 family_of_half : (p q : code.Prefix) (b : Bool) → prefix_as q ≡ half_at b (prefix_as p) → q.family ≡ p.family
@@ -85,13 +85,13 @@ pub fits_low : (p q : code.Prefix) (label : Label) (route entry : Option ℕ) (l
     → Fits (width p.family - p.len) (rows_of label node) → Fits (width q.family - q.len) (rows_of label low)
 fits_low p q label route entry low high node e w f =
     let n : width p.family - p.len - 1 ≡ width q.family - q.len = omega (arith, half_longer p q false e, ap width (family_of_half p q false e)) in
-    subst (λ (k : ℕ). Fits k (rows_of label low)) n (fits_lower (width p.family - p.len) (picked label route entry) (rows_of label low) (rows_of label high) (fits_node (width p.family - p.len) label route entry low high node w f))
+    subst (λ (k : ℕ). Fits k (rows_of label low)) n (fits_lower (width p.family - p.len) (labelled label route entry) (rows_of label low) (rows_of label high) (fits_node (width p.family - p.len) label route entry low high node w f))
 
 pub fits_high : (p q : code.Prefix) (label : Label) (route entry : Option ℕ) (low high node : Walks) → prefix_as q ≡ half_at true (prefix_as p) → walks_of route entry low high ≡ node
     → Fits (width p.family - p.len) (rows_of label node) → Fits (width q.family - q.len) (rows_of label high)
 fits_high p q label route entry low high node e w f =
     let n : width p.family - p.len - 1 ≡ width q.family - q.len = omega (arith, half_longer p q true e, ap width (family_of_half p q true e)) in
-    subst (λ (k : ℕ). Fits k (rows_of label high)) n (fits_upper (width p.family - p.len) (picked label route entry) (rows_of label low) (rows_of label high) (fits_node (width p.family - p.len) label route entry low high node w f))
+    subst (λ (k : ℕ). Fits k (rows_of label high)) n (fits_upper (width p.family - p.len) (labelled label route entry) (rows_of label low) (rows_of label high) (fits_node (width p.family - p.len) label route entry low high node w f))
 
 -- at the full width a node has its own entry alone
 none_below : (n : ℕ) (b : Bool) (L : Table) → n ≡ 0 → Fits n (lift (b ∷ []) L) → L ≡ []
@@ -106,18 +106,18 @@ own_alone n o L M z f =
     ap (λ x. join o x M) a ∙ (ap (λ x. join o [] x) b ∙ append-nil (here o))
 
 pub told_end : (p : code.Prefix) (label : Label) (route entry o : Option ℕ) (low high node : Walks) (E D : Entries) → walks_of route entry low high ≡ node → p.len ≡ width p.family → Fits (width p.family - p.len) (rows_of label node)
-    → o ≡ picked label route entry → D ≡ E ++ map (λ h. (prefix_as p, h)) (option_to_list o)
+    → o ≡ labelled label route entry → D ≡ E ++ map (λ h. (prefix_as p, h)) (option_to_list o)
     → D ≡ E ++ of_table p.family (lift (prefix_as p).bits (rows_of label node))
 told_end p label route entry o low high node E D w n f s d =
     let d' : D ≡ E ++ of_table p.family (lift (prefix_as p).bits (here o)) = d ∙ ap (λ x. E ++ x) (told_own (prefix_as p) o) in
     let z : width p.family - p.len ≡ 0 = omega arith in
     d' ∙ ap (λ x. E ++ of_table p.family (lift (prefix_as p).bits x)) (ap here s
-    ∙ (sym (own_alone (width p.family - p.len) (picked label route entry) (rows_of label low) (rows_of label high) z (fits_node (width p.family - p.len) label route entry low high node w f))
+    ∙ (sym (own_alone (width p.family - p.len) (labelled label route entry) (rows_of label low) (rows_of label high) z (fits_node (width p.family - p.len) label route entry low high node w f))
     ∙ (sym (rows_level label route entry low high) ∙ ap (rows_of label) w)))
 
 -- what is told of a node: its own entry, then those of its halves
 pub told_level : (p q r : code.Prefix) (label : Label) (route entry o : Option ℕ) (low high node : Walks) (A B C D : Entries) → walks_of route entry low high ≡ node
-    → prefix_as q ≡ half_at false (prefix_as p) → prefix_as r ≡ half_at true (prefix_as p) → o ≡ picked label route entry
+    → prefix_as q ≡ half_at false (prefix_as p) → prefix_as r ≡ half_at true (prefix_as p) → o ≡ labelled label route entry
     → B ≡ A ++ map (λ h. (prefix_as p, h)) (option_to_list o)
     → C ≡ B ++ of_table q.family (lift (prefix_as q).bits (rows_of label low))
     → D ≡ C ++ of_table r.family (lift (prefix_as r).bits (rows_of label high))
@@ -127,7 +127,7 @@ told_level p q r label route entry o low high node A B C D w e g s b c d =
     let f = p.family in
     let L = rows_of label low in
     let H = rows_of label high in
-    let O = of_table f (lift k (here (picked label route entry))) in
+    let O = of_table f (lift k (here (labelled label route entry))) in
     let X = of_table f (lift (k ++ (false ∷ [])) L) in
     let Y = of_table f (lift (k ++ (true ∷ [])) H) in
     let c' : C ≡ B ++ X = c ∙ ap (λ (x : Prefix). B ++ of_table x.family (lift x.bits L)) e in
@@ -135,7 +135,7 @@ told_level p q r label route entry o low high node A B C D w e g s b c d =
     let b' : B ≡ A ++ O = b ∙ ap (λ x. A ++ x) (told_own (prefix_as p) o ∙ ap (λ x. of_table f (lift k (here x))) s) in
     let whole : of_table f (lift k (rows_of label node)) ≡ O ++ (X ++ Y) =
     ap (λ x. of_table f (lift k x)) (ap (rows_of label) (sym w) ∙ rows_level label route entry low high)
-    ∙ (ap (of_table f) (lift_join k (picked label route entry) L H) ∙ (seen_append f (lift k (here (picked label route entry))) (lift (k ++ (false ∷ [])) L ++ lift (k ++ (true ∷ [])) H)
+    ∙ (ap (of_table f) (lift_join k (labelled label route entry) L H) ∙ (seen_append f (lift k (here (labelled label route entry))) (lift (k ++ (false ∷ [])) L ++ lift (k ++ (true ∷ [])) H)
     ∙ ap (λ x. O ++ x) (seen_append f (lift (k ++ (false ∷ [])) L) (lift (k ++ (true ∷ [])) H))))
     in
     d' ∙ (ap (λ x. x ++ Y) (c' ∙ ap (λ x. x ++ X) b') ∙ (append_assoc (A ++ O) X Y ∙ (append_assoc A O (X ++ Y) ∙ ap (λ x. A ++ x) (sym whole))))

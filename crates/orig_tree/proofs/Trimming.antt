@@ -9,8 +9,8 @@ use Rattle.address_model.specs.declared.family.Family.{Family}
 use Rattle.table_model.specs.Table.{Entry, Table, here}
 use Rattle.table_model.specs.Entries.{Entries, of_family, of_table}
 use Rattle.least_model.specs.Regions.{lift, join}
-use Rattle.orig_tree.specs.Walk.{Walks, nothing, walks_of, has_node}
-use Rattle.orig_tree.specs.Trims.{has_within, is_used, HasBeside, IsKept, AreTrimmed, IsTrimmed, IsPruned, KeepsRoot, bare, has_labels}
+use Rattle.orig_tree.specs.Walk.{Walks, no_walks, walks_of, has_node}
+use Rattle.orig_tree.specs.Trims.{has_within, is_used, HasBeside, NodeIsKept, AreTrimmed, IsTrimmed, IsPruned, KeepsRoot, bare, has_labels}
 use Rattle.orig_tree.proofs.Paths.{no_bits, first_one, first_zero}
 use Rattle.least_model.proofs.Both.{family_is}
 use Rattle.orig_tree.proofs.Steps.{has_low, has_high}
@@ -75,7 +75,7 @@ used_high q route entry low high =
 -- ---- one level
 
 -- within the empty prefix nothing is beside the way to it
-used : (R E : Table) (nodes : List (List Bool)) (q : List Bool) → IsKept [] R E nodes q → is_used q R E ≡ true
+used : (R E : Table) (nodes : List (List Bool)) (q : List Bool) → NodeIsKept [] R E nodes q → is_used q R E ≡ true
 used R E nodes q (inl u) = u
 used R E nodes q (inr b) = cc
 
@@ -91,11 +91,11 @@ not_root b q K (inr k) = k
 module _ (route entry : Option ℕ) where
   -- the half of bit 1 is pruned
   module _ (p : List Bool) (low high after : Walks) where
-    kept_high : (q : List Bool) → IsKept p after.routes after.entries high.nodes q → IsKept (true ∷ p) (walks_of route entry low after).routes (walks_of route entry low after).entries (walks_of route entry low high).nodes (true ∷ q)
+    kept_high : (q : List Bool) → NodeIsKept p after.routes after.entries high.nodes q → NodeIsKept (true ∷ p) (walks_of route entry low after).routes (walks_of route entry low after).entries (walks_of route entry low high).nodes (true ∷ q)
     kept_high q (inl u) = inl (used_high q route entry low after ∙ u)
     kept_high q (inr b) = inr (true ∷ b.0, b.1, b.2, b.3, has_high b.0 route entry low high ∙ b.4)
 
-    kept_high_back : (q : List Bool) → IsKept (true ∷ p) (walks_of route entry low after).routes (walks_of route entry low after).entries (walks_of route entry low high).nodes (true ∷ q) → IsKept p after.routes after.entries high.nodes q
+    kept_high_back : (q : List Bool) → NodeIsKept (true ∷ p) (walks_of route entry low after).routes (walks_of route entry low after).entries (walks_of route entry low high).nodes (true ∷ q) → NodeIsKept p after.routes after.entries high.nodes q
     kept_high_back q (inl u) = inl (sym (used_high q route entry low after) ∙ u)
     kept_high_back q (inr b) = inr (of_half b.0 b.1 b.2 b.3 b.4)
       where
@@ -108,23 +108,23 @@ module _ (route entry : Option ℕ) where
     unfolding same_bits
     trim_high t = λ q. (stays q, back q)
       where
-        stays : (q : List Bool) → has_node q (walks_of route entry low after).nodes ≡ true → (has_node q (walks_of route entry low high).nodes ≡ true) × ((q ≡ []) ⊎ IsKept (true ∷ p) (walks_of route entry low after).routes (walks_of route entry low after).entries (walks_of route entry low high).nodes q)
+        stays : (q : List Bool) → has_node q (walks_of route entry low after).nodes ≡ true → (has_node q (walks_of route entry low high).nodes ≡ true) × ((q ≡ []) ⊎ NodeIsKept (true ∷ p) (walks_of route entry low after).routes (walks_of route entry low after).entries (walks_of route entry low high).nodes q)
         stays [] h = (refl, inl refl)
         stays (true ∷ q) h = let s = (t q).0 (sym (has_high q route entry low after) ∙ h) in (has_high q route entry low high ∙ s.0, inr (kept_high q s.1))
         stays (false ∷ q) h = let o = has_low q route entry low high ∙ (sym (has_low q route entry low after) ∙ h) in (o, inr (inr (false ∷ q, begins_itself q, refl, refl, o)))
 
-        back : (q : List Bool) → (has_node q (walks_of route entry low high).nodes ≡ true) × ((q ≡ []) ⊎ IsKept (true ∷ p) (walks_of route entry low after).routes (walks_of route entry low after).entries (walks_of route entry low high).nodes q) → has_node q (walks_of route entry low after).nodes ≡ true
+        back : (q : List Bool) → (has_node q (walks_of route entry low high).nodes ≡ true) × ((q ≡ []) ⊎ NodeIsKept (true ∷ p) (walks_of route entry low after).routes (walks_of route entry low after).entries (walks_of route entry low high).nodes q) → has_node q (walks_of route entry low after).nodes ≡ true
         back [] s = refl
         back (true ∷ q) s = has_high q route entry low after ∙ (t q).1 (sym (has_high q route entry low high) ∙ s.0, kept_high_back q (not_root true q _ s.1))
         back (false ∷ q) s = has_low q route entry low after ∙ (sym (has_low q route entry low high) ∙ s.0)
 
   -- the half of bit 0 is pruned
   module _ (p : List Bool) (low high after : Walks) where
-    kept_low : (q : List Bool) → IsKept p after.routes after.entries low.nodes q → IsKept (false ∷ p) (walks_of route entry after high).routes (walks_of route entry after high).entries (walks_of route entry low high).nodes (false ∷ q)
+    kept_low : (q : List Bool) → NodeIsKept p after.routes after.entries low.nodes q → NodeIsKept (false ∷ p) (walks_of route entry after high).routes (walks_of route entry after high).entries (walks_of route entry low high).nodes (false ∷ q)
     kept_low q (inl u) = inl (used_low q route entry after high ∙ u)
     kept_low q (inr b) = inr (false ∷ b.0, b.1, b.2, b.3, has_low b.0 route entry low high ∙ b.4)
 
-    kept_low_back : (q : List Bool) → IsKept (false ∷ p) (walks_of route entry after high).routes (walks_of route entry after high).entries (walks_of route entry low high).nodes (false ∷ q) → IsKept p after.routes after.entries low.nodes q
+    kept_low_back : (q : List Bool) → NodeIsKept (false ∷ p) (walks_of route entry after high).routes (walks_of route entry after high).entries (walks_of route entry low high).nodes (false ∷ q) → NodeIsKept p after.routes after.entries low.nodes q
     kept_low_back q (inl u) = inl (sym (used_low q route entry after high) ∙ u)
     kept_low_back q (inr b) = inr (of_half b.0 b.1 b.2 b.3 b.4)
       where
@@ -137,12 +137,12 @@ module _ (route entry : Option ℕ) where
     unfolding same_bits
     trim_low t = λ q. (stays q, back q)
       where
-        stays : (q : List Bool) → has_node q (walks_of route entry after high).nodes ≡ true → (has_node q (walks_of route entry low high).nodes ≡ true) × ((q ≡ []) ⊎ IsKept (false ∷ p) (walks_of route entry after high).routes (walks_of route entry after high).entries (walks_of route entry low high).nodes q)
+        stays : (q : List Bool) → has_node q (walks_of route entry after high).nodes ≡ true → (has_node q (walks_of route entry low high).nodes ≡ true) × ((q ≡ []) ⊎ NodeIsKept (false ∷ p) (walks_of route entry after high).routes (walks_of route entry after high).entries (walks_of route entry low high).nodes q)
         stays [] h = (refl, inl refl)
         stays (false ∷ q) h = let s = (t q).0 (sym (has_low q route entry after high) ∙ h) in (has_low q route entry low high ∙ s.0, inr (kept_low q s.1))
         stays (true ∷ q) h = let o = has_high q route entry low high ∙ (sym (has_high q route entry after high) ∙ h) in (o, inr (inr (true ∷ q, begins_itself q, refl, refl, o)))
 
-        back : (q : List Bool) → (has_node q (walks_of route entry low high).nodes ≡ true) × ((q ≡ []) ⊎ IsKept (false ∷ p) (walks_of route entry after high).routes (walks_of route entry after high).entries (walks_of route entry low high).nodes q) → has_node q (walks_of route entry after high).nodes ≡ true
+        back : (q : List Bool) → (has_node q (walks_of route entry low high).nodes ≡ true) × ((q ≡ []) ⊎ NodeIsKept (false ∷ p) (walks_of route entry after high).routes (walks_of route entry after high).entries (walks_of route entry low high).nodes q) → has_node q (walks_of route entry after high).nodes ≡ true
         back [] s = refl
         back (false ∷ q) s = has_low q route entry after high ∙ (t q).1 (sym (has_low q route entry low high) ∙ s.0, kept_low_back q (not_root false q _ s.1))
         back (true ∷ q) s = has_high q route entry after high ∙ (sym (has_high q route entry low high) ∙ s.0)
@@ -154,7 +154,7 @@ module _ (route entry : Option ℕ) where
     trim_both s t = λ q. (stays q, back q)
       where
         Kept : List Bool → Type 0
-        Kept q = (q ≡ []) ⊎ IsKept [] (walks_of route entry lower upper).routes (walks_of route entry lower upper).entries (walks_of route entry low high).nodes q
+        Kept q = (q ≡ []) ⊎ NodeIsKept [] (walks_of route entry lower upper).routes (walks_of route entry lower upper).entries (walks_of route entry low high).nodes q
 
         stays : (q : List Bool) → has_node q (walks_of route entry lower upper).nodes ≡ true → (has_node q (walks_of route entry low high).nodes ≡ true) × Kept q
         stays [] h = (refl, inl refl)
@@ -173,16 +173,16 @@ module _ (route entry : Option ℕ) where
 -- ---- what is behind a link
 
 -- nothing is pruned of nothing
-pub pruned_nothing : (p : List Bool) (old new : Walks) → old ≡ nothing → new ≡ nothing → IsPruned p old new
+pub pruned_nothing : (p : List Bool) (old new : Walks) → old ≡ no_walks → new ≡ no_walks → IsPruned p old new
 pruned_nothing p old new e f =
-    let r : IsPruned p nothing nothing = λ q. ((λ h. cc), (λ s. s.0)) in
-    subst (λ (w : Walks). IsPruned p w new) (sym e) (subst (λ (w : Walks). IsPruned p nothing w) (sym f) r)
+    let r : IsPruned p no_walks no_walks = λ q. ((λ h. cc), (λ s. s.0)) in
+    subst (λ (w : Walks). IsPruned p w new) (sym e) (subst (λ (w : Walks). IsPruned p no_walks w) (sym f) r)
 
 -- what keeps its root
 pub pruned_kept : (p : List Bool) (old new : Walks) → IsTrimmed p old new → KeepsRoot p old new → IsPruned p old new
 pruned_kept p old new t k = λ q. (stays q, λ s. (t q).1 (s.0, inr s.1))
   where
-    stays : (q : List Bool) → has_node q new.nodes ≡ true → (has_node q old.nodes ≡ true) × IsKept p new.routes new.entries old.nodes q
+    stays : (q : List Bool) → has_node q new.nodes ≡ true → (has_node q old.nodes ≡ true) × NodeIsKept p new.routes new.entries old.nodes q
     stays [] h = (((t []).0 h).0, k)
     stays (b ∷ q) h = let s = (t (b ∷ q)).0 h in (s.0, not_root b q _ s.1)
 
@@ -191,7 +191,7 @@ not_bare : (b : Bool) (q : List Bool) → has_node (b ∷ q) bare.nodes ≡ true
 unfolding same_bits
 not_bare b q h = cc
 
-pub pruned_bare : (p : List Bool) (old bared new : Walks) → IsTrimmed p old bared → bared ≡ bare → new ≡ nothing → IsPruned p old new
+pub pruned_bare : (p : List Bool) (old bared new : Walks) → IsTrimmed p old bared → bared ≡ bare → new ≡ no_walks → IsPruned p old new
 pruned_bare p old bared new t e f =
     subst (λ (w : Walks). IsPruned p old w) (sym f) (λ q. ((λ h. cc), gone (subst (λ (w : Walks). IsTrimmed p old w) e t) q))
   where
@@ -199,7 +199,7 @@ pruned_bare p old bared new t e f =
     beside s [] b c h = cc
     beside s (d ∷ r) b c h = not_bare d r ((s (d ∷ r)).1 (h, inr (inr (d ∷ r, begins_itself (d ∷ r), b, c, h))))
 
-    gone : IsTrimmed p old bare → (q : List Bool) → (has_node q old.nodes ≡ true) × IsKept p [] [] old.nodes q → has_node q [] ≡ true
+    gone : IsTrimmed p old bare → (q : List Bool) → (has_node q old.nodes ≡ true) × NodeIsKept p [] [] old.nodes q → has_node q [] ≡ true
     gone s q (h, inl u) = cc
     gone s q (h, inr b) = absurd (beside s b.0 b.2 b.3 b.4)
 

@@ -1,7 +1,7 @@
 -- What a region's addresses get from the entries there, told to whoever knows what the region inherits.
 use Rattle.std.specs.Prelude.{◌≡◌, ◌≢◌, ℕ, List, length, Bool, true, false, ◌||◌, ◌&&◌, not, cond, nat_eq, Option, Some, None}
 use Rattle.table_model.specs.Table.{Table, lpm}
-use Rattle.orig_tree.specs.Seen.{Fits}
+use Rattle.orig_tree.specs.Views.{Fits}
 use Rattle.orig_tree.specs.declared.cover.Hops.{Hops}
 use Rattle.orig_tree.specs.declared.cover.Hops.TheVariants.{Zero, One, Many}
 use Rattle.orig_tree.specs.declared.cover.Cover.{Cover}
@@ -23,8 +23,8 @@ Within c None = c.passes ≡ true
 Within c (Some g) = Allows c.hops g
 
 -- some address of n bits gets this
-abbrev pub Reached : ℕ → Table → Option ℕ → Type 0
-Reached n L x = (a : List Bool) × (length a ≡ n) × Shows L a x
+abbrev pub SomeGets : ℕ → Table → Option ℕ → Type 0
+SomeGets n L x = (a : List Bool) × (length a ≡ n) × Shows L a x
 
 -- the hop is reached, and two different ones where there are many
 abbrev pub ReachedBy : (ℕ → Type 0) → Hops → Type 0
@@ -36,8 +36,8 @@ ReachedBy r Many = (g : ℕ) × (k : ℕ) × (g ≢ k) × r g × r k
 -- cover allows for, and what the cover names some address gets.
 pub record IsCover (L : Table) (c : Cover) : Type 0 where
   pub each : (n : ℕ) → Fits n L → (a : List Bool) → length a ≡ n → (x : Option ℕ) × Shows L a x × Within c x
-  pub passed : (n : ℕ) → Fits n L → c.passes ≡ true → Reached n L None
-  pub reached : (n : ℕ) → Fits n L → ReachedBy (λ g. Reached n L (Some g)) c.hops
+  pub passed : (n : ℕ) → Fits n L → c.passes ≡ true → SomeGets n L None
+  pub reached : (n : ℕ) → Fits n L → ReachedBy (λ g. SomeGets n L (Some g)) c.hops
 
 -- the hops of two regions
 abbrev pub both : Hops → Hops → Hops

@@ -1,7 +1,7 @@
 pub mod Edits
 pub mod Walk
 pub mod Falls
-pub mod Seen
+pub mod Views
 pub mod Cover
 pub mod Slots
 pub mod Uniform

@@ -14,13 +14,13 @@ pub record Walks : Type 0 where
   pub nodes : List (List Bool)
 
 -- what is seen where there is no node
-abbrev pub nothing : Walks
-nothing = record { routes = []; entries = []; nodes = [] }
+abbrev pub no_walks : Walks
+no_walks = record { routes = []; entries = []; nodes = [] }
 
 module _ {Z : Type 0} where
   -- what is behind a link
   abbrev pub behind : Option (Box Walks Z) → Walks
-  behind None = nothing
+  behind None = no_walks
   behind (Some b) = b.value
 
 -- a node's tables, from its labels and what is behind its links
@@ -37,9 +37,9 @@ rows_of Route w = w.routes
 rows_of Entry w = w.entries
 
 -- one of two labels
-abbrev pub picked : Label → Option ℕ → Option ℕ → Option ℕ
-picked Route route entry = route
-picked Entry route entry = entry
+abbrev pub labelled : Label → Option ℕ → Option ℕ → Option ℕ
+labelled Route route entry = route
+labelled Entry route entry = entry
 
 -- the tables with one label's entry at a path set or taken away
 abbrev pub edited : Label → List Bool → Option ℕ → Walks → Walks

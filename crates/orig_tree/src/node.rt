@@ -6,10 +6,10 @@ ghost use Rattle.address_model.specs.Bits.{bits_of};
 ghost use Rattle.address_model.specs.Width.{width};
 ghost use Rattle.table_model.specs.Table.{lpm, root, half};
 ghost use Rattle.least_model.specs.Regions.{above, lift};
-ghost use Rattle.fib_addr.specs.Seen.{entry_as, prefix_as};
-ghost use Rattle.orig_tree.specs.Walk.{behind, nothing, walks_of, rows_of, edited, Allowed, AreMadeTo, picked, has_node};
+ghost use Rattle.fib_addr.specs.Views.{entry_as, prefix_as};
+ghost use Rattle.orig_tree.specs.Walk.{behind, no_walks, walks_of, rows_of, edited, Allowed, AreMadeTo, labelled, has_node};
 ghost use Rattle.table_model.specs.Entries.{of_table};
-ghost use Rattle.orig_tree.specs.Seen.{Fits};
+ghost use Rattle.orig_tree.specs.Views.{Fits};
 ghost use Rattle.orig_tree.specs.Cover.{IsCover};
 ghost use Rattle.orig_tree.specs.Slots.{Retold};
 ghost use Rattle.orig_tree.specs.Uniform.{IsUniform};
@@ -61,7 +61,7 @@ impl Model for Node {
 /// A node with no labels and nothing below it.
 #[tactic(auto, using(crate::proofs::Covers::bare_cover))]
 pub(crate) fn leaf() -> Node
-    ensures { result ≡ walks_of None None nothing nothing }
+    ensures { result ≡ walks_of None None no_walks no_walks }
 {
     Node {
         route: Slot::bare(),
@@ -72,7 +72,7 @@ pub(crate) fn leaf() -> Node
 }
 
 fn pick(label: Label, route: Option<u16>, entry: Option<u16>) -> Option<u16>
-    ensures { result ≡ picked label route entry }
+    ensures { result ≡ labelled label route entry }
 {
     match label {
         Label::Route => route,
@@ -329,7 +329,7 @@ fn prune_behind(link: &mut Option<Box<Node>>) -> bool
     ensures entries { (behind link.new).entries ≡ (behind link.old).entries }
     ensures pruned { IsPruned [] (behind link.old) (behind link.new) }
     ensures labels { result ≡ true → has_labels (behind link.new) ≡ true }
-    ensures none { result ≡ false → behind link.new ≡ nothing }
+    ensures none { result ≡ false → behind link.new ≡ no_walks }
 {
     match link.take() {
         None => false,
@@ -346,7 +346,7 @@ fn prune_behind(link: &mut Option<Box<Node>>) -> bool
 /// Whether there is a node behind a link.
 fn is_node(link: &Option<Box<Node>>) -> bool
     ensures node { result ≡ has_node [] (behind link.now).nodes }
-    ensures none { result ≡ false → behind link.now ≡ nothing }
+    ensures none { result ≡ false → behind link.now ≡ no_walks }
 {
     match link {
         None => false,
@@ -388,7 +388,7 @@ fn trim_behind(link: &mut Option<Box<Node>>, q: u128, left: u8) -> bool
     ensures entries { (behind link.new).entries ≡ (behind link.old).entries }
     ensures pruned { IsPruned (bits_of left q) (behind link.old) (behind link.new) }
     ensures kept { result ≡ true → KeepsRoot (bits_of left q) (behind link.old) (behind link.new) }
-    ensures none { result ≡ false → behind link.new ≡ nothing }
+    ensures none { result ≡ false → behind link.new ≡ no_walks }
 {
     match link.take() {
         None => false,

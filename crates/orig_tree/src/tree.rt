@@ -6,10 +6,10 @@ ghost use Rattle.address_model.specs.Address.{same_prefix};
 ghost use Rattle.table_model.specs.Entries.{with_entry, match_in, of_family, of_table};
 ghost use Rattle.table_model.specs.Uniform.{AllGet, TwoDiffer};
 ghost use Rattle.least_model.specs.Regions.{above};
-ghost use Rattle.fib_addr.specs.Seen.{addr_as, prefix_as, entry_as};
+ghost use Rattle.fib_addr.specs.Views.{addr_as, prefix_as, entry_as};
 ghost use Rattle.address_model.specs.Width.{width};
 ghost use Rattle.orig_tree.specs.Walk.{AreMadeTo, has_node, rows_of};
-ghost use Rattle.orig_tree.specs.Seen.{InPlace, Fits};
+ghost use Rattle.orig_tree.specs.Views.{InPlace, Fits};
 ghost use Rattle.orig_tree.specs.Trims.{AreTrimmed};
 
 use crate::node::{Label, Node, answer, assign, inherited, leaf, room, tell, trim, uniform};
@@ -29,7 +29,7 @@ pub struct Tree {
 
 impl Model for Tree {
     ghost use Rattle.table_model.specs.Entries.{of_table};
-    ghost use Rattle.orig_tree.specs.Seen.{Labels, InPlace};
+    ghost use Rattle.orig_tree.specs.Views.{Labels, InPlace};
 
     ghost Value = { Labels };
 
@@ -40,7 +40,7 @@ impl Model for Tree {
 
 /// The table of one label from the root on, in the order of prefixes.
 #[tactic(auto, using(crate::proofs::Telling::whole_fits, crate::proofs::Telling::told_whole))]
-fn listed(
+fn list_label(
     alloc: Global,
     family: Family,
     root: &Node,
@@ -71,7 +71,7 @@ impl Tree {
         ensures order { InPlace self.now.routes }
         ensures routes { IfOk result (λ v. map entry_as v.items ≡ self.now.routes) }
     {
-        listed(self.alloc, self.family, &self.root, Label::Route)
+        list_label(self.alloc, self.family, &self.root, Label::Route)
     }
 
     /// The entries.
@@ -79,7 +79,7 @@ impl Tree {
         ensures order { InPlace self.now.entries }
         ensures entries { IfOk result (λ v. map entry_as v.items ≡ self.now.entries) }
     {
-        listed(self.alloc, self.family, &self.root, Label::Entry)
+        list_label(self.alloc, self.family, &self.root, Label::Entry)
     }
 
     /// The tree's family.

@@ -10,7 +10,7 @@ use Rattle.address_model.specs.Bits.{bits_of}
 use Rattle.address_model.specs.Width.{width}
 use Rattle.address_model.specs.Regions.{half_at}
 use Rattle.address_model.specs.declared.family.Family.{Family}
-use Rattle.fib_addr.specs.Seen.{prefix_as}
+use Rattle.fib_addr.specs.Views.{prefix_as}
 use Rattle.fib_addr.proofs.Parts.{length_prefix}
 use Rattle.fib_addr.specs.declared.prefix.Prefix as code
 use Rattle.table_model.specs.Table.{Table, root, half, here, inherit, lpm, cut}
@@ -28,7 +28,7 @@ use Rattle.least_model.proofs.Both.{family_is, sorted_aggregate}
 use Rattle.orig_tree.proofs.Telling as telling
 use Rattle.ortc.specs.declared.region.Region.{Region}
 use Rattle.ortc.specs.Hops.{SameHops}
-use Rattle.ortc.specs.Stands.{Stands}
+use Rattle.ortc.specs.Stands.{RegionStands}
 
 -- ---- a uniform region
 
@@ -96,13 +96,13 @@ agg_suc e f L h hop o k i =
     ∙ ap (λ y. join y (agg e (side false f) (half false L) (inherit y h)) (agg e (side true f) (half true L) (inherit y h))) k)
 
 pub told_join : (p q r : code.Prefix) (f : List Bool → ℕ) (L : Table) (h hop : ℕ) (X Y Z W : Entries) (o old : Option ℕ) (S : List ℕ) (n : ℕ) (low high l k : Region)
-    → (e : ℕ) × (width p.family - p.len ≡ suc e) × (root L ≡ old) × SameHops S (set_of (suc e) f) × Stands low e (side false f) (half false L) × Stands high e (side true f) (half true L)
+    → (e : ℕ) × (width p.family - p.len ≡ suc e) × (root L ≡ old) × SameHops S (set_of (suc e) f) × RegionStands low e (side false f) (half false L) × RegionStands high e (side true f) (half true L)
     × (n ≡ k_of (suc e) f) × (one_answer (suc e) f ≡ None)
     → l ≡ low → k ≡ high → o ≡ own S old h → hop ≡ inherit o h
     → prefix_as q ≡ half_at false (prefix_as p) → prefix_as r ≡ half_at true (prefix_as p)
     → Y ≡ X ++ map (λ k. (prefix_as p, k)) (option_to_list o)
-    → ((g : List Bool → ℕ) (M : Table) → Stands l (width q.family - q.len) g M → Z ≡ Y ++ of_table q.family (lift (prefix_as q).bits (agg (width q.family - q.len) g M hop)))
-    → ((g : List Bool → ℕ) (M : Table) → Stands k (width r.family - r.len) g M → W ≡ Z ++ of_table r.family (lift (prefix_as r).bits (agg (width r.family - r.len) g M hop)))
+    → ((g : List Bool → ℕ) (M : Table) → RegionStands l (width q.family - q.len) g M → Z ≡ Y ++ of_table q.family (lift (prefix_as q).bits (agg (width q.family - q.len) g M hop)))
+    → ((g : List Bool → ℕ) (M : Table) → RegionStands k (width r.family - r.len) g M → W ≡ Z ++ of_table r.family (lift (prefix_as r).bits (agg (width r.family - r.len) g M hop)))
     → W ≡ X ++ of_table p.family (lift (prefix_as p).bits (agg (width p.family - p.len) f L h))
 told_join p q r f L h hop X Y Z W o old S n low high l k s ll kk ow i eq er y z w =
     let e = s.0 in
@@ -116,12 +116,12 @@ told_join p q r f L h hop X Y Z W o old S n low high l k s ll kk ow i eq er y z 
     let C = of_table m (lift (P ++ (false ∷ [])) A) in
     let D = of_table m (lift (P ++ (true ∷ [])) B) in
     let z' : Z ≡ Y ++ C =
-    z (side false f) (half false L) (subst (λ (x : Region). Stands x (width q.family - q.len) (side false f) (half false L)) (sym ll) (subst (λ (n : ℕ). Stands low n (side false f) (half false L)) nq s.4))
+    z (side false f) (half false L) (subst (λ (x : Region). RegionStands x (width q.family - q.len) (side false f) (half false L)) (sym ll) (subst (λ (n : ℕ). RegionStands low n (side false f) (half false L)) nq s.4))
     ∙ (ap (λ (x : Prefix). Y ++ of_table x.family (lift x.bits (agg (width q.family - q.len) (side false f) (half false L) hop))) eq
     ∙ ap (λ n. Y ++ of_table m (lift (P ++ (false ∷ [])) (agg n (side false f) (half false L) hop))) (sym nq))
     in
     let w' : W ≡ Z ++ D =
-    w (side true f) (half true L) (subst (λ (x : Region). Stands x (width r.family - r.len) (side true f) (half true L)) (sym kk) (subst (λ (n : ℕ). Stands high n (side true f) (half true L)) nr s.5))
+    w (side true f) (half true L) (subst (λ (x : Region). RegionStands x (width r.family - r.len) (side true f) (half true L)) (sym kk) (subst (λ (n : ℕ). RegionStands high n (side true f) (half true L)) nr s.5))
     ∙ (ap (λ (x : Prefix). Z ++ of_table x.family (lift x.bits (agg (width r.family - r.len) (side true f) (half true L) hop))) er
     ∙ ap (λ n. Z ++ of_table m (lift (P ++ (true ∷ [])) (agg n (side true f) (half true L) hop))) (sym nr))
     in
@@ -142,19 +142,19 @@ no_bits_left p w e a b c = omega arith
 
 pub region_told : (p : code.Prefix) (f : Family) (q d : ℕ) (R E : Table) (RS ES : Entries) (region : Region) → d ≡ width p.family - p.len → bits_of p.len q ≡ (prefix_as p).bits
     → of_table f R ≡ RS → of_table f E ≡ ES
-    → Stands region d (λ a. lpm R (bits_of p.len q ++ a) 0) (cut (bits_of p.len q) E)
-    → Stands region (width p.family - p.len) (answers (of_family f RS) (prefix_as p).bits) (cut (prefix_as p).bits (of_family f ES))
+    → RegionStands region d (λ a. lpm R (bits_of p.len q ++ a) 0) (cut (bits_of p.len q) E)
+    → RegionStands region (width p.family - p.len) (answers (of_family f RS) (prefix_as p).bits) (cut (prefix_as p).bits (of_family f ES))
 region_told p f q d R E RS ES region n b v k s =
     let P = (prefix_as p).bits in
     let r : R ≡ of_family f RS = sym (family_is f R) ∙ ap (of_family f) v in
     let e : E ≡ of_family f ES = sym (family_is f E) ∙ ap (of_family f) k in
-    subst (λ (z : Table). Stands region (width p.family - p.len) (answers (of_family f RS) P) (cut P z)) e
-    (subst (λ (z : Table). Stands region (width p.family - p.len) (answers z P) (cut P E)) r
-    (subst (λ (z : ℕ). Stands region z (answers R P) (cut P E)) n (subst (λ (z : List Bool). Stands region d (answers R z) (cut z E)) b s)))
+    subst (λ (z : Table). RegionStands region (width p.family - p.len) (answers (of_family f RS) P) (cut P z)) e
+    (subst (λ (z : Table). RegionStands region (width p.family - p.len) (answers z P) (cut P E)) r
+    (subst (λ (z : ℕ). RegionStands region z (answers R P) (cut P E)) n (subst (λ (z : List Bool). RegionStands region d (answers R z) (cut z E)) b s)))
 
 pub within_told : (p : code.Prefix) (f : Family) (h : ℕ) (R E : Table) (X W : Entries) (region : Region) → p.family ≡ f → X ≡ []
-    → Stands region (width p.family - p.len) (answers R (prefix_as p).bits) (cut (prefix_as p).bits E)
-    → ((g : List Bool → ℕ) (L : Table) → Stands region (width p.family - p.len) g L → W ≡ X ++ of_table p.family (lift (prefix_as p).bits (agg (width p.family - p.len) g L h)))
+    → RegionStands region (width p.family - p.len) (answers R (prefix_as p).bits) (cut (prefix_as p).bits E)
+    → ((g : List Bool → ℕ) (L : Table) → RegionStands region (width p.family - p.len) g L → W ≡ X ++ of_table p.family (lift (prefix_as p).bits (agg (width p.family - p.len) g L h)))
     → W ≡ of_table f (aggregate (width f) R (prefix_as p).bits h E)
 within_told p f h R E X W region m x s t =
     let P = (prefix_as p).bits in

@@ -8,9 +8,9 @@ use Rattle.ortc.specs.declared.region.Region.{Region}
 use Rattle.ortc.specs.declared.region.Region.TheVariants.{Leaf, Join'}
 
 -- the set of a region
-abbrev pub hops_of : Region → List ℕ
-hops_of (Leaf old h) = h ∷ []
-hops_of (Join' old S k p l r) = S
+abbrev pub region_hops : Region → List ℕ
+region_hops (Leaf old h) = h ∷ []
+region_hops (Join' old S k p l r) = S
 
 -- the k of a region
 abbrev pub k_in : Region → ℕ
@@ -24,8 +24,8 @@ hop_in (Join' old S k p l r) = None
 
 -- The region has d more bits, where addresses get the answers f, and L is what the old table has within it. It is a leaf
 -- exactly where there is one answer.
-abbrev pub Stands : Region → ℕ → (List Bool → ℕ) → Table → Type 0
-Stands (Leaf old h) d f L = (root L ≡ old) × ((a : List Bool) → length a ≡ d → f a ≡ h)
-Stands (Join' old S k p l r) d f L =
-    (e : ℕ) × (d ≡ suc e) × (root L ≡ old) × SameHops S (set_of (suc e) f) × Stands l e (side false f) (half false L) × Stands r e (side true f) (half true L)
+abbrev pub RegionStands : Region → ℕ → (List Bool → ℕ) → Table → Type 0
+RegionStands (Leaf old h) d f L = (root L ≡ old) × ((a : List Bool) → length a ≡ d → f a ≡ h)
+RegionStands (Join' old S k p l r) d f L =
+    (e : ℕ) × (d ≡ suc e) × (root L ≡ old) × SameHops S (set_of (suc e) f) × RegionStands l e (side false f) (half false L) × RegionStands r e (side true f) (half true L)
     × (k ≡ k_of (suc e) f) × (one_answer (suc e) f ≡ None)

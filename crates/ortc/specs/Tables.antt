@@ -3,7 +3,7 @@ use Rattle.std.specs.Prelude.{ℕ, List, Bool}
 use Rattle.address_model.specs.Width.{width}
 use Rattle.table_model.specs.Entries.{Entries, of_family}
 use Rattle.least_model.specs.Least.{IsAggregate}
-use Rattle.orig_tree.specs.Seen.{Labels}
+use Rattle.orig_tree.specs.Views.{Labels}
 
 -- T is the aggregate of the region p for the tree's routes under h, with the tree's entries as the old table
 abbrev pub IsAggregateOf : Labels → List Bool → ℕ → Entries → Type 0

@@ -15,9 +15,9 @@ ghost use Rattle.least_model.specs.Sets.{agg};
 ghost use Rattle.least_model.specs.Least.{Least, LeastWithin, aggregate};
 ghost use Rattle.least_model.specs.Both.{aggregate_in};
 ghost use Rattle.cert_model.specs.Rows.{family_rows};
-ghost use Rattle.fib_addr.specs.Seen.{entry_as, prefix_as};
-ghost use Rattle.cert_rows.specs.Seen.{row_as};
-ghost use Rattle.ortc.specs.Stands.{Stands};
+ghost use Rattle.fib_addr.specs.Views.{entry_as, prefix_as};
+ghost use Rattle.cert_rows.specs.Views.{row_as};
+ghost use Rattle.ortc.specs.Stands.{RegionStands};
 ghost use Rattle.ortc.specs.Proved.{ProveLeast};
 ghost use Rattle.ortc.specs.Tables.{IsAggregateOf};
 
@@ -43,7 +43,7 @@ pub fn descend(
     prefix: Prefix,
     out: &mut Vec<Entry>,
 ) -> Result<(), AllocError>
-    ensures { OnOk result ((f : List Bool → ℕ) (L : Table) → Stands region.now (width prefix.family - prefix.len) f L →
+    ensures { OnOk result ((f : List Bool → ℕ) (L : Table) → RegionStands region.now (width prefix.family - prefix.len) f L →
         map entry_as out.new.items ≡ map entry_as out.old.items ++ of_table prefix.family (lift (prefix_as prefix).bits (agg (width prefix.family - prefix.len) f L inherited))) }
 {
     match region {

@@ -12,10 +12,10 @@ ghost use Rattle.address_model.specs.Width.{width};
 ghost use Rattle.table_model.specs.Table.{Table, lpm, root, half, inherit, cut};
 ghost use Rattle.table_model.specs.Entries.{of_family};
 ghost use Rattle.least_model.specs.Sets.{side, answers};
-ghost use Rattle.fib_addr.specs.Seen.{prefix_as};
+ghost use Rattle.fib_addr.specs.Views.{prefix_as};
 ghost use Rattle.orig_tree.specs.Walk.{behind};
 ghost use Rattle.ortc.specs.Hops.{Ascending};
-ghost use Rattle.ortc.specs.Stands.{Stands, hops_of, k_in, hop_in};
+ghost use Rattle.ortc.specs.Stands.{RegionStands, region_hops, k_in, hop_in};
 
 use crate::hop_set::HopSet;
 use fib_addr::{Prefix, bit_at};
@@ -53,7 +53,7 @@ pub struct Halves {
 
 /// The hops of a region's set.
 pub fn hops_of(region: &Region) -> &[u16]
-    ensures hops { result.now ≡ hops_of region.now }
+    ensures hops { result.now ≡ region_hops region.now }
     ensures order { Ascending result.now }
 {
     match region {
@@ -106,7 +106,7 @@ fn join_halves(
     high: Region,
 ) -> Result<Region, AllocError>
     requires { (h : ℕ) → hop_in low ≡ Some h → hop_in high ≡ Some h → ⊥ }
-    ensures { IfOk result (λ r. (d : ℕ) (f : List Bool → ℕ) (L : Table) → root L ≡ old → Stands low d (side false f) (half false L) → Stands high d (side true f) (half true L) → Stands r (suc d) f L) }
+    ensures { IfOk result (λ r. (d : ℕ) (f : List Bool → ℕ) (L : Table) → root L ≡ old → RegionStands low d (side false f) (half false L) → RegionStands high d (side true f) (half true L) → RegionStands r (suc d) f L) }
 {
     let joint = HopSet::joint(alloc, hops_of(&low), hops_of(&high))?;
     let k = joint_k(k_in(&low), k_in(&high), joint.apart)?;
@@ -120,9 +120,14 @@ fn join_halves(
 }
 
 /// The region of two halves: a leaf where both are leaves of one hop.
-fn joined(alloc: Global, old: Option<u16>, low: Region, high: Region) -> Result<Region, AllocError>
+fn join_regions(
+    alloc: Global,
+    old: Option<u16>,
+    low: Region,
+    high: Region,
+) -> Result<Region, AllocError>
     ensures leaf { IfOk result (λ r. (h : ℕ) → hop_in low ≡ Some h → hop_in high ≡ Some h → hop_in r ≡ Some h) }
-    ensures stands { IfOk result (λ r. (d : ℕ) (f : List Bool → ℕ) (L : Table) → root L ≡ old → Stands low d (side false f) (half false L) → Stands high d (side true f) (half true L) → Stands r (suc d) f L) }
+    ensures stands { IfOk result (λ r. (d : ℕ) (f : List Bool → ℕ) (L : Table) → root L ≡ old → RegionStands low d (side false f) (half false L) → RegionStands high d (side true f) (half true L) → RegionStands r (suc d) f L) }
 {
     if let Some(hop) = one_hop(&low, &high) {
         return Ok(Region::Leaf { old, hop });
@@ -140,7 +145,7 @@ pub fn below(label: Option<u16>, inherited: u16) -> u16
 /// The region of a node, whose prefix is `depth` bits shorter than addresses are.
 #[cycle(rising)]
 fn rise(alloc: Global, node: &Node, inherited: u16, depth: u8) -> Result<Region, AllocError>
-    ensures { IfOk result (λ r. Stands r depth (λ a. lpm node.now.routes a inherited) node.now.entries) }
+    ensures { IfOk result (λ r. RegionStands r depth (λ a. lpm node.now.routes a inherited) node.now.entries) }
 {
     let hop = below(node.hop(Label::Route), inherited);
     let old = node.hop(Label::Entry);
@@ -149,7 +154,7 @@ fn rise(alloc: Global, node: &Node, inherited: u16, depth: u8) -> Result<Region,
     }
     let low = rise_link(alloc, node.half(false), hop, depth - 1)?;
     let high = rise_link(alloc, node.half(true), hop, depth - 1)?;
-    joined(alloc, old, low, high)
+    join_regions(alloc, old, low, high)
 }
 
 #[cycle(rising)]
@@ -159,7 +164,7 @@ fn rise_link(
     inherited: u16,
     depth: u8,
 ) -> Result<Region, AllocError>
-    ensures { IfOk result (λ r. Stands r depth (λ a. lpm (behind link.now).routes a inherited) (behind link.now).entries) }
+    ensures { IfOk result (λ r. RegionStands r depth (λ a. lpm (behind link.now).routes a inherited) (behind link.now).entries) }
 {
     match link {
         Some(node) => rise(alloc, node, inherited, depth),
@@ -181,7 +186,7 @@ fn rise_below(
     depth: u8,
 ) -> Result<Region, AllocError>
     requires { left ≤ 128 }
-    ensures { IfOk result (λ r. Stands r depth (λ a. lpm node.now.routes (bits_of left q ++ a) inherited) (cut (bits_of left q) node.now.entries)) }
+    ensures { IfOk result (λ r. RegionStands r depth (λ a. lpm node.now.routes (bits_of left q ++ a) inherited) (cut (bits_of left q) node.now.entries)) }
 {
     if left == 0 {
         return rise(alloc, node, inherited, depth);
@@ -197,7 +202,7 @@ fn rise_below(
 /// The region of a prefix of the tree, with the tree's entries as the old ones.
 pub fn region_of(alloc: Global, tree: &Tree, prefix: &Prefix) -> Result<Region, AllocError>
     requires { prefix.now.family ≡ tree.now.family }
-    ensures { IfOk result (λ r. Stands r (width prefix.now.family - prefix.now.len) (answers (of_family tree.now.family tree.now.routes) (prefix_as prefix.now).bits) (cut (prefix_as prefix.now).bits (of_family tree.now.family tree.now.entries))) }
+    ensures { IfOk result (λ r. RegionStands r (width prefix.now.family - prefix.now.len) (answers (of_family tree.now.family tree.now.routes) (prefix_as prefix.now).bits) (cut (prefix_as prefix.now).bits (of_family tree.now.family tree.now.entries))) }
 {
     let depth = prefix.family.width() - prefix.len;
     let path = path_bits(prefix);

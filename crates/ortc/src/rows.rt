@@ -9,9 +9,9 @@ ghost use Rattle.table_model.specs.Table.{Table};
 ghost use Rattle.least_model.specs.Sets.{set_of, k_of};
 ghost use Rattle.cert_model.specs.Rows.{bound_row, region_rows};
 ghost use Rattle.cert_model.specs.Right.{bound_by};
-ghost use Rattle.fib_addr.specs.Seen.{prefix_as};
-ghost use Rattle.cert_rows.specs.Seen.{row_as};
-ghost use Rattle.ortc.specs.Stands.{Stands, hops_of, k_in};
+ghost use Rattle.fib_addr.specs.Views.{prefix_as};
+ghost use Rattle.cert_rows.specs.Views.{row_as};
+ghost use Rattle.ortc.specs.Stands.{RegionStands, region_hops, k_in};
 
 use crate::region::{Region, hops_of, k_in, sum};
 use cert_rows::Row;
@@ -20,7 +20,7 @@ use std::alloc::{AllocError, Global};
 
 /// The rows of a region, which stands for the prefix, behind those that there are.
 fn list_rows(region: &Region, prefix: Prefix, out: &mut Vec<Row>) -> Result<(), AllocError>
-    ensures { OnOk result ((f : List Bool → ℕ) (L : Table) → Stands region.now (width prefix.family - prefix.len) f L →
+    ensures { OnOk result ((f : List Bool → ℕ) (L : Table) → RegionStands region.now (width prefix.family - prefix.len) f L →
         map row_as out.new.items ≡ map row_as out.old.items ++ region_rows (width prefix.family - prefix.len) f (prefix_as prefix)) }
 {
     match region {
@@ -41,7 +41,7 @@ fn list_rows(region: &Region, prefix: Prefix, out: &mut Vec<Row>) -> Result<(), 
 
 /// How many entries a least table of the region has, where nothing is inherited.
 fn bound_of(region: &Region) -> Result<u64, AllocError>
-    ensures { IfOk result (λ n. n ≡ bound_by (hops_of region.now) (k_in region.now)) }
+    ensures { IfOk result (λ n. n ≡ bound_by (region_hops region.now) (k_in region.now)) }
 {
     if hops_of(region).contains(&0) {
         return Ok(k_in(region));
@@ -51,7 +51,7 @@ fn bound_of(region: &Region) -> Result<u64, AllocError>
 
 /// The rows of the region of a whole family, and its bound.
 pub fn prove(alloc: Global, region: &Region, whole: Prefix) -> Result<Vec<Row>, AllocError>
-    ensures { IfOk result (λ v. (f : List Bool → ℕ) (L : Table) → Stands region.now (width whole.family - whole.len) f L →
+    ensures { IfOk result (λ v. (f : List Bool → ℕ) (L : Table) → RegionStands region.now (width whole.family - whole.len) f L →
         map row_as v.items ≡ region_rows (width whole.family - whole.len) f (prefix_as whole) ++ bound_row whole.family (bound_by (set_of (width whole.family - whole.len) f) (k_of (width whole.family - whole.len) f)) ∷ []) }
 {
     let mut rows = Vec::new(alloc);

@@ -16,7 +16,7 @@ use Rattle.cert_model.specs.Rows.{CertRow, leaf_row, join_row, bound_row}
 use Rattle.printed_model.specs.Rows.{PrintedRow, IsRow, text_of}
 use Rattle.printed_model.specs.Texts.{numbered_hop, hops_in}
 use Rattle.printed_model.specs.Used.{used_of, printed_in}
-use Rattle.printed_model.specs.Numbered.{route_by, of_route, of_least, of_cert, IsOther, rows_with}
+use Rattle.printed_model.specs.Numbered.{route_row_by, of_route, of_least, of_cert, IsOther, rows_with}
 use Rattle.printed_model.proofs.Texts.{text_again}
 use Rattle.printed_model.proofs.Renamed.{other_hop, said}
 
@@ -54,7 +54,7 @@ routes_among hops (e ∷ R) =
     subst (λ (xs : List Address). AllByRecursion (IsAmong hops) xs) (sym (flat_map-append numbered_hop (of_route hops e) (flat_map (of_route hops) R)))
     (both_among hops (flat_map numbered_hop (of_route hops e)) (flat_map numbered_hop (flat_map (of_route hops) R)) (by_hop (hop_at hops e.1) refl) (routes_among hops R))
   where
-    by_hop : (o : Option Address) → hop_at hops e.1 ≡ o → AllByRecursion (IsAmong hops) (flat_map numbered_hop (route_by e.0 o))
+    by_hop : (o : Option Address) → hop_at hops e.1 ≡ o → AllByRecursion (IsAmong hops) (flat_map numbered_hop (route_row_by e.0 o))
     by_hop None x = tt
     by_hop (Some a) x = (number_is_among hops e.1 a x, tt)
 

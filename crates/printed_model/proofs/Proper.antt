@@ -8,7 +8,7 @@ use Rattle.table_model.specs.Entries.{Entries}
 use Rattle.fib_addr.specs.Hops.{hop_at}
 use Rattle.cert_model.specs.Rows.{CertRow, leaf_row, join_row, bound_row}
 use Rattle.printed_model.specs.Rows.{PrintedRow, IsHop, IsRow}
-use Rattle.printed_model.specs.Numbered.{route_by, of_route, of_least, of_cert, IsCertRow, rows_with}
+use Rattle.printed_model.specs.Numbered.{route_row_by, of_route, of_least, of_cert, IsCertRow, rows_with}
 
 both_proper : (xs ys : List PrintedRow) → AllByRecursion IsRow xs → AllByRecursion IsRow ys → AllByRecursion IsRow (xs ++ ys)
 both_proper [] ys a b = b
@@ -24,7 +24,7 @@ routes_proper : (hops : List Address) (R : Entries) → AllByRecursion IsAddress
 routes_proper hops [] a p = tt
 routes_proper hops (e ∷ R) a p = both_proper (of_route hops e) (flat_map (of_route hops) R) (one (hop_at hops e.1) (hop_proper hops e.1 a)) (routes_proper hops R a p.1)
   where
-    one : (o : Option Address) → IsHop o → AllByRecursion IsRow (route_by e.0 o)
+    one : (o : Option Address) → IsHop o → AllByRecursion IsRow (route_row_by e.0 o)
     one None h = tt
     one (Some x) h = ((p.0, h), tt)
 

@@ -16,7 +16,7 @@ use Rattle.cert_model.proofs.Renamed.{renaming_law}
 use Rattle.printed_model.specs.Rows.{PrintedRow, route_row, least_row, cert_leaf_row, cert_join_row, cert_bound_row}
 use Rattle.printed_model.specs.Texts.{numbered_hop, hops_in}
 use Rattle.printed_model.specs.Used.{hop_number, route_entry, least_entry, cert_part, used_of}
-use Rattle.printed_model.specs.Numbered.{route_by, of_route, of_least, of_cert, IsOther, rows_with, HaveHops, Proves}
+use Rattle.printed_model.specs.Numbered.{route_row_by, of_route, of_least, of_cert, IsOther, rows_with, HaveHops, Proves}
 use Rattle.printed_model.proofs.Hops.{numbers_back, parts}
 
 -- ---- what each kind of row says
@@ -60,7 +60,7 @@ nothing_routed f hops e [] = refl
 nothing_routed f hops e (x ∷ R) =
     flat_map-append f (of_route hops x) (flat_map (of_route hops) R) ∙ (ap (λ ys. ys ++ flat_map f (flat_map (of_route hops) R)) (one x.0 (hop_at hops x.1)) ∙ nothing_routed f hops e R)
   where
-    one : (p : Prefix) (o : Option Address) → flat_map f (route_by p o) ≡ []
+    one : (p : Prefix) (o : Option Address) → flat_map f (route_row_by p o) ≡ []
     one p None = refl
     one p (Some a) = append-nil (f (route_row p a)) ∙ e p a
 
@@ -99,7 +99,7 @@ routes_said hops new (e ∷ R) h =
     flat_map-append (route_entry new) (of_route hops e) (flat_map (of_route hops) R)
     ∙ (ap (λ ys. ys ++ flat_map (route_entry new) (flat_map (of_route hops) R)) (one (hop_at hops e.1) t.0 t.1) ∙ ap (λ ys. (e.0, number_among hops new e.1) ∷ ys) (routes_said hops new R h.1))
   where
-    one : (o : Option Address) (a : Address) → o ≡ Some a → flat_map (route_entry new) (route_by e.0 o) ≡ (e.0, hop_number new o) ∷ []
+    one : (o : Option Address) (a : Address) → o ≡ Some a → flat_map (route_entry new) (route_row_by e.0 o) ≡ (e.0, hop_number new o) ∷ []
     one None a x = absurd cc
     one (Some b) a x = refl
 
@@ -164,7 +164,7 @@ routes_kept hops new (e ∷ R) h b =
     let s = parts (IsBack new) (flat_map numbered_hop (of_route hops e)) (flat_map numbered_hop (flat_map (of_route hops) R)) c in
     ((one (hop_at hops e.1) s.0, h.0.1), routes_kept hops new R h.1 s.1)
   where
-    one : (o : Option Address) → AllByRecursion (IsBack new) (flat_map numbered_hop (route_by e.0 o)) → hop_at new (hop_number new o) ≡ o
+    one : (o : Option Address) → AllByRecursion (IsBack new) (flat_map numbered_hop (route_row_by e.0 o)) → hop_at new (hop_number new o) ≡ o
     one None x = refl
     one (Some a) x = x.0
 

@@ -12,12 +12,12 @@ use Rattle.printed_model.specs.Used.{Used}
 -- ---- the row of an item, with the address of its hop; a number that no hop has is no hop
 
 -- a route; where it has no hop, it has no row
-abbrev pub route_by : Prefix → Option Address → List PrintedRow
-route_by p None = []
-route_by p (Some a) = route_row p a ∷ []
+abbrev pub route_row_by : Prefix → Option Address → List PrintedRow
+route_row_by p None = []
+route_row_by p (Some a) = route_row p a ∷ []
 
 abbrev pub of_route : List Address → Prefix × ℕ → List PrintedRow
-of_route hops e = route_by e.0 (hop_at hops e.1)
+of_route hops e = route_row_by e.0 (hop_at hops e.1)
 
 abbrev pub of_least : List Address → Prefix × ℕ → PrintedRow
 of_least hops e = least_row e.0 (hop_at hops e.1)

@@ -5,7 +5,7 @@ use Rattle.octet_fields.specs.Field.{◌>>=◌}
 use Rattle.address_model.specs.Address.{Address, Prefix}
 use Rattle.address_model.specs.declared.family.Family.{Family}
 use Rattle.address_model.specs.declared.family.Family.TheVariants.{V4, V6}
-use Rattle.fib_addr.specs.Text.{address_in, prefix_in, number_in}
+use Rattle.fib_addr.specs.Text.{address_in, prefix_in, number_below}
 use Rattle.printed_model.specs.Rows.{Count, Records, Skipped, Events, Routes, Entries, Nodes, Leaves, PrintedRow, route_row, add_row, replace_row, remove_row, answer_row, visits_row, table_row, least_row, cert_leaf_row, cert_join_row, cert_bound_row, report_row}
 
 -- ---- why
@@ -48,7 +48,7 @@ abbrev pub prefix_field : List ℕ → Result Prefix ℕ
 prefix_field text = or_why bad_prefix (prefix_in text)
 
 abbrev pub number_field : List ℕ → Result ℕ ℕ
-number_field text = or_why bad_number (number_in (2 ^ 64) text)
+number_field text = or_why bad_number (number_below (2 ^ 64) text)
 
 -- an address, or no hop where the field is this word
 unfoldable pub hop_field : List ℕ → List ℕ → Result (Option Address) ℕ

@@ -5,7 +5,7 @@ use Rattle.std.proofs.lemmas.Bool.{ltb-false, le-ltb}
 use Rattle.std.proofs.lemmas.List.{take-append-le, drop-append-le, length-append, length-drop, append-nil}
 use Rattle.address_model.specs.Bits.{number}
 use Rattle.octet_fields.specs.Field.{◌>>=◌, refuse, octets_at, number_at, steps, until_end}
-use Rattle.reading_model.specs.Record.{Record, Fault, most_length, at_record, record_at, next_record, cut}
+use Rattle.reading_model.specs.Record.{Record, Fault, most_length, at_record, record_at, next_record, records_in}
 use Rattle.reading_model.specs.Pieces.{StartsSo, FeedsOn, TakesOn, StaysTooLong, StaysBroken, EndsCut, EndsSo, KeepsFront}
 
 pub bind_ok : {A B F : Type 0} (r : Result A F) (f : A → Result B F) (y : B) → (r >>= f) ≡ Ok y → (x : A) × (r ≡ Ok x) × (f x ≡ Ok y)
@@ -157,11 +157,11 @@ records_shorten = record {
 }
 
 pub starts_so : StartsSo
-unfolding cut
+unfolding records_in
 starts_so = record { whatever = λ more. refl }
 
 pub feeds_on : FeedsOn
-feeds_on fed piece left taken t = record { whatever = λ more. ap cut (append_assoc fed piece more) ∙ (t.whatever (piece ++ more) ∙ ap (until_end next_record taken) (sym (append_assoc left piece more))) }
+feeds_on fed piece left taken t = record { whatever = λ more. ap records_in (append_assoc fed piece more) ∙ (t.whatever (piece ++ more) ∙ ap (until_end next_record taken) (sym (append_assoc left piece more))) }
 
 pub takes_on : TakesOn
 takes_on fed left after taken r t e = record {
@@ -171,15 +171,15 @@ takes_on fed left after taken r t e = record {
 }
 
 pub stays_broken : StaysBroken
-stays_broken fed piece fault b = record { whatever = λ more. ap cut (append_assoc fed piece more) ∙ b.whatever (piece ++ more) }
+stays_broken fed piece fault b = record { whatever = λ more. ap records_in (append_assoc fed piece more) ∙ b.whatever (piece ++ more) }
 
 pub ends_cut : EndsCut
 ends_cut fed left taken rule t some e =
-    ap cut (sym (append-nil fed)) ∙ (t.whatever [] ∙ (ap (until_end next_record taken) (append-nil left) ∙ until_end_fault next_record taken left (record { number = length taken; rule = rule }) some (next_fault taken left rule e)))
+    ap records_in (sym (append-nil fed)) ∙ (t.whatever [] ∙ (ap (until_end next_record taken) (append-nil left) ∙ until_end_fault next_record taken left (record { number = length taken; rule = rule }) some (next_fault taken left rule e)))
 
 pub ends_so : EndsSo
 unfolding steps
-ends_so fed taken t = ap cut (sym (append-nil fed)) ∙ t.whatever []
+ends_so fed taken t = ap records_in (sym (append-nil fed)) ∙ t.whatever []
 
 abbrev kept : List Record → Result (List Record) Fault
 kept xs = Ok xs
@@ -201,7 +201,7 @@ steps_front (suc n) taken all (o ∷ os) e =
     (r ∷ rest.0, rest.1 ∙ (ap (λ xs. xs ++ rest.0) same ∙ append_assoc taken (r ∷ []) rest.0))
 
 pub keeps_front : KeepsFront
-keeps_front fed left taken all t e = steps_front (length (left ++ [])) taken all (left ++ []) (sym (t.whatever []) ∙ (ap cut (append-nil fed) ∙ e))
+keeps_front fed left taken all t e = steps_front (length (left ++ [])) taken all (left ++ []) (sym (t.whatever []) ∙ (ap records_in (append-nil fed) ∙ e))
 
 -- ---- a fault of the header stays
 

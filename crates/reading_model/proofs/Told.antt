@@ -18,12 +18,12 @@ use Rattle.reading_model.specs.declared.place.Place.TheVariants.{Rib, Update}
 use Rattle.reading_model.specs.declared.session.Session.{Session}
 use Rattle.reading_model.specs.declared.session.Session.TheVariants.{StateChange, Message}
 use Rattle.reading_model.specs.Wire.{octets_for, address_at, prefix_at, prefixes, family_of, family_at}
-use Rattle.reading_model.specs.Attribute.{Reached, Unreached, Found, nothing, hop_of, is_hop_length, next_hop_at, is_of, full_hop, rib_hop, reach_of_rib, reach_in, unreach_in, keep_first, with_path, ipv4_in, with_hop, with_reach, with_unreach, with_value, is_second, attribute_at, Listed, attributes}
-use Rattle.reading_model.specs.Rib.{peer_at, peer_table, entry_hop, event_of, indexed, entry_at, rib}
+use Rattle.reading_model.specs.Attribute.{ReachAttr, Unreached, Found, nothing_found, hop_of, is_hop_length, next_hop_at, is_of, full_hop, rib_hop, reach_of_rib, reach_in, unreach_in, keep_first, with_as_path, next_hop_in, with_next_hop, with_reach, with_unreach, with_value, is_second, attribute_at, Listed, attributes}
+use Rattle.reading_model.specs.Rib.{peer_at, peer_table, entry_hop, event_of, indexed, rib_entry_at, rib}
 use Rattle.reading_model.specs.Update.{withdrawn, routes, unreach_events, reach_events, update, message, is_lost, state_change, session_of, session_events, session_behind, session_in, bgp4mp}
 use Rattle.reading_model.specs.Record.{Record, record_at}
 use Rattle.reading_model.specs.Input.{Progress, Stopped, start, rib_behind, is_dump, is_session, record_in, counted, or_stop, read_record, input}
-use Rattle.reading_model.specs.Reading.{Reads}
+use Rattle.reading_model.specs.Reading.{ReadsEvents}
 
 -- ---- what a reader's value meets
 
@@ -157,7 +157,7 @@ rib_hop_meets family [] = tt
 rib_hop_meets family (zero ∷ rest) = full_hop_meets family (0 ∷ rest)
 rib_hop_meets family (suc n ∷ rest) = next_hop_meets family (suc n ∷ rest)
 
-abbrev IsReached : Reached → Type 0
+abbrev IsReached : ReachAttr → Type 0
 IsReached reach = IsAddress reach.hop × AllByRecursion IsPrefix reach.nlri
 
 abbrev IsUnreached : Unreached → Type 0
@@ -188,20 +188,20 @@ keep_first_meets : {A : Type 0} (P : A → Type 0) (old : Option A) (read : Resu
 keep_first_meets P (Some x) read p r = p
 keep_first_meets P None read p r = then_meets read _ P _ r (λ x q. q)
 
-ipv4_meets : (value : List ℕ) → IfOk (ipv4_in value) IsAddress
+ipv4_meets : (value : List ℕ) → IfOk (next_hop_in value) IsAddress
 ipv4_meets value = by_test (length value == 4) refl
   where
     by_test : (b : Bool) → (length value == 4) ≡ b → IfOk {E = ℕ} (if b then Ok (record { family = V4; bits = octet_bits value }) else Err 10) IsAddress
     by_test true e = let four : length value ≡ 4 = eqb-true (length value) 4 e in omega (arith, four, length-octet_bits value)
     by_test false e = tt
 
-with_path_meets : (place : Place) (found : Found) (value : List ℕ) → IsFound found → IfOk (with_path place found value) IsFound
-unfolding with_path
+with_path_meets : (place : Place) (found : Found) (value : List ℕ) → IsFound found → IfOk (with_as_path place found value) IsFound
+unfolding with_as_path
 with_path_meets place found value h = then_any (keep_first found.path _) _ _ (λ path. h)
 
-with_hop_meets : (found : Found) (value : List ℕ) → IsFound found → IfOk (with_hop found value) IsFound
-unfolding with_hop
-with_hop_meets found value h = then_meets (keep_first found.hop (ipv4_in value)) _ (λ x. IfSome x IsAddress) _ (keep_first_meets IsAddress found.hop (ipv4_in value) h.0 (ipv4_meets value)) (λ hop p. (p, h.1, h.2))
+with_hop_meets : (found : Found) (value : List ℕ) → IsFound found → IfOk (with_next_hop found value) IsFound
+unfolding with_next_hop
+with_hop_meets found value h = then_meets (keep_first found.hop (next_hop_in value)) _ (λ x. IfSome x IsAddress) _ (keep_first_meets IsAddress found.hop (next_hop_in value) h.0 (ipv4_meets value)) (λ hop p. (p, h.1, h.2))
 
 with_reach_meets : (place : Place) (found : Found) (value : List ℕ) → IsFound found → IfOk (with_reach place found value) IsFound
 unfolding with_reach
@@ -244,7 +244,7 @@ IsListed list = IfSome list.hop IsAddress × IfSome list.reach IsReached × IfSo
 
 attributes_meet : (place : Place) (octets : List ℕ) → IfOk (attributes place octets) IsListed
 unfolding attributes
-attributes_meet place octets = then_meets (until_end (attribute_at place) nothing octets) _ IsFound _ (until_end_meets (attribute_at place) IsFound (attribute_meets place) nothing octets (tt, tt, tt)) (λ found p. p)
+attributes_meet place octets = then_meets (until_end (attribute_at place) nothing_found octets) _ IsFound _ (until_end_meets (attribute_at place) IsFound (attribute_meets place) nothing_found octets (tt, tt, tt)) (λ found p. p)
 
 -- ---- RIB records
 
@@ -274,7 +274,7 @@ indexed_meets (peer ∷ peers) (suc i) a = indexed_meets peers i a.1
 entry_hop_meets : (family : Family) (list : Listed) → IsListed list → IfSome (entry_hop family list) IsAddress
 entry_hop_meets family list h = by_family family list.hop list.reach h.0 h.1
   where
-    by_family : (family : Family) (hop : Option Address) (reach : Option Reached) → IfSome hop IsAddress → IfSome reach IsReached → IfSome (entry_hop family (record { path = list.path; hop = hop; reach = reach; unreach = list.unreach })) IsAddress
+    by_family : (family : Family) (hop : Option Address) (reach : Option ReachAttr) → IfSome hop IsAddress → IfSome reach IsReached → IfSome (entry_hop family (record { path = list.path; hop = hop; reach = reach; unreach = list.unreach })) IsAddress
     by_family V4 (Some hop) reach p q = p
     by_family V4 None (Some reach) p q = q.0
     by_family V4 None None p q = tt
@@ -286,8 +286,8 @@ event_meets : (peer : Peer) (path : ℕ) (hop : Option Address) (prefix : Prefix
 event_meets peer path (Some hop) prefix p h x = (p, x, h)
 event_meets peer path None prefix p h x = (p, x)
 
-entry_meets : (peers : List Peer) (family : Family) (prefix : Prefix) (octets : List ℕ) → AllByRecursion IsPeer peers → IsPrefix prefix → IfOk (entry_at peers family prefix octets) (λ x. IsEvent x.0)
-unfolding entry_at
+entry_meets : (peers : List Peer) (family : Family) (prefix : Prefix) (octets : List ℕ) → AllByRecursion IsPeer peers → IsPrefix prefix → IfOk (rib_entry_at peers family prefix octets) (λ x. IsEvent x.0)
+unfolding rib_entry_at
 entry_meets peers family prefix octets a x =
     then_any (number_at 8 2 octets) _ _ (λ index.
     then_meets (indexed (slice_get peers index.0)) _ IsPeer _ (indexed_meets peers index.0 a) (λ peer p.
@@ -303,8 +303,8 @@ rib_meets peers family body a =
     then_any (octets_at 8 4 body) _ _ (λ sequence.
     then_meets (prefix_at 8 family sequence.1) _ (λ x. IsPrefix x.0) _ (prefix_meets 8 family sequence.1) (λ prefix x.
     then_any (number_at 8 2 prefix.1) _ _ (λ count.
-    then_meets (times (one_more (entry_at peers family prefix.0)) count.0 [] count.1) _ (λ y. AllByRecursion IsEvent y.0) _
-    (times_meet (one_more (entry_at peers family prefix.0)) (AllByRecursion IsEvent) (one_more_meets (entry_at peers family prefix.0) IsEvent (λ octets. entry_meets peers family prefix.0 octets a x)) count.0 [] count.1 tt) (λ events e.
+    then_meets (times (one_more (rib_entry_at peers family prefix.0)) count.0 [] count.1) _ (λ y. AllByRecursion IsEvent y.0) _
+    (times_meet (one_more (rib_entry_at peers family prefix.0)) (AllByRecursion IsEvent) (one_more_meets (rib_entry_at peers family prefix.0) IsEvent (λ octets. entry_meets peers family prefix.0 octets a x)) count.0 [] count.1 tt) (λ events e.
     all_read_meets 8 (AllByRecursion IsEvent) events e))))
 
 -- ---- UPDATE
@@ -321,7 +321,7 @@ unreach_meets : (peer : Peer) (unreach : Option Unreached) → IsPeer peer → I
 unreach_meets peer None p h = tt
 unreach_meets peer (Some unreach) p h = withdrawn_meet peer unreach.nlri p h
 
-reach_meets : (peer : Peer) (path : ℕ) (reach : Option Reached) → IsPeer peer → IfSome reach IsReached → AllByRecursion IsEvent (reach_events peer path reach)
+reach_meets : (peer : Peer) (path : ℕ) (reach : Option ReachAttr) → IsPeer peer → IfSome reach IsReached → AllByRecursion IsEvent (reach_events peer path reach)
 reach_meets peer path None p h = tt
 reach_meets peer path (Some reach) p h = routes_meet peer path (Some reach.hop) reach.nlri p h.0 h.1
 
@@ -456,7 +456,7 @@ record_follows front read octets f =
     stop_meets (λ x. Follows front x.0) (Follows front) read _ f
     (then_any (record_at octets) _ _ (λ r. then_any (record_in read.peers r.0) _ _ (λ told. counted_follows front read told f)))
 
-pub events_so_far : (fed left : List ℕ) (read : Progress) → Reads fed read left → AllByRecursion IsEvent read.events
+pub events_so_far : (fed left : List ℕ) (read : Progress) → ReadsEvents fed read left → AllByRecursion IsEvent read.events
 events_so_far fed left read t = by_end (input (fed ++ [])) (input_meets (fed ++ [])) (subst P (sym (t.whatever [])) follows)
   where
     P : Result Progress Stopped → Type 0

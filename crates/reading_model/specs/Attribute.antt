@@ -12,7 +12,7 @@ use Rattle.reading_model.specs.Wire.{family_at, prefixes}
 use Rattle.reading_model.specs.Path.{as_size, path_of}
 
 -- what MP_REACH_NLRI gives: a next hop for these prefixes
-pub record Reached : Type 0 where
+pub record ReachAttr : Type 0 where
   pub family : Family
   pub hop : Address
   pub nlri : List Prefix
@@ -27,12 +27,12 @@ pub record Found : Type 0 where
   pub path : Option ℕ
   pub hop : Option Address
   pub has_reach : Bool
-  pub reach : Option Reached
+  pub reach : Option ReachAttr
   pub has_unreach : Bool
   pub unreach : Option Unreached
 
-abbrev pub nothing : Found
-nothing = record { path = None; hop = None; has_reach = false; reach = None; has_unreach = false; unreach = None }
+abbrev pub nothing_found : Found
+nothing_found = record { path = None; hop = None; has_reach = false; reach = None; has_unreach = false; unreach = None }
 
 -- ---- next hops
 
@@ -73,14 +73,14 @@ rib_hop family (zero ∷ rest) = full_hop family (0 ∷ rest)
 rib_hop family (suc n ∷ rest) = next_hop_at family (suc n ∷ rest)
 
 -- what can't be read is passed over, as if there were no next hop
-abbrev pub reach_of_rib : Family → Result (Address × List ℕ) ℕ → Option Reached
+abbrev pub reach_of_rib : Family → Result (Address × List ℕ) ℕ → Option ReachAttr
 reach_of_rib family (Err rule) = None
 reach_of_rib family (Ok hop) = Some (record { family = family; hop = hop.0; nlri = [] })
 
 -- ---- the MP attributes of an UPDATE
 
 -- MP_REACH_NLRI (RFC 4760, 3): next hop, Reserved, NLRI to the end; another family is passed over
-unfoldable pub reach_in : Option Family → List ℕ → Result (Option Reached) ℕ
+unfoldable pub reach_in : Option Family → List ℕ → Result (Option ReachAttr) ℕ
 reach_in None octets = Ok None
 reach_in (Some family) octets = do
   hop ← next_hop_at family octets
@@ -107,18 +107,18 @@ abbrev pub keep_first : {A : Type 0} → Option A → Result A ℕ → Result (O
 keep_first (Some x) read = Ok (Some x)
 keep_first None read = read >>= λ x. Ok (Some x)
 
-unfoldable pub with_path : Place → Found → List ℕ → Result Found ℕ
-with_path place found value = do
+unfoldable pub with_as_path : Place → Found → List ℕ → Result Found ℕ
+with_as_path place found value = do
   path ← keep_first found.path (path_of (as_size (is_wide place)) value)
   Ok (record found { path = path })
 
 -- exactly four octets
-abbrev pub ipv4_in : List ℕ → Result Address ℕ
-ipv4_in value = if length value == 4 then Ok (record { family = V4; bits = octet_bits value }) else Err attribute_value
+abbrev pub next_hop_in : List ℕ → Result Address ℕ
+next_hop_in value = if length value == 4 then Ok (record { family = V4; bits = octet_bits value }) else Err attribute_value
 
-unfoldable pub with_hop : Found → List ℕ → Result Found ℕ
-with_hop found value = do
-  hop ← keep_first found.hop (ipv4_in value)
+unfoldable pub with_next_hop : Found → List ℕ → Result Found ℕ
+with_next_hop found value = do
+  hop ← keep_first found.hop (next_hop_in value)
   Ok (record found { hop = hop })
 
 unfoldable pub with_reach : Place → Found → List ℕ → Result Found ℕ
@@ -139,8 +139,8 @@ with_unreach (Update wide) found value = do
 -- AS_PATH (2), NEXT_HOP (3), MP_REACH_NLRI (14), MP_UNREACH_NLRI (15); all others are passed over unread
 unfoldable pub with_value : Place → Found → ℕ → List ℕ → Result Found ℕ
 with_value place found kind value =
-    if kind == 2 then with_path place found value else (
-    if kind == 3 then with_hop found value else (
+    if kind == 2 then with_as_path place found value else (
+    if kind == 3 then with_next_hop found value else (
     if kind == 14 then with_reach place found value else (
     if kind == 15 then with_unreach place found value else Ok found)))
 
@@ -165,7 +165,7 @@ attribute_at place found octets = do
 pub record Listed : Type 0 where
   pub path : ℕ
   pub hop : Option Address
-  pub reach : Option Reached
+  pub reach : Option ReachAttr
   pub unreach : Option Unreached
 
 abbrev pub listed : Found → Listed
@@ -173,4 +173,4 @@ listed found = record { path = unwrap_or found.path 0; hop = found.hop; reach = 
 
 -- attributes to the end
 unfoldable pub attributes : Place → List ℕ → Result Listed ℕ
-attributes place octets = until_end (attribute_at place) nothing octets >>= λ found. Ok (listed found)
+attributes place octets = until_end (attribute_at place) nothing_found octets >>= λ found. Ok (listed found)

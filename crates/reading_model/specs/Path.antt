@@ -4,8 +4,8 @@ use Rattle.octet_fields.specs.Field.{◌>>=◌, refuse, octet_at, octets_at, unt
 use Rattle.reading_model.specs.Rules.{attribute_value}
 
 -- What a segment counts: an AS_SEQUENCE (2) each of its AS numbers, an AS_SET (1) that isn't empty one; confederation segments (3 and 4) nothing.
-abbrev pub weight : ℕ → ℕ → ℕ
-weight kind count = if kind == 2 then count else (if kind == 1 then (if count == 0 then 0 else 1) else 0)
+abbrev pub segment_length : ℕ → ℕ → ℕ
+segment_length kind count = if kind == 2 then count else (if kind == 1 then (if count == 0 then 0 else 1) else 0)
 
 -- type, count, AS numbers of so many octets each; the length so far grows by what the segment counts
 unfoldable pub segment_at : ℕ → ℕ → List ℕ → Result (ℕ × List ℕ) ℕ
@@ -14,7 +14,7 @@ segment_at size so_far octets = do
   known ← refuse attribute_value (nat_lt kind.0 1 || nat_lt 4 kind.0)
   count ← octet_at attribute_value kind.1
   numbers ← octets_at attribute_value (count.0 * size) count.1
-  Ok (so_far + weight kind.0 count.0, numbers.1)
+  Ok (so_far + segment_length kind.0 count.0, numbers.1)
 
 -- the octets of an AS number
 abbrev pub as_size : Bool → ℕ

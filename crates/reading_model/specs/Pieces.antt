@@ -1,32 +1,32 @@
 -- An input that comes in pieces.
 use Rattle.std.specs.Prelude.{◌≡◌, ℕ, ◌<◌, List, [], ◌∷◌, ◌++◌, length, Ok, Err}
 use Rattle.octet_fields.specs.Field.{until_end}
-use Rattle.reading_model.specs.Record.{Record, Fault, record_at, next_record, cut}
+use Rattle.reading_model.specs.Record.{Record, Fault, record_at, next_record, records_in}
 use Rattle.reading_model.specs.Rules.{too_long}
 
 -- Of the octets fed these records were taken, and the octets left follow them, whatever comes after.
-pub record Takes (fed : List ℕ) (taken : List Record) (left : List ℕ) : Type 0 where
-  pub whatever : (more : List ℕ) → cut (fed ++ more) ≡ until_end next_record taken (left ++ more)
+pub record TakesRecords (fed : List ℕ) (taken : List Record) (left : List ℕ) : Type 0 where
+  pub whatever : (more : List ℕ) → records_in (fed ++ more) ≡ until_end next_record taken (left ++ more)
 
 -- The octets fed break this rule, whatever comes after.
 pub record Breaks (fed : List ℕ) (fault : Fault) : Type 0 where
-  pub whatever : (more : List ℕ) → cut (fed ++ more) ≡ Err fault
+  pub whatever : (more : List ℕ) → records_in (fed ++ more) ≡ Err fault
 
 -- nothing was fed
 abbrev pub StartsSo : Type 0
-StartsSo = Takes [] [] []
+StartsSo = TakesRecords [] [] []
 
 -- a piece more is fed
 abbrev pub FeedsOn : Type 0
-FeedsOn = (fed piece left : List ℕ) (taken : List Record) → Takes fed taken left → Takes (fed ++ piece) taken (left ++ piece)
+FeedsOn = (fed piece left : List ℕ) (taken : List Record) → TakesRecords fed taken left → TakesRecords (fed ++ piece) taken (left ++ piece)
 
 -- a whole record is taken
 abbrev pub TakesOn : Type 0
-TakesOn = (fed left after : List ℕ) (taken : List Record) (r : Record) → Takes fed taken left → record_at left ≡ Ok (r, after) → Takes fed (taken ++ r ∷ []) after
+TakesOn = (fed left after : List ℕ) (taken : List Record) (r : Record) → TakesRecords fed taken left → record_at left ≡ Ok (r, after) → TakesRecords fed (taken ++ r ∷ []) after
 
 -- a Length over the limit stays refused
 abbrev pub StaysTooLong : Type 0
-StaysTooLong = (fed left : List ℕ) (taken : List Record) → Takes fed taken left → record_at left ≡ Err too_long → Breaks fed (record { number = length taken; rule = too_long })
+StaysTooLong = (fed left : List ℕ) (taken : List Record) → TakesRecords fed taken left → record_at left ≡ Err too_long → Breaks fed (record { number = length taken; rule = too_long })
 
 -- what is refused stays so where more is fed
 abbrev pub StaysBroken : Type 0
@@ -34,12 +34,12 @@ StaysBroken = (fed piece : List ℕ) (fault : Fault) → Breaks fed fault → Br
 
 -- what is left at the end is a header or a body that is cut
 abbrev pub EndsCut : Type 0
-EndsCut = (fed left : List ℕ) (taken : List Record) (rule : ℕ) → Takes fed taken left → 0 < length left → record_at left ≡ Err rule → cut fed ≡ Err (record { number = length taken; rule = rule })
+EndsCut = (fed left : List ℕ) (taken : List Record) (rule : ℕ) → TakesRecords fed taken left → 0 < length left → record_at left ≡ Err rule → records_in fed ≡ Err (record { number = length taken; rule = rule })
 
 -- at the end nothing may be left
 abbrev pub EndsSo : Type 0
-EndsSo = (fed : List ℕ) (taken : List Record) → Takes fed taken [] → cut fed ≡ Ok taken
+EndsSo = (fed : List ℕ) (taken : List Record) → TakesRecords fed taken [] → records_in fed ≡ Ok taken
 
 -- the records taken are the first of the input's
 abbrev pub KeepsFront : Type 0
-KeepsFront = (fed left : List ℕ) (taken all : List Record) → Takes fed taken left → cut fed ≡ Ok all → (others : List Record) × (all ≡ taken ++ others)
+KeepsFront = (fed left : List ℕ) (taken all : List Record) → TakesRecords fed taken left → records_in fed ≡ Ok all → (others : List Record) × (all ≡ taken ++ others)

@@ -7,7 +7,7 @@ use Rattle.reading_model.specs.Record.{Record, record_at}
 use Rattle.reading_model.specs.Input.{Progress, Stopped, start, record_in, counted, read_record, input}
 
 -- Of the octets fed this much was read, and the octets left follow, whatever comes after.
-pub record Reads (fed : List ℕ) (read : Progress) (left : List ℕ) : Type 0 where
+pub record ReadsEvents (fed : List ℕ) (read : Progress) (left : List ℕ) : Type 0 where
   pub whatever : (more : List ℕ) → input (fed ++ more) ≡ until_end read_record read (left ++ more)
 
 -- Of the octets fed this much was read, and the next record breaks a rule, whatever comes after.
@@ -16,23 +16,23 @@ pub record ReadsNo (fed : List ℕ) (stopped : Stopped) : Type 0 where
 
 -- nothing was fed
 abbrev pub ReadingStarts : Type 0
-ReadingStarts = Reads [] start []
+ReadingStarts = ReadsEvents [] start []
 
 -- a piece more is fed
 abbrev pub ReadingFeeds : Type 0
-ReadingFeeds = (fed piece left : List ℕ) (read : Progress) → Reads fed read left → Reads (fed ++ piece) read (left ++ piece)
+ReadingFeeds = (fed piece left : List ℕ) (read : Progress) → ReadsEvents fed read left → ReadsEvents (fed ++ piece) read (left ++ piece)
 
 -- a whole record is read
 abbrev pub ReadingTakes : Type 0
-ReadingTakes = (fed left after : List ℕ) (read : Progress) (r : Record) (told : Option (List Peer) × Option (List Event)) → Reads fed read left → record_at left ≡ Ok (r, after) → record_in read.peers r ≡ Ok told → Reads fed (counted read told) after
+ReadingTakes = (fed left after : List ℕ) (read : Progress) (r : Record) (told : Option (List Peer) × Option (List Event)) → ReadsEvents fed read left → record_at left ≡ Ok (r, after) → record_in read.peers r ≡ Ok told → ReadsEvents fed (counted read told) after
 
 -- a whole record breaks a rule
 abbrev pub ReadingBreaks : Type 0
-ReadingBreaks = (fed left after : List ℕ) (read : Progress) (r : Record) (rule : ℕ) → Reads fed read left → record_at left ≡ Ok (r, after) → record_in read.peers r ≡ Err rule → ReadsNo fed (record { read = read; rule = rule })
+ReadingBreaks = (fed left after : List ℕ) (read : Progress) (r : Record) (rule : ℕ) → ReadsEvents fed read left → record_at left ≡ Ok (r, after) → record_in read.peers r ≡ Err rule → ReadsNo fed (record { read = read; rule = rule })
 
 -- a Length over the limit stays refused
 abbrev pub ReadingTooLong : Type 0
-ReadingTooLong = (fed left : List ℕ) (read : Progress) → Reads fed read left → record_at left ≡ Err too_long → ReadsNo fed (record { read = read; rule = too_long })
+ReadingTooLong = (fed left : List ℕ) (read : Progress) → ReadsEvents fed read left → record_at left ≡ Err too_long → ReadsNo fed (record { read = read; rule = too_long })
 
 -- what is refused stays so where more is fed
 abbrev pub ReadingStays : Type 0
@@ -40,8 +40,8 @@ ReadingStays = (fed piece : List ℕ) (stopped : Stopped) → ReadsNo fed stoppe
 
 -- what is left at the end is a header or a body that is cut
 abbrev pub ReadingEndsCut : Type 0
-ReadingEndsCut = (fed left : List ℕ) (read : Progress) (rule : ℕ) → Reads fed read left → 0 < length left → record_at left ≡ Err rule → input fed ≡ Err (record { read = read; rule = rule })
+ReadingEndsCut = (fed left : List ℕ) (read : Progress) (rule : ℕ) → ReadsEvents fed read left → 0 < length left → record_at left ≡ Err rule → input fed ≡ Err (record { read = read; rule = rule })
 
 -- at the end nothing may be left
 abbrev pub ReadingEnds : Type 0
-ReadingEnds = (fed : List ℕ) (read : Progress) → Reads fed read [] → input fed ≡ Ok read
+ReadingEnds = (fed : List ℕ) (read : Progress) → ReadsEvents fed read [] → input fed ≡ Ok read

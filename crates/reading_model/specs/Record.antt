@@ -38,5 +38,5 @@ unfoldable pub next_record : List Record → List ℕ → Result (List Record ×
 next_record before octets = at_record (length before) (record_at octets) >>= λ x. Ok (before ++ x.0 ∷ [], x.1)
 
 -- the records of an input, or the first that breaks a rule
-unfoldable pub cut : List ℕ → Result (List Record) Fault
-cut octets = until_end next_record [] octets
+unfoldable pub records_in : List ℕ → Result (List Record) Fault
+records_in octets = until_end next_record [] octets

@@ -9,7 +9,7 @@ use Rattle.octet_fields.specs.Field.{◌>>=◌, octet_at, octets_at, number_at, 
 use Rattle.reading_model.specs.declared.place.Place.TheVariants.{Rib}
 use Rattle.reading_model.specs.Rules.{peer_table_form, peer_index, rib_form}
 use Rattle.reading_model.specs.Wire.{address_at, prefix_at}
-use Rattle.reading_model.specs.Attribute.{Reached, Listed, attributes}
+use Rattle.reading_model.specs.Attribute.{ReachAttr, Listed, attributes}
 
 -- ---- PEER_INDEX_TABLE (4.3.1)
 
@@ -36,8 +36,8 @@ peer_table body = do
 
 -- NEXT_HOP before MP_REACH_NLRI's next hop in an IPv4 record, after it in an IPv6 record
 abbrev pub entry_hop : Family → Listed → Option Address
-entry_hop V4 list = option_or list.hop (option_map (λ (r : Reached). r.hop) list.reach)
-entry_hop V6 list = option_or (option_map (λ (r : Reached). r.hop) list.reach) list.hop
+entry_hop V4 list = option_or list.hop (option_map (λ (r : ReachAttr). r.hop) list.reach)
+entry_hop V6 list = option_or (option_map (λ (r : ReachAttr). r.hop) list.reach) list.hop
 
 -- a route; without a next hop the prefix is withdrawn
 abbrev pub event_of : Peer → ℕ → Option Address → Prefix → Event
@@ -50,8 +50,8 @@ indexed (Some peer) = Ok peer
 indexed None = Err peer_index
 
 -- Peer Index, Originated Time, Attribute Length, attributes (4.3.4)
-unfoldable pub entry_at : List Peer → Family → Prefix → List ℕ → Result (Event × List ℕ) ℕ
-entry_at peers family prefix octets = do
+unfoldable pub rib_entry_at : List Peer → Family → Prefix → List ℕ → Result (Event × List ℕ) ℕ
+rib_entry_at peers family prefix octets = do
   index ← number_at rib_form 2 octets
   peer ← indexed (slice_get peers index.0)
   time ← octets_at rib_form 4 index.1
@@ -66,5 +66,5 @@ rib peers family body = do
   sequence ← octets_at rib_form 4 body
   prefix ← prefix_at rib_form family sequence.1
   count ← number_at rib_form 2 prefix.1
-  events ← times (one_more (entry_at peers family prefix.0)) count.0 [] count.1
+  events ← times (one_more (rib_entry_at peers family prefix.0)) count.0 [] count.1
   all_read rib_form events

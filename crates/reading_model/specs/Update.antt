@@ -11,7 +11,7 @@ use Rattle.reading_model.specs.declared.session.Session.TheVariants.{StateChange
 use Rattle.reading_model.specs.Rules.{session_form, message_length, update_lengths}
 use Rattle.reading_model.specs.Wire.{address_at, prefixes, family_of}
 use Rattle.reading_model.specs.Path.{as_size}
-use Rattle.reading_model.specs.Attribute.{Reached, Unreached, attributes}
+use Rattle.reading_model.specs.Attribute.{ReachAttr, Unreached, attributes}
 use Rattle.reading_model.specs.Rib.{event_of}
 
 -- ---- UPDATE
@@ -27,7 +27,7 @@ abbrev pub unreach_events : Peer → Option Unreached → List Event
 unreach_events peer None = []
 unreach_events peer (Some unreach) = withdrawn peer unreach.nlri
 
-abbrev pub reach_events : Peer → ℕ → Option Reached → List Event
+abbrev pub reach_events : Peer → ℕ → Option ReachAttr → List Event
 reach_events peer path None = []
 reach_events peer path (Some reach) = routes peer path (Some reach.hop) reach.nlri
 

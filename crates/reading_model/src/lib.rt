@@ -19,7 +19,7 @@ ghost use Rattle.reading_model.specs.Record.{next_record};
 ghost use Rattle.reading_model.specs.Input.{Progress, Stopped, read_record, input};
 ghost use Rattle.reading_model.specs.End.{ReadsToEnd};
 ghost use Rattle.reading_model.specs.Pieces.{StartsSo, FeedsOn, TakesOn, StaysTooLong, StaysBroken, EndsCut, EndsSo, KeepsFront};
-ghost use Rattle.reading_model.specs.Reading.{Reads, ReadingStarts, ReadingFeeds, ReadingTakes, ReadingBreaks, ReadingTooLong, ReadingStays, ReadingEndsCut, ReadingEnds};
+ghost use Rattle.reading_model.specs.Reading.{ReadsEvents, ReadingStarts, ReadingFeeds, ReadingTakes, ReadingBreaks, ReadingTooLong, ReadingStays, ReadingEndsCut, ReadingEnds};
 
 pub use place::Place;
 pub use session::Session;
@@ -63,5 +63,5 @@ pub fn end_law()
 pub fn events_law()
     ensures read { (octets : List ℕ) (read : Progress) → input octets ≡ Ok read → AllByRecursion IsEvent read.events }
     ensures stopped { (octets : List ℕ) (stopped : Stopped) → input octets ≡ Err stopped → AllByRecursion IsEvent stopped.read.events }
-    ensures so_far { (fed left : List ℕ) (read : Progress) → Reads fed read left → AllByRecursion IsEvent read.events }
+    ensures so_far { (fed left : List ℕ) (read : Progress) → ReadsEvents fed read left → AllByRecursion IsEvent read.events }
 {}

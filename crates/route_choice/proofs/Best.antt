@@ -11,8 +11,8 @@ use Rattle.std.specs.declared.cmp.Ordering.TheVariants.{Less, Equal, Greater}
 use Rattle.std.proofs.lemmas.Cmp.{tied_itself, tied_back, ranked}
 use Rattle.address_model.specs.Address.{Prefix, same_prefix}
 use Rattle.address_model.proofs.Same.{same_prefix_is}
-use Rattle.fib_addr.specs.Seen.{prefix_as}
-use Rattle.fib_prefix.specs.Seen.{peer_as}
+use Rattle.fib_addr.specs.Views.{prefix_as}
+use Rattle.fib_prefix.specs.Views.{peer_as}
 use Rattle.fib_addr.specs.Order.{code_cmp}
 use Rattle.fib_addr.specs.declared.prefix.Prefix as code
 use Rattle.fib_prefix.specs.declared.event.Peer.{Peer}
@@ -29,7 +29,7 @@ use Rattle.route_choice.specs.declared.keys.Candidate.{Candidate}
 use Rattle.route_choice.specs.Orders.{seat_cmp, rank_cmp}
 use Rattle.fib_prefix.specs.Order.{code_peer_cmp}
 use Rattle.route_choice.specs.Seats.{Seats, held_in, flat, offer_at, rank_at, seat_of, IsIndexed}
-use Rattle.route_choice.specs.Walks.{ranks_of, with_path, offer_ranked, is_out, or_next, first_in}
+use Rattle.route_choice.specs.Walks.{ranks_of, offer_with_path, offer_ranked, is_out, or_next, first_in}
 use Rattle.route_choice.proofs.Orders.{place_as, peer_is, peer_same, prefix_same, prefix_total, seat_total, rank_total, peer_total}
 use Rattle.route_choice.proofs.Views.{offer_as, at_seat, held_seat, lookup_by_test}
 
@@ -191,10 +191,10 @@ same_rank r t e =
 pub same_offer : (seats : Seats) (s t : Seat) → seat_cmp s t ≡ Equal → offer_at seats t ≡ offer_at seats s
 same_offer seats s t e = ap flat (lookup_by_test (is_at (seat_cmp t)) (is_at (seat_cmp s)) seats (λ k. ap is_eq (sym (seat_total.congr s t k e))))
 
-pub with_own_path : (n : ℕ) (offer : Offer) → offer.path ≡ n → with_path n (Some offer) ≡ Some offer
+pub with_own_path : (n : ℕ) (offer : Offer) → offer.path ≡ n → offer_with_path n (Some offer) ≡ Some offer
 with_own_path n offer e = ap (λ (b : Bool). if b then Some offer else None) (let x : (offer.path == n) ≡ true = grind (arith, e) in x)
 
-pub with_path_parts : (n : ℕ) (o : Option Offer) (offer : Offer) → with_path n o ≡ Some offer → (o ≡ Some offer) × (offer.path ≡ n)
+pub with_path_parts : (n : ℕ) (o : Option Offer) (offer : Offer) → offer_with_path n o ≡ Some offer → (o ≡ Some offer) × (offer.path ≡ n)
 with_path_parts n None offer e = absurd cc
 with_path_parts n (Some x) offer e = by_test (x.path == n) refl e
   where
@@ -232,7 +232,7 @@ rank_of seats ranks p T d i a h e =
       rank = r.0;
       meets = r.2;
       offer = c.offer;
-      live = ap (with_path r.0.path) (same_offer seats s (seat_of r.0) seat ∙ c.here) ∙ with_own_path r.0.path c.offer f.path;
+      live = ap (offer_with_path r.0.path) (same_offer seats s (seat_of r.0) seat ∙ c.here) ∙ with_own_path r.0.path c.offer f.path;
       path = sym f.path ∙ ap (λ (o : model.Offer). o.path) c.is;
       peer = peer_key.same (peer_as r.0.peer) (peer_as s.peer) (sym (peer_same r.0.peer s.peer) ∙ ap is_eq peer) ∙ ap (λ (q : Place). q.peer) c.place;
     }

@@ -9,8 +9,8 @@ use Rattle.std.specs.declared.cmp.Ordering.TheVariants.{Less, Equal, Greater}
 use Rattle.std.proofs.lemmas.Bool.{and_from}
 use Rattle.address_model.specs.Address.{Address, Prefix, same_prefix}
 use Rattle.address_model.proofs.Same.{same_prefix_is, same_prefix_itself}
-use Rattle.fib_addr.specs.Seen.{addr_as, prefix_as}
-use Rattle.fib_prefix.specs.Seen.{peer_as, elem_as}
+use Rattle.fib_addr.specs.Views.{addr_as, prefix_as}
+use Rattle.fib_prefix.specs.Views.{peer_as, elem_as}
 use Rattle.fib_addr.specs.declared.prefix.Prefix as code
 use Rattle.fib_prefix.specs.declared.event.Peer.{Peer}
 use Rattle.fib_prefix.specs.declared.event.Elem.{Elem}
@@ -31,7 +31,7 @@ use Rattle.route_choice.specs.Orders.{rank_cmp}
 use Rattle.fib_prefix.specs.Order.{code_peer_cmp}
 use Rattle.route_choice.specs.Seats.{Seats, held_in, offer_at, IsIndexed, seat_in, offer_in}
 use Rattle.route_choice.specs.Walks.{ranks_of, first_in, better_of}
-use Rattle.route_model.specs.Events.{prefix_of}
+use Rattle.route_model.specs.Events.{elem_prefix}
 use Rattle.route_choice.specs.Held.{IsChoice}
 use Rattle.route_choice.proofs.Orders.{place_as, peer_is}
 use Rattle.route_choice.proofs.Views.{offer_as, are_candidates, at_seat, about_is, offered_is, is_elem}
@@ -132,7 +132,7 @@ best_after held at e None keeps b = λ d h g. by_test d h g (same_peer at.peer d
     by_test d h g false t = sym t ∙ b d (sym (keeps d t) ∙ h) g
 best_after held at e (Some c) keeps b = (keeps c b.2 ∙ b.0, b.1, b.2, λ d h g t. b.3 d (sym (keeps d t) ∙ h) g t)
 
-prefix_in : (e : Elem) → prefix_of (elem_as e) ≡ (place_as (seat_in e)).prefix
+prefix_in : (e : Elem) → elem_prefix (elem_as e) ≡ (place_as (seat_in e)).prefix
 prefix_in (elem.Put q p path hop) = refl
 prefix_in (elem.Cut q p) = refl
 

@@ -8,7 +8,7 @@ use Rattle.std.specs.Option.{option_and_then}
 use Rattle.std.specs.Ordering.{ordering_then, is_eq}
 use Rattle.std.specs.declared.cmp.Ordering.{Ordering}
 use Rattle.std.specs.declared.cmp.Ordering.TheVariants.{Less, Equal, Greater}
-use Rattle.fib_prefix.specs.Seen.{peer_as, elem_as}
+use Rattle.fib_prefix.specs.Views.{peer_as, elem_as}
 use Rattle.fib_addr.specs.Order.{code_cmp}
 use Rattle.fib_prefix.specs.declared.event.Peer.{Peer}
 use Rattle.fib_addr.proofs.Ordering.{cmp_is}

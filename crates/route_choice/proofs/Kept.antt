@@ -11,7 +11,7 @@ use Rattle.fib_addr.specs.Order.{code_cmp}
 use Rattle.fib_addr.specs.declared.addr.Addr.{Addr}
 use Rattle.fib_addr.specs.declared.prefix.Prefix as code
 use Rattle.fib_prefix.specs.declared.event.Peer.{Peer}
-use Rattle.fib_prefix.specs.Seen.{elem_as}
+use Rattle.fib_prefix.specs.Views.{elem_as}
 use Rattle.fib_prefix.specs.declared.event.Elem.{Elem}
 use Rattle.fib_prefix.specs.declared.event.Elem.TheVariants as elem
 use Rattle.route_model.specs.Events as model
@@ -20,7 +20,7 @@ use Rattle.route_choice.specs.declared.keys.Rank.{Rank}
 use Rattle.route_choice.specs.declared.keys.Offer.{Offer}
 use Rattle.route_choice.specs.Orders.{seat_cmp, rank_cmp}
 use Rattle.route_choice.specs.Seats.{Seats, flat, offer_at, rank_at, seat_of, has_rank, has_seat, IsIndexed, HasRoom, seat_in, offer_in}
-use Rattle.route_choice.specs.Walks.{with_path, offer_ranked}
+use Rattle.route_choice.specs.Walks.{offer_with_path, offer_ranked}
 use Rattle.route_choice.specs.Kept.{IsKept, EachSeatServes, EachRankServes, holds_seat, holds_rank}
 use Rattle.route_choice.proofs.Orders.{seat_total, rank_total}
 use Rattle.route_choice.proofs.Views.{flips, lookup_by_test}
@@ -49,7 +49,7 @@ seat_of_rank q r e =
 
 alike_ranked : (seats : Seats) (q r : Rank) → is_eq (rank_cmp q r) ≡ true → offer_ranked seats q ≡ offer_ranked seats r
 alike_ranked seats q r e =
-    ap (with_path q.path) (alike_offers seats (seat_of q) (seat_of r) (seat_of_rank q r e)) ∙ ap (λ n. with_path n (offer_at seats (seat_of r))) (same_rank q r e).path
+    ap (offer_with_path q.path) (alike_offers seats (seat_of q) (seat_of r) (seat_of_rank q r e)) ∙ ap (λ n. offer_with_path n (offer_at seats (seat_of r))) (same_rank q r e).path
 
 held_alike_rank : (plan : Option Elem) (q r : Rank) → is_eq (rank_cmp q r) ≡ true → holds_rank plan q ≡ true → holds_rank plan r ≡ true
 held_alike_rank None q r e h = h
@@ -158,7 +158,7 @@ held_seat seats s plan h k = λ q t. weaker (is_some (offer_at seats q)) (is_eq 
 
 -- ranks that serve do so where the offers are the same
 same_serve : (old new : Seats) (ranks : List Rank) (held : Rank → Bool) → ((s : Seat) → offer_at new s ≡ offer_at old s) → EachRankServes old ranks held → EachRankServes new ranks held
-same_serve old new ranks held h k = λ r t. ap (λ o. is_some (with_path r.path o) || held r) (h (seat_of r)) ∙ k r t
+same_serve old new ranks held h k = λ r t. ap (λ o. is_some (offer_with_path r.path o) || held r) (h (seat_of r)) ∙ k r t
 
 -- the room of an earlier plan is given back
 pub gave_back : (old new : Seats) (before after : List Rank) (here : Seat) (r : Rank) (q : Peer) (p : code.Prefix) (path : ℕ) (hop : Addr) (earlier plan : Option Elem) → earlier ≡ Some (elem.Put q p path hop) → here ≡ record { peer = q; prefix = p } → r ≡ rank_at here path
@@ -246,7 +246,7 @@ made_room old new before after here r q p path hop e f o hs hr x is plan k = sub
 
     by_rank : (t : Rank) (b : Bool) → is_eq (rank_cmp r t) ≡ b → cond b true (has_rank before t) ≡ true → (is_some (offer_ranked new t) || (holds_rank plan t || is_eq (rank_cmp top t))) ≡ true
     by_rank t true g u = or_right (is_some (offer_ranked new t)) _ (or_right (holds_rank plan t) _ (ap (λ x. is_eq (rank_cmp x t)) (sym is_top) ∙ g))
-    by_rank t false g u = weaker (is_some (offer_ranked new t)) (holds_rank plan t) _ (λ i. or_left (holds_rank plan t) _ i) (ap (λ x. is_some (with_path t.path x) || holds_rank plan t) (o (seat_of t)) ∙ k.ranks_serve t u)
+    by_rank t false g u = weaker (is_some (offer_ranked new t)) (holds_rank plan t) _ (λ i. or_left (holds_rank plan t) _ i) (ap (λ x. is_some (offer_with_path t.path x) || holds_rank plan t) (o (seat_of t)) ∙ k.ranks_serve t u)
 
 -- ---- offers that come and go
 
@@ -259,13 +259,13 @@ is_its here (Some offer) r = is_eq (rank_cmp (rank_at here offer.path) r)
 set_serve : (old new : Seats) (ranks : List Rank) (here : Seat) (was now : Option Offer) (held : Rank → Bool) → was ≡ offer_at old here → ((s : Seat) → offer_at new s ≡ cond (is_eq (seat_cmp here s)) now (offer_at old s)) → EachRankServes old ranks held → EachRankServes new ranks (λ r. is_its here was r || held r)
 set_serve old new ranks here was now held e h k = λ r t. by_test r (is_eq (seat_cmp here (seat_of r))) refl (offer_ranked old r) refl (k r t)
   where
-    its : (r : Rank) (o : Option Offer) (offer : Offer) → o ≡ was → is_eq (seat_cmp here (seat_of r)) ≡ true → with_path r.path o ≡ Some offer → is_its here was r ≡ true
+    its : (r : Rank) (o : Option Offer) (offer : Offer) → o ≡ was → is_eq (seat_cmp here (seat_of r)) ≡ true → offer_with_path r.path o ≡ Some offer → is_its here was r ≡ true
     its r None offer f g w = absurd cc
     its r (Some x) offer f g w =
         let path : x.path ≡ r.path = path_of x w in
         ap (λ y. is_its here y r) (sym f) ∙ own x path
       where
-        path_of : (x : Offer) → with_path r.path (Some x) ≡ Some offer → x.path ≡ r.path
+        path_of : (x : Offer) → offer_with_path r.path (Some x) ≡ Some offer → x.path ≡ r.path
         path_of x w = let y = with_path_parts r.path (Some x) offer w in ap (λ (z : Offer). z.path) (same_value x offer y.0) ∙ y.1
           where
             same_value : (v u : Offer) → Some v ≡ Some u → v ≡ u
@@ -276,7 +276,7 @@ set_serve old new ranks here was now held e h k = λ r t. by_test r (is_eq (seat
 
     by_test : (r : Rank) (b : Bool) → is_eq (seat_cmp here (seat_of r)) ≡ b → (o : Option Offer) → offer_ranked old r ≡ o → (is_some o || held r) ≡ true → (is_some (offer_ranked new r) || (is_its here was r || held r)) ≡ true
     by_test r true g (Some offer) f t = or_right (is_some (offer_ranked new r)) _ (or_left (is_its here was r) (held r) (its r (offer_at old (seat_of r)) offer (sym (alike_offers old here (seat_of r) g) ∙ sym e) g f))
-    by_test r false g (Some offer) f t = or_left (is_some (offer_ranked new r)) _ (ap (λ o. is_some (with_path r.path o)) (h (seat_of r) ∙ ap (λ b. cond b now (offer_at old (seat_of r))) g) ∙ ap is_some f)
+    by_test r false g (Some offer) f t = or_left (is_some (offer_ranked new r)) _ (ap (λ o. is_some (offer_with_path r.path o)) (h (seat_of r) ∙ ap (λ b. cond b now (offer_at old (seat_of r))) g) ∙ ap is_some f)
     by_test r b g None f t = or_right (is_some (offer_ranked new r)) _ (or_right (is_its here was r) (held r) t)
 
 -- the rank of what was offered before is pruned

@@ -11,8 +11,8 @@ use Rattle.address_model.specs.Address.{IsPrefix, same_prefix}
 use Rattle.address_model.proofs.BitLaws.{length-bits_of}
 use Rattle.fib_prefix.specs.declared.event.Peer.{Peer}
 use Rattle.fib_addr.specs.declared.prefix.Prefix as code
-use Rattle.fib_addr.specs.Seen.{prefix_as}
-use Rattle.fib_prefix.specs.Seen.{peer_as}
+use Rattle.fib_addr.specs.Views.{prefix_as}
+use Rattle.fib_prefix.specs.Views.{peer_as}
 use Rattle.fib_addr.specs.Order.{code_cmp}
 use Rattle.fib_addr.proofs.Parts.{length_prefix}
 use Rattle.fib_addr.proofs.Ordering.{cmp_is}

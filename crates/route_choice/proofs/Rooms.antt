@@ -10,8 +10,8 @@ use Rattle.std.specs.declared.cmp.Ordering.{Ordering}
 use Rattle.std.specs.declared.cmp.Ordering.TheVariants.{Less, Equal, Greater}
 use Rattle.std.proofs.lemmas.Cmp.{nat_cmp_total, tied_itself}
 use Rattle.address_model.specs.Address.{Address, Prefix, same_prefix}
-use Rattle.fib_addr.specs.Seen.{addr_as, prefix_as}
-use Rattle.fib_prefix.specs.Seen.{peer_as, elem_as}
+use Rattle.fib_addr.specs.Views.{addr_as, prefix_as}
+use Rattle.fib_prefix.specs.Views.{peer_as, elem_as}
 use Rattle.fib_addr.specs.Order.{code_cmp}
 use Rattle.fib_addr.specs.declared.addr.Addr.{Addr}
 use Rattle.fib_addr.specs.declared.prefix.Prefix as code
@@ -27,7 +27,7 @@ use Rattle.route_choice.specs.declared.keys.Offer.{Offer}
 use Rattle.route_choice.specs.Orders.{seat_cmp, rank_cmp}
 use Rattle.fib_prefix.specs.Order.{code_peer_cmp}
 use Rattle.route_choice.specs.Seats.{Seats, flat, offer_at, rank_at, seat_of, has_rank, has_seat, IsIndexed, HasRoom, seat_in, offer_in}
-use Rattle.route_choice.specs.Walks.{with_path, offer_ranked}
+use Rattle.route_choice.specs.Walks.{offer_with_path, offer_ranked}
 use Rattle.route_choice.proofs.Orders.{peer_same, prefix_same, rank_total}
 use Rattle.route_choice.proofs.Best.{same_offer, SameRank, same_rank, with_own_path, is_equal}
 use denote.Ref.{Bor}
@@ -37,7 +37,7 @@ pub own_rank : (seats : Seats) (r : Rank) (s : Seat) (offer : Offer) → is_eq (
 own_rank seats r s offer e h =
     let f : SameRank r (rank_at s offer.path) = same_rank r (rank_at s offer.path) e in
     let seat : seat_cmp (seat_of r) s ≡ Equal = ap (λ o. ordering_then o (code_cmp r.prefix s.prefix)) f.peer ∙ f.prefix in
-    ap (with_path r.path) (sym (same_offer seats (seat_of r) s seat) ∙ h) ∙ with_own_path r.path offer (sym f.path)
+    ap (offer_with_path r.path) (sym (same_offer seats (seat_of r) s seat) ∙ h) ∙ with_own_path r.path offer (sym f.path)
 
 pub pruned_rank : (seats : Seats) (old new : List Rank) (r : Rank) (o : Option Offer) → o ≡ offer_ranked seats r → (b : Bool) → is_some o ≡ not b → b ≡ true → ((q : Rank) → has_rank new q ≡ cond (is_eq (rank_cmp r q)) false (has_rank old q)) → IsIndexed seats old → IsIndexed seats new
 pruned_rank seats old new r o e b t u h i = λ s offer f. h (rank_at s offer.path) ∙ by_test s offer f (is_eq (rank_cmp r (rank_at s offer.path))) refl

@@ -11,7 +11,7 @@ use Rattle.std.specs.declared.cmp.Ordering.TheVariants.{Less, Equal, Greater}
 use Rattle.address_model.specs.Address.{Address, Prefix, IsPrefix, same_prefix}
 use Rattle.address_model.specs.Order.{prefix_cmp}
 use Rattle.address_model.proofs.Same.{same_prefix_is, same_prefix_itself}
-use Rattle.fib_addr.specs.Seen.{addr_as, prefix_as, route_as}
+use Rattle.fib_addr.specs.Views.{addr_as, prefix_as, route_as}
 use Rattle.fib_addr.specs.Order.{code_cmp}
 use Rattle.fib_addr.specs.declared.addr.Addr.{Addr}
 use Rattle.fib_addr.specs.declared.prefix.Prefix as code

@@ -3,8 +3,8 @@ use Rattle.std.specs.Prelude.{◌≡◌, ⊤, ℕ, List, [], ◌∷◌, Bool, tr
 use Rattle.std.specs.List.{list_any}
 use Rattle.std.specs.Map.{lookup}
 use Rattle.std.specs.BTreeMap.{is_at}
-use Rattle.fib_addr.specs.Seen.{addr_as, prefix_as}
-use Rattle.fib_prefix.specs.Seen.{peer_as}
+use Rattle.fib_addr.specs.Views.{addr_as, prefix_as}
+use Rattle.fib_prefix.specs.Views.{peer_as}
 use Rattle.fib_prefix.specs.declared.event.Elem.{Elem}
 use Rattle.fib_prefix.specs.declared.event.Elem.TheVariants as elem
 use Rattle.route_model.specs.Events as model

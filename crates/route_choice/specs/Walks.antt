@@ -22,13 +22,13 @@ abbrev pub seats_of : Peer → Seats → Seats
 seats_of q seats = filter (λ e. is_eq (code_peer_cmp q e.0.peer)) seats
 
 -- the offer, if it has this path
-abbrev pub with_path : ℕ → Option Offer → Option Offer
-with_path path None = None
-with_path path (Some offer) = if offer.path == path then Some offer else None
+abbrev pub offer_with_path : ℕ → Option Offer → Option Offer
+offer_with_path path None = None
+offer_with_path path (Some offer) = if offer.path == path then Some offer else None
 
 -- the offer of a rank
 abbrev pub offer_ranked : Seats → Rank → Option Offer
-offer_ranked seats r = with_path r.path (offer_at seats (seat_of r))
+offer_ranked seats r = offer_with_path r.path (offer_at seats (seat_of r))
 
 -- whether it is the peer that is left out
 abbrev pub is_out : Option Peer → Peer → Bool

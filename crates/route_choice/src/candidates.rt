@@ -4,13 +4,13 @@ ghost use Rattle.std.specs.Prelude.{◌≡◌, ◌&&◌, ◌||◌, List, true, f
 ghost use Rattle.std.specs.Ordering.{is_eq};
 ghost use Rattle.std.specs.BTreeMap as tree;
 ghost use Rattle.std.specs.BTreeSet as set;
-ghost use Rattle.fib_addr.specs.Seen.{addr_as, prefix_as, route_as};
-ghost use Rattle.fib_prefix.specs.Seen.{event_as, elem_as};
+ghost use Rattle.fib_addr.specs.Views.{addr_as, prefix_as, route_as};
+ghost use Rattle.fib_prefix.specs.Views.{event_as, elem_as};
 ghost use Rattle.route_model.specs.Choice.{AreCandidates, after_elem, elems_of, chosen_for, routes_of};
 ghost use Rattle.route_choice.specs.Orders.{seat_cmp, rank_cmp};
 ghost use Rattle.route_choice.specs.Seats.{held_in, IsIndexed, HasRoom, has_rank, has_seat, seat_in, offer_in};
 ghost use Rattle.route_choice.specs.Seats.{offer_at as offered};
-ghost use Rattle.route_choice.specs.Held.{Held, IsChoice, IsPlanned, picked};
+ghost use Rattle.route_choice.specs.Held.{Held, IsChoice, IsPlanned, pick_elem};
 ghost use Rattle.route_choice.specs.Kept.{IsKept, EachSeatServes, EachRankServes, holds_seat as seat_held, holds_rank as rank_held};
 ghost use Rattle.route_choice.specs.Walks.{offer_ranked as ranked, first_in, better_of, cuts_in, ranks_of, seats_of};
 
@@ -437,7 +437,7 @@ impl Candidates {
     /// No memory; then nothing has changed, and the plan before it still holds.
     pub fn plan(&mut self, elem: &Elem) -> Result<Pick, AllocError>
         ensures candidates { self.new.candidates ≡ self.old.candidates }
-        ensures elem { IfOk result (λ pick. picked pick ≡ elem_as elem.now) }
+        ensures elem { IfOk result (λ pick. pick_elem pick ≡ elem_as elem.now) }
         ensures planned { IfOk result (IsPlanned self.new) }
         ensures err { OnErr result (self.new ≡ self.old) }
     {
@@ -451,9 +451,9 @@ impl Candidates {
     /// Carries out what was planned, where nothing changed since. Takes no memory.
     pub fn commit(&mut self, pick: Pick) -> Choice
         requires { IsPlanned self.old pick }
-        ensures candidates { self.new.candidates ≡ after_elem self.old.candidates (picked pick) }
+        ensures candidates { self.new.candidates ≡ after_elem self.old.candidates (pick_elem pick) }
         ensures room { self.new.room ≡ None }
-        ensures choice { IsChoice self.old.candidates (picked pick) result }
+        ensures choice { IsChoice self.old.candidates (pick_elem pick) result }
     {
         carry_out(&mut self.seats, &mut self.ranks, &pick.elem);
         self.room = None;

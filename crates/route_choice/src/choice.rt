@@ -23,11 +23,11 @@ pub struct Pick {
 }
 
 impl Pick {
-    ghost use Rattle.route_choice.specs.Held.{told};
+    ghost use Rattle.route_choice.specs.Held.{pick_choice};
 
     /// The choice that it will make.
     pub fn choice(&self) -> &Choice
-        ensures { result.now ≡ told self.now }
+        ensures { result.now ≡ pick_choice self.now }
     {
         &self.choice
     }

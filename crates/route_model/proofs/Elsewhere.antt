@@ -6,7 +6,7 @@ use Rattle.std.specs.List.Sorted.{IsStrictlySortedBy}
 use Rattle.std.specs.Map.{lookup, keys_of}
 use Rattle.address_model.specs.Address.{Prefix, IsPrefix, same_prefix}
 use Rattle.address_model.proofs.Same.{same_prefix_is, same_prefix_itself}
-use Rattle.route_model.specs.Events.{Elem, Put, Cut, prefix_of, same_peer}
+use Rattle.route_model.specs.Events.{Elem, Put, Cut, elem_prefix, same_peer}
 use Rattle.route_model.specs.Choice.{Place, Offer, Candidates, AreCandidates, IsHeld, IsPlace, IsElem, same_place, place_cmp, after_elem, is_about, offered, is_chosen, chosen_in, routes_of, chosen_for}
 use Rattle.route_model.proofs.Keyed.{found_later, found_fails, all_filter}
 use Rattle.route_model.proofs.Places.{place_key}
@@ -64,12 +64,12 @@ apart at p q n i = by_test (same_prefix at.prefix p) refl
         let k : same_prefix p q ≡ true = ap (same_prefix p) (sym j) ∙ same_prefix_itself p in absurd cc
     by_test false t = refl
 
-not_about : (at : Place) (elem : Elem) (q : Prefix) → same_prefix (prefix_of elem) q ≡ false → at.prefix ≡ q → is_about at elem ≡ false
+not_about : (at : Place) (elem : Elem) (q : Prefix) → same_prefix (elem_prefix elem) q ≡ false → at.prefix ≡ q → is_about at elem ≡ false
 not_about at (Put peer prefix path hop) q n i = ap (λ b. b && same_peer at.peer peer) (apart at prefix q n i)
 not_about at (Cut peer prefix) q n i = ap (λ b. b && same_peer at.peer peer) (apart at prefix q n i)
 
 -- an elementary event changes the route of its prefix alone
-pub chosen_elsewhere : (held : Candidates) (elem : Elem) (q : Prefix) → AreCandidates held → IsElem elem → same_prefix (prefix_of elem) q ≡ false → chosen_for (after_elem held elem) q ≡ chosen_for held q
+pub chosen_elsewhere : (held : Candidates) (elem : Elem) (q : Prefix) → AreCandidates held → IsElem elem → same_prefix (elem_prefix elem) q ≡ false → chosen_for (after_elem held elem) q ≡ chosen_for held q
 chosen_elsewhere held elem q a e n =
     agree q held (after_elem held elem) a (candidates_after held elem a e) (λ at i.
     offer_after at held elem a e ∙ ap (λ b. if b then offered elem else lookup (same_place at) held) (not_about at elem q n i))

@@ -39,6 +39,6 @@ pub data Elem : Type 0 where
   Cut : Peer → Prefix → Elem
 
 -- the prefix that an elementary event is about
-abbrev pub prefix_of : Elem → Prefix
-prefix_of (Put peer prefix path hop) = prefix
-prefix_of (Cut peer prefix) = prefix
+abbrev pub elem_prefix : Elem → Prefix
+elem_prefix (Put peer prefix path hop) = prefix
+elem_prefix (Cut peer prefix) = prefix

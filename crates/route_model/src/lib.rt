@@ -11,7 +11,7 @@ ghost use Rattle.std.specs.Map.{lookup, keys_of};
 ghost use Rattle.std.specs.declared.cmp.Ordering.TheVariants.{Less};
 ghost use Rattle.address_model.specs.Address.{Prefix, same_prefix};
 ghost use Rattle.address_model.specs.Order.{prefix_cmp};
-ghost use Rattle.route_model.specs.Events.{Event, IsEvent, Elem, peer_cmp, prefix_of};
+ghost use Rattle.route_model.specs.Events.{Event, IsEvent, Elem, peer_cmp, elem_prefix};
 ghost use Rattle.route_model.specs.Choice.{Place, Offer, Candidates, AreCandidates, IsHeld, IsChosen, IsElem, same_place, after_elem, after_elems, elems_of, elems_after, last_offer, routes_of, chosen_for};
 
 /// The candidate at a place is what the last elementary event about it offers.
@@ -45,7 +45,7 @@ pub fn routes_law()
 
 /// An elementary event changes the route of its prefix alone.
 pub fn elsewhere_law()
-    ensures { (held : Candidates) (elem : Elem) (q : Prefix) → AreCandidates held → IsElem elem → same_prefix (prefix_of elem) q ≡ false → chosen_for (after_elem held elem) q ≡ chosen_for held q }
+    ensures { (held : Candidates) (elem : Elem) (q : Prefix) → AreCandidates held → IsElem elem → same_prefix (elem_prefix elem) q ≡ false → chosen_for (after_elem held elem) q ≡ chosen_for held q }
 {}
 
 /// Events of what there is come to elementary events of what there is, and candidates stay candidates. Those of events one

@@ -1,7 +1,7 @@
 -- What a reader returned is what the definition gives, unless memory ran out.
 use Rattle.std.specs.Prelude.{◌≡◌, ℕ, List, drop, Result, Ok, Err}
 use Rattle.fib_addr.specs.declared.prefix.Prefix as code
-use Rattle.fib_addr.specs.Seen.{prefix_as}
+use Rattle.fib_addr.specs.Views.{prefix_as}
 use Rattle.address_model.specs.Address.{Prefix}
 use Rattle.wire_fields.specs.declared.refusal.Refusal.{Refusal}
 use Rattle.wire_fields.specs.declared.refusal.Refusal.TheVariants.{NoMemory, Rule}

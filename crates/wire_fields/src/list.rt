@@ -2,7 +2,7 @@
 
 ghost use Rattle.std.specs.Prelude.{map};
 ghost use Rattle.reading_model.specs.Wire.{prefixes};
-ghost use Rattle.fib_addr.specs.Seen.{prefix_as};
+ghost use Rattle.fib_addr.specs.Views.{prefix_as};
 ghost use Rattle.wire_fields.specs.Gives.{GivesInMemory, Passes};
 
 use crate::refusal::Refusal;

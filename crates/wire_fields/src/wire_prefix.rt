@@ -3,7 +3,7 @@
 ghost use Rattle.std.specs.Prelude.{ℕ, ◌≤◌, ◌<◌, length, IfOk};
 ghost use Rattle.octet_fields.specs.Gives.{Gives};
 ghost use Rattle.reading_model.specs.Wire.{prefix_at};
-ghost use Rattle.fib_addr.specs.Seen.{prefix_as};
+ghost use Rattle.fib_addr.specs.Views.{prefix_as};
 ghost use Rattle.wire_fields.specs.Gives.{GivesPrefix};
 
 use crate::rule::PREFIX_LENGTH;

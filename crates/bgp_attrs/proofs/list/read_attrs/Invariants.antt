@@ -1,12 +1,12 @@
 use Rattle.std.proofs.Common.{length}
 use Rattle.octet_fields.specs.Field.{until_end}
-use Rattle.reading_model.specs.Attribute.{attribute_at, nothing}
+use Rattle.reading_model.specs.Attribute.{attribute_at, nothing_found}
 use Rattle.bgp_attrs.specs.Views.{found_as}
 use Rattle.octet_fields.proofs.Steps.{Left}
 use Rattle.bgp_attrs.proofs.list.read_attrs.Given as goal
 
 abbrev pub invariant-loop-rest : goal.invariant-loop-rest
-invariant-loop-rest l = Left (attribute_at l.place) (found_as l.before) l.rest (until_end (attribute_at l.place) nothing l.bytes)
+invariant-loop-rest l = Left (attribute_at l.place) (found_as l.before) l.rest (until_end (attribute_at l.place) nothing_found l.bytes)
 
 abbrev pub decreases-loop-rest : goal.decreases-loop-rest
 decreases-loop-rest l = length l.rest

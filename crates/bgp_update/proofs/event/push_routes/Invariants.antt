@@ -1,7 +1,7 @@
 use Rattle.std.proofs.Common.{◌≡◌, ◌+◌, ◌++◌, ◌≤◌, length, take, vec_capacity, vec_len}
 use Rattle.std.specs.Prelude.{map, option_map}
-use Rattle.fib_addr.specs.Seen.{addr_as, prefix_as}
-use Rattle.fib_prefix.specs.Seen.{peer_as, event_as}
+use Rattle.fib_addr.specs.Views.{addr_as, prefix_as}
+use Rattle.fib_prefix.specs.Views.{peer_as, event_as}
 use Rattle.reading_model.specs.Update.{routes}
 use Rattle.bgp_update.proofs.event.push_routes.Given as goal
 

@@ -1,6 +1,6 @@
 use Rattle.std.proofs.Common.{map, Some}
 use Rattle.std.proofs.lemmas.Result.{IfOk-weaker}
-use Rattle.fib_addr.specs.Seen.{entry_as}
+use Rattle.fib_addr.specs.Views.{entry_as}
 use Rattle.cert_check.proofs.Sames.{answers, by_v4, by_v6}
 use Rattle.cert_check.proofs.alike.same.Goals as goal
 

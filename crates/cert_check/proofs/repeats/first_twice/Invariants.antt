@@ -6,7 +6,7 @@ use Rattle.std.specs.BTreeSet as set
 use Rattle.address_model.specs.Address.{same_prefix}
 use Rattle.cert_model.specs.Verdict.{twice}
 use Rattle.fib_addr.specs.Order.{code_cmp}
-use Rattle.fib_addr.specs.Seen.{entry_as, prefix_as}
+use Rattle.fib_addr.specs.Views.{entry_as, prefix_as}
 use Rattle.fib_addr.specs.declared.prefix.Prefix.{Prefix}
 use Rattle.cert_check.proofs.repeats.first_twice.Given as goal
 

@@ -2,8 +2,8 @@ use Rattle.std.proofs.Common.{◌∙◌, ◌∷◌, sym, ap, List}
 use Rattle.std.proofs.lemmas.Result.{IfOk-weaker}
 use Rattle.std.specs.Prelude.{option_map}
 use Rattle.cert_model.specs.Right.{Item}
-use Rattle.fib_addr.specs.Seen.{prefix_as}
-use Rattle.cert_check.specs.Seen.{no_as}
+use Rattle.fib_addr.specs.Views.{prefix_as}
+use Rattle.cert_check.specs.Views.{no_as}
 use Rattle.cert_check.specs.Stack.{item_as, stack_as}
 use Rattle.cert_check.proofs.Stacks.{join_empty, join_single, join_apart, join_done}
 use Rattle.cert_check.proofs.rows.read_join.Goals as goal

@@ -1,8 +1,8 @@
 use Rattle.std.proofs.Common.{◌≡◌, ◌∙◌, sym, refl, ap, ◌++◌, ◌∷◌, [], List, ℕ, arith}
 use Rattle.cert_model.specs.Right.{Item}
-use Rattle.fib_addr.specs.Seen.{prefix_as}
+use Rattle.fib_addr.specs.Views.{prefix_as}
 use Rattle.cert_check.proofs.Stacks.{push_as}
-use Rattle.cert_check.specs.Stack.{stack_as, weight}
+use Rattle.cert_check.specs.Stack.{stack_as, leaf_weight}
 use Rattle.cert_check.proofs.rows.read_leaf.Goals as goal
 
 pub returns-then-not-holds-clause-read : goal.returns-then-not-holds-clause-read
@@ -11,7 +11,7 @@ returns-then-not-holds-clause-read c = λ R t. (sym (c.holds.ensures R (c.runs_i
 pub returns-clause-weight : goal.returns-clause-weight
 returns-clause-weight c = λ e.
     let grown : stack_as c.push-2.new.self.items ≡ _ = ap stack_as c.in_ok-push-2.ensures.items ∙ push_as c.args.stack.now.items _ in
-    omega (arith, ap weight grown)
+    omega (arith, ap leaf_weight grown)
 
 pub returns-clause-read : goal.returns-clause-read
 returns-clause-read c = λ R t. (

@@ -1,9 +1,9 @@
 use Rattle.std.proofs.Common.{[], sym, ap, ◌∙◌}
 use Rattle.std.proofs.lemmas.Result.{IfOk-weaker}
 use Rattle.std.specs.Prelude.{option_map}
-use Rattle.fib_addr.specs.Seen.{prefix_as}
-use Rattle.cert_rows.specs.Seen.{row_as}
-use Rattle.cert_check.specs.Seen.{no_as}
+use Rattle.fib_addr.specs.Views.{prefix_as}
+use Rattle.cert_rows.specs.Views.{row_as}
+use Rattle.cert_check.specs.Views.{no_as}
 use Rattle.cert_check.specs.Stack.{stack_as}
 use Rattle.cert_check.proofs.Holding.{prefix_short}
 use Rattle.cert_check.proofs.Stacks.{leaf_read, join_read, in_due, row_none, row_other, row_bound, same_test, join_weight, went_on}

@@ -1,8 +1,8 @@
 use Rattle.std.proofs.Common.{◌≡◌, ◌+◌, sym, ap, subst, ◌∙◌, arith, map, drop, List, Some, length}
 use Rattle.cert_model.specs.Rows.{CertRow}
 use Rattle.cert_model.specs.Verdict.{Shape, wrong_row}
-use Rattle.cert_rows.specs.Seen.{row_as}
-use Rattle.cert_check.specs.Stack.{stack_as, due_as, Told}
+use Rattle.cert_rows.specs.Views.{row_as}
+use Rattle.cert_check.specs.Stack.{stack_as, due_as, BoundsTold}
 use Rattle.cert_check.proofs.Stacks.{went_on, stopped, rows_next, rows_over, rows_short}
 use Rattle.cert_check.proofs.rows.read_rows.Goals as goal
 
@@ -41,7 +41,7 @@ returns-in-None-clause-read c = λ R t.
 pub returns-in-None-clause-told : goal.returns-in-None-clause-told
 returns-in-None-clause-told c = λ e R t.
     let old = c.loop-i.reading in
-    subst (λ d. Told R d old.v4 old.v6) c.in-None.is (c.loop-i.invariant.2 R t).2
+    subst (λ d. BoundsTold R d old.v4 old.v6) c.in-None.is (c.loop-i.invariant.2 R t).2
 
 pub returns-in-Some-due-clause-read : goal.returns-in-Some-due-clause-read
 returns-in-Some-due-clause-read c = λ R t.

@@ -1,7 +1,7 @@
 use Rattle.std.proofs.Common.{◌≡◌, map, take}
 use Rattle.address_model.specs.Width.{width}
 use Rattle.table_model.specs.Entries.{of_family}
-use Rattle.fib_addr.specs.Seen.{entry_as}
+use Rattle.fib_addr.specs.Views.{entry_as}
 use Rattle.cert_check.specs.Runs.{table_of}
 use Rattle.cert_check.proofs.runs.parts_of.Given as goal
 

@@ -1,7 +1,7 @@
 use Rattle.std.proofs.Common.{[], ℕ, subst, List}
 use Rattle.address_model.specs.Width.{width}
 use Rattle.std.specs.Prelude.{map}
-use Rattle.fib_addr.specs.Seen.{entry_as}
+use Rattle.fib_addr.specs.Views.{entry_as}
 use Rattle.cert_check.specs.declared.runs.Run.{Run}
 use Rattle.cert_check.specs.Runs.{table_of, Swept}
 use Rattle.cert_check.proofs.Sweeps.{tells}

@@ -1,6 +1,6 @@
 use Rattle.std.proofs.Common.{◌≡◌, map, take, length}
 use Rattle.table_model.specs.Entries.{of_family}
-use Rattle.fib_addr.specs.Seen.{entry_as}
+use Rattle.fib_addr.specs.Views.{entry_as}
 use Rattle.cert_check.proofs.verdict.count_of.Given as goal
 
 abbrev pub invariant-loop-entry : goal.invariant-loop-entry

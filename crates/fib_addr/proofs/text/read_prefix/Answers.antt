@@ -1,6 +1,6 @@
 use Rattle.std.proofs.Common.{ap, ◌∙◌}
 use Rattle.std.specs.Prelude.{option_map}
-use Rattle.fib_addr.specs.Seen.{prefix_as}
+use Rattle.fib_addr.specs.Views.{prefix_as}
 use Rattle.fib_addr.proofs.PrefixTexts.{no_slash, prefix_read}
 use Rattle.fib_addr.proofs.text.read_prefix.Goals as goal
 

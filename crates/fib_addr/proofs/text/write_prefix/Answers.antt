@@ -1,7 +1,7 @@
 use Rattle.std.proofs.Common.{ap, ◌∙◌, sym, ◌++◌, codes, decimal}
 use Rattle.address_model.specs.Width.{width}
 use Rattle.fib_addr.specs.Text.{address_text, first_address}
-use Rattle.fib_addr.specs.Seen.{prefix_as}
+use Rattle.fib_addr.specs.Views.{prefix_as}
 use Rattle.fib_addr.proofs.Parts.{length_prefix}
 use Rattle.fib_addr.proofs.text.write_prefix.Goals as goal
 

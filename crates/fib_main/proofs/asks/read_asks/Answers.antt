@@ -1,6 +1,6 @@
 use Rattle.std.proofs.Common.{ap, ◌∙◌, map}
 use Rattle.std.proofs.lemmas.List.{map_push}
-use Rattle.fib_addr.specs.Seen.{addr_as}
+use Rattle.fib_addr.specs.Views.{addr_as}
 use Rattle.fib_main.proofs.AskLemmas.{starts, empty_line, ask_line, wrong_line, no_line}
 use Rattle.fib_main.proofs.asks.read_asks.Goals as goal
 

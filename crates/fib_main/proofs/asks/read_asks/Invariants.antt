@@ -1,5 +1,5 @@
 use Rattle.std.specs.Prelude.{map}
-use Rattle.fib_addr.specs.Seen.{addr_as}
+use Rattle.fib_addr.specs.Views.{addr_as}
 use Rattle.fib_main.proofs.AskLemmas.{Left}
 use Rattle.fib_main.proofs.asks.read_asks.Given as goal
 

@@ -1,9 +1,9 @@
 use Rattle.std.proofs.Common.{◌≡◌, take, map}
 use Rattle.table_model.specs.Entries.{Entries}
-use Rattle.fib_addr.specs.Seen.{addr_as}
+use Rattle.fib_addr.specs.Views.{addr_as}
 use Rattle.fib_main.specs.Due.{answers_to}
 use Rattle.fib_main.specs.Held.{Hold}
-use Rattle.fib_main.specs.Seen.{answers_as}
+use Rattle.fib_main.specs.Views.{answers_as}
 use Rattle.fib_main.proofs.report.answers.Given as goal
 
 abbrev pub invariant-loop-ask : goal.invariant-loop-ask

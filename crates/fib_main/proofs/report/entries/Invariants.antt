@@ -1,6 +1,6 @@
 use Rattle.std.proofs.Common.{◌≡◌, take, map}
-use Rattle.fib_addr.specs.Seen.{entry_as}
-use Rattle.fib_main.specs.Seen.{numbered}
+use Rattle.fib_addr.specs.Views.{entry_as}
+use Rattle.fib_main.specs.Views.{numbered}
 use Rattle.fib_main.proofs.report.entries.Given as goal
 
 abbrev pub invariant-loop-prefix : goal.invariant-loop-prefix

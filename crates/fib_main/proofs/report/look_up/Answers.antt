@@ -1,5 +1,5 @@
 use Rattle.std.proofs.Common.{map}
-use Rattle.fib_addr.specs.Seen.{entry_as}
+use Rattle.fib_addr.specs.Views.{entry_as}
 use Rattle.fib_main.proofs.Looking.{given_hold}
 use Rattle.fib_main.proofs.report.look_up.Goals as goal
 

@@ -1,8 +1,8 @@
 use Rattle.std.proofs.Common.{◌≡◌, ◌++◌, List, [], ◌∷◌, suc, take, drop, map, length, sym, ap, ◌∙◌, arith, subst}
 use Rattle.std.proofs.lemmas.Result.{err_from_is_err_and}
 use Rattle.route_model.specs.Events.{Elem}
-use Rattle.fib_prefix.specs.Seen.{elem_as, event_as}
-use Rattle.fib_main.specs.Standing.{Stands, next_elems}
+use Rattle.fib_prefix.specs.Views.{elem_as, event_as}
+use Rattle.fib_main.specs.Standing.{StateStands, next_elems}
 use Rattle.fib_main.proofs.Steps.{refused_step, next_counted, next_one, one_of_more, all_taken}
 use Rattle.fib_main.proofs.state.take_event.Goals as goal
 
@@ -25,5 +25,5 @@ returns c = λ before done counted s.
     let so_far = c.loop-elem.invariant before done counted s in
     let items = c.deref-elem-items.result.now in
     let all : map elem_as (take c.loop-elem.elem-index items) ≡ next_elems before done (event_as c.args.event.now ∷ []) = all_taken elem_as items c.loop-elem.elem-index (omega (arith, c.loop-elem-test.false)) ∙ (ap (map elem_as) c.deref-elem-items.ensures.value ∙ (c.in_ok-elems.ensures ∙ sym (next_one _ before done _ _ s))) in
-    let P : List Elem → Type 0 = λ es. (c.loop-elem.count ≡ length (done ++ es)) × Stands c.args.which before (done ++ es) c.loop-elem.state in
+    let P : List Elem → Type 0 = λ es. (c.loop-elem.count ≡ length (done ++ es)) × StateStands c.args.which before (done ++ es) c.loop-elem.state in
     subst P all so_far

@@ -1,9 +1,9 @@
 use Rattle.std.proofs.Common.{◌≡◌, List, ◌++◌, length, take, map}
 use Rattle.route_model.specs.Events.{Elem}
-use Rattle.fib_prefix.specs.Seen.{elem_as}
-use Rattle.fib_main.specs.Standing.{Stands}
+use Rattle.fib_prefix.specs.Views.{elem_as}
+use Rattle.fib_main.specs.Standing.{StateStands}
 use Rattle.fib_main.proofs.state.take_event.Given as goal
 
 -- the elementary events so far were taken
 abbrev pub invariant-loop-elem : goal.invariant-loop-elem
-invariant-loop-elem l = (before done : List Elem) → l.fn.before ≡ length done → Stands l.fn.which before done l.fn.state → (l.count ≡ length (done ++ map elem_as (take l.elem-index l.elem-items))) × Stands l.fn.which before (done ++ map elem_as (take l.elem-index l.elem-items)) l.state
+invariant-loop-elem l = (before done : List Elem) → l.fn.before ≡ length done → StateStands l.fn.which before done l.fn.state → (l.count ≡ length (done ++ map elem_as (take l.elem-index l.elem-items))) × StateStands l.fn.which before (done ++ map elem_as (take l.elem-index l.elem-items)) l.state

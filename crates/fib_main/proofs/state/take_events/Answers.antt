@@ -1,8 +1,8 @@
 use Rattle.std.proofs.Common.{◌≡◌, ◌+◌, ◌++◌, List, [], ◌∷◌, take, map, length, sym, ap, ◌∙◌, arith, subst}
 use Rattle.std.proofs.lemmas.Result.{err_from_is_err_and}
 use Rattle.route_model.specs.Events.{Elem}
-use Rattle.fib_prefix.specs.Seen.{event_as}
-use Rattle.fib_main.specs.Standing.{Stands, next_elems}
+use Rattle.fib_prefix.specs.Views.{event_as}
+use Rattle.fib_main.specs.Standing.{StateStands, next_elems}
 use Rattle.fib_main.proofs.Steps.{refused_event, next_more, next_none, next_whole, take_next, all_taken}
 use Rattle.fib_main.proofs.state.take_events.Goals as goal
 
@@ -27,13 +27,13 @@ loop-event-preserved c = λ before done counted s.
     let now = c.in_ok-count.ensures before front so_far.0 so_far.1 in
     let same : front ++ next_elems before front (event_as c.event-item.result ∷ []) ≡ done ++ next_elems before done (map event_as (take (c.loop-event.event-index + 1) c.args.events.now)) =
     next_more before done (map event_as (take c.loop-event.event-index c.args.events.now)) (event_as c.event-item.result ∷ []) ∙ ap (λ es. done ++ next_elems before done es) (sym (take_next event_as c.args.events.now c.loop-event.event-index _ c.loop-event-test.true c.event-item.is)) in
-    (now.0 ∙ ap length same, subst (λ es. Stands c.args.which before es c.take_event.new.state) same now.1)
+    (now.0 ∙ ap length same, subst (λ es. StateStands c.args.which before es c.take_event.new.state) same now.1)
 
 pub loop-event-init : goal.loop-event-init
-loop-event-init c = λ before done counted s. (counted ∙ ap length (sym (next_none before done)), subst (λ es. Stands c.args.which before es c.args.state.now) (sym (next_none before done)) s)
+loop-event-init c = λ before done counted s. (counted ∙ ap length (sym (next_none before done)), subst (λ es. StateStands c.args.which before es c.args.state.now) (sym (next_none before done)) s)
 
 pub returns : goal.returns
 returns c = λ before done counted s.
     let so_far = c.loop-event.invariant before done counted s in
-    let P : List Elem → Type 0 = λ es. (c.loop-event.count ≡ length (done ++ es)) × Stands c.args.which before (done ++ es) c.loop-event.state in
+    let P : List Elem → Type 0 = λ es. (c.loop-event.count ≡ length (done ++ es)) × StateStands c.args.which before (done ++ es) c.loop-event.state in
     subst P (ap (next_elems before done) (all_taken event_as c.args.events.now c.loop-event.event-index (omega (arith, c.loop-event-test.false)))) so_far

@@ -1,5 +1,5 @@
 use Rattle.std.proofs.Common.{ap}
-use Rattle.fib_addr.specs.Seen.{addr_as}
+use Rattle.fib_addr.specs.Views.{addr_as}
 use Rattle.printed_model.specs.Rows.{answer_row}
 use Rattle.fib_report.specs.Rows.{of_answer}
 use Rattle.fib_report.proofs.Loops.{AddsRows-item}

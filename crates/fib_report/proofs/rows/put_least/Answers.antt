@@ -1,5 +1,5 @@
 use Rattle.std.proofs.Common.{ap}
-use Rattle.fib_addr.specs.Seen.{entry_as, prefix_as}
+use Rattle.fib_addr.specs.Views.{entry_as, prefix_as}
 use Rattle.printed_model.specs.Rows.{least_row}
 use Rattle.printed_model.specs.Numbered.{of_least}
 use Rattle.fib_report.proofs.Loops.{AddsRows-item}

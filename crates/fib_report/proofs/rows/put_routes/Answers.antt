@@ -1,4 +1,4 @@
-use Rattle.fib_addr.specs.Seen.{entry_as}
+use Rattle.fib_addr.specs.Views.{entry_as}
 use Rattle.printed_model.specs.Numbered.{of_route}
 use Rattle.fib_report.proofs.Loops.{AddsRows-items}
 use Rattle.fib_report.proofs.Proper.{more_proper}

@@ -1,6 +1,6 @@
 use Rattle.std.proofs.Common.{flat_map, map, take}
 use Rattle.std.specs.List.{AllByRecursion}
-use Rattle.fib_addr.specs.Seen.{entry_as}
+use Rattle.fib_addr.specs.Views.{entry_as}
 use Rattle.printed_model.specs.Rows.{IsRow, text_of}
 use Rattle.printed_model.specs.Numbered.{of_route}
 use Rattle.fib_report.specs.Writing.{AddsRows}

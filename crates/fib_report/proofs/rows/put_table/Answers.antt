@@ -1,13 +1,13 @@
 use Rattle.std.proofs.Common.{ap}
-use Rattle.fib_addr.specs.Seen.{entry_as, prefix_as}
+use Rattle.fib_addr.specs.Views.{entry_as, prefix_as}
 use Rattle.printed_model.specs.Rows.{table_row}
-use Rattle.fib_report.specs.Rows.{of_table}
+use Rattle.fib_report.specs.Rows.{table_entry_row}
 use Rattle.fib_report.proofs.Loops.{AddsRows-item}
 use Rattle.fib_report.proofs.Proper.{one_proper}
 use Rattle.fib_report.proofs.rows.put_table.Goals as goal
 
 pub loop-entry-preserved : goal.loop-entry-preserved
 loop-entry-preserved g c =
-    let row = of_table c.args.hops.now.list in
+    let row = table_entry_row c.args.hops.now.list in
     let is = ap (table_row (prefix_as c.entry-item.result.prefix)) c.addr.ensures.addr in
     (AddsRows-item _ _ _ _ row entry_as _ _ c.entry-item.result _ c.loop-entry-test.true c.entry-item.is is c.loop-entry.invariant.0 c.in_ok-put_row.ensures.added, one_proper row entry_as _ _ c.entry-item.result _ c.loop-entry-test.true c.entry-item.is is c.loop-entry.invariant.1 c.in_ok-put_row.ensures.proper)

@@ -1,6 +1,6 @@
 use Rattle.std.proofs.Common.{ap, ◌∙◌, map}
 use Rattle.std.proofs.lemmas.List.{map_push}
-use Rattle.fib_prefix.specs.Seen.{event_as}
+use Rattle.fib_prefix.specs.Views.{event_as}
 use Rattle.std.proofs.lemmas.Result.{err_from_is_err_and}
 use Rattle.octet_fields.proofs.Steps.{more_next, more_fault, times_done}
 use Rattle.mrt_records.proofs.rib.entries.Goals as goal

@@ -1,10 +1,10 @@
 use Rattle.std.proofs.Common.{◌≡◌, ◌-◌, []}
 use Rattle.octet_fields.specs.Field.{times, one_more}
 use Rattle.std.specs.Prelude.{map}
-use Rattle.fib_addr.specs.Seen.{prefix_as}
-use Rattle.fib_prefix.specs.Seen.{peer_as, event_as}
-use Rattle.reading_model.specs.Rib.{entry_at}
+use Rattle.fib_addr.specs.Views.{prefix_as}
+use Rattle.fib_prefix.specs.Views.{peer_as, event_as}
+use Rattle.reading_model.specs.Rib.{rib_entry_at}
 use Rattle.mrt_records.proofs.rib.entries.Given as goal
 
 abbrev pub invariant-loop : goal.invariant-loop
-invariant-loop l = times (one_more (entry_at (map peer_as l.peers) l.family (prefix_as l.prefix))) (l.count - l.counter) (map event_as l.events.items) l.rest ≡ times (one_more (entry_at (map peer_as l.peers) l.family (prefix_as l.prefix))) l.count [] l.bytes
+invariant-loop l = times (one_more (rib_entry_at (map peer_as l.peers) l.family (prefix_as l.prefix))) (l.count - l.counter) (map event_as l.events.items) l.rest ≡ times (one_more (rib_entry_at (map peer_as l.peers) l.family (prefix_as l.prefix))) l.count [] l.bytes

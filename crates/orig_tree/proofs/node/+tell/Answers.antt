@@ -1,5 +1,5 @@
 use Rattle.std.proofs.Common.{arith, map, ◌∙◌, true, false}
-use Rattle.fib_addr.specs.Seen.{entry_as}
+use Rattle.fib_addr.specs.Views.{entry_as}
 use Rattle.orig_tree.specs.Walk.{behind}
 use Rattle.orig_tree.proofs.Telling.{told_end, told_level, fits_low, fits_high, half_longer, half_most}
 use Rattle.orig_tree.proofs.node.+tell.Goals as goal

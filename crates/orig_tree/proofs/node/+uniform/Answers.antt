@@ -1,7 +1,7 @@
 use Rattle.std.proofs.Common.{◌≡◌, ℕ, ◌≤◌, ◌-◌, sym, ap, subst, ◌∙◌}
 use Rattle.std.specs.Option.{unwrap_or}
 use Rattle.address_model.specs.Bits.{bits_of}
-use Rattle.orig_tree.specs.Seen.{Fits}
+use Rattle.orig_tree.specs.Views.{Fits}
 use Rattle.orig_tree.specs.Uniform.{IsUniform}
 use Rattle.orig_tree.specs.Walk.{Walks, behind, rows_of}
 use Rattle.orig_tree.proofs.Kept.{uniform_here, uniform_high_step, uniform_low_step}

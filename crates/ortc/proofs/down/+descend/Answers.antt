@@ -1,6 +1,6 @@
 use Rattle.ortc.specs.declared.region.Halves.{Halves}
 use Rattle.std.proofs.Common.{map, ap}
-use Rattle.fib_addr.specs.Seen.{entry_as}
+use Rattle.fib_addr.specs.Views.{entry_as}
 use Rattle.address_model.specs.Width.{width}
 use Rattle.std.proofs.Common.{◌-◌}
 use Rattle.ortc.proofs.Falling.{told_leaf, told_join, no_bits_left}

@@ -1,8 +1,8 @@
 use Rattle.std.proofs.Common.{◌≡◌, [], map, refl, ap, ◌∙◌}
 use Rattle.address_model.specs.Address.{Prefix}
-use Rattle.fib_addr.specs.Seen.{prefix_as, entry_as}
+use Rattle.fib_addr.specs.Views.{prefix_as, entry_as}
 use Rattle.table_model.specs.Entries.{of_family}
-use Rattle.cert_rows.specs.Seen.{row_as}
+use Rattle.cert_rows.specs.Views.{row_as}
 use Rattle.ortc.proofs.Falling.{within_told, fresh_told, fresh_least, fresh_best, fresh_sorted}
 use Rattle.ortc.proofs.Proving.{fresh_proved, certified}
 use Rattle.ortc.proofs.down.fresh.Goals as goal

@@ -1,5 +1,5 @@
 use Rattle.std.proofs.Common.{map, ap}
-use Rattle.fib_addr.specs.Seen.{entry_as}
+use Rattle.fib_addr.specs.Views.{entry_as}
 use Rattle.table_model.specs.Entries.{of_family}
 use Rattle.ortc.proofs.Falling.{within_told, within_least, within_best, within_sorted}
 use Rattle.ortc.proofs.down.within.Goals as goal

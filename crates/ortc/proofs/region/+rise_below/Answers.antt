@@ -4,7 +4,7 @@ use Rattle.address_model.specs.Bits.{bits_of}
 use Rattle.table_model.specs.Table.{Table, inherit, lpm, cut}
 use Rattle.orig_tree.specs.Walk.{Walks, behind}
 use Rattle.ortc.specs.declared.region.Region.{Region}
-use Rattle.ortc.specs.Stands.{Stands}
+use Rattle.ortc.specs.Stands.{RegionStands}
 use Rattle.ortc.proofs.Rising.{at_prefix, down_half, no_half}
 use Rattle.ortc.proofs.region.+rise_below.Goals as goal
 
@@ -13,13 +13,13 @@ rise_below-requires t c = (omega (arith, c.if-left-eq0.false), omega (arith, c.r
 
 -- what stands where the prefix is
 abbrev At : Region → ℕ → Table → ℕ → Table → List Bool → Type 0
-At r d R h E p = Stands r d (λ a. lpm R (p ++ a) h) (cut p E)
+At r d R h E p = RegionStands r d (λ a. lpm R (p ++ a) h) (cut p E)
 
 pub returns-then-left-eq0 : goal.returns-then-left-eq0
 returns-then-left-eq0 t c =
     let R = c.args.node.now.routes in
     let E = c.args.node.now.entries in
-    IfOk-weaker c.rise.result (λ r. Stands r c.args.depth (λ a. lpm R a c.args.inherited) E) (λ r. At r c.args.depth R c.args.inherited E (bits_of c.args.left c.args.q))
+    IfOk-weaker c.rise.result (λ r. RegionStands r c.args.depth (λ a. lpm R a c.args.inherited) E) (λ r. At r c.args.depth R c.args.inherited E (bits_of c.args.left c.args.q))
     (λ r s. at_prefix r c.args.depth c.args.left c.args.q c.args.inherited R E c.if-left-eq0.true s) c.rise.ensures
 
 pub returns-in-Some : goal.returns-in-Some

@@ -5,8 +5,8 @@ use Rattle.address_model.specs.Width.{width}
 use Rattle.table_model.specs.Table.{lpm, cut}
 use Rattle.table_model.specs.Entries.{of_family}
 use Rattle.least_model.specs.Sets.{answers}
-use Rattle.fib_addr.specs.Seen.{prefix_as}
-use Rattle.ortc.specs.Stands.{Stands}
+use Rattle.fib_addr.specs.Views.{prefix_as}
+use Rattle.ortc.specs.Stands.{RegionStands}
 use Rattle.ortc.proofs.Falling.{region_told}
 use Rattle.ortc.proofs.region.region_of.Goals as goal
 
@@ -18,6 +18,6 @@ returns c =
     let E = c.root.result.now.entries in
     let q = bits_of p.len c.path_bits-path.result in
     let P = (prefix_as p).bits in
-    IfOk-weaker c.rise_below.result (λ r. Stands r (c.width.result - p.len) (λ a. lpm R (q ++ a) 0) (cut q E)) (λ r. Stands r (width p.family - p.len) (answers (of_family tree.family tree.routes) P) (cut P (of_family tree.family tree.entries)))
+    IfOk-weaker c.rise_below.result (λ r. RegionStands r (c.width.result - p.len) (λ a. lpm R (q ++ a) 0) (cut q E)) (λ r. RegionStands r (width p.family - p.len) (answers (of_family tree.family tree.routes) P) (cut P (of_family tree.family tree.entries)))
     (λ r s. region_told p tree.family c.path_bits-path.result (c.width.result - p.len) R E tree.routes tree.entries r
     (ap (λ w. w - p.len) c.width.ensures) c.path_bits-path.ensures c.root.ensures.routes c.root.ensures.entries s) c.rise_below.ensures

@@ -2,8 +2,8 @@ use Rattle.std.proofs.Common.{map, ap, refl}
 use Rattle.table_model.specs.Table.{half}
 use Rattle.std.proofs.Common.{true, false, ◌-◌}
 use Rattle.address_model.specs.Width.{width}
-use Rattle.fib_addr.specs.Seen.{prefix_as}
-use Rattle.cert_rows.specs.Seen.{row_as}
+use Rattle.fib_addr.specs.Views.{prefix_as}
+use Rattle.cert_rows.specs.Views.{row_as}
 use Rattle.ortc.specs.declared.region.Halves.{Halves}
 use Rattle.ortc.proofs.Falling.{no_bits_left}
 use Rattle.ortc.proofs.Proving.{pushed, listed_leaf, listed_join}

@@ -1,6 +1,6 @@
 use Rattle.std.proofs.Common.{map, ap, ◌-◌}
 use Rattle.address_model.specs.Width.{width}
-use Rattle.cert_rows.specs.Seen.{row_as}
+use Rattle.cert_rows.specs.Views.{row_as}
 use Rattle.ortc.proofs.Proving.{pushed, proved}
 use Rattle.ortc.proofs.rows.prove.Goals as goal
 

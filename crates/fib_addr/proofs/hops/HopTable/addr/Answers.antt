@@ -1,7 +1,7 @@
 use Rattle.std.proofs.Common.{ap, ◌∙◌, ◌-◌, arith}
 use Rattle.std.specs.Prelude.{option_map}
 use Rattle.fib_addr.specs.Hops.{Hops}
-use Rattle.fib_addr.specs.Seen.{addr_as}
+use Rattle.fib_addr.specs.Views.{addr_as}
 use Rattle.fib_addr.proofs.HopLemmas.{distinct_seen, hop_placed, seen_held, seen_number}
 use Rattle.fib_addr.proofs.hops.HopTable.addr.Goals as goal
 

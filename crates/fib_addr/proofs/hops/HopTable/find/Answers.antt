@@ -1,7 +1,7 @@
 use Rattle.std.proofs.Common.{ap, ◌∙◌, ◌+◌, Some}
 use Rattle.std.specs.Prelude.{option_map}
 use Rattle.fib_addr.specs.Hops.{Hops, number_of}
-use Rattle.fib_addr.specs.Seen.{addr_as}
+use Rattle.fib_addr.specs.Views.{addr_as}
 use Rattle.fib_addr.specs.declared.entry.Hop.{Hop}
 use Rattle.fib_addr.proofs.HopLemmas.{found_holds, position_same}
 use Rattle.fib_addr.proofs.hops.HopTable.find.Goals as goal

@@ -1,5 +1,5 @@
 use Rattle.fib_addr.specs.Hops.{with_hop}
-use Rattle.fib_addr.specs.Seen.{addr_as}
+use Rattle.fib_addr.specs.Views.{addr_as}
 use Rattle.fib_addr.proofs.HopLemmas.{new_number_told, told_holds}
 use Rattle.fib_addr.proofs.hops.HopTable.next.Goals as goal
 

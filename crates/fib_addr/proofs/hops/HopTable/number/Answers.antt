@@ -1,6 +1,6 @@
 use Rattle.std.proofs.Common.{ap, ◌∙◌}
 use Rattle.fib_addr.specs.Hops.{Hops, with_hop}
-use Rattle.fib_addr.specs.Seen.{addr_as}
+use Rattle.fib_addr.specs.Views.{addr_as}
 use Rattle.fib_addr.proofs.HopLemmas.{added_few, held_stays, inserted_as, added_distinct, added_number}
 use Rattle.fib_addr.proofs.HopLists.{number_holds}
 use Rattle.fib_addr.proofs.hops.HopTable.number.Goals as goal

@@ -2,7 +2,7 @@ use Rattle.std.proofs.Common.{◌≤◌, ◌<◌, ◌∙◌, ap, arith, length}
 use Rattle.std.proofs.lemmas.Bool.{lt-leb}
 use Rattle.address_model.specs.Address.{contains}
 use Rattle.address_model.specs.Width.{width}
-use Rattle.fib_addr.specs.Seen.{prefix_as}
+use Rattle.fib_addr.specs.Views.{prefix_as}
 use Rattle.fib_addr.proofs.Parts.{length_prefix}
 use Rattle.fib_addr.proofs.RegionLemmas.{within_first, longer_is_not_within}
 use Rattle.fib_addr.proofs.prefix.Prefix.is_within.Goals as goal

@@ -1,5 +1,5 @@
 use Rattle.std.proofs.Common.{map, take}
-use Rattle.fib_addr.specs.Seen.{entry_as}
+use Rattle.fib_addr.specs.Views.{entry_as}
 use Rattle.fib_main.specs.Held.{AreBoth, Given}
 use Rattle.fib_main.proofs.trees.Trees.new.Given as goal
 

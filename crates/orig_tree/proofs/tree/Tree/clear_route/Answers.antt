@@ -4,7 +4,7 @@ use Rattle.address_model.specs.Address.{Prefix, same_prefix}
 use Rattle.std.specs.Map.{remove_entry}
 use Rattle.orig_tree.specs.Walk.{Walks}
 use Rattle.table_model.specs.Entries.{of_table}
-use Rattle.orig_tree.specs.Seen.{Labels}
+use Rattle.orig_tree.specs.Views.{Labels}
 use Rattle.orig_tree.proofs.Places.{in_place_without, same_rows, entries_without, labels_are}
 use Rattle.orig_tree.proofs.tree.Tree.clear_route.Goals as goal
 

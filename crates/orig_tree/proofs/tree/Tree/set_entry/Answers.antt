@@ -5,7 +5,7 @@ use Rattle.address_model.specs.Address.{Prefix}
 use Rattle.address_model.proofs.BitLaws.{length-bits_of}
 use Rattle.table_model.specs.Entries.{with_entry}
 use Rattle.orig_tree.specs.Walk.{Walks}
-use Rattle.orig_tree.specs.Seen.{Labels}
+use Rattle.orig_tree.specs.Views.{Labels}
 use Rattle.orig_tree.proofs.Places.{in_place_put, same_rows, entries_put}
 use Rattle.orig_tree.proofs.tree.Tree.set_entry.Goals as goal
 

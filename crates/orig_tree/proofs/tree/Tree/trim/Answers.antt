@@ -1,6 +1,6 @@
 use Rattle.std.proofs.Common.{ap}
 use Rattle.address_model.specs.Bits.{bits_of}
-use Rattle.orig_tree.specs.Seen.{Labels}
+use Rattle.orig_tree.specs.Views.{Labels}
 use Rattle.orig_tree.proofs.Trimming.{trimmed_tree}
 use Rattle.orig_tree.proofs.tree.Tree.trim.Goals as goal
 

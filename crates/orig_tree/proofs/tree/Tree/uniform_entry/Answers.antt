@@ -1,7 +1,7 @@
 use Rattle.std.proofs.Common.{sym, ap, ◌∙◌}
 use Rattle.address_model.specs.Bits.{bits_of}
 use Rattle.address_model.specs.Width.{width}
-use Rattle.orig_tree.specs.Seen.{Labels}
+use Rattle.orig_tree.specs.Views.{Labels}
 use Rattle.orig_tree.proofs.Asked.{asked_one, asked_none, short}
 use Rattle.orig_tree.proofs.tree.Tree.uniform_entry.Goals as goal
 

@@ -1,7 +1,7 @@
 use Rattle.std.proofs.Common.{ap, ◌∙◌, refl}
 use Rattle.route_model.specs.Choice.{after_elem, chosen_for}
-use Rattle.fib_prefix.specs.Seen.{elem_as}
-use Rattle.route_model.specs.Events.{prefix_of}
+use Rattle.fib_prefix.specs.Views.{elem_as}
+use Rattle.route_model.specs.Events.{elem_prefix}
 use Rattle.route_choice.specs.Held.{Held}
 use Rattle.route_choice.proofs.Choose.{choice_by}
 use Rattle.route_choice.proofs.candidates.Candidates.choice_of.Goals as goal
@@ -12,6 +12,6 @@ returns c =
     let e = elem_as c.args.elem.now in
     record {
       prefix = r.prefix;
-      before = r.before ∙ ap (λ (h : Held). chosen_for h.candidates (prefix_of e)) c.self.view_is;
-      after = r.after ∙ ap (λ (h : Held). chosen_for (after_elem h.candidates e) (prefix_of e)) c.self.view_is;
+      before = r.before ∙ ap (λ (h : Held). chosen_for h.candidates (elem_prefix e)) c.self.view_is;
+      after = r.after ∙ ap (λ (h : Held). chosen_for (after_elem h.candidates e) (elem_prefix e)) c.self.view_is;
     }

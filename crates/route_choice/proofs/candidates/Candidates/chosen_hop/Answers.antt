@@ -1,6 +1,6 @@
 use Rattle.std.proofs.Common.{ap, sym, ◌∙◌, Some}
 use Rattle.std.specs.Prelude.{option_map}
-use Rattle.fib_addr.specs.Seen.{addr_as, prefix_as}
+use Rattle.fib_addr.specs.Views.{addr_as, prefix_as}
 use Rattle.route_model.specs.Choice.{chosen_for}
 use Rattle.route_choice.specs.declared.keys.Candidate.{Candidate}
 use Rattle.route_choice.specs.Held.{Held}

@@ -1,7 +1,7 @@
 use Rattle.std.proofs.Common.{ap, sym, ◌∙◌, ◌≡◌}
 use Rattle.std.specs.Prelude.{map}
 use Rattle.std.proofs.lemmas.Result.{IfOk-weaker}
-use Rattle.fib_prefix.specs.Seen.{elem_as, event_as, peer_as}
+use Rattle.fib_prefix.specs.Views.{elem_as, event_as, peer_as}
 use Rattle.route_model.specs.Events.{Down}
 use Rattle.route_model.specs.Choice.{elems_of}
 use Rattle.route_choice.specs.Walks.{cuts_in, seats_of}

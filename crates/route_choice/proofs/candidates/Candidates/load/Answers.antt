@@ -1,5 +1,5 @@
 use Rattle.std.proofs.Common.{ap, ◌∙◌}
-use Rattle.fib_prefix.specs.Seen.{elem_as}
+use Rattle.fib_prefix.specs.Views.{elem_as}
 use Rattle.route_model.specs.Choice.{after_elem}
 use Rattle.std.specs.Prelude.{option_map}
 use Rattle.std.proofs.lemmas.Result.{err_from_is_err_and}

@@ -3,7 +3,7 @@ use Rattle.std.specs.Prelude.{map}
 use Rattle.route_model.specs.Choice.{AreCandidates, routes_of}
 use Rattle.route_choice.specs.Held.{Held}
 use Rattle.fib_addr.specs.declared.prefix.Prefix.{Prefix}
-use Rattle.fib_addr.specs.Seen.{route_as}
+use Rattle.fib_addr.specs.Views.{route_as}
 use Rattle.route_choice.proofs.Finds.{comes_new, comes_again}
 use Rattle.route_choice.proofs.Views.{are_candidates}
 use Rattle.route_choice.proofs.Routes.{Told, walked, told_more, told_none, told_again, routes_done, walked_is}

@@ -1,7 +1,7 @@
 use Rattle.std.proofs.Common.{ap, ◌∙◌}
 use Rattle.std.specs.Prelude.{option_map}
 use Rattle.std.proofs.lemmas.Result.{err_from_is_err_and}
-use Rattle.fib_prefix.specs.Seen.{elem_as}
+use Rattle.fib_prefix.specs.Views.{elem_as}
 use Rattle.route_choice.specs.Held.{Held}
 use Rattle.route_choice.proofs.Views.{unchanged}
 use Rattle.route_choice.proofs.candidates.Candidates.take_room.Goals as goal

@@ -1,0 +1,7 @@
+use Rattle.std.proofs.Common.{refl}
+use Rattle.fib_main.specs.Due.{feed_at, no_feed}
+use Rattle.fib_main.proofs.run.updates_of.Goals as goal
+
+pub returns-in-None-clause-due : goal.returns-in-None-clause-due
+unfolding feed_at
+returns-in-None-clause-due g c = λ before s. (no_feed, record { counted = record { records = refl; skipped = refl; events = refl }; stands = s }, rw c.in-None.is refl)

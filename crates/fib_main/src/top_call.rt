@@ -1,0 +1,193 @@
+//! The top call: from the words and the inputs to the octets of the output.
+
+ghost use Rattle.std.specs.Prelude.{◌≡◌, ℕ, ◌<◌, List, option_map};
+ghost use Rattle.fib_io.specs.Causes.{Rose};
+ghost use Rattle.cert_check.specs.Views.{no_as};
+ghost use Rattle.fib_main.specs.Ends.{Completes, EndsBy, Meets, OneRose, ReadsFrom, TellsOf, text_due, Writes, WritesBy};
+ghost use Rattle.fib_main.specs.Owned.{IsOf};
+ghost use Rattle.fib_main.specs.Proves.{AddsFrontOfYes, AddsYes, Decides, IfChecked, IfRan, IsRun, PrintsYes, YesProves};
+ghost use Rattle.fib_main.specs.Runs.{Answers, Certified, Forwards, HasHops, HasLeast, IfDue, SumsUp};
+ghost use Rattle.fib_main.specs.Untold.{FitsSome};
+ghost use Rattle.fib_main.specs.Words.{asked_by, due_by, read_by};
+
+use crate::outcome::Outcome;
+use crate::run::reply_for;
+use cert_check::No;
+use fib_io::{Inputs, Sink, write_all};
+use std::alloc::Global;
+
+/// The outcome at the end: Done, or what a check finds wrong.
+fn end_of(no: Option<No>) -> Outcome
+    ensures { EndsBy (option_map no_as no) result }
+{
+    match no {
+        None => Outcome::Done,
+        Some(no) => Outcome::CheckNo(no),
+    }
+}
+
+/// The outcome, with nothing told of it yet.
+#[tactic(auto, using(crate::proofs::Untold::own_end, crate::proofs::Untold::own_fault, crate::proofs::Untold::some_ends, crate::proofs::Untold::some_fault, crate::proofs::Untold::some_stop), unfolding(crate::specs::Due::reply_at))]
+fn outcome_of<I: Inputs, O: Sink>(
+    alloc: Global,
+    words: &[String],
+    inputs: &mut I,
+    out: &mut O,
+) -> Outcome
+    ensures exact { Meets (due_by words.now (I.content inputs.old)) result }
+    ensures read { ReadsFrom (read_by words.now (I.content inputs.old)) (I.faults inputs.old)
+        (I.faults inputs.new) result }
+    ensures write { WritesBy (O.faults out.old) (O.faults out.new) result }
+    ensures out { Writes (text_due (due_by words.now (I.content inputs.old))) (O.written out.old)
+        (O.written out.new) result }
+    ensures own { IsOf (asked_by words.now) result }
+    ensures some { FitsSome (I.content inputs.old) (asked_by words.now) (O.written out.old)
+        (O.written out.new) result }
+    ensures same { I.content inputs.new ≡ I.content inputs.old }
+    ensures printed { result ≡ Outcome.Done → IsRun (asked_by words.now) → AddsYes
+        (O.written out.old) (O.written out.new) }
+    ensures front { result ≡ Outcome.WriteFault → IsRun (asked_by words.now) → AddsFrontOfYes
+        (O.written out.old) (O.written out.new) }
+    ensures due_yes { result ≡ Outcome.Done → IfRan
+        (due_by words.now (I.content inputs.old)) PrintsYes }
+{
+    match reply_for(alloc, words, inputs) {
+        Ok(reply) => match write_all(out, &reply.text) {
+            Ok(()) => end_of(reply.no),
+            Err(_) => Outcome::WriteFault,
+        },
+        Err(outcome) => outcome,
+    }
+}
+
+/// Writes the outcome's line to err, where a fault is passed over.
+pub fn tell<E: Sink>(outcome: Outcome, err: &mut E)
+    ensures { TellsOf outcome (E.written err.old) (E.written err.new) (E.faults err.old)
+        (E.faults err.new) }
+{
+    if outcome != Outcome::Done {
+        let _ = write_all(err, outcome.line().as_bytes());
+    }
+}
+
+/// The outcome, told to err.
+fn ended<I: Inputs, O: Sink, E: Sink>(
+    alloc: Global,
+    words: &[String],
+    inputs: &mut I,
+    out: &mut O,
+    err: &mut E,
+) -> Outcome
+    ensures exact { Meets (due_by words.now (I.content inputs.old)) result }
+    ensures read { ReadsFrom (read_by words.now (I.content inputs.old)) (I.faults inputs.old)
+        (I.faults inputs.new) result }
+    ensures write { WritesBy (O.faults out.old) (O.faults out.new) result }
+    ensures out { Writes (text_due (due_by words.now (I.content inputs.old))) (O.written out.old)
+        (O.written out.new) result }
+    ensures own { IsOf (asked_by words.now) result }
+    ensures some { FitsSome (I.content inputs.old) (asked_by words.now) (O.written out.old)
+        (O.written out.new) result }
+    ensures same { I.content inputs.new ≡ I.content inputs.old }
+    ensures printed { result ≡ Outcome.Done → IsRun (asked_by words.now) → AddsYes
+        (O.written out.old) (O.written out.new) }
+    ensures front { result ≡ Outcome.WriteFault → IsRun (asked_by words.now) → AddsFrontOfYes
+        (O.written out.old) (O.written out.new) }
+    ensures due_yes { result ≡ Outcome.Done → IfRan
+        (due_by words.now (I.content inputs.old)) PrintsYes }
+    ensures err { TellsOf result (E.written err.old) (E.written err.new) (E.faults err.old)
+        (E.faults err.new) }
+{
+    let outcome = outcome_of(alloc, words, inputs, out);
+    tell(outcome, err);
+    outcome
+}
+
+/// Does what the words say: reads the inputs that they name, and writes the rows of a run, or the verdict on a printed text,
+/// to `out`.
+///
+/// What is due is a function of the words and of what the inputs hold. The outcome is the due one, but that a fault of
+/// reading or want of memory may come before it, and a fault of writing in place of Done and of CheckNo. Nothing is written
+/// to `out` before all is accepted. Every outcome but Done is told by one line to `err`, and a fault of `err` changes nothing.
+///
+/// It costs n log n in the octets read and the rows written, and the routes' number times the lengths of their prefixes. In
+/// memory are, at most, one input twice while it is read, the candidates of all peers, the trees of the routes while they are
+/// looked up, and the whole text. A check keeps the text, its routes, least table and certificate, and the runs of both tables.
+#[tactic(auto, using(crate::proofs::Completing::completes, crate::proofs::Running::sums_up, crate::proofs::Running::forwards, crate::proofs::Running::answers, crate::proofs::Running::least, crate::proofs::Running::certified, crate::proofs::Running::addressed, crate::proofs::Replies::decides, crate::proofs::Replies::yes_proves))]
+pub fn run_fib<I: Inputs, O: Sink, E: Sink>(
+    alloc: Global,
+    words: &[String],
+    inputs: &mut I,
+    out: &mut O,
+    err: &mut E,
+) -> Outcome
+    // The outcome is the due one, but for faults and want of memory.
+    ensures exact { Meets (due_by words.now (I.content inputs.old)) result }
+
+    // A fault of reading has its cause in an input that was to be read, and nothing else leaves a count risen.
+    ensures read { ReadsFrom (read_by words.now (I.content inputs.old)) (I.faults inputs.old)
+        (I.faults inputs.new) result }
+
+    // A fault of writing has its cause in out.
+    ensures write { WritesBy (O.faults out.old) (O.faults out.new) result }
+
+    // Out has the due text at Done and at CheckNo, a front of it at a fault of writing, and else nothing new.
+    ensures out { Writes (text_due (due_by words.now (I.content inputs.old))) (O.written out.old)
+        (O.written out.new) result }
+
+    // Err has the outcome's line, and nothing new at Done.
+    ensures err { TellsOf result (E.written err.old) (E.written err.new) (E.faults err.old)
+        (E.faults err.new) }
+
+    // The words have the outcome, whether or not an input tells what it holds.
+    ensures own { IsOf (asked_by words.now) result }
+
+    // Where the asks of a run or the text of a check don't tell, all is as it is due of some that there could be.
+    ensures some { FitsSome (I.content inputs.old) (asked_by words.now) (O.written out.old)
+        (O.written out.new) result }
+
+    // No content changes.
+    ensures same { I.content inputs.new ≡ I.content inputs.old }
+
+    // Where a count rose, the outcome says so.
+    ensures risen_input { (name : List ℕ) → I.faults inputs.old name < I.faults inputs.new name →
+        result ≡ Outcome.ReadFault }
+    ensures risen_out { O.faults out.old < O.faults out.new → result ≡ Outcome.WriteFault }
+
+    // With contents told and no count risen the due outcome comes, unless memory runs out.
+    ensures complete { Completes (due_by words.now (I.content inputs.old))
+        (OneRose (read_by words.now (I.content inputs.old)) (I.faults inputs.old)
+        (I.faults inputs.new)) (Rose (O.faults out.old) (O.faults out.new)) result }
+
+    // What is due to be printed of a run: the changes add up to the table, the table sends every address where the routes send it,
+    // each answer is the longest match among the routes, and the least table sends every address where the routes send it
+    // and has no more entries in either family than any table that does.
+    ensures sum { IfDue (due_by words.now (I.content inputs.old)) SumsUp }
+    ensures forwards { IfDue (due_by words.now (I.content inputs.old)) Forwards }
+    ensures answers { IfDue (due_by words.now (I.content inputs.old)) Answers }
+    ensures least { IfDue (due_by words.now (I.content inputs.old)) HasLeast }
+
+    // The printed rows prove the printed least table least, to whoever trusts the rules of certificates alone.
+    ensures certified { IfDue (due_by words.now (I.content inputs.old)) Certified }
+
+    // What is due to be printed has its addresses: different numbers have different hops, each route has a hop and so its row,
+    // and every other number that is told is 0 or has a hop.
+    ensures addressed { IfRan (due_by words.now (I.content inputs.old)) HasHops }
+
+    // At Done of a run out has one text more, to which a check says yes: it is read again as rows with a certificate, whatever
+    // numbers the reader gives the hops. At a fault of writing it has a front of such a text. Where the inputs tell what they
+    // hold, the due text is such a text.
+    ensures printed { result ≡ Outcome.Done → IsRun (asked_by words.now) → AddsYes
+        (O.written out.old) (O.written out.new) }
+    ensures front { result ≡ Outcome.WriteFault → IsRun (asked_by words.now) → AddsFrontOfYes
+        (O.written out.old) (O.written out.new) }
+    ensures due_yes { result ≡ Outcome.Done → IfRan
+        (due_by words.now (I.content inputs.old)) PrintsYes }
+
+    // A check that is due says yes exactly where the printed rows are a certificate, whoever wrote them. The printed least
+    // table then sends every address where the printed routes send it, and has no more entries in either family than any
+    // table that does.
+    ensures proved { IfChecked (due_by words.now (I.content inputs.old)) Decides }
+    ensures yes { IfChecked (due_by words.now (I.content inputs.old)) YesProves }
+{
+    run_and_tell(alloc, words, inputs, out, err)
+}

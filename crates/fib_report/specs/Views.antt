@@ -1,0 +1,40 @@
+-- What a clause sees of a run, without what its types keep.
+use Rattle.std.specs.Prelude.{ℕ, List, map}
+use Rattle.address_model.specs.Address.{Address}
+use Rattle.table_model.specs.Entries.{Entries}
+use Rattle.table_model.specs.Changes.{Change, Add, Replace, Remove}
+use Rattle.cert_model.specs.Rows.{CertRow}
+use Rattle.fib_addr.specs.Views.{addr_as, prefix_as, entry_as}
+use Rattle.cert_rows.specs.Views.{row_as}
+use Rattle.fib_report.specs.declared.run.Change as code_change
+use Rattle.fib_report.specs.declared.run.Change.TheVariants as code
+use Rattle.fib_report.specs.declared.run.Report.{Report}
+use Rattle.fib_report.specs.declared.run.Run as code_run
+
+-- What a run tells: the routes, the changes with their events' numbers, the answers with their hops' numbers, the table, the least table, the certificate that it is least, and what was counted.
+pub record Told : Type 0 where
+  pub routes : Entries
+  pub changes : List (ℕ × Change)
+  pub answers : List (Address × ℕ)
+  pub table : Entries
+  pub least : Entries
+  pub cert : List CertRow
+  pub report : Report
+
+-- the change, with its prefix's bits and its hop's number
+abbrev pub change_as : code_change.Change → Change
+change_as (code.Add p h) = Add (prefix_as p) h.0
+change_as (code.Replace p h) = Replace (prefix_as p) h.0
+change_as (code.Remove p) = Remove (prefix_as p)
+
+-- the run, item by item
+abbrev pub run_as : code_run.Run → Told
+run_as run = record {
+  routes = map entry_as run.routes.items;
+  changes = map (λ c. (c.0, change_as c.1)) run.changes.items;
+  answers = map (λ a. (addr_as a.0, a.1.0)) run.answers.items;
+  table = map entry_as run.table.items;
+  least = map entry_as run.least.items;
+  cert = map row_as run.cert.items;
+  report = run.report;
+}
