@@ -15,36 +15,14 @@ use Rattle.table_model.specs.Entries.{Entries, in_order, of_family, of_table}
 use Rattle.table_model.proofs.Sums.{in_order_again}
 use Rattle.least_model.specs.Both.{LeastInBoth, aggregate_in, aggregate_in_both}
 use Rattle.least_model.specs.Least.{Least, aggregate}
+use Rattle.least_model.proofs.Both.{own_table}
 use Rattle.least_model.proofs.Laws.{fresh_law}
-use Rattle.orig_tree.proofs.Places.{family_is}
 use Rattle.fib_addr.specs.declared.entry.Entry.{Entry}
 use Rattle.fib_addr.specs.Views.{entry_as}
 use Rattle.fib_main.specs.declared.trees.Trees.{Trees}
 use Rattle.fib_main.specs.Held.{AreBoth, Given, Hold, only, tree_of}
 
 -- ---- tables of both families
-
-append_family : (f : Family) (L M : Entries) → of_family f (L ++ M) ≡ of_family f L ++ of_family f M
-append_family f [] M = refl
-append_family f (e ∷ L) M = by_test (same_family f e.0.family) (append_family f L M)
-  where
-    by_test : (b : Bool) → of_family f (L ++ M) ≡ of_family f L ++ of_family f M →
-        cond b (record { prefix = e.0.bits; hop = e.1 } ∷ of_family f (L ++ M)) (of_family f (L ++ M)) ≡ cond b (record { prefix = e.0.bits; hop = e.1 } ∷ of_family f L) (of_family f L) ++ of_family f M
-    by_test true more = ap (λ (T : Table). record { prefix = e.0.bits; hop = e.1 } ∷ T) more
-    by_test false more = more
-
-none_of_four : (L : Table) → of_family V6 (of_table V4 L) ≡ []
-none_of_four [] = refl
-none_of_four (e ∷ L) = none_of_four L
-
-none_of_six : (L : Table) → of_family V4 (of_table V6 L) ≡ []
-none_of_six [] = refl
-none_of_six (e ∷ L) = none_of_six L
-
--- of two tables, one of each family, each family has its own
-own_table : (f : Family) (t : Family → Table) → of_family f (of_table V4 (t V4) ++ of_table V6 (t V6)) ≡ t f
-own_table V4 t = append_family V4 (of_table V4 (t V4)) (of_table V6 (t V6)) ∙ (ap (λ T. of_family V4 (of_table V4 (t V4)) ++ T) (none_of_six (t V6)) ∙ (append-nil (of_family V4 (of_table V4 (t V4))) ∙ family_is V4 (t V4)))
-own_table V6 t = append_family V6 (of_table V4 (t V4)) (of_table V6 (t V6)) ∙ (ap (λ T. T ++ of_family V6 (of_table V6 (t V6))) (none_of_four (t V4)) ∙ family_is V6 (t V6))
 
 pub least_in_both : (R old : Entries) → LeastInBoth R (aggregate_in_both R old)
 least_in_both R old f =

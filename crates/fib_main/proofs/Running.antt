@@ -11,6 +11,7 @@ use Rattle.route_model.proofs.Elems.{candidates_stay, elems_of_events}
 use Rattle.route_model.proofs.Said.{none_yet}
 use Rattle.reading_model.specs.Input.{Progress, Stopped, input}
 use Rattle.reading_model.proofs.Told.{read_events}
+use Rattle.least_model.proofs.Both.{aggregates_are, aggregates_sorted}
 use Rattle.feed_model.specs.Feed.{hops_after, full_at, entries_of}
 use Rattle.feed_model.proofs.Tables.{all}
 use Rattle.fib_words.specs.Commands.{Named, Asked, Run, Check, command_of}
@@ -20,7 +21,7 @@ use Rattle.fib_main.specs.declared.outcome.Which.TheVariants.{Dump, Updates}
 use Rattle.fib_main.specs.Stops.{Stop, few_hops, whole_records}
 use Rattle.fib_main.specs.Due.{Feed, Printed, printed, input_at, asks_at, feed_at, feed_of, feed_in, elems_in, read_part, told_at, run_at, used_at, output_at, ran, checked, due, usage, answers_to}
 use Rattle.fib_main.specs.Proves.{IfRan}
-use Rattle.fib_main.specs.Runs.{IfDue, SumsUp, Forwards, Answers, HasLeast, Certified, HasHops}
+use Rattle.fib_main.specs.Runs.{IfDue, SumsUp, Forwards, Answers, HasLeast, HasAggregate, Certified, IsInOrder, HasHops}
 use Rattle.fib_main.proofs.Addressed.{has_hops}
 use Rattle.fib_main.proofs.Certifying.{certified_least}
 use Rattle.fib_main.proofs.Looking.{least_in_both}
@@ -111,12 +112,31 @@ least = each_due (λ p. HasLeast p.told) (λ load updates asks p q.
     let routes : Entries = entries_of (hops_after [] (load.elems ++ updates.elems)) (after_elems [] (load.elems ++ updates.elems)) in
     least_in_both routes routes)
 
+pub aggregated : (words : List (List ℕ)) (content : List ℕ → Option (List ℕ)) → IfDue (due words content) HasAggregate
+aggregated = each_due (λ p. HasAggregate p.told) (λ load updates asks p q.
+    let routes : Entries = entries_of (hops_after [] (load.elems ++ updates.elems)) (after_elems [] (load.elems ++ updates.elems)) in
+    aggregates_are routes routes)
+
+-- the candidates after both inputs are candidates
+held_after : (load updates : Feed) → AllByRecursion IsElem load.elems → AllByRecursion IsElem updates.elems → AreCandidates (after_elems [] (load.elems ++ updates.elems))
+held_after load updates p q = subst AreCandidates (sym (fold-append after_elem [] load.elems updates.elems)) (candidates_stay (after_elems [] load.elems) updates.elems (candidates_stay [] load.elems none_yet p) q)
+
+pub sorted : (words : List (List ℕ)) (content : List ℕ → Option (List ℕ)) → IfDue (due words content) IsInOrder
+sorted = each_due (λ p. IsInOrder p.told) (λ load updates asks p q.
+    let hops : List Address = hops_after [] (load.elems ++ updates.elems) in
+    let held : Candidates = after_elems [] (load.elems ++ updates.elems) in
+    let routes : Entries = entries_of hops held in
+    record {
+      routes = entries_sorted hops held (held_after load updates p q);
+      table = entries_sorted hops held (held_after load updates p q);
+      least = aggregates_sorted routes routes;
+    })
+
 pub certified : (words : List (List ℕ)) (content : List ℕ → Option (List ℕ)) → IfDue (due words content) Certified
 certified = each_due (λ p. Certified p.told) (λ load updates asks p q.
     let hops : List Address = hops_after [] (load.elems ++ updates.elems) in
     let held : Candidates = after_elems [] (load.elems ++ updates.elems) in
-    let are : AreCandidates held = subst AreCandidates (sym (fold-append after_elem [] load.elems updates.elems)) (candidates_stay (after_elems [] load.elems) updates.elems (candidates_stay [] load.elems none_yet p) q) in
-    certified_least (entries_of hops held) (entries_of hops held) (entries_sorted hops held are))
+    certified_least (entries_of hops held) (entries_of hops held) (entries_sorted hops held (held_after load updates p q)))
 
 pub addressed : (words : List (List ℕ)) (content : List ℕ → Option (List ℕ)) → IfRan (due words content) HasHops
 addressed = each_due HasHops (λ load updates asks p q. has_hops load updates asks)

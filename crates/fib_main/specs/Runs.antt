@@ -1,10 +1,13 @@
 -- What holds of what a run prints.
 use Rattle.std.specs.Prelude.{◌≡◌, ◌≤◌, Some, Result, ℕ, List, length}
 use Rattle.std.specs.List.{AllByRecursion, IsDistinct}
+use Rattle.std.specs.List.Sorted.{IsStrictlySortedBy}
+use Rattle.std.specs.Map.{keys_of}
 use Rattle.address_model.specs.Address.{Address, Prefix, same_address}
-use Rattle.table_model.specs.Entries.{match_in, AlikeInBoth}
+use Rattle.address_model.specs.Order.{prefix_cmp}
+use Rattle.table_model.specs.Entries.{Entries, match_in, AlikeInBoth}
 use Rattle.table_model.specs.Changes.{Change, Add, Replace, Remove, sum_of}
-use Rattle.least_model.specs.Both.{LeastInBoth}
+use Rattle.least_model.specs.Both.{LeastInBoth, AggregateInBoth}
 use Rattle.cert_model.specs.Right.{IsCertificate}
 use Rattle.cert_model.specs.Rows.{CertRow, leaf_row, join_row, bound_row}
 use Rattle.printed_model.specs.Numbered.{HaveHops}
@@ -34,9 +37,23 @@ Answers told = AllByRecursion (λ (a : Address × ℕ). a.1 ≡ match_in told.ro
 abbrev pub HasLeast : Told → Type 0
 HasLeast told = LeastInBoth told.routes told.least
 
+-- In either family the least table is the aggregate of the whole space: at each prefix it has an entry exactly where what is inherited there is no best hop, and the entry's hop is best: the routes' own there where that is best, else the least.
+abbrev pub HasAggregate : Told → Type 0
+HasAggregate told = AggregateInBoth told.routes told.routes told.least
+
 -- The rows of the certificate prove the least table least for the routes, to whoever trusts the rules of certificates alone.
 abbrev pub Certified : Told → Type 0
 Certified told = IsCertificate told.routes told.least told.cert
+
+-- the entries stand in the order of prefixes, each prefix once
+abbrev pub InPrefixOrder : Entries → Type 0
+InPrefixOrder L = IsStrictlySortedBy prefix_cmp (keys_of L)
+
+-- the routes, the table and the least table do
+pub record IsInOrder (told : Told) : Type 0 where
+  pub routes : InPrefixOrder told.routes
+  pub table : InPrefixOrder told.table
+  pub least : InPrefixOrder told.least
 
 -- ---- what is printed has its addresses
 

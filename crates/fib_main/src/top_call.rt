@@ -6,7 +6,7 @@ ghost use Rattle.cert_check.specs.Views.{no_as};
 ghost use Rattle.fib_main.specs.Ends.{Completes, EndsBy, Meets, OneRose, ReadsFrom, TellsOf, text_due, Writes, WritesBy};
 ghost use Rattle.fib_main.specs.Owned.{IsOf};
 ghost use Rattle.fib_main.specs.Proves.{AddsFrontOfYes, AddsYes, Decides, IfChecked, IfRan, IsRun, PrintsYes, YesProves};
-ghost use Rattle.fib_main.specs.Runs.{Answers, Certified, Forwards, HasHops, HasLeast, IfDue, SumsUp};
+ghost use Rattle.fib_main.specs.Runs.{Answers, Certified, Forwards, HasAggregate, HasHops, HasLeast, IfDue, IsInOrder, SumsUp};
 ghost use Rattle.fib_main.specs.Untold.{FitsSome};
 ghost use Rattle.fib_main.specs.Words.{asked_by, due_by, read_by};
 
@@ -71,7 +71,7 @@ pub fn tell<E: Sink>(outcome: Outcome, err: &mut E)
 }
 
 /// The outcome, told to err.
-fn ended<I: Inputs, O: Sink, E: Sink>(
+fn run_and_tell<I: Inputs, O: Sink, E: Sink>(
     alloc: Global,
     words: &[String],
     inputs: &mut I,
@@ -112,7 +112,7 @@ fn ended<I: Inputs, O: Sink, E: Sink>(
 /// It costs n log n in the octets read and the rows written, and the routes' number times the lengths of their prefixes. In
 /// memory are, at most, one input twice while it is read, the candidates of all peers, the trees of the routes while they are
 /// looked up, and the whole text. A check keeps the text, its routes, least table and certificate, and the runs of both tables.
-#[tactic(auto, using(crate::proofs::Completing::completes, crate::proofs::Running::sums_up, crate::proofs::Running::forwards, crate::proofs::Running::answers, crate::proofs::Running::least, crate::proofs::Running::certified, crate::proofs::Running::addressed, crate::proofs::Replies::decides, crate::proofs::Replies::yes_proves))]
+#[tactic(auto, using(crate::proofs::Completing::completes, crate::proofs::Running::sums_up, crate::proofs::Running::forwards, crate::proofs::Running::answers, crate::proofs::Running::least, crate::proofs::Running::aggregated, crate::proofs::Running::sorted, crate::proofs::Running::certified, crate::proofs::Running::addressed, crate::proofs::Replies::decides, crate::proofs::Replies::yes_proves))]
 pub fn run_fib<I: Inputs, O: Sink, E: Sink>(
     alloc: Global,
     words: &[String],
@@ -165,6 +165,10 @@ pub fn run_fib<I: Inputs, O: Sink, E: Sink>(
     ensures forwards { IfDue (due_by words.now (I.content inputs.old)) Forwards }
     ensures answers { IfDue (due_by words.now (I.content inputs.old)) Answers }
     ensures least { IfDue (due_by words.now (I.content inputs.old)) HasLeast }
+
+    // Of the least tables it is the one that the best hops fix, whatever finds them; and all tables stand in the order of prefixes.
+    ensures aggregate { IfDue (due_by words.now (I.content inputs.old)) HasAggregate }
+    ensures order { IfDue (due_by words.now (I.content inputs.old)) IsInOrder }
 
     // The printed rows prove the printed least table least, to whoever trusts the rules of certificates alone.
     ensures certified { IfDue (due_by words.now (I.content inputs.old)) Certified }
