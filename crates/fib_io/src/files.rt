@@ -97,7 +97,7 @@ impl<R: ReadSeek + Drop> OpenInput<R> {
     /// Goes to a place, unless it stands there.
     fn go_to(&mut self, at: u64) -> io::Result<()>
         ensures name { self.new.name ≡ self.old.name }
-        ensures open { (content : Option (List ℕ))
+        ensures reads { (content : Option (List ℕ))
             → IsOpen content (R.stream_bytes self.old.reader) (R.stream_position self.old.reader) self.old.place
             → IsOpen content (R.stream_bytes self.new.reader) (R.stream_position self.new.reader) self.new.place }
         ensures at { OnOk result (self.new.place ≡ Some at) }
@@ -113,7 +113,7 @@ impl<R: ReadSeek + Drop> OpenInput<R> {
     fn read_at(&mut self, at: u64, buf: &mut [u8]) -> io::Result<usize>
         ensures most { IfOk result (λ n. n ≤ length buf.new) }
         ensures name { self.new.name ≡ self.old.name }
-        ensures open { (content : Option (List ℕ))
+        ensures reads { (content : Option (List ℕ))
             → IsOpen content (R.stream_bytes self.old.reader) (R.stream_position self.old.reader) self.old.place
             → IsOpen content (R.stream_bytes self.new.reader) (R.stream_position self.new.reader) self.new.place }
         ensures told { (octets : List ℕ)
@@ -146,9 +146,9 @@ pub struct FileInputs<N: ByName + Drop> {
     alloc: Global,
     files: N,
     // one for each name that was read
-    open: Vec<OpenInput<N::Reader>>,
+    inputs: Vec<OpenInput<N::Reader>>,
     faults: u64,
-    ghost open_named: { AllOpen (N.content files) N.Reader.stream_bytes N.Reader.stream_position open.items },
+    ghost reading: { AllOpen (N.content files) N.Reader.stream_bytes N.Reader.stream_position inputs.items },
 }
 
 impl<'r, R: Files<File = File>> FileInputs<SystemFiles<'r, R>> {
@@ -159,7 +159,7 @@ impl<'r, R: Files<File = File>> FileInputs<SystemFiles<'r, R>> {
         FileInputs {
             alloc,
             files: SystemFiles { rt },
-            open: Vec::new(alloc),
+            inputs: Vec::new(alloc),
             faults: 0,
         }
     }
@@ -172,7 +172,7 @@ fn open_input<N: ByName>(
     name: &str,
 ) -> Result<OpenInput<N::Reader>, InFault>
     ensures named { IfOk result (λ input. string_bytes input.name ≡ name.now) }
-    ensures open { IfOk result (λ input. IsOpen (N.content files.now name.now)
+    ensures reads { IfOk result (λ input. IsOpen (N.content files.now name.now)
         (N.Reader.stream_bytes input.reader) (N.Reader.stream_position input.reader) input.place) }
 {
     Ok(OpenInput {
@@ -184,17 +184,17 @@ fn open_input<N: ByName>(
 
 impl<N: ByName + Drop> FileInputs<N> {
     /// Opens the name, if it isn't open yet, and gives its place among the open inputs.
-    fn open(&mut self, name: &str) -> Result<usize, InFault>
+    fn open_named(&mut self, name: &str) -> Result<usize, InFault>
         ensures files { self.new.files ≡ self.old.files }
         ensures faults { self.new.faults ≡ self.old.faults }
-        ensures named { IfOk result (λ i. IsNamed self.new.open.items i name.now) }
+        ensures named { IfOk result (λ i. IsNamed self.new.inputs.items i name.now) }
     {
-        if let Some(i) = place_of(&self.open, name) {
+        if let Some(i) = place_of(&self.inputs, name) {
             return Ok(i);
         }
         let input = open_input(self.alloc, &self.files, name)?;
-        let i = self.open.len();
-        self.open.push(input)?;
+        let i = self.inputs.len();
+        self.inputs.push(input)?;
         Ok(i)
     }
 
@@ -206,8 +206,8 @@ impl<N: ByName + Drop> FileInputs<N> {
         ensures files { self.new.files ≡ self.old.files }
         ensures faults { self.new.faults ≡ self.old.faults }
     {
-        let i = self.open(name)?;
-        Ok(self.open[i].read_at(at, buf)?)
+        let i = self.open_named(name)?;
+        Ok(self.inputs[i].read_at(at, buf)?)
     }
 }
 

@@ -12,7 +12,7 @@ returns-in_err-place-clause-number c =
     ∙ (ap (option_map (λ place. place + 1)) (c.in_err-place.ensures.index ∙ position_same c.args.addr.now c.self.inside.hops.keys) ∙ ap (λ hops. number_of hops (addr_as c.args.addr.now)) (ap (λ (t : Hops). t.list) c.self.view_is))
 
 pub returns-clause-number : goal.returns-clause-number
-returns-clause-number c = ap Some c.numbered.ensures ∙ (ap (option_map (λ place. place + 1)) (c.in_ok-place.ensures.index ∙ position_same c.args.addr.now c.self.inside.hops.keys) ∙ ap (λ hops. number_of hops (addr_as c.args.addr.now)) (ap (λ (t : Hops). t.list) c.self.view_is))
+returns-clause-number c = ap Some c.hop_at_place.ensures ∙ (ap (option_map (λ place. place + 1)) (c.in_ok-place.ensures.index ∙ position_same c.args.addr.now c.self.inside.hops.keys) ∙ ap (λ hops. number_of hops (addr_as c.args.addr.now)) (ap (λ (t : Hops). t.list) c.self.view_is))
 
 pub returns-clause-addr : goal.returns-clause-addr
-returns-clause-addr c = found_holds c.args.self.now.list (addr_as c.args.addr.now) (Some c.numbered.result) (returns-clause-number c)
+returns-clause-addr c = found_holds c.args.self.now.list (addr_as c.args.addr.now) (Some c.hop_at_place.result) (returns-clause-number c)
