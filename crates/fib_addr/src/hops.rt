@@ -147,7 +147,7 @@ impl HopTable {
         Ok(hop_at_place(self.hops.len()))
     }
 
-    /// The hop's number, `None` exactly where it isn't held. It is the hop's alone: `addr` of the number is the hop.
+    /// The hop's number, `None` exactly where it isn't held. `addr` of the number is the hop.
     pub fn find(&self, addr: &Addr) -> Option<Hop>
         ensures number { option_map (λ hop. hop.0) result ≡ number_of self.now.list (addr_as addr.now) }
         ensures addr { IfSome result (λ hop. hop_at self.now.list hop.0 ≡ Some (addr_as addr.now)) }
@@ -156,8 +156,8 @@ impl HopTable {
         Some(hop_at_place(place))
     }
 
-    /// The hop of a number, `None` exactly where no held hop has it: `Hop::NONE` is no hop's, and of so many hops each number
-    /// from 1 on is one's, and of another number another's. `find` of the hop is the number.
+    /// The hop of a number, `None` exactly where no held hop has it: `Hop::NONE` is no hop's, and each number from 1 to that of
+    /// the hops held is one's. `find` of the hop is the number, so different numbers have different hops.
     pub fn addr(&self, hop: Hop) -> Option<Addr>
         ensures addr { option_map addr_as result ≡ hop_at self.now.list hop.0 }
         ensures held { IsSome result ↔ (1 ≤ hop.0) × (hop.0 ≤ length self.now.list) }

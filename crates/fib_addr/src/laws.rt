@@ -40,9 +40,8 @@ pub fn order_law()
     ensures prefixes { (p q : code_prefix.Prefix) → code_cmp p q ≡ prefix_cmp (prefix_as p) (prefix_as q) }
 {}
 
-/// Of hops that have numbers each number from 1 to their number is a hop's, the hop of a hop's number is that hop, and where no
-/// hop stands twice, the number of a number's hop is that number: so different numbers have different hops. None stands twice
-/// as more are numbered.
+/// Of n hops each number from 1 to n is a hop's. The hop of a hop's number is that hop, and where no hop stands twice, the number
+/// of a number's hop is that number, so different numbers have different hops. No hop stands twice as more are numbered.
 pub fn hops_law()
     ensures there { (hops : List Address) (n : ℕ) → 1 ≤ n → n ≤ length hops → IsSome (hop_at hops n) }
     ensures hop { (hops : List Address) (a : Address) (n : ℕ) → number_of hops a ≡ Some n → hop_at hops n ≡ Some a }

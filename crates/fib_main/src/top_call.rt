@@ -71,7 +71,7 @@ pub fn tell<E: Sink>(outcome: Outcome, err: &mut E)
 }
 
 /// The outcome, told to err.
-fn ended<I: Inputs, O: Sink, E: Sink>(
+fn run_and_tell<I: Inputs, O: Sink, E: Sink>(
     alloc: Global,
     words: &[String],
     inputs: &mut I,

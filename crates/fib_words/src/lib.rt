@@ -110,7 +110,7 @@ fn fib_command<'a>(alloc: Global) -> Result<Command<'a>, AllocError>
 }
 
 /// The names in the matches of `run`.
-fn named<'a>(matches: &ArgMatches<'a>) -> Option<RunWords<'a>>
+fn run_words<'a>(matches: &ArgMatches<'a>) -> Option<RunWords<'a>>
     ensures { option_map named_as result ≡ named_by (rows_of (found_of matches.now)) }
 {
     let dump = matches.get_str("dump")?;

@@ -23,10 +23,12 @@ pub fn parts_law()
     ensures { (L : Table) → Distinct L → length L ≡ length (here (root L)) + length (half false L) + length (half true L) }
 {}
 
-/// Entries with distinct prefixes, put in order, stand in the order of prefixes and are the same entries.
+/// Entries with distinct prefixes, put in order, stand in the order of prefixes and are the same entries; those that are in order
+/// stay as they are.
 pub fn order_law()
     ensures sorted { (L : Entries) → IsStrictlySortedBy prefix_cmp (keys_of (in_order L)) }
     ensures same { (L : Entries) → AllByRecursion IsPrefix (keys_of L) → IsDistinct same_prefix (keys_of L) → IsPermutation L (in_order L) }
+    ensures again { (L : Entries) → IsStrictlySortedBy prefix_cmp (keys_of L) → in_order L ≡ L }
 {}
 
 /// The sum of additions of entries in order is these entries.

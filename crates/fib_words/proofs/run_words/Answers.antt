@@ -4,7 +4,7 @@ use Rattle.clap.specs.Matches.{found_of}
 use Rattle.clap.specs.Words.{first_value}
 use Rattle.fib_words.specs.Commands.{named_as}
 use Rattle.fib_words.proofs.Words.{names_is}
-use Rattle.fib_words.proofs.named.Goals as goal
+use Rattle.fib_words.proofs.run_words.Goals as goal
 
 pub returns-in_err-dump : goal.returns-in_err-dump
 returns-in_err-dump c =
