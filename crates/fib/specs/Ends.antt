@@ -1,5 +1,7 @@
 -- How the program ends.
-use Rattle.std.specs.Prelude.{ℕ, List, [], Option, Result, Ok, Err}
+use Rattle.std.specs.Prelude.{ℕ, List, [], take, Option, Result, Ok, Err}
+use Rattle.std.specs.Vec.Iter.{into_iter_items, into_iter_len}
+use Rattle.std.specs.declared.vec.IntoIter.{IntoIter}
 use Rattle.std.specs.declared.string.String.{String}
 use Rattle.std.specs.declared.vec.Vec.{Vec}
 use Rattle.fib_words.specs.Commands.{command_of}
@@ -8,6 +10,10 @@ use Rattle.fib_main.specs.Due.{due}
 use Rattle.fib_main.specs.Ends.{Meets, Writes, text_due}
 use Rattle.fib_main.specs.Owned.{IsOf}
 use Rattle.fib_main.specs.Words.{texts_of}
+
+-- the words that are still to come
+abbrev pub words_left : {X Z : Type 0} → IntoIter X Z → List X
+words_left words = take (into_iter_len words) (into_iter_items words)
 
 -- the words of the command line; none where they couldn't be read
 abbrev pub words_in : {A X E : Type 0} → Result (Vec (String A) X) E → List (List ℕ)

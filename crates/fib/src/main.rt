@@ -1,22 +1,33 @@
 //! The program: the top call over files, standard output and standard error.
 #![tactic(auto)]
 
-ghost use Rattle.std.specs.Prelude.{◌≡◌, IfErr};
+ghost use Rattle.std.specs.Prelude.{◌≡◌, IfErr, IfOk};
 ghost use Rattle.std.specs.IoError.{error_kind};
 ghost use Rattle.fib_main.specs.Ends.{TellsOf};
-ghost use Rattle.fib.specs.Ends.{ProgramEndsBy, words_in};
+ghost use Rattle.fib.specs.Ends.{ProgramEndsBy, words_in, words_left};
 
 use fib_io::{FileInputs, Inputs, Sink, StdSink};
 use fib_main::{Outcome, run_fib, tell};
-use std::alloc::Global;
-use std::env;
+use std::alloc::{AllocError, Global};
+use std::env::{self, Args};
 use std::io::{self, ErrorKind};
 use std::process::ExitCode;
 use std::rt::Env;
 
+/// All words, in their order.
+fn collected(alloc: Global, words: Args) -> Result<Vec<String>, AllocError>
+    ensures { IfOk result (λ all. all.items ≡ words_left words) }
+{
+    let mut all = Vec::new(alloc);
+    for word in words {
+        all.push(word)?;
+    }
+    Ok(all)
+}
+
 /// The words of the command line; an error where one of them isn't UTF-8, or where memory ran out.
 fn words_of<R: Env + Alloc<A = Global>>(rt: &R, alloc: Global) -> io::Result<Vec<String>> {
-    Ok(Vec::from_iter(alloc, env::args(rt)?)?)
+    Ok(collected(alloc, env::args(rt)?)?)
 }
 
 /// Does what the words say. Words that couldn't be read are no command, but where memory ran out.

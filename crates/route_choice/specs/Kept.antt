@@ -34,3 +34,11 @@ pub record IsKept (seats : Seats) (ranks : List Rank) (earlier plan : Option Ele
   pub room : HasRoom seats ranks plan
   pub seats_serve : EachSeatServes seats (λ s. holds_seat earlier s || holds_seat plan s)
   pub ranks_serve : EachRankServes seats ranks (λ r. holds_rank earlier r || holds_rank plan r)
+
+-- what is kept for a plan stays so
+abbrev pub StaysKept : Seats → List Rank → Seats → List Rank → Type 0
+StaysKept seats ranks after left = (plan : Option Elem) → IsKept seats ranks None plan → IsKept after left None plan
+
+-- what is kept for an earlier plan is kept beside this one, if there is one
+abbrev pub KeepsBeside : Seats → List Rank → Seats → List Rank → Option Elem → Type 0
+KeepsBeside seats ranks after left plan = (earlier : Option Elem) → IsKept seats ranks None earlier → IsKept after left earlier plan

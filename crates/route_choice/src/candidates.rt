@@ -1,6 +1,6 @@
 //! The candidates: the routes among which one is chosen for each prefix.
 
-ghost use Rattle.std.specs.Prelude.{◌≡◌, ◌&&◌, ◌||◌, List, true, false, cond, [], map, option_map, is_some, Some, None, Bool, Option, IfOk, OnOk, OnErr, IsSome};
+ghost use Rattle.std.specs.Prelude.{◌≡◌, ◌&&◌, ◌||◌, List, true, false, cond, [], map, option_map, is_some, Some, None, Bool, IfOk, OnOk, OnErr, IsSome};
 ghost use Rattle.std.specs.Ordering.{is_eq};
 ghost use Rattle.std.specs.BTreeMap as tree;
 ghost use Rattle.std.specs.BTreeSet as set;
@@ -11,7 +11,7 @@ ghost use Rattle.route_choice.specs.Orders.{seat_cmp, rank_cmp};
 ghost use Rattle.route_choice.specs.Seats.{held_in, IsIndexed, HasRoom, has_rank, has_seat, seat_in, offer_in};
 ghost use Rattle.route_choice.specs.Seats.{offer_at as offered};
 ghost use Rattle.route_choice.specs.Held.{Held, IsChoice, IsPlanned, pick_elem};
-ghost use Rattle.route_choice.specs.Kept.{IsKept, EachSeatServes, EachRankServes, holds_seat as seat_held, holds_rank as rank_held};
+ghost use Rattle.route_choice.specs.Kept.{IsKept, StaysKept, KeepsBeside, EachSeatServes, EachRankServes, holds_seat as seat_held, holds_rank as rank_held};
 ghost use Rattle.route_choice.specs.Walks.{offer_ranked as ranked, first_in, better_of, cuts_in, ranks_of, seats_of};
 
 use crate::choice::{Choice, Pick};
@@ -304,8 +304,8 @@ fn make_room_for(
     elem: &Elem,
 ) -> Result<(), AllocError>
     ensures offers { (s : Seat) → offered seats.new.entries s ≡ offered seats.old.entries s }
-    ensures kept { OnOk result ((plan : Option Elem) → IsKept seats.old.entries ranks.old.keys None plan → IsKept seats.new.entries ranks.new.keys plan (Some elem.now)) }
-    ensures err { OnErr result ((plan : Option Elem) → IsKept seats.old.entries ranks.old.keys None plan → IsKept seats.new.entries ranks.new.keys None plan) }
+    ensures kept { OnOk result (KeepsBeside seats.old.entries ranks.old.keys seats.new.entries ranks.new.keys (Some elem.now)) }
+    ensures err { OnErr result (StaysKept seats.old.entries ranks.old.keys seats.new.entries ranks.new.keys) }
 {
     match *elem {
         Elem::Put(peer, prefix, path, _) => {
@@ -324,9 +324,9 @@ fn put_offer(
     offer: Offer,
 ) -> Result<(), AllocError>
     ensures ok { OnOk result ((s : Seat) → offered seats.new.entries s ≡ cond (is_eq (seat_cmp seat.now s)) (Some offer) (offered seats.old.entries s)) }
-    ensures kept { OnOk result ((plan : Option Elem) → IsKept seats.old.entries ranks.old.keys None plan → IsKept seats.new.entries ranks.new.keys plan None) }
+    ensures kept { OnOk result (KeepsBeside seats.old.entries ranks.old.keys seats.new.entries ranks.new.keys None) }
     ensures err_offers { OnErr result ((s : Seat) → offered seats.new.entries s ≡ offered seats.old.entries s) }
-    ensures err { OnErr result ((plan : Option Elem) → IsKept seats.old.entries ranks.old.keys None plan → IsKept seats.new.entries ranks.new.keys None plan) }
+    ensures err { OnErr result (StaysKept seats.old.entries ranks.old.keys seats.new.entries ranks.new.keys) }
 {
     let rank = seat.rank(offer.path());
     let is_new = ranks.insert(rank)?;
@@ -346,7 +346,7 @@ fn put_offer(
 /// Ends what is offered at a seat, beside the room of the plan.
 fn cut_offer(seats: &mut BTreeMap<Seat, Option<Offer>>, ranks: &mut BTreeSet<Rank>, seat: &Seat)
     ensures offers { (s : Seat) → offered seats.new.entries s ≡ cond (is_eq (seat_cmp seat.now s)) None (offered seats.old.entries s) }
-    ensures kept { (plan : Option Elem) → IsKept seats.old.entries ranks.old.keys None plan → IsKept seats.new.entries ranks.new.keys plan None }
+    ensures kept { KeepsBeside seats.old.entries ranks.old.keys seats.new.entries ranks.new.keys None }
 {
     if let Some(old) = seats.remove(seat).flatten() {
         prune_rank(seats, ranks, &seat.rank(old.path()));
@@ -361,9 +361,9 @@ fn load_elem(
     elem: &Elem,
 ) -> Result<(), AllocError>
     ensures ok { OnOk result ((s : Seat) → offered seats.new.entries s ≡ cond (is_eq (seat_cmp (seat_in elem.now) s)) (offer_in elem.now) (offered seats.old.entries s)) }
-    ensures kept { OnOk result ((plan : Option Elem) → IsKept seats.old.entries ranks.old.keys None plan → IsKept seats.new.entries ranks.new.keys plan None) }
+    ensures kept { OnOk result (KeepsBeside seats.old.entries ranks.old.keys seats.new.entries ranks.new.keys None) }
     ensures err_offers { OnErr result ((s : Seat) → offered seats.new.entries s ≡ offered seats.old.entries s) }
-    ensures err { OnErr result ((plan : Option Elem) → IsKept seats.old.entries ranks.old.keys None plan → IsKept seats.new.entries ranks.new.keys None plan) }
+    ensures err { OnErr result (StaysKept seats.old.entries ranks.old.keys seats.new.entries ranks.new.keys) }
 {
     let seat = seat_of(elem);
     match offer_of(elem) {
