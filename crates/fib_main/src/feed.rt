@@ -39,7 +39,7 @@ pub fn feed(
     reader.finish()?;
     Ok(Counts {
         records: reader.records(),
-        skipped: reader.skipped_records(),
+        skipped: reader.skipped(),
         events,
     })
 }

@@ -168,7 +168,7 @@ impl Framer {
     }
 
     /// Gives the record back that `next` has just given: `next` gives it once more.
-    pub fn put_back(&mut self)
+    pub fn again(&mut self)
         requires { HasTaken self.old }
         ensures { TakesBack self.old self.new }
     {

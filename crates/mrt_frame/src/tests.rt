@@ -42,7 +42,7 @@ fn take_twice(framer: &mut Framer) -> Result<Option<[(u16, usize); 2]>, Malforme
         return Ok(None);
     };
     let first = (framed.sub, framed.body.len());
-    framer.put_back();
+    framer.again();
     let Some(framed) = framer.next()? else {
         return Ok(None);
     };

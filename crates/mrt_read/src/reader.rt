@@ -50,7 +50,7 @@ fn read_next(
             Ok(None) => Ok(Some(NextRecord::Skipped)),
             Err(Refusal::Rule(rule)) => Err(Refusal::Rule(rule)),
             Err(Refusal::NoMemory) => {
-                framer.put_back();
+                framer.again();
                 Err(Refusal::NoMemory)
             }
         },
@@ -156,7 +156,7 @@ impl Reader {
     }
 
     /// How many of them were skipped.
-    pub fn skipped_records(&self) -> u64
+    pub fn skipped(&self) -> u64
         ensures { result ≡ reader_skipped self.now }
     {
         self.skipped

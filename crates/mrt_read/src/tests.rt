@@ -77,7 +77,7 @@ fn tells_the_same_from_pieces_of_any_size(rt: HostRuntime) -> Result<(), Fail> {
             "in pieces of {size}"
         );
         assert_eq!(rt; reader.records(), 5, "in pieces of {size}");
-        assert_eq!(rt; reader.skipped_records(), 2, "in pieces of {size}");
+        assert_eq!(rt; reader.skipped(), 2, "in pieces of {size}");
     }
     for (name, pieces, number, rule) in [
         ("a route before the peers", [ROUTE, PEERS], 0, 5),

@@ -493,7 +493,7 @@ impl Candidates {
     }
 
     /// The next hop of the chosen route for a prefix, if a peer offers one.
-    pub fn chosen_hop(&self, prefix: &Prefix) -> Option<Addr>
+    pub fn chosen(&self, prefix: &Prefix) -> Option<Addr>
         ensures { option_map addr_as result ≡ chosen_for self.now.candidates (prefix_as prefix.now) }
     {
         let best = best_but(&self.seats, &self.ranks, prefix, None)?;

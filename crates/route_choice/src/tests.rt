@@ -60,7 +60,7 @@ fn the_shortest_path_is_chosen(rt: HostRuntime) -> Result<(), AllocError> {
         held.plan(&Elem::Put(peer(9), wide, 0, hop(9)))?;
         let choice = held.apply(&elem)?;
         assert_eq!(rt; (choice.before, choice.after), (before, after));
-        assert_eq!(rt; held.chosen_hop(&choice.prefix), after);
+        assert_eq!(rt; held.chosen(&choice.prefix), after);
     }
     assert_eq!(rt;
         held.routes()?.as_slice(),
@@ -83,7 +83,7 @@ fn the_shortest_path_is_chosen(rt: HostRuntime) -> Result<(), AllocError> {
     let pick = held.plan(&put[0])?;
     assert_eq!(rt; pick.choice().after, Some(hop(4)));
     assert_eq!(rt; held.commit(pick).before, None);
-    assert_eq!(rt; held.chosen_hop(&narrow), Some(hop(4)));
+    assert_eq!(rt; held.chosen(&narrow), Some(hop(4)));
     // what is loaded is held as what is applied
     held.load(&Elem::Put(peer(1), wide, 1, hop(7)))?;
     held.load(&Elem::Put(peer(1), wide, 8, hop(8)))?;
@@ -91,6 +91,6 @@ fn the_shortest_path_is_chosen(rt: HostRuntime) -> Result<(), AllocError> {
     held.load(&Elem::Cut(peer(4), narrow))?;
     assert_eq!(rt; held.routes()?.as_slice(), [(wide, hop(2))].as_slice());
     held.load(&Elem::Cut(peer(2), wide))?;
-    assert_eq!(rt; held.chosen_hop(&wide), Some(hop(8)));
+    assert_eq!(rt; held.chosen(&wide), Some(hop(8)));
     Ok(())
 }

@@ -34,4 +34,4 @@ returns-in_err-finish c = λ before s.
 pub returns : goal.returns
 returns c = λ before s.
     let nothing = rw c.in_default.is at c.in_ok-more.ensures.after in
-    brings_all _ before _ _ c.take_events.new.self _ _ _ _ (c.loop-reader.invariant before s) nothing c.in_ok-finish.ensures.tells c.records.ensures c.skipped_records.ensures
+    brings_all _ before _ _ c.take_events.new.self _ _ _ _ (c.loop-reader.invariant before s) nothing c.in_ok-finish.ensures.tells c.records.ensures c.skipped.ensures

@@ -5,7 +5,7 @@ use Rattle.route_model.specs.Choice.{chosen_for}
 use Rattle.route_choice.specs.declared.keys.Candidate.{Candidate}
 use Rattle.route_choice.specs.Held.{Held}
 use Rattle.route_choice.proofs.Choose.{chosen_is}
-use Rattle.route_choice.proofs.candidates.Candidates.chosen_hop.Goals as goal
+use Rattle.route_choice.proofs.candidates.Candidates.chosen.Goals as goal
 
 pub returns-in_err-best : goal.returns-in_err-best
 returns-in_err-best c = ap (option_map addr_as) c.from_residual.ensures ∙ (sym (ap (option_map (λ (x : Candidate). addr_as x.offer.hop)) c.in_err-best.was) ∙ (chosen_is c.self.inside.seats.entries c.self.inside.ranks.keys c.args.prefix.now c.best_but.result c.self.invariant.indexed c.best_but.ensures.ordered (sym c.best_but.ensures.first) ∙ ap (λ (h : Held). chosen_for h.candidates (prefix_as c.args.prefix.now)) c.self.view_is))
