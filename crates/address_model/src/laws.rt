@@ -13,5 +13,6 @@ pub fn family_order_law()
 
 /// Prefixes of one family stand in the order of their bits.
 pub fn path_law()
-    ensures { (p q : Prefix) → IsPrefix p → IsPrefix q → p.family ≡ q.family → prefix_cmp p q ≡ path_cmp p.bits q.bits }
+    ensures { (p q : Prefix) → IsPrefix p → IsPrefix q → p.family ≡ q.family
+        → prefix_cmp p q ≡ path_cmp p.bits q.bits }
 {}

@@ -144,7 +144,8 @@ fn with_attribute<'a>(
 
 /// The length of a value, in two octets where the flags say so.
 fn value_len(flags: u8, bytes: &[u8]) -> Result<(u16, &[u8]), u8>
-    ensures value { Gives (λ x. (x.0, x.1.now)) result (number_at attribute_cut (if bit_and flags 16 == 0 then 1 else 2) bytes.now) }
+    ensures value { Gives (λ x. (x.0, x.1.now)) result (number_at attribute_cut
+        (if bit_and flags 16 == 0 then 1 else 2) bytes.now) }
     ensures shorter { IfOk result (λ x. length x.1.now < length bytes.now) }
 {
     if flags & EXTENDED_LENGTH != 0 {
@@ -161,7 +162,8 @@ fn attribute<'a>(
     place: Place,
     bytes: &'a [u8],
 ) -> Result<(Found<'a>, &'a [u8]), u8>
-    ensures value { Gives (λ x. (found_as x.0, x.1.now)) result (attribute_at place (found_as before.entry) bytes.now) }
+    ensures value { Gives (λ x. (found_as x.0, x.1.now)) result
+        (attribute_at place (found_as before.entry) bytes.now) }
     ensures shorter { IfOk result (λ x. length x.1.now < length bytes.now) }
 {
     let (flags, rest) = octet(rule::ATTRIBUTE_CUT, bytes)?;

@@ -31,7 +31,8 @@ fn weight_of(kind: u8, count: u8) -> u32
 #[tactic(auto, unfolding(reading_model::specs::Path::segment_at))]
 fn segment(so_far: u32, bytes: &[u8], wide: bool) -> Result<(u32, &[u8]), u8>
     requires { so_far + length bytes.now < 2 ^ 32 }
-    ensures value { Gives (λ x. (x.0, x.1.now)) result (segment_at (as_size wide) so_far bytes.now) }
+    ensures value { Gives (λ x. (x.0, x.1.now)) result (segment_at
+        (as_size wide) so_far bytes.now) }
     ensures shorter { IfOk result (λ x. length x.1.now < length bytes.now) }
     ensures fits { IfOk result (λ x. x.0 + length x.1.now ≤ so_far + length bytes.now) }
 {

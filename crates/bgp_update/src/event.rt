@@ -11,7 +11,8 @@ use std::alloc::AllocError;
 
 /// The event of a prefix that a peer names: Announce with this next hop, Withdraw where there is none.
 pub fn event_of(peer: Peer, path: u32, hop: Option<Addr>, prefix: Prefix) -> Event
-    ensures { event_as result ≡ model.event_of (peer_as peer) path (option_map addr_as hop) (prefix_as prefix) }
+    ensures { event_as result ≡ model.event_of (peer_as peer) path (option_map addr_as hop)
+        (prefix_as prefix) }
 {
     match hop {
         Some(hop) => Event::Announce(peer, prefix, path, hop),
@@ -27,7 +28,8 @@ pub fn push_routes(
     hop: Option<Addr>,
     prefixes: &[Prefix],
 ) -> Result<(), AllocError>
-    ensures ok { OnOk result (map event_as events.new.items ≡ map event_as events.old.items ++ routes (peer_as peer) path (option_map addr_as hop) (map prefix_as prefixes.now)) }
+    ensures ok { OnOk result (map event_as events.new.items ≡ map event_as events.old.items
+        ++ routes (peer_as peer) path (option_map addr_as hop) (map prefix_as prefixes.now)) }
     ensures err { OnErr result (events.new.items ≡ events.old.items) }
 {
     events.reserve(prefixes.len())?;

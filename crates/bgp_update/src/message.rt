@@ -26,7 +26,8 @@ pub fn read_message(
     wide: bool,
     peer: Peer,
 ) -> Result<Vec<Event>, Refusal>
-    ensures { GivesInMemory (λ v. map event_as v.items) result (message wide (peer_as peer) bytes.now) }
+    ensures { GivesInMemory (λ v. map event_as v.items) result
+        (message wide (peer_as peer) bytes.now) }
 {
     if bytes.len() < HEADER {
         return Err(Refusal::Rule(rule::MESSAGE));

@@ -21,7 +21,8 @@ fn push_unreached(
     peer: Peer,
     unreach: Option<Unreach>,
 ) -> Result<(), Refusal>
-    ensures ok { OnOk result (map event_as events.new.items ≡ map event_as events.old.items ++ unreach_events (peer_as peer) (option_map unreached unreach.entry)) }
+    ensures ok { OnOk result (map event_as events.new.items ≡ map event_as events.old.items
+        ++ unreach_events (peer_as peer) (option_map unreached unreach.entry)) }
     ensures err { IfErr result (λ refusal. refusal ≡ Refusal.NoMemory) }
 {
     if let Some(unreach) = unreach {
@@ -39,7 +40,8 @@ fn push_reached(
     path: u32,
     reach: Option<Reach>,
 ) -> Result<(), Refusal>
-    ensures ok { OnOk result (map event_as events.new.items ≡ map event_as events.old.items ++ reach_events (peer_as peer) path (option_map reached reach.entry)) }
+    ensures ok { OnOk result (map event_as events.new.items ≡ map event_as events.old.items
+        ++ reach_events (peer_as peer) path (option_map reached reach.entry)) }
     ensures err { IfErr result (λ refusal. refusal ≡ Refusal.NoMemory) }
 {
     if let Some(reach) = reach {
@@ -58,7 +60,10 @@ fn in_order(
     attrs: &Attrs,
     nlri: &[Prefix],
 ) -> Result<Vec<Event>, Refusal>
-    ensures ok { IfOk result (λ v. map event_as v.items ≡ withdrawn (peer_as peer) (map prefix_as gone.now) ++ unreach_events (peer_as peer) (listed_as attrs.now).unreach ++ routes (peer_as peer) attrs.now.path (listed_as attrs.now).hop (map prefix_as nlri.now) ++ reach_events (peer_as peer) attrs.now.path (listed_as attrs.now).reach) }
+    ensures ok { IfOk result (λ v. map event_as v.items ≡ withdrawn (peer_as peer)
+        (map prefix_as gone.now) ++ unreach_events (peer_as peer) (listed_as attrs.now).unreach
+        ++ routes (peer_as peer) attrs.now.path (listed_as attrs.now).hop (map prefix_as nlri.now)
+        ++ reach_events (peer_as peer) attrs.now.path (listed_as attrs.now).reach) }
     ensures err { IfErr result (λ refusal. refusal ≡ Refusal.NoMemory) }
 {
     let mut events = Vec::new(alloc);
@@ -77,7 +82,8 @@ pub fn read_update(
     wide: bool,
     peer: Peer,
 ) -> Result<Vec<Event>, Refusal>
-    ensures { GivesInMemory (λ v. map event_as v.items) result (update wide (peer_as peer) bytes.now) }
+    ensures { GivesInMemory (λ v. map event_as v.items) result
+        (update wide (peer_as peer) bytes.now) }
 {
     let (gone_len, rest) = u16_at(rule::UPDATE, bytes)?;
     let (gone_area, rest) = octets(rule::UPDATE, usize::from(gone_len), rest)?;

@@ -113,7 +113,8 @@ pub(crate) fn differ_in(a: &[Run], b: &[Run], family: Family) -> Option<Differ>
     requires second { AreRuns 0 b.now }
     requires below { Below (2 ^ width family) a.now }
     requires below_too { Below (2 ^ width family) b.now }
-    ensures { (L M : Entries) → RunsTell family L a.now → RunsTell family M b.now → option_map differ_as result ≡ not_same_in L M family }
+    ensures { (L M : Entries) → RunsTell family L a.now → RunsTell family M b.now
+        → option_map differ_as result ≡ not_same_in L M family }
 {
     differ_of(first_apart(a, b), family)
 }
@@ -124,7 +125,8 @@ fn same_in(
     b: &[Entry],
     family: Family,
 ) -> Result<Option<Differ>, AllocError>
-    ensures { IfOk result (λ d. option_map differ_as d ≡ not_same_in (map entry_as a.now) (map entry_as b.now) family) }
+    ensures { IfOk result (λ d. option_map differ_as d ≡ not_same_in (map entry_as a.now)
+        (map entry_as b.now) family) }
 {
     let first = runs_of(alloc, a, family)?;
     let second = runs_of(alloc, b, family)?;
@@ -138,10 +140,15 @@ fn same_in(
 ///
 /// No memory.
 pub fn same(alloc: Global, a: &[Entry], b: &[Entry]) -> Result<Option<Differ>, AllocError>
-    ensures answer { IfOk result (λ d. option_map differ_as d ≡ not_same (map entry_as a.now) (map entry_as b.now)) }
-    ensures none { IfOk result (λ d. (d ≡ None) ↔ AlikeInBoth (map entry_as a.now) (map entry_as b.now)) }
-    ensures least { IfOk result (λ d. IfSome d (λ x. IsLeastDiffering (map entry_as a.now) (map entry_as b.now) (addr_as x.addr))) }
-    ensures answers { IfOk result (λ d. IfSome d (λ x. (x.first.0 ≡ match_in (map entry_as a.now) (addr_as x.addr)) × (x.second.0 ≡ match_in (map entry_as b.now) (addr_as x.addr)))) }
+    ensures answer { IfOk result (λ d. option_map differ_as d
+        ≡ not_same (map entry_as a.now) (map entry_as b.now)) }
+    ensures none { IfOk result (λ d. (d ≡ None) ↔ AlikeInBoth (map entry_as a.now)
+        (map entry_as b.now)) }
+    ensures least { IfOk result (λ d. IfSome d (λ x. IsLeastDiffering (map entry_as a.now)
+        (map entry_as b.now) (addr_as x.addr))) }
+    ensures answers { IfOk result (λ d. IfSome d
+        (λ x. (x.first.0 ≡ match_in (map entry_as a.now) (addr_as x.addr))
+        × (x.second.0 ≡ match_in (map entry_as b.now) (addr_as x.addr)))) }
 {
     if let Some(differ) = same_in(alloc, a, b, Family::V4)? {
         return Ok(Some(differ));

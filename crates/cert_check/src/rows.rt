@@ -75,8 +75,11 @@ fn read_leaf(
     row: u64,
     stack: &mut Vec<Item>,
 ) -> Result<Option<No>, AllocError>
-    ensures leaf_weight { IfOk result (λ no. no ≡ None → leaf_weight (stack_as stack.new.items) ≤ leaf_weight (stack_as stack.old.items) + 1) }
-    ensures read { IfOk result (λ no. (R : Entries) → TellsBoth R runs.now → LeafRead R (prefix_as prefix.now) hop.0 row (stack_as stack.old.items) (stack_as stack.new.items) (option_map no_as no)) }
+    ensures weight { IfOk result (λ no. no ≡ None → leaf_weight (stack_as stack.new.items)
+        ≤ leaf_weight (stack_as stack.old.items) + 1) }
+    ensures read { IfOk result (λ no. (R : Entries) → TellsBoth R runs.now
+        → LeafRead R (prefix_as prefix.now) hop.0 row (stack_as stack.old.items)
+        (stack_as stack.new.items) (option_map no_as no)) }
 {
     if !holds(runs_in(runs, prefix.family), prefix, hop.0) {
         return Ok(Some(No::LeafWrong { row }));
@@ -108,7 +111,8 @@ fn is_whole(prefix: &Prefix, family: Family) -> bool
 
 /// Whether these are the halves of the prefix's region.
 fn are_halves(prefix: &Prefix, low: &Prefix, high: &Prefix) -> bool
-    ensures { result ≡ (same_prefix (prefix_as low.now) (half_at false (prefix_as prefix.now)) && same_prefix (prefix_as high.now) (half_at true (prefix_as prefix.now))) }
+    ensures { result ≡ (same_prefix (prefix_as low.now) (half_at false (prefix_as prefix.now))
+        && same_prefix (prefix_as high.now) (half_at true (prefix_as prefix.now))) }
 {
     if prefix.len == prefix.family.width() {
         return false;
@@ -131,7 +135,9 @@ fn join_items(
     requires more { row + 1 < 2 ^ 64 }
     requires fits { low.k + high.k + 1 < 2 ^ 64 }
     ensures marks { AreMarks (row + 1) marks.new.items }
-    ensures done { IfOk result (λ no. JoinDone (prefix_as prefix.now) said row (item_as low) (item_as high) (stack_as stack.old.items) (stack_as stack.new.items) (option_map no_as no)) }
+    ensures done { IfOk result (λ no. JoinDone (prefix_as prefix.now) said row (item_as low)
+        (item_as high) (stack_as stack.old.items) (stack_as stack.new.items)
+        (option_map no_as no)) }
 {
     let common = common_hops(alloc, &low.hops, &high.hops, row, marks)?;
     let due = low.k + high.k + one_if_none(&common);
@@ -149,7 +155,8 @@ fn join_items(
 
 /// Takes the top of the stack.
 fn pop_item(stack: &mut Vec<Item>) -> Option<Item>
-    ensures { Popped (stack_as stack.old.items) (stack_as stack.new.items) (option_map item_as result) }
+    ensures { Popped (stack_as stack.old.items) (stack_as stack.new.items)
+        (option_map item_as result) }
 {
     stack.pop()
 }
@@ -166,7 +173,8 @@ fn read_join(
     requires more { row + 1 < 2 ^ 64 }
     requires leaf_weight { leaf_weight (stack_as stack.old.items) < row }
     ensures marks { AreMarks (row + 1) marks.new.items }
-    ensures read { IfOk result (λ no. JoinRead (prefix_as prefix.now) said row (stack_as stack.old.items) (stack_as stack.new.items) (option_map no_as no)) }
+    ensures read { IfOk result (λ no. JoinRead (prefix_as prefix.now) said row
+        (stack_as stack.old.items) (stack_as stack.new.items) (option_map no_as no)) }
 {
     let shape = Some(No::Shape { row });
     match pop_item(stack) {
@@ -198,7 +206,8 @@ fn bound_of(item: &Item) -> u64
 
 /// The only item of the stack, if it is the whole region of the family.
 fn whole_of(family: Family, stack: &mut Vec<Item>) -> Option<Item>
-    ensures { WholeTaken family (stack_as stack.old.items) (stack_as stack.new.items) (option_map item_as result) }
+    ensures { WholeTaken family (stack_as stack.old.items) (stack_as stack.new.items)
+        (option_map item_as result) }
 {
     match pop_item(stack) {
         None => None,
@@ -220,7 +229,9 @@ fn end_family(family: Family, bound: u64, reading: &mut Reading)
     ensures due { reading.new.due ≡ next_due family }
     ensures marks { reading.new.marks ≡ reading.old.marks }
     ensures stack { reading.new.stack ≡ reading.old.stack }
-    ensures told { (R : Entries) → bound_due family R ≡ bound → BoundsTold R (Some family) reading.old.v4 reading.old.v6 → BoundsTold R (next_due family) reading.new.v4 reading.new.v6 }
+    ensures told { (R : Entries) → bound_due family R ≡ bound
+        → BoundsTold R (Some family) reading.old.v4 reading.old.v6
+        → BoundsTold R (next_due family) reading.new.v4 reading.new.v6 }
 {
     match family {
         Family::V4 => {
@@ -238,8 +249,12 @@ fn read_bound(family: Family, said: u64, row: u64, reading: &mut Reading) -> Opt
     requires due { reading.old.due ≡ Some family }
     requires leaf_weight { leaf_weight (stack_as reading.old.stack.items) < row }
     ensures marks { reading.new.marks ≡ reading.old.marks }
-    ensures read { (R : Entries) → RowRead R (bound_row family said) row reading.old.due (stack_as reading.old.stack.items) reading.new.due (stack_as reading.new.stack.items) (option_map no_as result) }
-    ensures told { result ≡ None → (R : Entries) → AllRight R (stack_as reading.old.stack.items) → BoundsTold R reading.old.due reading.old.v4 reading.old.v6 → BoundsTold R reading.new.due reading.new.v4 reading.new.v6 }
+    ensures read { (R : Entries) → RowRead R (bound_row family said) row reading.old.due
+        (stack_as reading.old.stack.items) reading.new.due (stack_as reading.new.stack.items)
+        (option_map no_as result) }
+    ensures told { result ≡ None → (R : Entries) → AllRight R (stack_as reading.old.stack.items)
+        → BoundsTold R reading.old.due reading.old.v4 reading.old.v6
+        → BoundsTold R reading.new.due reading.new.v4 reading.new.v6 }
 {
     match whole_of(family, &mut reading.stack) {
         None => Some(No::Shape { row }),
@@ -266,9 +281,16 @@ fn read_row(
     requires more { number + 1 < 2 ^ 64 }
     requires leaf_weight { leaf_weight (stack_as reading.old.stack.items) < number }
     ensures marks { AreMarks (number + 1) reading.new.marks.items }
-    ensures leaf_weight { IfOk result (λ no. no ≡ None → leaf_weight (stack_as reading.new.stack.items) ≤ leaf_weight (stack_as reading.old.stack.items) + 1) }
-    ensures read { IfOk result (λ no. (R : Entries) → TellsBoth R runs.now → RowRead R (row_as row.now) number reading.old.due (stack_as reading.old.stack.items) reading.new.due (stack_as reading.new.stack.items) (option_map no_as no)) }
-    ensures told { IfOk result (λ no. no ≡ None → (R : Entries) → AllRight R (stack_as reading.old.stack.items) → BoundsTold R reading.old.due reading.old.v4 reading.old.v6 → BoundsTold R reading.new.due reading.new.v4 reading.new.v6) }
+    ensures weight { IfOk result (λ no. no ≡ None → leaf_weight (stack_as reading.new.stack.items)
+        ≤ leaf_weight (stack_as reading.old.stack.items) + 1) }
+    ensures read { IfOk result (λ no. (R : Entries) → TellsBoth R runs.now
+        → RowRead R (row_as row.now) number reading.old.due
+        (stack_as reading.old.stack.items) reading.new.due (stack_as reading.new.stack.items)
+        (option_map no_as no)) }
+    ensures told { IfOk result (λ no. no ≡ None → (R : Entries)
+        → AllRight R (stack_as reading.old.stack.items)
+        → BoundsTold R reading.old.due reading.old.v4 reading.old.v6
+        → BoundsTold R reading.new.due reading.new.v4 reading.new.v6) }
 {
     match reading.due {
         None => Ok(Some(No::Shape { row: number })),
@@ -305,8 +327,10 @@ pub(crate) fn read_rows(
     requires due { reading.old.due ≡ Some V4 }
     requires empty { stack_as reading.old.stack.items ≡ [] }
     requires marks { AreMarks 1 reading.old.marks.items }
-    ensures read { IfOk result (λ no. (R : Entries) → TellsBoth R runs.now → option_map no_as no ≡ wrong_row R (map row_as rows.now) (V4 ∷ V6 ∷ []) [] 1) }
-    ensures told { IfOk result (λ no. no ≡ None → (R : Entries) → TellsBoth R runs.now → BoundsTold R None reading.new.v4 reading.new.v6) }
+    ensures read { IfOk result (λ no. (R : Entries) → TellsBoth R runs.now
+        → option_map no_as no ≡ wrong_row R (map row_as rows.now) (V4 ∷ V6 ∷ []) [] 1) }
+    ensures told { IfOk result (λ no. no ≡ None → (R : Entries) → TellsBoth R runs.now
+        → BoundsTold R None reading.new.v4 reading.new.v6) }
 {
     for i in 0..rows.len() {
         if let Some(no) = read_row(alloc, runs, &rows[i], i as u64 + 1, reading)? {

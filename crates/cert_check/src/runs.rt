@@ -47,7 +47,8 @@ struct Halves {
 
 /// A table's entries of a family.
 fn parts_of(alloc: Global, entries: &[Entry], family: Family) -> Result<Vec<Part>, AllocError>
-    ensures { IfOk result (λ v. table_of (width family) v.items ≡ of_family family (map entry_as entries.now)) }
+    ensures { IfOk result (λ v. table_of (width family) v.items
+        ≡ of_family family (map entry_as entries.now)) }
 {
     let mut parts = Vec::new(alloc);
     for entry in entries {
@@ -66,9 +67,12 @@ impl Halves {
     /// Puts an entry where it belongs, after those that are there; the halves' addresses have `left` bits.
     fn put(&mut self, part: &Part, left: u8) -> Result<(), AllocError>
         requires { left < 128 }
-        ensures own { OnOk result (self.new.own ≡ option_or self.old.own (root (part_as (left + 1) part.now ∷ []))) }
-        ensures low { OnOk result (table_of left self.new.low.items ≡ table_of left self.old.low.items ++ half false (part_as (left + 1) part.now ∷ [])) }
-        ensures high { OnOk result (table_of left self.new.high.items ≡ table_of left self.old.high.items ++ half true (part_as (left + 1) part.now ∷ [])) }
+        ensures own { OnOk result (self.new.own ≡ option_or self.old.own
+            (root (part_as (left + 1) part.now ∷ []))) }
+        ensures low { OnOk result (table_of left self.new.low.items
+            ≡ table_of left self.old.low.items ++ half false (part_as (left + 1) part.now ∷ [])) }
+        ensures high { OnOk result (table_of left self.new.high.items
+            ≡ table_of left self.old.high.items ++ half true (part_as (left + 1) part.now ∷ [])) }
     {
         if part.len == 0 {
             self.own = self.own.or(Some(part.hop));
@@ -92,8 +96,10 @@ impl Halves {
 fn deal(alloc: Global, parts: Vec<Part>, left: u8) -> Result<Halves, AllocError>
     requires { left < 128 }
     ensures own { IfOk result (λ h. h.own ≡ root (table_of (left + 1) parts.items)) }
-    ensures low { IfOk result (λ h. table_of left h.low.items ≡ half false (table_of (left + 1) parts.items)) }
-    ensures high { IfOk result (λ h. table_of left h.high.items ≡ half true (table_of (left + 1) parts.items)) }
+    ensures low { IfOk result (λ h. table_of left h.low.items
+        ≡ half false (table_of (left + 1) parts.items)) }
+    ensures high { IfOk result (λ h. table_of left h.high.items
+        ≡ half true (table_of (left + 1) parts.items)) }
 {
     let mut halves = Halves {
         own: None,
@@ -131,7 +137,8 @@ fn sweep(
 ) -> Result<(), AllocError>
     requires left { left ≤ 128 }
     requires fits { start + 2 ^ left ≤ 2 ^ 128 }
-    ensures { OnOk result (Swept left (table_of left parts.items) inherited start runs.old.items runs.new.items) }
+    ensures { OnOk result (Swept left (table_of left parts.items) inherited start runs.old.items
+        runs.new.items) }
 {
     if parts.is_empty() {
         return note(runs, start, inherited);
@@ -179,7 +186,8 @@ fn hop_before(runs: &[Run], place: usize) -> u16
 
 /// Whether a number past the first address of the prefix is past all of them.
 fn is_past(number: u128, prefix: &Prefix) -> bool
-    ensures { prefix.now.bits < number → (result ≡ true) ↔ (prefix.now.bits + 2 ^ (width prefix.now.family - prefix.now.len) ≤ number) }
+    ensures { prefix.now.bits < number → (result ≡ true) ↔
+        (prefix.now.bits + 2 ^ (width prefix.now.family - prefix.now.len) ≤ number) }
 {
     let unused = prefix.family.width() - prefix.len;
     unused < 128 && number >> unused != prefix.bits >> unused
@@ -187,7 +195,8 @@ fn is_past(number: u128, prefix: &Prefix) -> bool
 
 /// Whether all addresses of the prefix get the hop.
 pub(crate) fn holds(runs: &[Run], prefix: &Prefix, hop: u16) -> bool
-    ensures { (L : Entries) → RunsTell prefix.now.family L runs.now → result ≡ all_get L (prefix_as prefix.now) hop }
+    ensures { (L : Entries) → RunsTell prefix.now.family L runs.now
+        → result ≡ all_get L (prefix_as prefix.now) hop }
 {
     let place = begun(runs, prefix.bits);
     hop_before(runs, place) == hop && (place == runs.len() || is_past(runs[place].start, prefix))

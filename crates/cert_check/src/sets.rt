@@ -31,7 +31,8 @@ fn mark(hops: &[u16], stamp: u64, marks: &mut Vec<u64>)
     requires marks { AreMarks stamp marks.old.items }
     requires more { stamp + 1 < 2 ^ 64 }
     ensures marks { AreMarks (stamp + 1) marks.new.items }
-    ensures marked { (h : ℕ) → h < 65536 → nat_eq (get_or marks.new.items h 0) stamp ≡ is_in h hops.now }
+    ensures marked { (h : ℕ) → h < 65536 → nat_eq (get_or marks.new.items h 0) stamp
+        ≡ is_in h hops.now }
 {
     for hop in hops {
         marks[usize::from(*hop)] = stamp;

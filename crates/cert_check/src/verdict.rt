@@ -35,7 +35,9 @@ fn runs_in_both(alloc: Global, entries: &[Entry]) -> Result<Runs, AllocError>
 
 /// A prefix that stands twice in the routes, or else in the table.
 fn find_repeat(alloc: Global, routes: &[Entry], table: &[Entry]) -> Result<Option<No>, AllocError>
-    ensures { IfOk result (λ no. option_map no_as no ≡ option_or (option_map Twice (twice (map entry_as routes.now))) (option_map Twice (twice (map entry_as table.now)))) }
+    ensures { IfOk result (λ no. option_map no_as no ≡ option_or
+        (option_map Twice (twice (map entry_as routes.now)))
+        (option_map Twice (twice (map entry_as table.now)))) }
 {
     if let Some(prefix) = first_twice(alloc, routes)? {
         return Ok(Some(No::Twice { prefix }));
@@ -59,7 +61,8 @@ fn not_same_no(differ: Differ) -> No
 /// The least address that gets different hops.
 fn not_same(alloc: Global, runs: &Runs, table: &[Entry]) -> Result<Option<No>, AllocError>
     requires { AreOfBoth runs.now }
-    ensures { IfOk result (λ no. (R : Entries) → TellsBoth R runs.now → option_map no_as no ≡ model_not_same R (map entry_as table.now)) }
+    ensures { IfOk result (λ no. (R : Entries) → TellsBoth R runs.now
+        → option_map no_as no ≡ model_not_same R (map entry_as table.now)) }
 {
     let has = runs_of(alloc, table, Family::V4)?;
     if let Some(differ) = differ_in(&runs.v4, &has, Family::V4) {
@@ -86,7 +89,8 @@ fn count_of(entries: &[Entry], family: Family) -> u64
 }
 
 fn too_many(table: &[Entry], family: Family, bound: u64) -> Option<No>
-    ensures { (R : Entries) → bound_due family R ≡ bound → option_map no_as result ≡ too_many_in R (map entry_as table.now) family }
+    ensures { (R : Entries) → bound_due family R ≡ bound → option_map no_as result
+        ≡ too_many_in R (map entry_as table.now) family }
 {
     let entries = count_of(table, family);
     if bound < entries {
@@ -107,7 +111,10 @@ fn wrong_in(
     table: &[Entry],
     rows: &[Row],
 ) -> Result<Option<No>, AllocError>
-    ensures { IfOk result (λ no. (R : Entries) → TellsBoth R runs.now → option_map no_as no ≡ option_or (wrong_row R (map row_as rows.now) (V4 ∷ V6 ∷ []) [] 1) (option_or (too_many_in R (map entry_as table.now) V4) (too_many_in R (map entry_as table.now) V6))) }
+    ensures { IfOk result (λ no. (R : Entries) → TellsBoth R runs.now
+        → option_map no_as no ≡ option_or (wrong_row R (map row_as rows.now) (V4 ∷ V6 ∷ []) [] 1)
+        (option_or (too_many_in R (map entry_as table.now) V4)
+        (too_many_in R (map entry_as table.now) V6))) }
 {
     let mut reading = Reading {
         due: Some(Family::V4),
@@ -131,7 +138,8 @@ fn first_wrong(
     table: &[Entry],
     rows: &[Row],
 ) -> Result<Option<No>, AllocError>
-    ensures { IfOk result (λ no. option_map no_as no ≡ verdict (map entry_as routes.now) (map entry_as table.now) (map row_as rows.now)) }
+    ensures { IfOk result (λ no. option_map no_as no ≡ verdict (map entry_as routes.now)
+        (map entry_as table.now) (map row_as rows.now)) }
 {
     if let Some(no) = find_repeat(alloc, routes, table)? {
         return Ok(Some(no));
@@ -155,10 +163,13 @@ pub fn check(
     table: &[Entry],
     rows: &[Row],
 ) -> Result<(), CheckError>
-    ensures right { OnOk result (IsCertificate (map entry_as routes.now) (map entry_as table.now) (map row_as rows.now)) }
+    ensures right { OnOk result (IsCertificate (map entry_as routes.now) (map entry_as table.now)
+        (map row_as rows.now)) }
     ensures least { OnOk result (LeastInBoth (map entry_as routes.now) (map entry_as table.now)) }
-    ensures wrong { IfErr result (λ e. IfNo e (λ x. IsCertificate (map entry_as routes.now) (map entry_as table.now) (map row_as rows.now) → ⊥)) }
-    ensures no { IfErr result (λ e. IfNo e (λ x. verdict (map entry_as routes.now) (map entry_as table.now) (map row_as rows.now) ≡ Some (no_as x))) }
+    ensures wrong { IfErr result (λ e. IfNo e (λ x. IsCertificate (map entry_as routes.now)
+        (map entry_as table.now) (map row_as rows.now) → ⊥)) }
+    ensures no { IfErr result (λ e. IfNo e (λ x. verdict (map entry_as routes.now)
+        (map entry_as table.now) (map row_as rows.now) ≡ Some (no_as x))) }
 {
     match first_wrong(alloc, routes, table, rows)? {
         None => Ok(()),

@@ -20,7 +20,8 @@ ghost use Rattle.cert_model.specs.Verdict.{No, NotSame, IsLeastDiffering, RowFit
 
 /// The one answer of a region is found where there is one.
 pub fn one_answer_law()
-    ensures { (d : ℕ) (f : List Bool → ℕ) (h : ℕ) → (one_answer d f ≡ Some h) ↔ ((a : List Bool) → length a ≡ d → f a ≡ h) }
+    ensures { (d : ℕ) (f : List Bool → ℕ) (h : ℕ) → (one_answer d f ≡ Some h)
+        ↔ ((a : List Bool) → length a ≡ d → f a ≡ h) }
 {}
 
 /// By the rules for sets and k, an alike table with at most the bound's entries is least.
@@ -49,7 +50,8 @@ pub fn twice_law()
 /// is told, with both.
 pub fn not_same_law()
     ensures none { (R T : Entries) → (not_same R T ≡ None) ↔ AlikeInBoth R T }
-    ensures some { (R T : Entries) (x : No) → not_same R T ≡ Some x → (a : Address) × (x ≡ NotSame a (match_in R a) (match_in T a)) × IsLeastDiffering R T a }
+    ensures some { (R T : Entries) (x : No) → not_same R T ≡ Some x → (a : Address)
+        × (x ≡ NotSame a (match_in R a) (match_in T a)) × IsLeastDiffering R T a }
 {}
 
 /// A table has too many entries of a family exactly where an alike table has fewer.
@@ -60,7 +62,8 @@ pub fn not_least_law()
 
 /// Nothing is wrong exactly where the rows are a certificate.
 pub fn verdict_law()
-    ensures { (R T : Entries) (rows : List CertRow) → AllByRecursion RowFits rows → (verdict R T rows ≡ None) ↔ IsCertificate R T rows }
+    ensures { (R T : Entries) (rows : List CertRow) → AllByRecursion RowFits rows
+        → (verdict R T rows ≡ None) ↔ IsCertificate R T rows }
 {}
 
 /// The numbers of hops don't matter: other numbers make a certificate of a certificate, where 0 stays 0, and the hops of the

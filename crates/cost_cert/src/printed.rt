@@ -41,7 +41,9 @@ fn bad_row(line: u64, why: u8) -> PrintedError
 /// The number of a hop, and `Hop::NONE` for none.
 fn number_hop(hops: &mut HopTable, hop: Option<Addr>) -> Result<Hop, HopError>
     requires { length hops.old.list ≤ most_hops }
-    ensures { Numbers result (hops_with hops.old.list (option_map addr_as hop)) (λ h. (hops.new.list ≡ hops_with hops.old.list (option_map addr_as hop)) × (h.0 ≡ hop_number hops.new.list (option_map addr_as hop))) }
+    ensures { Numbers result (hops_with hops.old.list (option_map addr_as hop))
+        (λ h. (hops.new.list ≡ hops_with hops.old.list (option_map addr_as hop))
+        × (h.0 ≡ hop_number hops.new.list (option_map addr_as hop))) }
 {
     match hop {
         Some(addr) => hops.number(&addr),
@@ -65,7 +67,8 @@ impl Printed {
     /// Keeps what a checker uses of one more row.
     fn take(&mut self, row: &PrintedRow) -> Result<(), HopError>
         requires { length self.old.hops.list ≤ most_hops }
-        ensures { Numbers result (hops_after_row self.old.hops.list (printed_row_as row.now)) (λ _. printed_as self.new ≡ used_after (printed_as self.old) (printed_row_as row.now)) }
+        ensures { Numbers result (hops_after_row self.old.hops.list (printed_row_as row.now))
+            (λ _. printed_as self.new ≡ used_after (printed_as self.old) (printed_row_as row.now)) }
     {
         match *row {
             PrintedRow::Route(prefix, addr) => {
@@ -90,7 +93,8 @@ impl Printed {
     /// Takes the row of a line that isn't empty.
     fn take_line(&mut self, number: u64, line: &[u8]) -> Result<(), PrintedError>
         requires { length self.old.hops.list ≤ most_hops }
-        ensures { TakesLine result (printed_as self.old) (printed_as self.new) number (line_in line.now) }
+        ensures { TakesLine result (printed_as self.old) (printed_as self.new) number
+            (line_in line.now) }
     {
         let row = match read_row(line) {
             Ok(row) => row,

@@ -79,7 +79,8 @@ pub enum PrintedRow {
 /// A prefix and a hop, with the word that stands for none.
 #[tactic(auto, unfolding(printed_model::specs::Reading::entry_in))]
 fn entry_in(word: &[u8], fields: Split<'_, '_>) -> Result<(Prefix, Option<Addr>), u8>
-    ensures { Gives (λ e. (prefix_as e.0, option_map addr_as e.1)) result (entry_in word.now fields.entry) }
+    ensures { Gives (λ e. (prefix_as e.0, option_map addr_as e.1)) result
+        (entry_in word.now fields.entry) }
 {
     let (prefix, hop) = two_fields(fields)?;
     let prefix = prefix_field(prefix)?;

@@ -30,7 +30,8 @@ pub trait Answers {
     /// get different hops.
     fn uniform(&self, prefix: &Prefix) -> Option<Hop>
         requires { prefix.now.family ≡ of self.now }
-        ensures one { IfSome result (λ hop. AllGet (entries self.now) (prefix_as prefix.now) hop.0) }
+        ensures one { IfSome result (λ hop. AllGet (entries self.now)
+            (prefix_as prefix.now) hop.0) }
         ensures differ { IfNone result (TwoDiffer (entries self.now) (prefix_as prefix.now)) };
 
     ghost distinct: { (table : Self) → IsDistinct same_prefix (keys_of (entries table)) };

@@ -31,7 +31,8 @@ pub struct Entry {
 ///
 /// No memory.
 pub fn push_entry(prefix: Prefix, hop: Option<u16>, out: &mut Vec<Entry>) -> Result<(), AllocError>
-    ensures { OnOk result (map entry_as out.new.items ≡ map entry_as out.old.items ++ map (λ h. (prefix_as prefix, h)) (option_to_list hop)) }
+    ensures { OnOk result (map entry_as out.new.items ≡ map entry_as out.old.items
+        ++ map (λ h. (prefix_as prefix, h)) (option_to_list hop)) }
 {
     if let Some(hop) = hop {
         out.push(Entry {

@@ -102,14 +102,17 @@ impl HopTable {
     /// hop is new and 65,534 are held, and a held hop always has its number and changes nothing. Where there is room for one
     /// more (`room`), `NoMemory` doesn't come.
     pub fn number(&mut self, addr: &Addr) -> Result<Hop, HopError>
-        ensures number { IfOk result (λ hop. number_of self.new.list (addr_as addr.now) ≡ Some hop.0) }
+        ensures number { IfOk result (λ hop. number_of self.new.list (addr_as addr.now)
+            ≡ Some hop.0) }
         ensures addr { IfOk result (λ hop. hop_at self.new.list hop.0 ≡ Some (addr_as addr.now)) }
         ensures distinct { IsDistinct same_address self.new.list }
         ensures hops { OnOk result (self.new.list ≡ with_hop self.old.list (addr_as addr.now)) }
         ensures few { OnOk result (length self.new.list ≤ most_hops) }
 
-        ensures known { IsSome (number_of self.old.list (addr_as addr.now)) → IsOk result × (self.new ≡ self.old) }
-        ensures full { IsErrOf result HopError.HopsFull ↔ (length self.old.list ≡ most_hops) × (number_of self.old.list (addr_as addr.now) ≡ None) }
+        ensures known { IsSome (number_of self.old.list (addr_as addr.now)) → IsOk result
+            × (self.new ≡ self.old) }
+        ensures full { IsErrOf result HopError.HopsFull ↔ (length self.old.list ≡ most_hops)
+            × (number_of self.old.list (addr_as addr.now) ≡ None) }
         ensures err { OnErr result (self.new.list ≡ self.old.list) }
 
         ensures room { 1 ≤ self.old.spare → ¬ (IsErrOf result HopError.NoMemory) }
@@ -126,9 +129,12 @@ impl HopTable {
 
     /// The number that `number` would give the hop, memory aside. It takes no memory.
     pub fn next(&self, addr: &Addr) -> Result<Hop, HopsFull>
-        ensures number { IfOk result (λ hop. number_of (with_hop self.now.list (addr_as addr.now)) (addr_as addr.now) ≡ Some hop.0) }
-        ensures addr { IfOk result (λ hop. hop_at (with_hop self.now.list (addr_as addr.now)) hop.0 ≡ Some (addr_as addr.now)) }
-        ensures full { IsErr result ↔ (length self.now.list ≡ most_hops) × (number_of self.now.list (addr_as addr.now) ≡ None) }
+        ensures number { IfOk result (λ hop. number_of (with_hop self.now.list (addr_as addr.now))
+            (addr_as addr.now) ≡ Some hop.0) }
+        ensures addr { IfOk result (λ hop. hop_at (with_hop self.now.list (addr_as addr.now)) hop.0
+            ≡ Some (addr_as addr.now)) }
+        ensures full { IsErr result ↔ (length self.now.list ≡ most_hops)
+            × (number_of self.now.list (addr_as addr.now) ≡ None) }
     {
         match self.find(addr) {
             Some(hop) => Ok(hop),
@@ -149,7 +155,8 @@ impl HopTable {
 
     /// The hop's number, `None` exactly where it isn't held. `addr` of the number is the hop.
     pub fn find(&self, addr: &Addr) -> Option<Hop>
-        ensures number { option_map (λ hop. hop.0) result ≡ number_of self.now.list (addr_as addr.now) }
+        ensures number { option_map (λ hop. hop.0) result ≡ number_of self.now.list
+            (addr_as addr.now) }
         ensures addr { IfSome result (λ hop. hop_at self.now.list hop.0 ≡ Some (addr_as addr.now)) }
     {
         let place = self.hops.get_index_of(addr)?;
@@ -161,7 +168,8 @@ impl HopTable {
     pub fn addr(&self, hop: Hop) -> Option<Addr>
         ensures addr { option_map addr_as result ≡ hop_at self.now.list hop.0 }
         ensures held { IsSome result ↔ (1 ≤ hop.0) × (hop.0 ≤ length self.now.list) }
-        ensures number { IfSome result (λ addr. number_of self.now.list (addr_as addr) ≡ Some hop.0) }
+        ensures number { IfSome result (λ addr. number_of self.now.list (addr_as addr)
+            ≡ Some hop.0) }
     {
         let place = usize::from(hop.0).checked_sub(1)?;
         self.hops.get_index(place).copied()

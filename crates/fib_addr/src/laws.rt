@@ -23,7 +23,8 @@ ghost use Rattle.fib_addr.specs.declared.prefix.Prefix as code_prefix;
 pub fn text_law()
     ensures written { (a : Address) → IsAddress a → address_in (address_text a) ≡ Some a }
     ensures read { (text : List ℕ) (a : Address) → address_in text ≡ Some a → IsAddress a }
-    ensures one_text { (text : List ℕ) (a : Address) → address_in text ≡ Some a → a.family ≡ V4 → text ≡ address_text a }
+    ensures one_text { (text : List ℕ) (a : Address) → address_in text ≡ Some a → a.family ≡ V4
+        → text ≡ address_text a }
     ensures longest { (groups : List ℕ) → IsLongestZeroRun groups (longest_zero_run groups) }
 {}
 
@@ -31,29 +32,38 @@ pub fn text_law()
 pub fn prefix_text_law()
     ensures written { (p : Prefix) → IsPrefix p → prefix_in (prefix_text p) ≡ Some p }
     ensures read { (text : List ℕ) (p : Prefix) → prefix_in text ≡ Some p → IsPrefix p }
-    ensures one_text { (text : List ℕ) (p : Prefix) → prefix_in text ≡ Some p → p.family ≡ V4 → text ≡ prefix_text p }
+    ensures one_text { (text : List ℕ) (p : Prefix) → prefix_in text ≡ Some p → p.family ≡ V4
+        → text ≡ prefix_text p }
 {}
 
 /// `cmp` of prefixes is their order: IPv4 before IPv6, then by the bits filled with zeros as a number, then the shorter
 /// first.
 pub fn order_law()
-    ensures prefixes { (p q : code_prefix.Prefix) → code_cmp p q ≡ prefix_cmp (prefix_as p) (prefix_as q) }
+    ensures prefixes { (p q : code_prefix.Prefix) → code_cmp p q
+        ≡ prefix_cmp (prefix_as p) (prefix_as q) }
 {}
 
 /// Of n hops each number from 1 to n is a hop's. The hop of a hop's number is that hop, and where no hop stands twice, the number
 /// of a number's hop is that number, so different numbers have different hops. No hop stands twice as more are numbered.
 pub fn hops_law()
-    ensures there { (hops : List Address) (n : ℕ) → 1 ≤ n → n ≤ length hops → IsSome (hop_at hops n) }
-    ensures hop { (hops : List Address) (a : Address) (n : ℕ) → number_of hops a ≡ Some n → hop_at hops n ≡ Some a }
-    ensures number { (hops : List Address) (a : Address) (n : ℕ) → IsDistinct same_address hops → hop_at hops n ≡ Some a → number_of hops a ≡ Some n }
-    ensures distinct { (hops used : List Address) → IsDistinct same_address hops → IsDistinct same_address (fold with_hop hops used) }
+    ensures there { (hops : List Address) (n : ℕ) → 1 ≤ n → n ≤ length hops
+        → IsSome (hop_at hops n) }
+    ensures hop { (hops : List Address) (a : Address) (n : ℕ) → number_of hops a ≡ Some n
+        → hop_at hops n ≡ Some a }
+    ensures number { (hops : List Address) (a : Address) (n : ℕ) → IsDistinct same_address hops
+        → hop_at hops n ≡ Some a → number_of hops a ≡ Some n }
+    ensures distinct { (hops used : List Address) → IsDistinct same_address hops
+        → IsDistinct same_address (fold with_hop hops used) }
 {}
 
 /// A prefix gets one hop exactly where both its halves get it; it gets one hop at most, and none where two of its addresses
 /// differ.
 pub fn uniform_law()
-    ensures halves { (L : Entries) (p : Prefix) (h : ℕ) → AllGet L p h → AllGet L (half_at false p) h × AllGet L (half_at true p) h }
-    ensures joined { (L : Entries) (p : Prefix) (h : ℕ) → length p.bits < width p.family → AllGet L (half_at false p) h → AllGet L (half_at true p) h → AllGet L p h }
-    ensures once { (L : Entries) (p : Prefix) (h k : ℕ) → IsPrefix p → AllGet L p h → AllGet L p k → h ≡ k }
+    ensures halves { (L : Entries) (p : Prefix) (h : ℕ) → AllGet L p h
+        → AllGet L (half_at false p) h × AllGet L (half_at true p) h }
+    ensures joined { (L : Entries) (p : Prefix) (h : ℕ) → length p.bits < width p.family
+        → AllGet L (half_at false p) h → AllGet L (half_at true p) h → AllGet L p h }
+    ensures once { (L : Entries) (p : Prefix) (h k : ℕ) → IsPrefix p → AllGet L p h → AllGet L p k
+        → h ≡ k }
     ensures apart { (L : Entries) (p : Prefix) (h : ℕ) → AllGet L p h → TwoDiffer L p → ⊥ }
 {}

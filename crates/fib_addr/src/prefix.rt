@@ -108,7 +108,11 @@ impl Prefix {
     pub fn from_front(family: Family, len: u8, octets: &[u8]) -> Prefix
         requires fits { len ≤ width family }
         requires hold { length octets.now ≡ (len + 7) / 8 }
-        ensures { prefix_as result ≡ record { family = family; bits = take len (octet_bits octets.now) } }
+        ensures { prefix_as result ≡ record {
+          family = family;
+          bits = take len
+              (octet_bits octets.now);
+        } }
     {
         let bits = front_bits(octets, len, family.width());
         Prefix { family, bits, len }

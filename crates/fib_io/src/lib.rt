@@ -56,7 +56,8 @@ pub trait Inputs {
     /// `buf` is empty. After an `Err` nothing is said of `buf`.
     fn read(&mut self, name: &str, at: u64, buf: &mut [u8]) -> Result<usize, InFault>
         ensures most { IfOk result (λ n. n ≤ length buf.new) }
-        ensures told { IfOk result (λ n. IfSome (content self.old name.now) (λ octets. AreAt octets at buf.new n)) }
+        ensures told { IfOk result (λ n. IfSome (content self.old name.now)
+            (λ octets. AreAt octets at buf.new n)) }
         ensures same { content self.new ≡ content self.old }
         ensures cause { HasReadCause (faults self.old) (faults self.new) name.now result };
 }
@@ -75,7 +76,8 @@ pub trait Sink {
     fn write(&mut self, piece: &[u8]) -> Result<usize, OutFault>
         ensures most { IfOk result (λ n. n ≤ length piece.now) }
         ensures some { IfOk result (λ n. 0 < length piece.now → 0 < n) }
-        ensures ok { IfOk result (λ n. AddsFront (written self.old) (written self.new) piece.now n) }
+        ensures ok { IfOk result (λ n. AddsFront (written self.old)
+            (written self.new) piece.now n) }
         ensures err { OnErr result (written self.new ≡ written self.old) }
         ensures cause { HasCause (faults self.old) (faults self.new) result };
 }

@@ -81,11 +81,16 @@ impl Inputs for MemInputs {
     /// the name isn't held.
     fn read(&mut self, name: &str, at: u64, buf: &mut [u8]) -> Result<usize, InFault>
         ensures most { IfOk result (λ n. n ≤ length buf.new) }
-        ensures told { IfOk result (λ n. IfSome (⟦<MemInputs as Inputs>⟧.content self.old name.now) (λ octets. AreAt octets at buf.new n)) }
-        ensures same { ⟦<MemInputs as Inputs>⟧.content self.new ≡ ⟦<MemInputs as Inputs>⟧.content self.old }
-        ensures cause { HasReadCause (⟦<MemInputs as Inputs>⟧.faults self.old) (⟦<MemInputs as Inputs>⟧.faults self.new) name.now result }
-        ensures fit { IfOk result (λ n. IfSome (⟦<MemInputs as Inputs>⟧.content self.old name.now) (λ octets. n ≡ min (length octets - at) (length buf.new))) }
-        ensures planned { is_err result ≡ (fails_next (read_plan self.old) || is_none (⟦<MemInputs as Inputs>⟧.content self.old name.now)) }
+        ensures told { IfOk result (λ n. IfSome (⟦<MemInputs as Inputs>⟧.content self.old name.now)
+            (λ octets. AreAt octets at buf.new n)) }
+        ensures same { ⟦<MemInputs as Inputs>⟧.content self.new
+            ≡ ⟦<MemInputs as Inputs>⟧.content self.old }
+        ensures cause { HasReadCause (⟦<MemInputs as Inputs>⟧.faults self.old)
+            (⟦<MemInputs as Inputs>⟧.faults self.new) name.now result }
+        ensures fit { IfOk result (λ n. IfSome (⟦<MemInputs as Inputs>⟧.content self.old name.now)
+            (λ octets. n ≡ min (length octets - at) (length buf.new))) }
+        ensures planned { is_err result ≡ (fails_next (read_plan self.old)
+            || is_none (⟦<MemInputs as Inputs>⟧.content self.old name.now)) }
         ensures next { IsNext (read_plan self.old) (read_plan self.new) }
     {
         let is_failing = self.plan.is_next_failing();
@@ -108,7 +113,8 @@ pub struct SureInputs {
 impl SureInputs {
     /// Holds these octets under these names. Of two pairs with one name the first counts. It takes no memory.
     pub fn new(names: Vec<(String, Vec<u8>)>) -> SureInputs
-        ensures { ⟦<SureInputs as Inputs>⟧.content result ≡ (λ name. Some (unwrap_or (held_under names.items name) [])) }
+        ensures { ⟦<SureInputs as Inputs>⟧.content result ≡
+            (λ name. Some (unwrap_or (held_under names.items name) [])) }
     {
         SureInputs { names }
     }

@@ -78,12 +78,16 @@ impl Sink for MemSink {
     fn write(&mut self, piece: &[u8]) -> Result<usize, OutFault>
         ensures most { IfOk result (λ n. n ≤ length piece.now) }
         ensures some { IfOk result (λ n. 0 < length piece.now → 0 < n) }
-        ensures ok { IfOk result (λ n. AddsFront (⟦<MemSink as Sink>⟧.written self.old) (⟦<MemSink as Sink>⟧.written self.new) piece.now n) }
-        ensures err { OnErr result (⟦<MemSink as Sink>⟧.written self.new ≡ ⟦<MemSink as Sink>⟧.written self.old) }
-        ensures cause { HasCause (⟦<MemSink as Sink>⟧.faults self.old) (⟦<MemSink as Sink>⟧.faults self.new) result }
+        ensures ok { IfOk result (λ n. AddsFront (⟦<MemSink as Sink>⟧.written self.old)
+            (⟦<MemSink as Sink>⟧.written self.new) piece.now n) }
+        ensures err { OnErr result (⟦<MemSink as Sink>⟧.written self.new
+            ≡ ⟦<MemSink as Sink>⟧.written self.old) }
+        ensures cause { HasCause (⟦<MemSink as Sink>⟧.faults self.old)
+            (⟦<MemSink as Sink>⟧.faults self.new) result }
         ensures fit { IfOk result (λ n. n ≡ min (room_left self.old) (length piece.now)) }
         ensures room { IfOk result (λ n. room_left self.new + n ≡ room_left self.old) }
-        ensures planned { is_err result ≡ (fails_next (write_plan self.old) || (room_left self.old == 0 && not (length piece.now == 0))) }
+        ensures planned { is_err result ≡ (fails_next (write_plan self.old)
+            || (room_left self.old == 0 && not (length piece.now == 0))) }
         ensures next { IsNext (write_plan self.old) (write_plan self.new) }
     {
         let is_failing = self.plan.is_next_failing();

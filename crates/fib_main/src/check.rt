@@ -30,7 +30,8 @@ pub struct Reply {
 
 /// `no,twice,PREFIX`.
 fn twice_row(alloc: Global, prefix: &Prefix) -> Result<Vec<u8>, AllocError>
-    ensures { IfOk result (λ text. text.items ≡ line (codes "no" ∷ codes "twice" ∷ prefix_text (prefix_as prefix.now) ∷ [])) }
+    ensures { IfOk result (λ text. text.items
+        ≡ line (codes "no" ∷ codes "twice" ∷ prefix_text (prefix_as prefix.now) ∷ [])) }
 {
     let mut buffer = [0; MOST_TEXT];
     row_text(alloc, &[b"no", b"twice", prefix_text(&mut buffer, prefix)])
@@ -44,7 +45,10 @@ fn not_same_row(
     has: Hop,
     hops: &HopTable,
 ) -> Result<Vec<u8>, AllocError>
-    ensures { IfOk result (λ text. text.items ≡ line (codes "no" ∷ codes "notsame" ∷ address_text (addr_as addr.now) ∷ verdict_hop hops.now.list want.0 ∷ verdict_hop hops.now.list has.0 ∷ [])) }
+    ensures { IfOk result (λ text. text.items
+        ≡ line (codes "no" ∷ codes "notsame" ∷ address_text
+        (addr_as addr.now) ∷ verdict_hop hops.now.list want.0 ∷ verdict_hop hops.now.list has.0 ∷
+        [])) }
 {
     let mut text = [0; MOST_TEXT];
     let mut want_text = [0; MOST_TEXT];
@@ -57,7 +61,8 @@ fn not_same_row(
 
 /// `no,WORD,ROW`.
 fn wrong_row(alloc: Global, word: &[u8], number: u64) -> Result<Vec<u8>, AllocError>
-    ensures { IfOk result (λ text. text.items ≡ line (codes "no" ∷ word.now ∷ decimal number ∷ [])) }
+    ensures { IfOk result (λ text. text.items
+        ≡ line (codes "no" ∷ word.now ∷ decimal number ∷ [])) }
 {
     let mut digits = Buffer::new();
     row_text(alloc, &[b"no", word, digits.format(number).as_bytes()])
@@ -65,7 +70,9 @@ fn wrong_row(alloc: Global, word: &[u8], number: u64) -> Result<Vec<u8>, AllocEr
 
 /// `no,joinwrong,ROW,SAID,DUE`: the number that the row says, and the one that is due.
 fn join_wrong_row(alloc: Global, number: u64, said: u64, due: u64) -> Result<Vec<u8>, AllocError>
-    ensures { IfOk result (λ text. text.items ≡ line (codes "no" ∷ codes "joinwrong" ∷ decimal number ∷ decimal said ∷ decimal due ∷ [])) }
+    ensures { IfOk result (λ text. text.items
+        ≡ line (codes "no" ∷ codes "joinwrong" ∷ decimal number ∷ decimal said ∷ decimal due ∷
+        [])) }
 {
     let mut number_text = Buffer::new();
     let mut said_text = Buffer::new();
@@ -83,7 +90,9 @@ fn not_least_row(
     entries: u64,
     bound: u64,
 ) -> Result<Vec<u8>, AllocError>
-    ensures { IfOk result (λ text. text.items ≡ line (codes "no" ∷ codes "notleast" ∷ family_name family ∷ decimal entries ∷ decimal bound ∷ [])) }
+    ensures { IfOk result (λ text. text.items
+        ≡ line (codes "no" ∷ codes "notleast" ∷ family_name family ∷ decimal entries ∷ decimal bound
+        ∷ [])) }
 {
     let mut entries_text = Buffer::new();
     let mut bound_text = Buffer::new();
@@ -113,7 +122,8 @@ fn no_row(alloc: Global, no: &No, hops: &HopTable) -> Result<Vec<u8>, AllocError
 
 /// `yes`, or what is wrong.
 fn verdict_row(alloc: Global, no: &Option<No>, hops: &HopTable) -> Result<Vec<u8>, AllocError>
-    ensures { IfOk result (λ text. text.items ≡ verdict_text hops.now.list (option_map no_as no.now)) }
+    ensures { IfOk result (λ text. text.items ≡ verdict_text hops.now.list
+        (option_map no_as no.now)) }
 {
     match no {
         None => Vec::from_slice(alloc, b"yes\n"),

@@ -21,8 +21,10 @@ pub struct Trees {
 fn set(tree: &mut Tree, entry: &Entry) -> Result<(), AllocError>
     requires { entry.now.prefix.family ≡ tree.old.family }
     ensures family { tree.new.family ≡ tree.old.family }
-    ensures routes { OnOk result (tree.new.routes ≡ with_entry tree.old.routes (entry_as entry.now)) }
-    ensures entries { OnOk result (tree.new.entries ≡ with_entry tree.old.entries (entry_as entry.now)) }
+    ensures routes { OnOk result (tree.new.routes ≡ with_entry tree.old.routes
+        (entry_as entry.now)) }
+    ensures entries { OnOk result (tree.new.entries ≡ with_entry tree.old.entries
+        (entry_as entry.now)) }
 {
     tree.set_route(&entry.prefix, entry.hop)?;
     tree.set_entry(&entry.prefix, entry.hop)?;
@@ -50,7 +52,8 @@ impl Trees {
     fn set(&mut self, entry: &Entry) -> Result<(), AllocError>
         requires { AreBoth self.old }
         ensures both { AreBoth self.new }
-        ensures given { OnOk result ((given : Entries) → Given given self.old → Given (given ++ entry_as entry.now ∷ []) self.new) }
+        ensures given { OnOk result ((given : Entries) → Given given self.old
+            → Given (given ++ entry_as entry.now ∷ []) self.new) }
     {
         match entry.prefix.family {
             Family::V4 => set(&mut self.v4, entry)?,
@@ -63,7 +66,8 @@ impl Trees {
     /// width.
     pub fn answer(&self, addr: &Addr) -> Hop
         requires { AreBoth self.now }
-        ensures { (routes : Entries) → Hold routes self.now → result.0 ≡ match_in routes (addr_as addr.now) }
+        ensures { (routes : Entries) → Hold routes self.now
+            → result.0 ≡ match_in routes (addr_as addr.now) }
     {
         match addr.family {
             Family::V4 => self.v4.answer_route(addr),

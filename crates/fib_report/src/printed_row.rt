@@ -23,7 +23,8 @@ pub(crate) fn put_fields<W: Write + Drop>(
 ) -> Result<(), AllocError>
     requires at { IsAtRow out.old }
     requires fields { 2 ≤ length fields.now }
-    ensures { OnOk result (AddsRows W.contents out.old out.new (line (map (λ f. f.now) fields.now))) }
+    ensures { OnOk result (AddsRows W.contents out.old out.new
+        (line (map (λ f. f.now) fields.now))) }
 {
     out.write_fields(fields).map_err(|_| AllocError)
 }
@@ -36,7 +37,8 @@ fn put_three<'a, W: Write + Drop>(
     third: &'a [u8],
 ) -> Result<(), AllocError>
     requires { IsAtRow out.old }
-    ensures { OnOk result (AddsRows W.contents out.old out.new (line (first.now ∷ second.now ∷ third.now ∷ []))) }
+    ensures { OnOk result (AddsRows W.contents out.old out.new
+        (line (first.now ∷ second.now ∷ third.now ∷ []))) }
 {
     put_fields(out, &[first, second, third])
 }
@@ -50,7 +52,8 @@ fn put_signed<'a, W: Write + Drop>(
     hop: &'a [u8],
 ) -> Result<(), AllocError>
     requires { IsAtRow out.old }
-    ensures { OnOk result (AddsRows W.contents out.old out.new (line (codes "change" ∷ event.now ∷ sign.now ∷ prefix.now ∷ hop.now ∷ []))) }
+    ensures { OnOk result (AddsRows W.contents out.old out.new
+        (line (codes "change" ∷ event.now ∷ sign.now ∷ prefix.now ∷ hop.now ∷ []))) }
 {
     put_fields(out, &[b"change", event, sign, prefix, hop])
 }
@@ -63,7 +66,9 @@ fn put_entry<W: Write + Drop>(
     hop: Option<Addr>,
 ) -> Result<(), AllocError>
     requires { IsAtRow out.old }
-    ensures { OnOk result (AddsRows W.contents out.old out.new (line (name.now ∷ prefix_text (prefix_as prefix.now) ∷ hop_text (codes "drop") (option_map addr_as hop) ∷ []))) }
+    ensures { OnOk result (AddsRows W.contents out.old out.new
+        (line (name.now ∷ prefix_text (prefix_as prefix.now) ∷ hop_text (codes "drop")
+        (option_map addr_as hop) ∷ []))) }
 {
     let mut text = [0; MOST_TEXT];
     let mut hop_text = [0; MOST_TEXT];
@@ -81,7 +86,9 @@ fn put_change<W: Write + Drop>(
     hop: Option<Addr>,
 ) -> Result<(), AllocError>
     requires { IsAtRow out.old }
-    ensures { OnOk result (AddsRows W.contents out.old out.new (line (codes "change" ∷ decimal event ∷ sign.now ∷ prefix_text (prefix_as prefix.now) ∷ hop_text (codes "drop") (option_map addr_as hop) ∷ []))) }
+    ensures { OnOk result (AddsRows W.contents out.old out.new
+        (line (codes "change" ∷ decimal event ∷ sign.now ∷ prefix_text
+        (prefix_as prefix.now) ∷ hop_text (codes "drop") (option_map addr_as hop) ∷ []))) }
 {
     let mut digits = Buffer::new();
     let mut text = [0; MOST_TEXT];
@@ -99,7 +106,9 @@ fn put_remove<W: Write + Drop>(
     prefix: &Prefix,
 ) -> Result<(), AllocError>
     requires { IsAtRow out.old }
-    ensures { OnOk result (AddsRows W.contents out.old out.new (line (codes "change" ∷ decimal event ∷ codes "-" ∷ prefix_text (prefix_as prefix.now) ∷ []))) }
+    ensures { OnOk result (AddsRows W.contents out.old out.new
+        (line (codes "change" ∷ decimal event ∷ codes "-" ∷ prefix_text
+        (prefix_as prefix.now) ∷ []))) }
 {
     let mut digits = Buffer::new();
     let mut text = [0; MOST_TEXT];
@@ -115,7 +124,9 @@ fn put_answer<W: Write + Drop>(
     hop: Option<Addr>,
 ) -> Result<(), AllocError>
     requires { IsAtRow out.old }
-    ensures { OnOk result (AddsRows W.contents out.old out.new (line (codes "answer" ∷ address_text (addr_as addr.now) ∷ hop_text (codes "none") (option_map addr_as hop) ∷ []))) }
+    ensures { OnOk result (AddsRows W.contents out.old out.new
+        (line (codes "answer" ∷ address_text (addr_as addr.now) ∷ hop_text (codes "none")
+        (option_map addr_as hop) ∷ []))) }
 {
     let mut text = [0; MOST_TEXT];
     let mut hop_text = [0; MOST_TEXT];
@@ -131,7 +142,8 @@ fn put_visits<W: Write + Drop>(
     number: u64,
 ) -> Result<(), AllocError>
     requires { IsAtRow out.old }
-    ensures { OnOk result (AddsRows W.contents out.old out.new (line (codes "visits" ∷ address_text (addr_as addr.now) ∷ decimal number ∷ []))) }
+    ensures { OnOk result (AddsRows W.contents out.old out.new
+        (line (codes "visits" ∷ address_text (addr_as addr.now) ∷ decimal number ∷ []))) }
 {
     let mut digits = Buffer::new();
     let mut text = [0; MOST_TEXT];
@@ -147,7 +159,9 @@ fn put_leaf<W: Write + Drop>(
     hop: Option<Addr>,
 ) -> Result<(), AllocError>
     requires { IsAtRow out.old }
-    ensures { OnOk result (AddsRows W.contents out.old out.new (line (codes "cert" ∷ codes "leaf" ∷ prefix_text (prefix_as prefix.now) ∷ hop_text (codes "none") (option_map addr_as hop) ∷ []))) }
+    ensures { OnOk result (AddsRows W.contents out.old out.new
+        (line (codes "cert" ∷ codes "leaf" ∷ prefix_text (prefix_as prefix.now) ∷ hop_text
+        (codes "none") (option_map addr_as hop) ∷ []))) }
 {
     let mut text = [0; MOST_TEXT];
     let mut hop_text = [0; MOST_TEXT];
@@ -159,7 +173,9 @@ fn put_leaf<W: Write + Drop>(
 /// Writes the k of a region that is put together from its halves.
 fn put_join<W: Write + Drop>(out: &mut Writer<W>, prefix: &Prefix, k: u64) -> Result<(), AllocError>
     requires { IsAtRow out.old }
-    ensures { OnOk result (AddsRows W.contents out.old out.new (line (codes "cert" ∷ codes "join" ∷ prefix_text (prefix_as prefix.now) ∷ decimal k ∷ []))) }
+    ensures { OnOk result (AddsRows W.contents out.old out.new
+        (line (codes "cert" ∷ codes "join" ∷ prefix_text (prefix_as prefix.now) ∷ decimal k ∷
+        []))) }
 {
     let mut digits = Buffer::new();
     let mut text = [0; MOST_TEXT];
@@ -175,7 +191,8 @@ fn put_bound<W: Write + Drop>(
     number: u64,
 ) -> Result<(), AllocError>
     requires { IsAtRow out.old }
-    ensures { OnOk result (AddsRows W.contents out.old out.new (line (codes "cert" ∷ codes "bound" ∷ family_name family ∷ decimal number ∷ []))) }
+    ensures { OnOk result (AddsRows W.contents out.old out.new
+        (line (codes "cert" ∷ codes "bound" ∷ family_name family ∷ decimal number ∷ []))) }
 {
     let mut digits = Buffer::new();
     let number = digits.format(number).as_bytes();
@@ -189,7 +206,8 @@ fn put_count<W: Write + Drop>(
     number: u64,
 ) -> Result<(), AllocError>
     requires { IsAtRow out.old }
-    ensures { OnOk result (AddsRows W.contents out.old out.new (line (codes "report" ∷ count_name (count_as count) ∷ decimal number ∷ []))) }
+    ensures { OnOk result (AddsRows W.contents out.old out.new
+        (line (codes "report" ∷ count_name (count_as count) ∷ decimal number ∷ []))) }
 {
     let mut digits = Buffer::new();
     let number = digits.format(number).as_bytes();
@@ -203,7 +221,8 @@ pub(crate) fn put_row<W: Write + Drop>(
     row: PrintedRow,
 ) -> Result<(), AllocError>
     requires { IsAtRow out.old }
-    ensures added { OnOk result (AddsRows W.contents out.old out.new (line_of (printed_row_as row))) }
+    ensures added { OnOk result (AddsRows W.contents out.old out.new
+        (line_of (printed_row_as row))) }
     ensures proper { IsRow (printed_row_as row) }
 {
     match row {

@@ -42,8 +42,10 @@ fn put_route<W: Write + Drop>(
     hops: &HopTable,
 ) -> Result<(), AllocError>
     requires { IsAtRow out.old }
-    ensures added { OnOk result (AddsRows W.contents out.old out.new (text_of (of_route hops.now.list (entry_as route.now)))) }
-    ensures proper { OnOk result (AllByRecursion IsRow (of_route hops.now.list (entry_as route.now))) }
+    ensures added { OnOk result (AddsRows W.contents out.old out.new
+        (text_of (of_route hops.now.list (entry_as route.now)))) }
+    ensures proper { OnOk result (AllByRecursion IsRow (of_route hops.now.list
+        (entry_as route.now))) }
 {
     match hops.addr(route.hop) {
         Some(addr) => put_row(out, PrintedRow::Route(route.prefix, addr)),
@@ -80,8 +82,10 @@ fn put_routes<W: Write + Drop>(
     hops: &HopTable,
 ) -> Result<(), AllocError>
     requires { IsAtRow out.old }
-    ensures added { OnOk result (AddsRows W.contents out.old out.new (text_of (flat_map (of_route hops.now.list) (map entry_as routes.now)))) }
-    ensures proper { OnOk result (AllByRecursion IsRow (flat_map (of_route hops.now.list) (map entry_as routes.now))) }
+    ensures added { OnOk result (AddsRows W.contents out.old out.new
+        (text_of (flat_map (of_route hops.now.list) (map entry_as routes.now)))) }
+    ensures proper { OnOk result (AllByRecursion IsRow (flat_map (of_route hops.now.list)
+        (map entry_as routes.now))) }
 {
     for route in routes {
         put_route(out, route, hops)?;
@@ -96,8 +100,10 @@ fn put_changes<W: Write + Drop>(
     hops: &HopTable,
 ) -> Result<(), AllocError>
     requires { IsAtRow out.old }
-    ensures added { OnOk result (AddsRows W.contents out.old out.new (text_of (map (of_change hops.now.list) (map (λ c. (c.0, change_as c.1)) changes.now)))) }
-    ensures proper { OnOk result (AllByRecursion IsRow (map (of_change hops.now.list) (map (λ c. (c.0, change_as c.1)) changes.now))) }
+    ensures added { OnOk result (AddsRows W.contents out.old out.new
+        (text_of (map (of_change hops.now.list) (map (λ c. (c.0, change_as c.1)) changes.now)))) }
+    ensures proper { OnOk result (AllByRecursion IsRow (map (of_change hops.now.list)
+        (map (λ c. (c.0, change_as c.1)) changes.now))) }
 {
     for (event, change) in changes {
         put_row(out, change_row(*event, change, hops))?;
@@ -112,8 +118,10 @@ fn put_answers<W: Write + Drop>(
     hops: &HopTable,
 ) -> Result<(), AllocError>
     requires { IsAtRow out.old }
-    ensures added { OnOk result (AddsRows W.contents out.old out.new (text_of (map (of_answer hops.now.list) (map (λ a. (addr_as a.0, a.1.0)) answers.now)))) }
-    ensures proper { OnOk result (AllByRecursion IsRow (map (of_answer hops.now.list) (map (λ a. (addr_as a.0, a.1.0)) answers.now))) }
+    ensures added { OnOk result (AddsRows W.contents out.old out.new
+        (text_of (map (of_answer hops.now.list) (map (λ a. (addr_as a.0, a.1.0)) answers.now)))) }
+    ensures proper { OnOk result (AllByRecursion IsRow (map (of_answer hops.now.list)
+        (map (λ a. (addr_as a.0, a.1.0)) answers.now))) }
 {
     for (addr, hop) in answers {
         put_row(out, PrintedRow::Answer(*addr, hops.addr(*hop)))?;
@@ -128,8 +136,10 @@ fn put_table<W: Write + Drop>(
     hops: &HopTable,
 ) -> Result<(), AllocError>
     requires { IsAtRow out.old }
-    ensures added { OnOk result (AddsRows W.contents out.old out.new (text_of (map (table_entry_row hops.now.list) (map entry_as table.now)))) }
-    ensures proper { OnOk result (AllByRecursion IsRow (map (table_entry_row hops.now.list) (map entry_as table.now))) }
+    ensures added { OnOk result (AddsRows W.contents out.old out.new
+        (text_of (map (table_entry_row hops.now.list) (map entry_as table.now)))) }
+    ensures proper { OnOk result (AllByRecursion IsRow (map (table_entry_row hops.now.list)
+        (map entry_as table.now))) }
 {
     for entry in table {
         put_row(out, PrintedRow::Table(entry.prefix, hops.addr(entry.hop)))?;
@@ -144,8 +154,10 @@ fn put_least<W: Write + Drop>(
     hops: &HopTable,
 ) -> Result<(), AllocError>
     requires { IsAtRow out.old }
-    ensures added { OnOk result (AddsRows W.contents out.old out.new (text_of (map (of_least hops.now.list) (map entry_as least.now)))) }
-    ensures proper { OnOk result (AllByRecursion IsRow (map (of_least hops.now.list) (map entry_as least.now))) }
+    ensures added { OnOk result (AddsRows W.contents out.old out.new
+        (text_of (map (of_least hops.now.list) (map entry_as least.now)))) }
+    ensures proper { OnOk result (AllByRecursion IsRow (map (of_least hops.now.list)
+        (map entry_as least.now))) }
 {
     for entry in least {
         put_row(out, PrintedRow::Least(entry.prefix, hops.addr(entry.hop)))?;
@@ -160,8 +172,10 @@ fn put_cert<W: Write + Drop>(
     hops: &HopTable,
 ) -> Result<(), AllocError>
     requires { IsAtRow out.old }
-    ensures added { OnOk result (AddsRows W.contents out.old out.new (text_of (map (of_cert hops.now.list) (map row_as cert.now)))) }
-    ensures proper { OnOk result (AllByRecursion IsRow (map (of_cert hops.now.list) (map row_as cert.now))) }
+    ensures added { OnOk result (AddsRows W.contents out.old out.new
+        (text_of (map (of_cert hops.now.list) (map row_as cert.now)))) }
+    ensures proper { OnOk result (AllByRecursion IsRow (map (of_cert hops.now.list)
+        (map row_as cert.now))) }
 {
     for row in cert {
         put_row(out, cert_row(row, hops))?;
@@ -172,7 +186,8 @@ fn put_cert<W: Write + Drop>(
 /// Writes the counts.
 fn put_report<W: Write + Drop>(out: &mut Writer<W>, report: &Report) -> Result<(), AllocError>
     requires { IsAtRow out.old }
-    ensures added { OnOk result (AddsRows W.contents out.old out.new (text_of (report_rows report.now))) }
+    ensures added { OnOk result (AddsRows W.contents out.old out.new
+        (text_of (report_rows report.now))) }
     ensures proper { OnOk result (AllByRecursion IsRow (report_rows report.now)) }
 {
     put_row(out, PrintedRow::Report(Count::Records, report.records))?;
@@ -209,7 +224,8 @@ pub fn row_text(alloc: Global, fields: &[&[u8]]) -> Result<Vec<u8>, AllocError>
 /// The text of a run.
 fn text_of_run(alloc: Global, run: &Run, hops: &HopTable) -> Result<Vec<u8>, AllocError>
     ensures text { IfOk result (λ text. text.items ≡ run_text hops.now.list (run_as run.now)) }
-    ensures proper { OnOk result (AllByRecursion IsRow (printed_rows hops.now.list (run_as run.now))) }
+    ensures proper { OnOk result (AllByRecursion IsRow (printed_rows hops.now.list
+        (run_as run.now))) }
 {
     let mut out = row_writer(alloc);
     put_routes(&mut out, &run.routes, hops)?;
@@ -232,9 +248,11 @@ pub fn write_run(
     run: &Run,
     hops: &HopTable,
 ) -> Result<(), AllocError>
-    ensures ok { OnOk result (out.new.items ≡ out.old.items ++ run_text hops.now.list (run_as run.now)) }
+    ensures ok { OnOk result (out.new.items ≡ out.old.items
+        ++ run_text hops.now.list (run_as run.now)) }
     ensures err { OnErr result (out.new.items ≡ out.old.items) }
-    ensures proper { OnOk result (AllByRecursion IsRow (printed_rows hops.now.list (run_as run.now))) }
+    ensures proper { OnOk result (AllByRecursion IsRow (printed_rows hops.now.list
+        (run_as run.now))) }
 {
     let text = text_of_run(alloc, run, hops)?;
     if out.is_empty() {

@@ -21,7 +21,8 @@ pub fn run_sure(
 ) -> Outcome
     ensures read { result ≡ Outcome.ReadFault → ⊥ }
     ensures write { result ≡ Outcome.WriteFault → ⊥ }
-    ensures due { IsDue (due (map string_bytes words.now) (⟦<SureInputs as Inputs>⟧.content inputs.old)) result ⊎ (result ≡ Outcome.NoMemory) }
+    ensures due { IsDue (due (map string_bytes words.now)
+        (⟦<SureInputs as Inputs>⟧.content inputs.old)) result ⊎ (result ≡ Outcome.NoMemory) }
 {
     run_fib(alloc, words, inputs, out, err)
 }
@@ -34,7 +35,10 @@ pub fn run_memory(
     out: &mut MemSink,
     err: &mut SureSink,
 ) -> Outcome
-    ensures { (output : Output) → (before : List ℕ) → ⟦<MemSink as Sink>⟧.written out.old ≡ Some before → due (map string_bytes words.now) (⟦<SureInputs as Inputs>⟧.content inputs.old) ≡ Ok output → result ≡ Outcome.Done → ⟦<MemSink as Sink>⟧.written out.new ≡ Some (before ++ output_text output) }
+    ensures { (output : Output) → (before : List ℕ) → ⟦<MemSink as Sink>⟧.written out.old
+        ≡ Some before → due (map string_bytes words.now)
+        (⟦<SureInputs as Inputs>⟧.content inputs.old) ≡ Ok output → result ≡ Outcome.Done
+        → ⟦<MemSink as Sink>⟧.written out.new ≡ Some (before ++ output_text output) }
 {
     run_fib(alloc, words, inputs, out, err)
 }

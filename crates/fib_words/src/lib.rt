@@ -62,7 +62,8 @@ fn with_option<'a>(
     name: &'a str,
 ) -> Result<Command<'a>, AllocError>
     requires { IsLocal command }
-    ensures { IfOk result (λ c. HasApp c (with_rule (app_of command.entry) (option_rule name.entry.now))) }
+    ensures { IfOk result (λ c. HasApp c (with_rule (app_of command.entry)
+        (option_rule name.entry.now))) }
 {
     let option = Arg::new(alloc, name).long(name);
     command.arg(option)
@@ -75,7 +76,8 @@ fn with_word<'a>(
     name: &'a str,
 ) -> Result<Command<'a>, AllocError>
     requires { IsLocal command }
-    ensures { IfOk result (λ c. HasApp c (with_rule (app_of command.entry) (word_rule name.entry.now))) }
+    ensures { IfOk result (λ c. HasApp c (with_rule (app_of command.entry)
+        (word_rule name.entry.now))) }
 {
     let word = Arg::new(alloc, name).required(true);
     command.arg(word)
@@ -134,7 +136,8 @@ fn why(error: &Error) -> WordsError
 
 /// The command in the matches.
 fn command_in<'a>(matches: &ArgMatches<'a>) -> Option<CommandWords<'a>>
-    ensures { option_map asked_as result ≡ option_and_then asked_in (subcommand_rows_of matches.now) }
+    ensures { option_map asked_as result ≡ option_and_then asked_in
+        (subcommand_rows_of matches.now) }
 {
     if let Some(run) = matches.subcommand_matches("run") {
         let names = run_words(run)?;

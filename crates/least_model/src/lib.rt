@@ -34,7 +34,8 @@ pub fn cost_law()
 
 /// The set of a region is the list of its best hops.
 pub fn best_law()
-    ensures { (w : ℕ) (R : Table) (p : List Bool) (h : ℕ) → length p ≤ w → IsTrue (is_in h (set_at w R p)) ↔ IsBest w R p h }
+    ensures { (w : ℕ) (R : Table) (p : List Bool) (h : ℕ) → length p ≤ w
+        → IsTrue (is_in h (set_at w R p)) ↔ IsBest w R p h }
 {}
 
 /// Where all answers of a region are one, its set is that answer, and its k is 0.
@@ -87,35 +88,45 @@ pub fn patch_least()
 
 /// More entries than the bound are too many: an alike table has fewer.
 pub fn not_least_law()
-    ensures { (w : ℕ) (R T : Table) → (bound w R < length T) ↔ ((L : Table) × IsTable w L × Alike w R L × (length L < length T)) }
+    ensures { (w : ℕ) (R T : Table) → (bound w R < length T)
+        ↔ ((L : Table) × IsTable w L × Alike w R L × (length L < length T)) }
 {}
 
 /// The aggregate is the one table that the best hops determine.
 pub fn aggregate_law()
     ensures one { (w : ℕ) (R : Table) (p : List Bool) (h : ℕ) (old A : Table) → length p ≤ w → IsAggregate w R p h old A →
         (q : List Bool) → length (p ++ q) ≤ w → entry_at (p ++ q) A ≡ entry_at (p ++ q) (aggregate w R p h old) }
-    ensures is { (w : ℕ) (R : Table) (p : List Bool) (h : ℕ) (old : Table) → length p ≤ w → IsAggregate w R p h old (aggregate w R p h old) }
+    ensures is { (w : ℕ) (R : Table) (p : List Bool) (h : ℕ) (old : Table) → length p ≤ w
+        → IsAggregate w R p h old (aggregate w R p h old) }
 {}
 
 /// Tables of the same entries answer alike, are as long, and are least alike, whatever their order.
 pub fn same_law()
-    ensures answers { (L M : Table) → SameEntries L M → (a : List Bool) (h : ℕ) → lpm L a h ≡ lpm M a h }
-    ensures length { (w : ℕ) (L M : Table) → IsTable w L → IsTable w M → SameEntries L M → length L ≡ length M }
-    ensures least { (w : ℕ) (R L M : Table) → IsTable w L → IsTable w M → SameEntries L M → Least w R L → Least w R M }
+    ensures answers { (L M : Table) → SameEntries L M → (a : List Bool) (h : ℕ)
+        → lpm L a h ≡ lpm M a h }
+    ensures length { (w : ℕ) (L M : Table) → IsTable w L → IsTable w M → SameEntries L M
+        → length L ≡ length M }
+    ensures least { (w : ℕ) (R L M : Table) → IsTable w L → IsTable w M → SameEntries L M
+        → Least w R L → Least w R M }
 {}
 
 /// The patch has the entries of the table outside p, and those of the aggregate within.
 pub fn patch_law()
-    ensures keeps { (w : ℕ) (T R : Table) (p q : List Bool) → begins p q ≡ false → entry_at q (patch w T R p) ≡ entry_at q T }
-    ensures repairs { (w : ℕ) (T R : Table) (p q : List Bool) → entry_at (p ++ q) (patch w T R p) ≡ entry_at (p ++ q) (aggregate w R p (above p T 0) T) }
+    ensures keeps { (w : ℕ) (T R : Table) (p q : List Bool) → begins p q ≡ false
+        → entry_at q (patch w T R p) ≡ entry_at q T }
+    ensures repairs { (w : ℕ) (T R : Table) (p q : List Bool)
+        → entry_at (p ++ q) (patch w T R p) ≡ entry_at (p ++ q) (aggregate w R p (above p T 0) T) }
 {}
 
 /// The aggregate stands in order, a table in order is given by its entries, and the entries of a family's table in order stand
 /// in the order of prefixes.
 pub fn order_law()
-    ensures aggregate { (w : ℕ) (R : Table) (p : List Bool) (h : ℕ) (old : Table) → InOrder (aggregate w R p h old) }
-    ensures one { (w : ℕ) (L M : Table) → IsTable w L → IsTable w M → InOrder L → InOrder M → SameEntries L M → L ≡ M }
-    ensures entries { (f : Family) (L : Table) → IsTable (width f) L → InOrder L → IsStrictlySortedBy prefix_cmp (keys_of (of_table f L)) }
+    ensures aggregate { (w : ℕ) (R : Table) (p : List Bool) (h : ℕ) (old : Table)
+        → InOrder (aggregate w R p h old) }
+    ensures one { (w : ℕ) (L M : Table) → IsTable w L → IsTable w M → InOrder L → InOrder M
+        → SameEntries L M → L ≡ M }
+    ensures entries { (f : Family) (L : Table) → IsTable (width f) L → InOrder L
+        → IsStrictlySortedBy prefix_cmp (keys_of (of_table f L)) }
 {}
 
 /// A family's aggregate, told as entries, is the aggregate by its definition. The table of both families' aggregates is the
@@ -124,7 +135,8 @@ pub fn both_law()
     ensures family { (f : Family) (R old : Entries) →
         IsAggregate (width f) (of_family f R) [] 0 (of_family f old) (of_family f (aggregate_in f R old)) }
     ensures aggregate { (R old : Entries) → AggregateInBoth R old (aggregate_in_both R old) }
-    ensures order { (R old : Entries) → IsStrictlySortedBy prefix_cmp (keys_of (aggregate_in_both R old)) }
+    ensures order { (R old : Entries) → IsStrictlySortedBy prefix_cmp
+        (keys_of (aggregate_in_both R old)) }
     ensures one { (R old T : Entries) → AggregateInBoth R old T → IsStrictlySortedBy prefix_cmp (keys_of T) →
         T ≡ aggregate_in_both R old }
 {}

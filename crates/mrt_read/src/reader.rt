@@ -40,7 +40,8 @@ fn read_next(
     table: &mut Option<PeerTable>,
 ) -> Result<Option<NextRecord>, Refusal>
     requires { framing.framer_refusal framer.old ≡ None }
-    ensures { NextGoes (record { framer = framer.old; table = table.old }) result (record { framer = framer.new; table = table.new }) }
+    ensures { NextGoes (record { framer = framer.old; table = table.old }) result
+        (record { framer = framer.new; table = table.new }) }
 {
     match framer.next() {
         Err(malformed) => Err(Refusal::Rule(malformed.rule)),

@@ -40,7 +40,8 @@ fn loses(old: u16, new: u16) -> bool
 /// The event of a state change, if it is one.
 #[tactic(auto, unfolding(reading_model::specs::Update::state_change))]
 fn read_change(alloc: Global, bytes: &[u8], peer: Peer) -> Result<Vec<Event>, Refusal>
-    ensures { GivesInMemory (λ v. map event_as v.items) result (model.state_change (peer_as peer) bytes.now) }
+    ensures { GivesInMemory (λ v. map event_as v.items) result
+        (model.state_change (peer_as peer) bytes.now) }
 {
     let (old, rest) = u16_at(rule::SESSION, bytes)?;
     let (new, rest) = u16_at(rule::SESSION, rest)?;
@@ -84,7 +85,8 @@ fn session_events(
     session: Session,
     peer: Peer,
 ) -> Result<Vec<Event>, Refusal>
-    ensures { GivesInMemory (λ v. map event_as v.items) result (model.session_events session (peer_as peer) bytes.now) }
+    ensures { GivesInMemory (λ v. map event_as v.items) result
+        (model.session_events session (peer_as peer) bytes.now) }
 {
     match session {
         Session::StateChange { .. } => read_change(alloc, bytes, peer),
@@ -101,7 +103,8 @@ fn read_session(
     asn: u32,
     family: Option<Family>,
 ) -> Result<Option<Vec<Event>>, Refusal>
-    ensures { GivesInMemory (λ x. option_map (λ v. map event_as v.items) x) result (model.session_behind session asn family bytes.now) }
+    ensures { GivesInMemory (λ x. option_map (λ v. map event_as v.items) x) result
+        (model.session_behind session asn family bytes.now) }
 {
     let Some(family) = family else {
         return Ok(None);
@@ -125,7 +128,8 @@ pub fn read_bgp4mp(
     sub: u16,
     micro: bool,
 ) -> Result<Option<Vec<Event>>, Refusal>
-    ensures { GivesInMemory (λ x. option_map (λ v. map event_as v.items) x) result (model.bgp4mp sub micro body.now) }
+    ensures { GivesInMemory (λ x. option_map (λ v. map event_as v.items) x) result
+        (model.bgp4mp sub micro body.now) }
 {
     let Some(session) = session_of(sub) else {
         return Ok(None);

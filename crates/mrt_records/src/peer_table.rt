@@ -38,7 +38,8 @@ fn peer(bytes: &[u8]) -> Result<(Peer, &[u8]), u8>
 
 /// So many peers, and what follows them.
 fn peers(alloc: Global, count: u16, bytes: &[u8]) -> Result<(Vec<Peer>, &[u8]), Refusal>
-    ensures { GivesInMemory (λ x. (map peer_as x.0.items, x.1.now)) result (times (one_more peer_at) count [] bytes.now) }
+    ensures { GivesInMemory (λ x. (map peer_as x.0.items, x.1.now)) result
+        (times (one_more peer_at) count [] bytes.now) }
 {
     let mut peers = Vec::new(alloc);
     let mut rest = bytes;

@@ -36,7 +36,8 @@ fn rib_events(
     body: &[u8],
     family: Family,
 ) -> Result<Vec<Event>, Refusal>
-    ensures { GivesInMemory (λ events. map event_as events.items) result (rib_behind (peers_in (option_copied table.entry)) family body.now) }
+    ensures { GivesInMemory (λ events. map event_as events.items) result
+        (rib_behind (peers_in (option_copied table.entry)) family body.now) }
 {
     match table {
         Some(table) => read_rib(alloc, body, table, family),
@@ -60,7 +61,8 @@ pub fn read_record(
     sub: u16,
     body: &[u8],
 ) -> Result<Option<Vec<Event>>, Refusal>
-    ensures value { GivesInMemory (read_as table.new) result (record_in (peers_in table.old) (record { kind = kind; subtype = sub; body = body.now })) }
+    ensures value { GivesInMemory (read_as table.new) result
+        (record_in (peers_in table.old) (record { kind = kind; subtype = sub; body = body.now })) }
     ensures err { OnErr result (table.new ≡ table.old) }
 {
     match (kind, sub) {

@@ -37,7 +37,8 @@ fn entry<'a>(
     prefix: Prefix,
     bytes: &'a [u8],
 ) -> Result<(Event, &'a [u8]), u8>
-    ensures { Gives (λ x. (event_as x.0, x.1.now)) result (rib_entry_at (map peer_as peers.now) family (prefix_as prefix) bytes.now) }
+    ensures { Gives (λ x. (event_as x.0, x.1.now)) result
+        (rib_entry_at (map peer_as peers.now) family (prefix_as prefix) bytes.now) }
 {
     let (index, rest) = u16_at(rule::RIB, bytes)?;
     let Some(peer) = peers.get(usize::from(index)) else {
@@ -60,7 +61,9 @@ fn entries<'a>(
     count: u16,
     bytes: &'a [u8],
 ) -> Result<(Vec<Event>, &'a [u8]), Refusal>
-    ensures { GivesInMemory (λ x. (map event_as x.0.items, x.1.now)) result (times (one_more (rib_entry_at (map peer_as peers.now) family (prefix_as prefix))) count [] bytes.now) }
+    ensures { GivesInMemory (λ x. (map event_as x.0.items, x.1.now)) result
+        (times (one_more (rib_entry_at (map peer_as peers.now) family (prefix_as prefix))) count []
+        bytes.now) }
 {
     let mut events = Vec::new(alloc);
     let mut rest = bytes;
@@ -80,7 +83,8 @@ pub fn read_rib(
     table: &PeerTable,
     family: Family,
 ) -> Result<Vec<Event>, Refusal>
-    ensures { GivesInMemory (λ events. map event_as events.items) result (rib (peers_of table.now) family body.now) }
+    ensures { GivesInMemory (λ events. map event_as events.items) result
+        (rib (peers_of table.now) family body.now) }
 {
     let (_sequence, rest) = octets(rule::RIB, 4, body)?;
     let (prefix, rest) = prefix(rule::RIB, family, rest)?;

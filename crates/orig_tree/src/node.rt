@@ -134,7 +134,8 @@ pub(crate) fn room(alloc: Global, node: &mut Node, q: u128, left: u8) -> Result<
     requires { left ≤ 128 }
     ensures routes { node.new.routes ≡ node.old.routes }
     ensures entries { node.new.entries ≡ node.old.entries }
-    ensures kept { (p : List Bool) → has_node p node.old.nodes ≡ true → has_node p node.new.nodes ≡ true }
+    ensures kept { (p : List Bool) → has_node p node.old.nodes ≡ true
+        → has_node p node.new.nodes ≡ true }
     ensures made { AreMadeTo (bits_of left q) node.old.nodes node.new.nodes }
     ensures ok { OnOk result (has_node (bits_of left q) node.new.nodes ≡ true) }
     ensures err { OnErr result (node.new ≡ node.old) }
@@ -163,7 +164,8 @@ fn room_behind(
     requires { left ≤ 128 }
     ensures routes { (behind link.new).routes ≡ (behind link.old).routes }
     ensures entries { (behind link.new).entries ≡ (behind link.old).entries }
-    ensures kept { (p : List Bool) → has_node p (behind link.old).nodes ≡ true → has_node p (behind link.new).nodes ≡ true }
+    ensures kept { (p : List Bool) → has_node p (behind link.old).nodes ≡ true
+        → has_node p (behind link.new).nodes ≡ true }
     ensures made { AreMadeTo (bits_of left q) (behind link.old).nodes (behind link.new).nodes }
     ensures ok { OnOk result (has_node (bits_of left q) (behind link.new).nodes ≡ true) }
     ensures err { OnErr result (behind link.new ≡ behind link.old) }
@@ -211,7 +213,8 @@ fn retell(
     low: &Option<Box<Node>>,
     high: &Option<Box<Node>>,
 )
-    ensures { Retold label hop route.old entry.old route.new entry.new (behind low.now) (behind high.now) }
+    ensures { Retold label hop route.old entry.old route.new entry.new (behind low.now)
+        (behind high.now) }
 {
     let cover = Cover::over(hop, cover_behind(label, low), cover_behind(label, high));
     match label {
@@ -280,7 +283,8 @@ fn assign_behind(link: &mut Option<Box<Node>>, label: Label, q: u128, left: u8, 
 #[tactic(auto, using(crate::proofs::Kept::uniform_no_high, crate::proofs::Kept::uniform_no_low))]
 pub(crate) fn uniform(node: &Node, label: Label, q: u128, left: u8, inherited: u16) -> Option<u16>
     requires { left ≤ 128 }
-    ensures { (n : ℕ) → left ≤ n → Fits n (rows_of label node.now) → IsUniform n (rows_of label node.now) inherited (bits_of left q) result }
+    ensures { (n : ℕ) → left ≤ n → Fits n (rows_of label node.now)
+        → IsUniform n (rows_of label node.now) inherited (bits_of left q) result }
 {
     if left == 0 {
         return cover_of(node, label).only(inherited);
@@ -411,7 +415,8 @@ pub(crate) fn tell(
     out: &mut Vec<Entry>,
 ) -> Result<(), AllocError>
     requires { Fits (width prefix.family - prefix.len) (rows_of label node.now) }
-    ensures { OnOk result (map entry_as out.new.items ≡ map entry_as out.old.items ++ of_table prefix.family (lift (prefix_as prefix).bits (rows_of label node.now))) }
+    ensures { OnOk result (map entry_as out.new.items ≡ map entry_as out.old.items
+        ++ of_table prefix.family (lift (prefix_as prefix).bits (rows_of label node.now))) }
 {
     push_entry(prefix, pick(label, node.route.hop, node.entry.hop), out)?;
     if prefix.len == prefix.family.width() {
@@ -431,7 +436,9 @@ fn tell_behind(
     out: &mut Vec<Entry>,
 ) -> Result<(), AllocError>
     requires { Fits (width prefix.family - prefix.len) (rows_of label (behind link.now)) }
-    ensures { OnOk result (map entry_as out.new.items ≡ map entry_as out.old.items ++ of_table prefix.family (lift (prefix_as prefix).bits (rows_of label (behind link.now)))) }
+    ensures { OnOk result (map entry_as out.new.items ≡ map entry_as out.old.items
+        ++ of_table prefix.family (lift (prefix_as prefix).bits
+        (rows_of label (behind link.now)))) }
 {
     match link {
         None => Ok(()),

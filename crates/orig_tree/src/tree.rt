@@ -112,7 +112,8 @@ impl Tree {
         ensures family { self.new.family ≡ self.old.family }
         ensures routes { self.new.routes ≡ self.old.routes }
         ensures entries { self.new.entries ≡ self.old.entries }
-        ensures kept { (p : List Bool) → has_node p self.old.nodes ≡ true → has_node p self.new.nodes ≡ true }
+        ensures kept { (p : List Bool) → has_node p self.old.nodes ≡ true
+            → has_node p self.new.nodes ≡ true }
         ensures made { AreMadeTo (prefix_as prefix.now).bits self.old.nodes self.new.nodes }
         ensures ok { OnOk result (has_node (prefix_as prefix.now).bits self.new.nodes ≡ true) }
         ensures err { OnErr result (self.new ≡ self.old) }
@@ -130,7 +131,9 @@ impl Tree {
         ensures family { self.new.family ≡ self.old.family }
         ensures routes { self.new.routes ≡ self.old.routes }
         ensures entries { self.new.entries ≡ self.old.entries }
-        ensures nodes { AreTrimmed (prefix_as prefix.now).bits (of_family self.old.family self.old.routes) (of_family self.old.family self.old.entries) self.old.nodes self.new.nodes }
+        ensures nodes { AreTrimmed (prefix_as prefix.now).bits
+            (of_family self.old.family self.old.routes) (of_family self.old.family self.old.entries)
+            self.old.nodes self.new.nodes }
     {
         let q = path_bits(prefix);
         trim(&mut self.root, q, prefix.len);
@@ -184,7 +187,8 @@ impl Tree {
     #[tactic(auto, using(crate::proofs::Above::above_is))]
     pub fn inherited(&self, prefix: &Prefix) -> Hop
         requires { prefix.now.family ≡ self.now.family }
-        ensures { result.0 ≡ above (prefix_as prefix.now).bits (of_family self.now.family self.now.entries) 0 }
+        ensures { result.0 ≡ above (prefix_as prefix.now).bits
+            (of_family self.now.family self.now.entries) 0 }
     {
         let q = path_bits(prefix);
         Hop(inherited(&self.root, q, prefix.len, 0))
@@ -193,7 +197,14 @@ impl Tree {
     /// Takes the prefix's route away, if it has one.
     pub fn clear_route(&mut self, prefix: &Prefix)
         requires { prefix.now.family ≡ self.old.family }
-        ensures { self.new ≡ record { family = self.old.family; routes = remove_entry (same_prefix (prefix_as prefix.now)) self.old.routes; entries = self.old.entries; nodes = self.old.nodes } }
+        ensures { self.new ≡ record {
+          family = self.old.family;
+          routes = remove_entry
+              (same_prefix (prefix_as prefix.now)) self.old.routes;
+          entries = self.old.entries;
+          nodes
+              = self.old.nodes;
+        } }
     {
         let q = path_bits(prefix);
         assign(&mut self.root, Label::Route, q, prefix.len, None)
@@ -202,7 +213,14 @@ impl Tree {
     /// Takes the prefix's entry away, if it has one.
     pub fn clear_entry(&mut self, prefix: &Prefix)
         requires { prefix.now.family ≡ self.old.family }
-        ensures { self.new ≡ record { family = self.old.family; routes = self.old.routes; entries = remove_entry (same_prefix (prefix_as prefix.now)) self.old.entries; nodes = self.old.nodes } }
+        ensures { self.new ≡ record {
+          family = self.old.family;
+          routes = self.old.routes;
+          entries =
+              remove_entry (same_prefix (prefix_as prefix.now)) self.old.entries;
+          nodes =
+              self.old.nodes;
+        } }
     {
         let q = path_bits(prefix);
         assign(&mut self.root, Label::Entry, q, prefix.len, None)
@@ -216,9 +234,11 @@ impl Tree {
     pub fn set_route(&mut self, prefix: &Prefix, hop: Hop) -> Result<(), AllocError>
         requires { prefix.now.family ≡ self.old.family }
         ensures family { self.new.family ≡ self.old.family }
-        ensures routes { OnOk result (self.new.routes ≡ with_entry self.old.routes (prefix_as prefix.now, hop.0)) }
+        ensures routes { OnOk result (self.new.routes ≡ with_entry self.old.routes
+            (prefix_as prefix.now, hop.0)) }
         ensures entries { self.new.entries ≡ self.old.entries }
-        ensures kept { (p : List Bool) → has_node p self.old.nodes ≡ true → has_node p self.new.nodes ≡ true }
+        ensures kept { (p : List Bool) → has_node p self.old.nodes ≡ true
+            → has_node p self.new.nodes ≡ true }
         ensures made { AreMadeTo (prefix_as prefix.now).bits self.old.nodes self.new.nodes }
         ensures ok { OnOk result (has_node (prefix_as prefix.now).bits self.new.nodes ≡ true) }
         ensures err { OnErr result (self.new ≡ self.old) }
@@ -239,8 +259,10 @@ impl Tree {
         requires { prefix.now.family ≡ self.old.family }
         ensures family { self.new.family ≡ self.old.family }
         ensures routes { self.new.routes ≡ self.old.routes }
-        ensures entries { OnOk result (self.new.entries ≡ with_entry self.old.entries (prefix_as prefix.now, hop.0)) }
-        ensures kept { (p : List Bool) → has_node p self.old.nodes ≡ true → has_node p self.new.nodes ≡ true }
+        ensures entries { OnOk result (self.new.entries ≡ with_entry self.old.entries
+            (prefix_as prefix.now, hop.0)) }
+        ensures kept { (p : List Bool) → has_node p self.old.nodes ≡ true
+            → has_node p self.new.nodes ≡ true }
         ensures made { AreMadeTo (prefix_as prefix.now).bits self.old.nodes self.new.nodes }
         ensures ok { OnOk result (has_node (prefix_as prefix.now).bits self.new.nodes ≡ true) }
         ensures err { OnErr result (self.new ≡ self.old) }

@@ -84,10 +84,17 @@ pub fn within(
     inherited: Hop,
 ) -> Result<Vec<Entry>, AllocError>
     requires { prefix.now.family ≡ tree.now.family }
-    ensures aggregate { IfOk result (λ v. map entry_as v.items ≡ of_table tree.now.family (aggregate (width tree.now.family) (of_family tree.now.family tree.now.routes) (prefix_as prefix.now).bits inherited.0 (of_family tree.now.family tree.now.entries))) }
-    ensures best { IfOk result (λ v. IsAggregateOf tree.now (prefix_as prefix.now).bits inherited.0 (map entry_as v.items)) }
-    ensures order { IfOk result (λ v. IsStrictlySortedBy prefix_cmp (keys_of (map entry_as v.items))) }
-    ensures least { IfOk result (λ v. LeastWithin (width tree.now.family) (of_family tree.now.family tree.now.routes) (prefix_as prefix.now).bits inherited.0 (of_family tree.now.family (map entry_as v.items))) }
+    ensures aggregate { IfOk result (λ v. map entry_as v.items
+        ≡ of_table tree.now.family (aggregate (width tree.now.family)
+        (of_family tree.now.family tree.now.routes) (prefix_as prefix.now).bits inherited.0
+        (of_family tree.now.family tree.now.entries))) }
+    ensures best { IfOk result (λ v. IsAggregateOf tree.now (prefix_as prefix.now).bits inherited.0
+        (map entry_as v.items)) }
+    ensures order { IfOk result (λ v. IsStrictlySortedBy prefix_cmp
+        (keys_of (map entry_as v.items))) }
+    ensures least { IfOk result (λ v. LeastWithin (width tree.now.family)
+        (of_family tree.now.family tree.now.routes) (prefix_as prefix.now).bits inherited.0
+        (of_family tree.now.family (map entry_as v.items))) }
 {
     let region = region_of(alloc, tree, prefix)?;
     let mut table = Vec::new(alloc);
@@ -103,12 +110,18 @@ pub fn within(
 ///
 /// No memory.
 pub fn fresh(alloc: Global, tree: &Tree) -> Result<Fresh, AllocError>
-    ensures aggregate { IfOk result (λ v. map entry_as v.table.items ≡ aggregate_in tree.now.family tree.now.routes tree.now.entries) }
+    ensures aggregate { IfOk result (λ v. map entry_as v.table.items
+        ≡ aggregate_in tree.now.family tree.now.routes tree.now.entries) }
     ensures best { IfOk result (λ v. IsAggregateOf tree.now [] 0 (map entry_as v.table.items)) }
-    ensures order { IfOk result (λ v. IsStrictlySortedBy prefix_cmp (keys_of (map entry_as v.table.items))) }
-    ensures least { IfOk result (λ v. Least (width tree.now.family) (of_family tree.now.family tree.now.routes) (of_family tree.now.family (map entry_as v.table.items))) }
-    ensures proof { IfOk result (λ v. map row_as v.proof.items ≡ family_rows tree.now.family tree.now.routes) }
-    ensures certificate { IfOk result (λ v. ProveLeast tree.now.family tree.now.routes (map entry_as v.table.items) (map row_as v.proof.items)) }
+    ensures order { IfOk result (λ v. IsStrictlySortedBy prefix_cmp
+        (keys_of (map entry_as v.table.items))) }
+    ensures least { IfOk result (λ v. Least (width tree.now.family)
+        (of_family tree.now.family tree.now.routes) (of_family tree.now.family
+        (map entry_as v.table.items))) }
+    ensures proof { IfOk result (λ v. map row_as v.proof.items
+        ≡ family_rows tree.now.family tree.now.routes) }
+    ensures certificate { IfOk result (λ v. ProveLeast tree.now.family tree.now.routes
+        (map entry_as v.table.items) (map row_as v.proof.items)) }
 {
     let whole = Prefix::whole(tree.family());
     let region = region_of(alloc, tree, &whole)?;

@@ -106,7 +106,9 @@ fn join_halves(
     high: Region,
 ) -> Result<Region, AllocError>
     requires { (h : ℕ) → hop_in low ≡ Some h → hop_in high ≡ Some h → ⊥ }
-    ensures { IfOk result (λ r. (d : ℕ) (f : List Bool → ℕ) (L : Table) → root L ≡ old → RegionStands low d (side false f) (half false L) → RegionStands high d (side true f) (half true L) → RegionStands r (suc d) f L) }
+    ensures { IfOk result (λ r. (d : ℕ) (f : List Bool → ℕ) (L : Table) → root L ≡ old
+        → RegionStands low d (side false f) (half false L) → RegionStands high d (side true f)
+        (half true L) → RegionStands r (suc d) f L) }
 {
     let joint = HopSet::joint(alloc, hops_of(&low), hops_of(&high))?;
     let k = joint_k(k_in(&low), k_in(&high), joint.apart)?;
@@ -126,8 +128,11 @@ fn join_regions(
     low: Region,
     high: Region,
 ) -> Result<Region, AllocError>
-    ensures leaf { IfOk result (λ r. (h : ℕ) → hop_in low ≡ Some h → hop_in high ≡ Some h → hop_in r ≡ Some h) }
-    ensures stands { IfOk result (λ r. (d : ℕ) (f : List Bool → ℕ) (L : Table) → root L ≡ old → RegionStands low d (side false f) (half false L) → RegionStands high d (side true f) (half true L) → RegionStands r (suc d) f L) }
+    ensures leaf { IfOk result (λ r. (h : ℕ) → hop_in low ≡ Some h → hop_in high ≡ Some h
+        → hop_in r ≡ Some h) }
+    ensures stands { IfOk result (λ r. (d : ℕ) (f : List Bool → ℕ) (L : Table) → root L ≡ old
+        → RegionStands low d (side false f) (half false L) → RegionStands high d (side true f)
+        (half true L) → RegionStands r (suc d) f L) }
 {
     if let Some(hop) = one_hop(&low, &high) {
         return Ok(Region::Leaf { old, hop });
@@ -145,7 +150,8 @@ pub fn below(label: Option<u16>, inherited: u16) -> u16
 /// The region of a node, whose prefix is `depth` bits shorter than addresses are.
 #[cycle(rising)]
 fn rise(alloc: Global, node: &Node, inherited: u16, depth: u8) -> Result<Region, AllocError>
-    ensures { IfOk result (λ r. RegionStands r depth (λ a. lpm node.now.routes a inherited) node.now.entries) }
+    ensures { IfOk result (λ r. RegionStands r depth (λ a. lpm node.now.routes a inherited)
+        node.now.entries) }
 {
     let hop = below(node.hop(Label::Route), inherited);
     let old = node.hop(Label::Entry);
@@ -164,7 +170,8 @@ fn rise_link(
     inherited: u16,
     depth: u8,
 ) -> Result<Region, AllocError>
-    ensures { IfOk result (λ r. RegionStands r depth (λ a. lpm (behind link.now).routes a inherited) (behind link.now).entries) }
+    ensures { IfOk result (λ r. RegionStands r depth (λ a. lpm (behind link.now).routes a inherited)
+        (behind link.now).entries) }
 {
     match link {
         Some(node) => rise(alloc, node, inherited, depth),
@@ -186,7 +193,8 @@ fn rise_below(
     depth: u8,
 ) -> Result<Region, AllocError>
     requires { left ≤ 128 }
-    ensures { IfOk result (λ r. RegionStands r depth (λ a. lpm node.now.routes (bits_of left q ++ a) inherited) (cut (bits_of left q) node.now.entries)) }
+    ensures { IfOk result (λ r. RegionStands r depth (λ a. lpm node.now.routes
+        (bits_of left q ++ a) inherited) (cut (bits_of left q) node.now.entries)) }
 {
     if left == 0 {
         return rise(alloc, node, inherited, depth);
@@ -202,7 +210,9 @@ fn rise_below(
 /// The region of a prefix of the tree, with the tree's entries as the old ones.
 pub fn region_of(alloc: Global, tree: &Tree, prefix: &Prefix) -> Result<Region, AllocError>
     requires { prefix.now.family ≡ tree.now.family }
-    ensures { IfOk result (λ r. RegionStands r (width prefix.now.family - prefix.now.len) (answers (of_family tree.now.family tree.now.routes) (prefix_as prefix.now).bits) (cut (prefix_as prefix.now).bits (of_family tree.now.family tree.now.entries))) }
+    ensures { IfOk result (λ r. RegionStands r (width prefix.now.family - prefix.now.len)
+        (answers (of_family tree.now.family tree.now.routes) (prefix_as prefix.now).bits)
+        (cut (prefix_as prefix.now).bits (of_family tree.now.family tree.now.entries))) }
 {
     let depth = prefix.family.width() - prefix.len;
     let path = path_bits(prefix);

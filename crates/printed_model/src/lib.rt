@@ -21,19 +21,23 @@ ghost use Rattle.printed_model.specs.Whole.{HaveRows, IsFirstBad};
 /// What is written of a row is read as it. The text of rows is read as these rows, where their hops have numbers.
 pub fn written_law()
     ensures row { (row : PrintedRow) → IsRow row → row_in (fields_of row) ≡ Ok row }
-    ensures text { (rows : List PrintedRow) → AllByRecursion IsRow rows → length (hops_in rows) ≤ most_hops → rows_in (text_of rows) ≡ Ok rows }
+    ensures text { (rows : List PrintedRow) → AllByRecursion IsRow rows
+        → length (hops_in rows) ≤ most_hops → rows_in (text_of rows) ≡ Ok rows }
 {}
 
 /// A text is read as rows exactly where each of its lines that isn't empty has one, and these are the rows, whose hops have
 /// numbers. It is bad exactly at its first line that has none or brings one hop too many.
 pub fn reading_law()
-    ensures rows { (text : List ℕ) (rows : List PrintedRow) → rows_in text ≡ Ok rows ↔ HaveRows (line_texts text) rows }
-    ensures bad { (text : List ℕ) (bad : BadLine) → rows_in text ≡ Err bad ↔ IsFirstBad (line_texts text) bad }
+    ensures rows { (text : List ℕ) (rows : List PrintedRow) → rows_in text ≡ Ok rows
+        ↔ HaveRows (line_texts text) rows }
+    ensures bad { (text : List ℕ) (bad : BadLine) → rows_in text ≡ Err bad
+        ↔ IsFirstBad (line_texts text) bad }
 {}
 
 /// Each hop that a route, least or leaf row brings has a number, and that number stands for it.
 pub fn numbers_law()
-    ensures { (rows : List PrintedRow) → AllByRecursion (λ a. hop_at (hops_in rows) (hop_number (hops_in rows) (Some a)) ≡ Some a) (flat_map numbered_hop rows) }
+    ensures { (rows : List PrintedRow) → AllByRecursion (λ a. hop_at (hops_in rows)
+        (hop_number (hops_in rows) (Some a)) ≡ Some a) (flat_map numbered_hop rows) }
 {}
 
 /// The numbers of hops don't matter to a certificate: the printed rows of routes that have hops, of a table, and of a certificate

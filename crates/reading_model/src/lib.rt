@@ -61,7 +61,10 @@ pub fn end_law()
 /// What is read is well formed, also where reading stops or goes on: each address has as many bits as its family, each
 /// prefix at most as many.
 pub fn events_law()
-    ensures read { (octets : List ℕ) (read : Progress) → input octets ≡ Ok read → AllByRecursion IsEvent read.events }
-    ensures stopped { (octets : List ℕ) (stopped : Stopped) → input octets ≡ Err stopped → AllByRecursion IsEvent stopped.read.events }
-    ensures so_far { (fed left : List ℕ) (read : Progress) → ReadsEvents fed read left → AllByRecursion IsEvent read.events }
+    ensures read { (octets : List ℕ) (read : Progress) → input octets ≡ Ok read
+        → AllByRecursion IsEvent read.events }
+    ensures stopped { (octets : List ℕ) (stopped : Stopped) → input octets ≡ Err stopped
+        → AllByRecursion IsEvent stopped.read.events }
+    ensures so_far { (fed left : List ℕ) (read : Progress) → ReadsEvents fed read left
+        → AllByRecursion IsEvent read.events }
 {}

@@ -134,7 +134,8 @@ fn cuts_of(
     seats: &BTreeMap<Seat, Option<Offer>>,
     peer: Peer,
 ) -> Result<Vec<Elem>, AllocError>
-    ensures cuts { IfOk result (λ cuts. cuts.items ≡ cuts_in peer (seats_of peer seats.now.entries)) }
+    ensures cuts { IfOk result (λ cuts. cuts.items ≡ cuts_in peer
+        (seats_of peer seats.now.entries)) }
     ensures ordered { tree.IsOrdered seat_cmp seats.now }
 {
     let mut cuts = Vec::new(alloc);
@@ -149,8 +150,10 @@ fn cuts_of(
 /// Sets what is offered at a seat, which is there if anything is to be.
 fn set_offer(seats: &mut BTreeMap<Seat, Option<Offer>>, seat: &Seat, offer: Option<Offer>)
     requires { (o : Offer) → offer ≡ Some o → has_seat seats.old.entries seat.now ≡ true }
-    ensures offers { (s : Seat) → offered seats.new.entries s ≡ cond (is_eq (seat_cmp seat.now s)) offer (offered seats.old.entries s) }
-    ensures seats { (s : Seat) → has_seat seats.new.entries s ≡ cond (is_eq (seat_cmp seat.now s)) (is_some offer) (has_seat seats.old.entries s) }
+    ensures offers { (s : Seat) → offered seats.new.entries s
+        ≡ cond (is_eq (seat_cmp seat.now s)) offer (offered seats.old.entries s) }
+    ensures seats { (s : Seat) → has_seat seats.new.entries s
+        ≡ cond (is_eq (seat_cmp seat.now s)) (is_some offer) (has_seat seats.old.entries s) }
 {
     if offer.is_none() {
         seats.remove(seat);
@@ -162,7 +165,9 @@ fn set_offer(seats: &mut BTreeMap<Seat, Option<Offer>>, seat: &Seat, offer: Opti
 /// Carries out an elementary event for which there is room.
 fn carry_out(seats: &mut BTreeMap<Seat, Option<Offer>>, ranks: &mut BTreeSet<Rank>, elem: &Elem)
     requires { IsKept seats.old.entries ranks.old.keys None (Some elem.now) }
-    ensures offers { (s : Seat) → offered seats.new.entries s ≡ cond (is_eq (seat_cmp (seat_in elem.now) s)) (offer_in elem.now) (offered seats.old.entries s) }
+    ensures offers { (s : Seat) → offered seats.new.entries s
+        ≡ cond (is_eq (seat_cmp (seat_in elem.now) s)) (offer_in elem.now)
+        (offered seats.old.entries s) }
     ensures kept { IsKept seats.new.entries ranks.new.keys None None }
 {
     let seat = seat_of(elem);
@@ -175,9 +180,13 @@ fn carry_out(seats: &mut BTreeMap<Seat, Option<Offer>>, ranks: &mut BTreeSet<Ran
 
 /// Removes a rank that no offer has.
 fn prune_rank(seats: &BTreeMap<Seat, Option<Offer>>, ranks: &mut BTreeSet<Rank>, rank: &Rank)
-    ensures indexed { IsIndexed seats.now.entries ranks.old.keys → IsIndexed seats.now.entries ranks.new.keys }
-    ensures serve { (held : Rank → Bool) → EachRankServes seats.now.entries ranks.old.keys (λ r. is_eq (rank_cmp rank.now r) || held r) → EachRankServes seats.now.entries ranks.new.keys held }
-    ensures others { (r : Rank) → is_eq (rank_cmp rank.now r) ≡ false → has_rank ranks.new.keys r ≡ has_rank ranks.old.keys r }
+    ensures indexed { IsIndexed seats.now.entries ranks.old.keys
+        → IsIndexed seats.now.entries ranks.new.keys }
+    ensures serve { (held : Rank → Bool) → EachRankServes seats.now.entries ranks.old.keys
+        (λ r. is_eq (rank_cmp rank.now r) || held r)
+        → EachRankServes seats.now.entries ranks.new.keys held }
+    ensures others { (r : Rank) → is_eq (rank_cmp rank.now r) ≡ false
+        → has_rank ranks.new.keys r ≡ has_rank ranks.old.keys r }
 {
     if offer_ranked(seats, rank).is_none() {
         ranks.remove(rank);
@@ -187,8 +196,10 @@ fn prune_rank(seats: &BTreeMap<Seat, Option<Offer>>, ranks: &mut BTreeSet<Rank>,
 /// Removes a seat where nothing is offered.
 fn prune_seat(seats: &mut BTreeMap<Seat, Option<Offer>>, seat: &Seat)
     ensures offers { (s : Seat) → offered seats.new.entries s ≡ offered seats.old.entries s }
-    ensures serve { (held : Seat → Bool) → EachSeatServes seats.old.entries (λ s. is_eq (seat_cmp seat.now s) || held s) → EachSeatServes seats.new.entries held }
-    ensures others { (s : Seat) → is_eq (seat_cmp seat.now s) ≡ false → has_seat seats.new.entries s ≡ has_seat seats.old.entries s }
+    ensures serve { (held : Seat → Bool) → EachSeatServes seats.old.entries
+        (λ s. is_eq (seat_cmp seat.now s) || held s) → EachSeatServes seats.new.entries held }
+    ensures others { (s : Seat) → is_eq (seat_cmp seat.now s) ≡ false
+        → has_seat seats.new.entries s ≡ has_seat seats.old.entries s }
 {
     if offer_at(seats, seat).is_none() {
         seats.remove(seat);
@@ -222,9 +233,13 @@ fn give_back_rank(
     rank: &Rank,
     plan: &Option<Elem>,
 )
-    ensures indexed { IsIndexed seats.now.entries ranks.old.keys → IsIndexed seats.now.entries ranks.new.keys }
-    ensures serve { EachRankServes seats.now.entries ranks.old.keys (λ r. is_eq (rank_cmp rank.now r) || rank_held plan.now r) → EachRankServes seats.now.entries ranks.new.keys (rank_held plan.now) }
-    ensures room { HasRoom seats.now.entries ranks.old.keys plan.now → HasRoom seats.now.entries ranks.new.keys plan.now }
+    ensures indexed { IsIndexed seats.now.entries ranks.old.keys
+        → IsIndexed seats.now.entries ranks.new.keys }
+    ensures serve { EachRankServes seats.now.entries ranks.old.keys
+        (λ r. is_eq (rank_cmp rank.now r) || rank_held plan.now r)
+        → EachRankServes seats.now.entries ranks.new.keys (rank_held plan.now) }
+    ensures room { HasRoom seats.now.entries ranks.old.keys plan.now
+        → HasRoom seats.now.entries ranks.new.keys plan.now }
 {
     if !holds_rank(plan, rank) {
         prune_rank(seats, ranks, rank);
@@ -234,8 +249,10 @@ fn give_back_rank(
 /// Gives back a seat of an earlier plan: removes it, but where something is offered and for the plan.
 fn give_back_seat(seats: &mut BTreeMap<Seat, Option<Offer>>, seat: &Seat, plan: &Option<Elem>)
     ensures offers { (s : Seat) → offered seats.new.entries s ≡ offered seats.old.entries s }
-    ensures serve { EachSeatServes seats.old.entries (λ s. is_eq (seat_cmp seat.now s) || seat_held plan.now s) → EachSeatServes seats.new.entries (seat_held plan.now) }
-    ensures room { (ranks : List Rank) → HasRoom seats.old.entries ranks plan.now → HasRoom seats.new.entries ranks plan.now }
+    ensures serve { EachSeatServes seats.old.entries (λ s. is_eq (seat_cmp seat.now s)
+        || seat_held plan.now s) → EachSeatServes seats.new.entries (seat_held plan.now) }
+    ensures room { (ranks : List Rank) → HasRoom seats.old.entries ranks plan.now
+        → HasRoom seats.new.entries ranks plan.now }
 {
     if !holds_seat(plan, seat) {
         prune_seat(seats, seat);
@@ -250,7 +267,8 @@ fn give_back(
     plan: &Option<Elem>,
 )
     ensures offers { (s : Seat) → offered seats.new.entries s ≡ offered seats.old.entries s }
-    ensures kept { IsKept seats.old.entries ranks.old.keys earlier plan.now → IsKept seats.new.entries ranks.new.keys None plan.now }
+    ensures kept { IsKept seats.old.entries ranks.old.keys earlier plan.now
+        → IsKept seats.new.entries ranks.new.keys None plan.now }
 {
     let Some(earlier) = earlier else {
         return;
@@ -264,7 +282,8 @@ fn give_back(
 
 /// Takes back a rank that was put, where it was new.
 fn take_back(ranks: &mut BTreeSet<Rank>, rank: &Rank, is_new: bool)
-    ensures { (r : Rank) → has_rank ranks.new.keys r ≡ cond (is_new && is_eq (rank_cmp rank.now r)) false (has_rank ranks.old.keys r) }
+    ensures { (r : Rank) → has_rank ranks.new.keys r ≡ cond
+        (is_new && is_eq (rank_cmp rank.now r)) false (has_rank ranks.old.keys r) }
 {
     if is_new {
         ranks.remove(rank);
@@ -279,10 +298,13 @@ fn make_room(
     rank: &Rank,
 ) -> Result<(), AllocError>
     ensures offers { (s : Seat) → offered seats.new.entries s ≡ offered seats.old.entries s }
-    ensures seats { OnOk result ((s : Seat) → has_seat seats.new.entries s ≡ cond (is_eq (seat_cmp seat.now s)) true (has_seat seats.old.entries s)) }
-    ensures ranks { OnOk result ((r : Rank) → has_rank ranks.new.keys r ≡ cond (is_eq (rank_cmp rank.now r)) true (has_rank ranks.old.keys r)) }
+    ensures seats { OnOk result ((s : Seat) → has_seat seats.new.entries s
+        ≡ cond (is_eq (seat_cmp seat.now s)) true (has_seat seats.old.entries s)) }
+    ensures ranks { OnOk result ((r : Rank) → has_rank ranks.new.keys r
+        ≡ cond (is_eq (rank_cmp rank.now r)) true (has_rank ranks.old.keys r)) }
     ensures err_seats { OnErr result (seats.new.entries ≡ seats.old.entries) }
-    ensures err_ranks { OnErr result ((r : Rank) → has_rank ranks.new.keys r ≡ has_rank ranks.old.keys r) }
+    ensures err_ranks { OnErr result ((r : Rank) → has_rank ranks.new.keys r
+        ≡ has_rank ranks.old.keys r) }
 {
     let is_new = ranks.insert(*rank)?;
     if seats.get(seat).is_none() {
@@ -304,8 +326,10 @@ fn make_room_for(
     elem: &Elem,
 ) -> Result<(), AllocError>
     ensures offers { (s : Seat) → offered seats.new.entries s ≡ offered seats.old.entries s }
-    ensures kept { OnOk result (KeepsBeside seats.old.entries ranks.old.keys seats.new.entries ranks.new.keys (Some elem.now)) }
-    ensures err { OnErr result (StaysKept seats.old.entries ranks.old.keys seats.new.entries ranks.new.keys) }
+    ensures kept { OnOk result (KeepsBeside seats.old.entries ranks.old.keys seats.new.entries
+        ranks.new.keys (Some elem.now)) }
+    ensures err { OnErr result (StaysKept seats.old.entries ranks.old.keys seats.new.entries
+        ranks.new.keys) }
 {
     match *elem {
         Elem::Put(peer, prefix, path, _) => {
@@ -323,10 +347,14 @@ fn put_offer(
     seat: &Seat,
     offer: Offer,
 ) -> Result<(), AllocError>
-    ensures ok { OnOk result ((s : Seat) → offered seats.new.entries s ≡ cond (is_eq (seat_cmp seat.now s)) (Some offer) (offered seats.old.entries s)) }
-    ensures kept { OnOk result (KeepsBeside seats.old.entries ranks.old.keys seats.new.entries ranks.new.keys None) }
-    ensures err_offers { OnErr result ((s : Seat) → offered seats.new.entries s ≡ offered seats.old.entries s) }
-    ensures err { OnErr result (StaysKept seats.old.entries ranks.old.keys seats.new.entries ranks.new.keys) }
+    ensures ok { OnOk result ((s : Seat) → offered seats.new.entries s
+        ≡ cond (is_eq (seat_cmp seat.now s)) (Some offer) (offered seats.old.entries s)) }
+    ensures kept { OnOk result (KeepsBeside seats.old.entries ranks.old.keys seats.new.entries
+        ranks.new.keys None) }
+    ensures err_offers { OnErr result ((s : Seat) → offered seats.new.entries s
+        ≡ offered seats.old.entries s) }
+    ensures err { OnErr result (StaysKept seats.old.entries ranks.old.keys seats.new.entries
+        ranks.new.keys) }
 {
     let rank = seat.rank(offer.path());
     let is_new = ranks.insert(rank)?;
@@ -345,8 +373,10 @@ fn put_offer(
 
 /// Ends what is offered at a seat, beside the room of the plan.
 fn cut_offer(seats: &mut BTreeMap<Seat, Option<Offer>>, ranks: &mut BTreeSet<Rank>, seat: &Seat)
-    ensures offers { (s : Seat) → offered seats.new.entries s ≡ cond (is_eq (seat_cmp seat.now s)) None (offered seats.old.entries s) }
-    ensures kept { KeepsBeside seats.old.entries ranks.old.keys seats.new.entries ranks.new.keys None }
+    ensures offers { (s : Seat) → offered seats.new.entries s
+        ≡ cond (is_eq (seat_cmp seat.now s)) None (offered seats.old.entries s) }
+    ensures kept { KeepsBeside seats.old.entries ranks.old.keys seats.new.entries ranks.new.keys
+        None }
 {
     if let Some(old) = seats.remove(seat).flatten() {
         prune_rank(seats, ranks, &seat.rank(old.path()));
@@ -360,10 +390,15 @@ fn load_elem(
     ranks: &mut BTreeSet<Rank>,
     elem: &Elem,
 ) -> Result<(), AllocError>
-    ensures ok { OnOk result ((s : Seat) → offered seats.new.entries s ≡ cond (is_eq (seat_cmp (seat_in elem.now) s)) (offer_in elem.now) (offered seats.old.entries s)) }
-    ensures kept { OnOk result (KeepsBeside seats.old.entries ranks.old.keys seats.new.entries ranks.new.keys None) }
-    ensures err_offers { OnErr result ((s : Seat) → offered seats.new.entries s ≡ offered seats.old.entries s) }
-    ensures err { OnErr result (StaysKept seats.old.entries ranks.old.keys seats.new.entries ranks.new.keys) }
+    ensures ok { OnOk result ((s : Seat) → offered seats.new.entries s
+        ≡ cond (is_eq (seat_cmp (seat_in elem.now) s)) (offer_in elem.now)
+        (offered seats.old.entries s)) }
+    ensures kept { OnOk result (KeepsBeside seats.old.entries ranks.old.keys seats.new.entries
+        ranks.new.keys None) }
+    ensures err_offers { OnErr result ((s : Seat) → offered seats.new.entries s
+        ≡ offered seats.old.entries s) }
+    ensures err { OnErr result (StaysKept seats.old.entries ranks.old.keys seats.new.entries
+        ranks.new.keys) }
 {
     let seat = seat_of(elem);
     match offer_of(elem) {
@@ -392,7 +427,8 @@ impl Candidates {
     ///
     /// No memory.
     pub fn elementary(&self, event: &Event) -> Result<Vec<Elem>, AllocError>
-        ensures { IfOk result (λ elems. map elem_as elems.items ≡ elems_of self.now.candidates (event_as event.now)) }
+        ensures { IfOk result (λ elems. map elem_as elems.items
+            ≡ elems_of self.now.candidates (event_as event.now)) }
     {
         match *event {
             Event::Announce(peer, prefix, path, hop) => Ok(vec![in self.alloc;
@@ -466,7 +502,8 @@ impl Candidates {
     ///
     /// No memory; then nothing has changed, and an earlier plan still holds.
     pub fn apply(&mut self, elem: &Elem) -> Result<Choice, AllocError>
-        ensures candidates { OnOk result (self.new.candidates ≡ after_elem self.old.candidates (elem_as elem.now)) }
+        ensures candidates { OnOk result (self.new.candidates
+            ≡ after_elem self.old.candidates (elem_as elem.now)) }
         ensures choice { IfOk result (IsChoice self.old.candidates (elem_as elem.now)) }
         ensures room { OnOk result (self.new.room ≡ None) }
         ensures err { OnErr result (self.new ≡ self.old) }
@@ -482,7 +519,8 @@ impl Candidates {
     ///
     /// No memory; then nothing has changed, and an earlier plan still holds.
     pub fn load(&mut self, elem: &Elem) -> Result<(), AllocError>
-        ensures candidates { OnOk result (self.new.candidates ≡ after_elem self.old.candidates (elem_as elem.now)) }
+        ensures candidates { OnOk result (self.new.candidates
+            ≡ after_elem self.old.candidates (elem_as elem.now)) }
         ensures room { OnOk result (self.new.room ≡ None) }
         ensures err { OnErr result (self.new ≡ self.old) }
     {
@@ -494,7 +532,8 @@ impl Candidates {
 
     /// The next hop of the chosen route for a prefix, if a peer offers one.
     pub fn chosen(&self, prefix: &Prefix) -> Option<Addr>
-        ensures { option_map addr_as result ≡ chosen_for self.now.candidates (prefix_as prefix.now) }
+        ensures { option_map addr_as result ≡ chosen_for self.now.candidates
+            (prefix_as prefix.now) }
     {
         let best = best_but(&self.seats, &self.ranks, prefix, None)?;
         Some(best.offer.hop())
@@ -506,7 +545,8 @@ impl Candidates {
     ///
     /// No memory.
     pub fn routes(&self) -> Result<Vec<(Prefix, Addr)>, AllocError>
-        ensures routes { IfOk result (λ routes. map route_as routes.items ≡ routes_of self.now.candidates) }
+        ensures routes { IfOk result (λ routes. map route_as routes.items
+            ≡ routes_of self.now.candidates) }
         ensures held { AreCandidates self.now.candidates }
     {
         let mut routes = Vec::new(self.alloc);

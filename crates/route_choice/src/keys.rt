@@ -311,7 +311,8 @@ impl Seat {
     /// The least seat of a peer.
     pub fn first(peer: &Peer) -> Seat
         ensures peer { result.peer ≡ peer.now }
-        ensures least { (s : Seat) → code_peer_cmp peer.now s.peer ≡ Equal → is_gt (seat_cmp result s) ≡ false }
+        ensures least { (s : Seat) → code_peer_cmp peer.now s.peer ≡ Equal
+            → is_gt (seat_cmp result s) ≡ false }
     {
         Seat::new(peer, &LEAST_PREFIX)
     }
@@ -319,7 +320,8 @@ impl Seat {
     /// The greatest seat of a peer.
     pub fn last(peer: &Peer) -> Seat
         ensures peer { result.peer ≡ peer.now }
-        ensures greatest { (s : Seat) → code_peer_cmp peer.now s.peer ≡ Equal → is_gt (seat_cmp s result) ≡ false }
+        ensures greatest { (s : Seat) → code_peer_cmp peer.now s.peer ≡ Equal
+            → is_gt (seat_cmp s result) ≡ false }
     {
         Seat::new(peer, &GREATEST_PREFIX)
     }
@@ -380,7 +382,8 @@ impl Rank {
     /// The rank that is preferred to all others of a prefix.
     pub fn first(prefix: &Prefix) -> Rank
         ensures prefix { result.prefix ≡ prefix.now }
-        ensures least { (r : Rank) → code_cmp prefix.now r.prefix ≡ Equal → is_gt (rank_cmp result r) ≡ false }
+        ensures least { (r : Rank) → code_cmp prefix.now r.prefix ≡ Equal
+            → is_gt (rank_cmp result r) ≡ false }
     {
         Seat::new(&LEAST_PEER, prefix).rank(0)
     }

@@ -16,43 +16,61 @@ ghost use Rattle.route_model.specs.Choice.{Place, Offer, Candidates, AreCandidat
 
 /// The candidate at a place is what the last elementary event about it offers.
 pub fn last_said_law()
-    ensures { (at : Place) (elems : List Elem) → AllByRecursion IsElem elems → lookup (same_place at) (after_elems [] elems) ≡ last_offer at elems }
+    ensures { (at : Place) (elems : List Elem) → AllByRecursion IsElem elems
+        → lookup (same_place at) (after_elems [] elems) ≡ last_offer at elems }
 {}
 
 /// Candidates stay in strict order of their places.
 pub fn order_law()
     ensures start { AreCandidates [] }
-    ensures stay { (held : Candidates) (elem : Elem) → AreCandidates held → IsElem elem → AreCandidates (after_elem held elem) }
+    ensures stay { (held : Candidates) (elem : Elem) → AreCandidates held → IsElem elem
+        → AreCandidates (after_elem held elem) }
 {}
 
 /// Where a prefix has candidates, exactly one of them is chosen: the route of the shortest path, and among those that of the
 /// least peer.
 pub fn choice_law()
-    ensures one { (held : Candidates) (c : Place × Offer) → AreCandidates held → IsHeld held c → (d : Place × Offer) × IsChosen held d × (d.0.prefix ≡ c.0.prefix) }
-    ensures alone { (held : Candidates) (c d : Place × Offer) → AreCandidates held → IsChosen held c → IsChosen held d → c.0.prefix ≡ d.0.prefix → c ≡ d }
-    ensures candidate { (held : Candidates) (c : Place × Offer) → AreCandidates held → IsChosen held c → IsHeld held c }
-    ensures least_path { (held : Candidates) (c d : Place × Offer) → AreCandidates held → IsChosen held c → IsHeld held d → c.0.prefix ≡ d.0.prefix → c.1.path ≤ d.1.path }
-    ensures least_peer { (held : Candidates) (c d : Place × Offer) → AreCandidates held → IsChosen held c → IsHeld held d → c.0.prefix ≡ d.0.prefix → c.1.path ≡ d.1.path → peer_cmp d.0.peer c.0.peer ≡ Less → ⊥ }
+    ensures one { (held : Candidates) (c : Place × Offer) → AreCandidates held → IsHeld held c
+        → (d : Place × Offer) × IsChosen held d × (d.0.prefix ≡ c.0.prefix) }
+    ensures alone { (held : Candidates) (c d : Place × Offer) → AreCandidates held → IsChosen held c
+        → IsChosen held d → c.0.prefix ≡ d.0.prefix → c ≡ d }
+    ensures candidate { (held : Candidates) (c : Place × Offer) → AreCandidates held
+        → IsChosen held c → IsHeld held c }
+    ensures least_path { (held : Candidates) (c d : Place × Offer) → AreCandidates held
+        → IsChosen held c → IsHeld held d → c.0.prefix ≡ d.0.prefix → c.1.path ≤ d.1.path }
+    ensures least_peer { (held : Candidates) (c d : Place × Offer) → AreCandidates held
+        → IsChosen held c → IsHeld held d → c.0.prefix ≡ d.0.prefix → c.1.path ≡ d.1.path
+        → peer_cmp d.0.peer c.0.peer ≡ Less → ⊥ }
 {}
 
 /// The routes stand in strict order of their prefixes, and hold exactly the prefixes with a candidate, each with the next
 /// hop of its chosen one.
 pub fn routes_law()
-    ensures sorted { (held : Candidates) → AreCandidates held → IsStrictlySortedBy prefix_cmp (keys_of (routes_of held)) }
-    ensures held { (held : Candidates) (p : Prefix) → AreCandidates held → is_some (chosen_for held p) ≡ list_any (λ c. same_prefix p c.0.prefix) held }
-    ensures hop { (held : Candidates) (c : Place × Offer) → AreCandidates held → IsChosen held c → chosen_for held c.0.prefix ≡ Some c.1.hop }
+    ensures sorted { (held : Candidates) → AreCandidates held
+        → IsStrictlySortedBy prefix_cmp (keys_of (routes_of held)) }
+    ensures held { (held : Candidates) (p : Prefix) → AreCandidates held
+        → is_some (chosen_for held p) ≡ list_any (λ c. same_prefix p c.0.prefix) held }
+    ensures hop { (held : Candidates) (c : Place × Offer) → AreCandidates held → IsChosen held c
+        → chosen_for held c.0.prefix ≡ Some c.1.hop }
 {}
 
 /// An elementary event changes the route of its prefix alone.
 pub fn elsewhere_law()
-    ensures { (held : Candidates) (elem : Elem) (q : Prefix) → AreCandidates held → IsElem elem → same_prefix (elem_prefix elem) q ≡ false → chosen_for (after_elem held elem) q ≡ chosen_for held q }
+    ensures { (held : Candidates) (elem : Elem) (q : Prefix) → AreCandidates held → IsElem elem
+        → same_prefix (elem_prefix elem) q ≡ false → chosen_for (after_elem held elem) q
+        ≡ chosen_for held q }
 {}
 
 /// Events of what there is come to elementary events of what there is, and candidates stay candidates. Those of events one
 /// after another are those of each, in order.
 pub fn events_law()
-    ensures stay { (held : Candidates) (elems : List Elem) → AreCandidates held → AllByRecursion IsElem elems → AreCandidates (after_elems held elems) }
-    ensures one { (held : Candidates) (event : Event) → AreCandidates held → IsEvent event → AllByRecursion IsElem (elems_of held event) }
-    ensures all { (held : Candidates) (events : List Event) → AreCandidates held → AllByRecursion IsEvent events → AllByRecursion IsElem (elems_after held events) }
-    ensures more { (held : Candidates) (xs ys : List Event) → elems_after held (xs ++ ys) ≡ elems_after held xs ++ elems_after (after_elems held (elems_after held xs)) ys }
+    ensures stay { (held : Candidates) (elems : List Elem) → AreCandidates held
+        → AllByRecursion IsElem elems → AreCandidates (after_elems held elems) }
+    ensures one { (held : Candidates) (event : Event) → AreCandidates held → IsEvent event
+        → AllByRecursion IsElem (elems_of held event) }
+    ensures all { (held : Candidates) (events : List Event) → AreCandidates held
+        → AllByRecursion IsEvent events → AllByRecursion IsElem (elems_after held events) }
+    ensures more { (held : Candidates) (xs ys : List Event)
+        → elems_after held (xs ++ ys) ≡ elems_after held xs
+        ++ elems_after (after_elems held (elems_after held xs)) ys }
 {}

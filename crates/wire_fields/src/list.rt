@@ -28,7 +28,8 @@ pub fn prefixes_of(
     family: Family,
     bytes: &[u8],
 ) -> Result<Vec<Prefix>, Refusal>
-    ensures { GivesInMemory (λ found. map prefix_as found.items) result (prefixes cut family bytes.now) }
+    ensures { GivesInMemory (λ found. map prefix_as found.items) result
+        (prefixes cut family bytes.now) }
 {
     let mut found = Vec::new(alloc);
     let mut rest = bytes;
