@@ -4,9 +4,9 @@ use Rattle.std.specs.Result.{result_unwrap_or}
 use Rattle.address_model.specs.declared.family.Family.{Family}
 use Rattle.address_model.specs.Address.{Prefix}
 use Rattle.fib_addr.specs.Views.{addr_as}
-use Rattle.reading_model.specs.Rules.{attribute_value}
-use Rattle.reading_model.specs.Wire.{prefixes}
-use Rattle.reading_model.specs.Attribute.{ReachAttr, Unreached, Found, Listed}
+use Rattle.wire_model.specs.Rules.{attribute_value}
+use Rattle.wire_model.specs.Wire.{prefixes}
+use Rattle.wire_model.specs.Attribute.{ReachAttr, Unreached, Found, Listed}
 use Rattle.bgp_attrs.specs.declared.multiprotocol.Reach.{Reach}
 use Rattle.bgp_attrs.specs.declared.multiprotocol.Unreach.{Unreach}
 use Rattle.bgp_attrs.specs.declared.list.Attrs.{Attrs}

@@ -3,7 +3,7 @@
 ghost use Rattle.std.specs.Prelude.{◌≡◌, IsTrue, length};
 ghost use Rattle.address_model.specs.declared.family.Family.TheVariants.{V4};
 ghost use Rattle.octet_fields.specs.Gives.{Gives};
-ghost use Rattle.reading_model.specs.Attribute.{full_hop, hop_of, is_hop_length, next_hop_at, rib_hop};
+ghost use Rattle.wire_model.specs.Attribute.{full_hop, hop_of, is_hop_length, next_hop_at, rib_hop};
 ghost use Rattle.fib_addr.specs.Views.{addr_as};
 
 use fib_addr::{Addr, Family};
@@ -34,7 +34,7 @@ fn is_next_hop(family: Family, len: u8) -> bool
 }
 
 /// The next hop behind its length, and what follows it.
-#[tactic(auto, unfolding(reading_model::specs::Attribute::next_hop_at))]
+#[tactic(auto, unfolding(wire_model::specs::Attribute::next_hop_at))]
 pub fn next_hop_of(family: Family, bytes: &[u8]) -> Result<(Addr, &[u8]), u8>
     ensures { Gives (λ x. (addr_as x.0, x.1.now)) result (next_hop_at family bytes.now) }
 {
@@ -47,7 +47,7 @@ pub fn next_hop_of(family: Family, bytes: &[u8]) -> Result<(Addr, &[u8]), u8>
 }
 
 /// The next hop behind AFI and SAFI, which have to name this family.
-#[tactic(auto, unfolding(reading_model::specs::Attribute::full_hop))]
+#[tactic(auto, unfolding(wire_model::specs::Attribute::full_hop))]
 fn next_hop_in_full(wanted: Family, value: &[u8]) -> Result<(Addr, &[u8]), u8>
     ensures { Gives (λ x. (addr_as x.0, x.1.now)) result (full_hop wanted value.now) }
 {
@@ -61,7 +61,7 @@ fn next_hop_in_full(wanted: Family, value: &[u8]) -> Result<(Addr, &[u8]), u8>
 /// The next hop in the MP_REACH_NLRI of a RIB entry: RFC 6396, section 4.3.4 has the next hop's length and the next hop
 /// alone. A value that begins with 0 is RFC 4760's full form, as some daemons write it: no next hop has length 0, and AFI 1
 /// and 2 begin with 0.
-#[tactic(auto, unfolding(reading_model::specs::Attribute::rib_hop))]
+#[tactic(auto, unfolding(wire_model::specs::Attribute::rib_hop))]
 pub fn next_hop_in_rib(family: Family, value: &[u8]) -> Result<(Addr, &[u8]), u8>
     ensures { Gives (λ x. (addr_as x.0, x.1.now)) result (rib_hop family value.now) }
 {

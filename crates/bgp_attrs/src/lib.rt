@@ -15,7 +15,7 @@ mod reach;
 pub use list::{Attrs, read_attrs};
 pub use multiprotocol::{Reach, Unreach};
 pub use path::path_length;
-pub use reading_model::Place;
+pub use wire_model::Place;
 
 #[cfg(test)]
 mod tests;

@@ -3,8 +3,8 @@
 ghost use Rattle.std.specs.Prelude.{◌<◌, ◌^◌, ◌==◌, length, IfOk, bit_and, if◌then◌else◌};
 ghost use Rattle.octet_fields.specs.Field.{number_at};
 ghost use Rattle.octet_fields.specs.Gives.{Gives};
-ghost use Rattle.reading_model.specs.Rules.{attribute_cut};
-ghost use Rattle.reading_model.specs.Attribute.{with_as_path, with_next_hop, with_reach, with_unreach, with_value, attribute_at, attributes};
+ghost use Rattle.wire_model.specs.Rules.{attribute_cut};
+ghost use Rattle.wire_model.specs.Attribute.{with_as_path, with_next_hop, with_reach, with_unreach, with_value, attribute_at, attributes};
 ghost use Rattle.bgp_attrs.specs.Views.{found_as, listed_as};
 
 use crate::hops::next_hop;
@@ -13,8 +13,8 @@ use crate::path::path_length;
 use crate::reach::{reach_in_rib, reach_in_update, unreach_in_update};
 use fib_addr::Addr;
 use octet_fields::{octet, octets, u16_at};
-use reading_model::Place;
 use wire_fields::{family, rule};
+use wire_model::Place;
 
 const AS_PATH: u8 = 2;
 
@@ -53,7 +53,7 @@ struct Found<'a> {
 }
 
 /// An AS_PATH; the first counts (RFC 7606, section 3 (g)).
-#[tactic(auto, unfolding(reading_model::specs::Attribute::with_as_path))]
+#[tactic(auto, unfolding(wire_model::specs::Attribute::with_as_path))]
 fn with_as_path<'a>(before: Found<'a>, place: Place, value: &[u8]) -> Result<Found<'a>, u8>
     requires { length value.now < 2 ^ 32 }
     ensures { Gives found_as result (with_as_path place (found_as before.entry) value.now) }
@@ -70,7 +70,7 @@ fn with_as_path<'a>(before: Found<'a>, place: Place, value: &[u8]) -> Result<Fou
 }
 
 /// A NEXT_HOP; the first counts (RFC 7606, section 3 (g)).
-#[tactic(auto, unfolding(reading_model::specs::Attribute::with_next_hop))]
+#[tactic(auto, unfolding(wire_model::specs::Attribute::with_next_hop))]
 fn with_next_hop<'a>(before: Found<'a>, value: &[u8]) -> Result<Found<'a>, u8>
     ensures { Gives found_as result (with_next_hop (found_as before.entry) value.now) }
 {
@@ -85,7 +85,7 @@ fn with_next_hop<'a>(before: Found<'a>, value: &[u8]) -> Result<Found<'a>, u8>
 }
 
 /// An MP_REACH_NLRI.
-#[tactic(auto, unfolding(reading_model::specs::Attribute::with_reach))]
+#[tactic(auto, unfolding(wire_model::specs::Attribute::with_reach))]
 fn with_mp_reach<'a>(before: Found<'a>, place: Place, value: &'a [u8]) -> Result<Found<'a>, u8>
     ensures { Gives found_as result (with_reach place (found_as before.entry) value.now) }
 {
@@ -104,7 +104,7 @@ fn with_mp_reach<'a>(before: Found<'a>, place: Place, value: &'a [u8]) -> Result
 }
 
 /// An MP_UNREACH_NLRI, which a RIB entry doesn't use.
-#[tactic(auto, unfolding(reading_model::specs::Attribute::with_unreach))]
+#[tactic(auto, unfolding(wire_model::specs::Attribute::with_unreach))]
 fn with_mp_unreach<'a>(before: Found<'a>, place: Place, value: &'a [u8]) -> Result<Found<'a>, u8>
     ensures { Gives found_as result (with_unreach place (found_as before.entry) value.now) }
 {
@@ -123,7 +123,7 @@ fn with_mp_unreach<'a>(before: Found<'a>, place: Place, value: &'a [u8]) -> Resu
 }
 
 /// An attribute of this type.
-#[tactic(auto, unfolding(reading_model::specs::Attribute::with_value))]
+#[tactic(auto, unfolding(wire_model::specs::Attribute::with_value))]
 fn with_attribute<'a>(
     before: Found<'a>,
     place: Place,
@@ -156,7 +156,7 @@ fn value_len(flags: u8, bytes: &[u8]) -> Result<(u16, &[u8]), u8>
 }
 
 /// What the list gives up to and with the attribute at the front, and what follows the attribute.
-#[tactic(auto, unfolding(reading_model::specs::Attribute::attribute_at))]
+#[tactic(auto, unfolding(wire_model::specs::Attribute::attribute_at))]
 fn attribute<'a>(
     before: Found<'a>,
     place: Place,
@@ -179,7 +179,7 @@ fn attribute<'a>(
 }
 
 /// What an attribute list gives at this place, or the rule that its first wrong field breaks.
-#[tactic(auto, unfolding(reading_model::specs::Attribute::attributes))]
+#[tactic(auto, unfolding(wire_model::specs::Attribute::attributes))]
 pub fn read_attrs(bytes: &[u8], place: Place) -> Result<Attrs<'_>, u8>
     ensures { Gives listed_as result (attributes place bytes.now) }
 {

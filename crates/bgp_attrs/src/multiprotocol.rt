@@ -2,8 +2,8 @@
 
 ghost use Rattle.std.specs.Prelude.{◌≡◌, true};
 ghost use Rattle.std.specs.Result.{is_ok};
-ghost use Rattle.reading_model.specs.Rules.{attribute_value};
-ghost use Rattle.reading_model.specs.Wire.{prefixes};
+ghost use Rattle.wire_model.specs.Rules.{attribute_value};
+ghost use Rattle.wire_model.specs.Wire.{prefixes};
 
 use fib_addr::{Addr, Family};
 

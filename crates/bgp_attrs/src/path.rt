@@ -2,7 +2,7 @@
 
 ghost use Rattle.std.specs.Prelude.{◌≡◌, ◌+◌, ◌≤◌, ◌<◌, ◌^◌, length, IfOk};
 ghost use Rattle.octet_fields.specs.Gives.{Gives};
-ghost use Rattle.reading_model.specs.Path.{segment_length, segment_at, as_size, path_of};
+ghost use Rattle.wire_model.specs.Path.{segment_length, segment_at, as_size, path_of};
 
 use octet_fields::{octet, octets};
 use wire_fields::rule;
@@ -28,7 +28,7 @@ fn weight_of(kind: u8, count: u8) -> u32
 }
 
 /// The length with one segment more, and what follows the segment.
-#[tactic(auto, unfolding(reading_model::specs::Path::segment_at))]
+#[tactic(auto, unfolding(wire_model::specs::Path::segment_at))]
 fn segment(so_far: u32, bytes: &[u8], wide: bool) -> Result<(u32, &[u8]), u8>
     requires { so_far + length bytes.now < 2 ^ 32 }
     ensures value { Gives (λ x. (x.0, x.1.now)) result (segment_at

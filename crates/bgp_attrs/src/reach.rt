@@ -2,7 +2,7 @@
 
 ghost use Rattle.std.specs.Prelude.{◌≡◌, option_map};
 ghost use Rattle.octet_fields.specs.Gives.{Gives};
-ghost use Rattle.reading_model.specs.Attribute.{reach_in, reach_of_rib, rib_hop, unreach_in};
+ghost use Rattle.wire_model.specs.Attribute.{reach_in, reach_of_rib, rib_hop, unreach_in};
 ghost use Rattle.bgp_attrs.specs.Views.{reached, unreached};
 
 use crate::hops::{next_hop_in_rib, next_hop_of};
@@ -12,7 +12,7 @@ use octet_fields::octet;
 use wire_fields::{check_prefixes, rule};
 
 /// MP_REACH_NLRI of a RIB entry; one that can't be read gives nothing.
-#[tactic(auto, unfolding(reading_model::specs::Wire::prefixes, octet_fields::specs::Field::steps))]
+#[tactic(auto, unfolding(wire_model::specs::Wire::prefixes, octet_fields::specs::Field::steps))]
 pub fn reach_in_rib<'a>(family: Family, value: &'a [u8]) -> Option<Reach<'a>>
     ensures { option_map reached result ≡ reach_of_rib family (rib_hop family value.now) }
 {
@@ -27,7 +27,7 @@ pub fn reach_in_rib<'a>(family: Family, value: &'a [u8]) -> Option<Reach<'a>>
 }
 
 /// MP_REACH_NLRI of an UPDATE behind its AFI and SAFI; another family gives nothing.
-#[tactic(auto, unfolding(reading_model::specs::Attribute::reach_in))]
+#[tactic(auto, unfolding(wire_model::specs::Attribute::reach_in))]
 pub fn reach_in_update(family: Option<Family>, bytes: &[u8]) -> Result<Option<Reach<'_>>, u8>
     ensures { Gives (λ x. option_map reached x) result (reach_in family bytes.now) }
 {
@@ -41,7 +41,7 @@ pub fn reach_in_update(family: Option<Family>, bytes: &[u8]) -> Result<Option<Re
 }
 
 /// MP_UNREACH_NLRI of an UPDATE behind its AFI and SAFI; another family gives nothing.
-#[tactic(auto, unfolding(reading_model::specs::Attribute::unreach_in))]
+#[tactic(auto, unfolding(wire_model::specs::Attribute::unreach_in))]
 pub fn unreach_in_update(family: Option<Family>, nlri: &[u8]) -> Result<Option<Unreach<'_>>, u8>
     ensures { Gives (λ x. option_map unreached x) result (unreach_in family nlri.now) }
 {

@@ -5,7 +5,7 @@ use Rattle.route_model.specs.Events.{Elem, Event, Peer}
 use Rattle.route_model.specs.Choice.{Candidates, after_elem, after_elems, elems_after}
 use Rattle.route_model.proofs.Elems.{elems_more}
 use Rattle.octet_fields.specs.Field.{◌>>=◌, steps, until_end}
-use Rattle.reading_model.specs.Record.{Record, record_at}
+use Rattle.wire_model.specs.Record.{Record, record_at}
 use Rattle.reading_model.specs.Input.{Progress, Stopped, start, record_in, counted, or_stop, read_record, input}
 use Rattle.reading_model.specs.Reading.{ReadsEvents}
 use Rattle.feed_model.specs.Feed.{hops_after, full_at}

@@ -3,8 +3,8 @@ use Rattle.std.proofs.Common.{◌≡◌, ℕ, ◌+◌, ◌≤◌, Bool, cond, Li
 use Rattle.std.proofs.lemmas.Bool.{le-ltb}
 use Rattle.std.proofs.lemmas.List.{drop-drop}
 use Rattle.octet_fields.specs.Field.{octets_at, number_at}
-use Rattle.reading_model.specs.Record.{record_at}
-use Rattle.reading_model.proofs.More.{guard_ok}
+use Rattle.wire_model.specs.Record.{record_at}
+use Rattle.wire_model.proofs.More.{guard_ok}
 
 -- what a field leaves
 leaves : {A : Type 0} (b : Bool) (rule : ℕ) (x y : A) (rest after : List ℕ) → cond {A = Result (A × List ℕ) ℕ} b (Err rule) (Ok (x, rest)) ≡ Ok (y, after) → after ≡ rest

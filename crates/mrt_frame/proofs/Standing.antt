@@ -3,9 +3,9 @@ use Rattle.std.proofs.Common.{◌≡◌, ℕ, zero, suc, ◌+◌, ◌-◌, ◌<�
 use Rattle.std.specs.Prelude.{◌⊎◌}
 use Rattle.std.proofs.lemmas.Bool.{ne_eqb}
 use Rattle.std.proofs.lemmas.List.{append-nil, length-append, take_rest, drop-drop}
-use Rattle.reading_model.specs.Record.{Record, Fault, record_at, records_in}
-use Rattle.reading_model.specs.Pieces.{TakesRecords, Breaks}
-use Rattle.reading_model.proofs.More.{record_more, takes_on, stays_too_long, ends_cut, ends_so}
+use Rattle.wire_model.specs.Record.{Record, Fault, record_at, records_in}
+use Rattle.wire_model.specs.Pieces.{TakesRecords, Breaks}
+use Rattle.wire_model.proofs.More.{record_more, takes_on, stays_too_long, ends_cut, ends_so}
 use Rattle.mrt_frame.specs.declared.Framer.{Framer}
 use Rattle.mrt_frame.specs.Framing.{framer_left, framer_count, framer_refusal, left_before, FramerStands, TakesRecord, FramerTakesNothing, FramerRefuses, framer_next_in, framer_next}
 

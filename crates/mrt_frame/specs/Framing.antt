@@ -2,8 +2,8 @@
 use Rattle.std.specs.Prelude.{◌≡◌, ℕ, ◌+◌, ◌<◌, ◌⊎◌, ◌==◌, if◌then◌else◌, List, [], ◌∷◌, ◌++◌, length, drop, Option, Some, None, option_map, IfSome, IfNone, Result, Ok, Err}
 use Rattle.std.specs.Borrow.{MutBor, Fml}
 use Rattle.std.specs.Io.BufRead.{Rests}
-use Rattle.reading_model.specs.Record.{Record, Fault, record_at, records_in}
-use Rattle.reading_model.specs.Pieces.{TakesRecords, Breaks}
+use Rattle.wire_model.specs.Record.{Record, Fault, record_at, records_in}
+use Rattle.wire_model.specs.Pieces.{TakesRecords, Breaks}
 use Rattle.mrt_frame.specs.Records.{record_of, fault_of}
 use Rattle.mrt_frame.specs.contracts.Framer.{the_row}
 use Rattle.mrt_frame.specs.declared.Framed.{Framed}

@@ -1,6 +1,6 @@
 -- Records, refusals and answers of the code, without where they lie in memory.
 use Rattle.std.specs.Prelude.{ℕ, ◌+◌, List, take, drop, Result, Ok, Err}
-use Rattle.reading_model.specs.Record.{Record, Fault}
+use Rattle.wire_model.specs.Record.{Record, Fault}
 use Rattle.mrt_frame.specs.declared.Framed.{Framed}
 use Rattle.mrt_frame.specs.declared.Header.{Header}
 use Rattle.mrt_frame.specs.declared.Malformed.{Malformed}

@@ -10,7 +10,7 @@
 
 ghost use Rattle.std.specs.Prelude.{◌≡◌, ◌+◌, ◌≤◌, ◌<◌, [], length, vec_len, IfErr, IfOk, OnErr, OnOk, None, option_map};
 ghost use Rattle.octet_fields.specs.Gives.{Gives};
-ghost use Rattle.reading_model.specs.Record.{record_at};
+ghost use Rattle.wire_model.specs.Record.{record_at};
 ghost use Rattle.mrt_frame.specs.Records.{answer_of, record_behind, record_of};
 
 use octet_fields::{octets, u16_at, u32_at};
@@ -63,7 +63,7 @@ struct Header {
 }
 
 /// The header at the front, where the whole record is there; or the rule that it breaks.
-#[tactic(auto, unfolding(reading_model::specs::Record::record_at))]
+#[tactic(auto, unfolding(wire_model::specs::Record::record_at))]
 fn read_header(bytes: &[u8]) -> Result<Header, u8>
     ensures value { Gives (record_behind bytes.now) result (record_at bytes.now) }
     ensures whole { IfOk result (λ h. 12 + h.length ≤ length bytes.now) }

@@ -3,7 +3,7 @@ use Rattle.std.proofs.Common.{◌≡◌, ℕ, ◌+◌, List, [], ◌∷◌, ◌+
 use Rattle.std.proofs.lemmas.Bool.{ne_eqb}
 use Rattle.route_model.specs.Events.{Peer, Event}
 use Rattle.octet_fields.specs.Field.{◌>>=◌}
-use Rattle.reading_model.specs.Record.{Record, Fault, record_at, at_record}
+use Rattle.wire_model.specs.Record.{Record, Fault, record_at, at_record}
 use Rattle.reading_model.specs.Input.{Progress, start, record_in, counted, input}
 use Rattle.reading_model.specs.Reading.{ReadsEvents, ReadsNo}
 use Rattle.reading_model.proofs.Reading.{reading_starts, reading_takes, reading_breaks, reading_too_long, reading_ends_cut, reading_ends}

@@ -1,8 +1,8 @@
 -- One record of a framer, read behind a peer table.
 use Rattle.std.specs.Prelude.{◌≡◌, ℕ, ◌+◌, ◌<◌, ◌⊎◌, List, length, map, Option, Some, None, Result, Ok, Err}
 use Rattle.route_model.specs.Events.{Event}
-use Rattle.reading_model.specs.Rules.{header_cut, body_cut, too_long}
-use Rattle.reading_model.specs.Record.{Record, record_at}
+use Rattle.wire_model.specs.Rules.{header_cut, body_cut, too_long}
+use Rattle.wire_model.specs.Record.{Record, record_at}
 use Rattle.reading_model.specs.Input.{record_in}
 use Rattle.mrt_frame.specs.Framing.{framer_left, framer_count, framer_refusal}
 use Rattle.mrt_frame.specs.declared.Framer.{Framer}

@@ -3,8 +3,8 @@ use Rattle.std.specs.Prelude.{◌≡◌, ℕ, ◌+◌, ◌<◌, ◌==◌, if◌t
 use Rattle.std.specs.declared.vec.Vec.{Vec}
 use Rattle.route_model.specs.Events.{Peer, Event}
 use Rattle.octet_fields.specs.Field.{◌>>=◌}
-use Rattle.reading_model.specs.Rules.{too_long}
-use Rattle.reading_model.specs.Record.{Record, Fault, record_at, at_record}
+use Rattle.wire_model.specs.Rules.{too_long}
+use Rattle.wire_model.specs.Record.{Record, Fault, record_at, at_record}
 use Rattle.reading_model.specs.Input.{Progress, record_in, input}
 use Rattle.reading_model.specs.Reading.{ReadsEvents, ReadsNo}
 use Rattle.mrt_frame.specs.Framing as framing

@@ -2,7 +2,7 @@
 
 ghost use Rattle.octet_fields.specs.Field.{number_at};
 ghost use Rattle.octet_fields.specs.Gives.{Gives};
-ghost use Rattle.reading_model.specs.Path.{as_size};
+ghost use Rattle.wire_model.specs.Path.{as_size};
 
 use octet_fields::{u16_at, u32_at};
 

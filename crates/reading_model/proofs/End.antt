@@ -6,14 +6,14 @@ use Rattle.address_model.specs.declared.family.Family.{Family}
 use Rattle.address_model.specs.Bits.{number}
 use Rattle.address_model.specs.Width.{width}
 use Rattle.octet_fields.specs.Field.{◌>>=◌, refuse, octet_at, octets_at, number_at, one_more, steps, until_end}
-use Rattle.reading_model.specs.declared.place.Place.{Place}
-use Rattle.reading_model.specs.Wire.{octets_for, prefix_at}
-use Rattle.reading_model.specs.Path.{segment_at}
-use Rattle.reading_model.specs.Attribute.{Found, is_second, with_value, attribute_at}
-use Rattle.reading_model.specs.Record.{next_record}
+use Rattle.wire_model.specs.declared.place.Place.{Place}
+use Rattle.wire_model.specs.Wire.{octets_for, prefix_at}
+use Rattle.wire_model.specs.Path.{segment_at}
+use Rattle.wire_model.specs.Attribute.{Found, is_second, with_value, attribute_at}
+use Rattle.wire_model.specs.Record.{next_record}
 use Rattle.reading_model.specs.Input.{read_record}
-use Rattle.reading_model.specs.End.{ReadsToEnd}
-use Rattle.reading_model.proofs.More.{Shortens, records_shorten, until_end_next, until_end_fault}
+use Rattle.wire_model.specs.End.{ReadsToEnd}
+use Rattle.wire_model.proofs.More.{Shortens, records_shorten, until_end_next, until_end_fault}
 use Rattle.reading_model.proofs.Reading.{shortens}
 use Rattle.reading_model.proofs.Told.{then_any, then_meets}
 

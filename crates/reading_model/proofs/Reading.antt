@@ -2,10 +2,10 @@
 use Rattle.std.proofs.Common.{◌≡◌, ℕ, ◌<◌, List, [], ◌++◌, length, Option, Result, Ok, Err, refl, sym, ap, ◌∙◌, append_assoc, append-nil, length-append, arith}
 use Rattle.route_model.specs.Events.{Peer, Event}
 use Rattle.octet_fields.specs.Field.{◌>>=◌, steps, until_end}
-use Rattle.reading_model.specs.Record.{Record, record_at}
+use Rattle.wire_model.specs.Record.{Record, record_at}
 use Rattle.reading_model.specs.Input.{Progress, or_stop, record_in, counted, read_record, input}
 use Rattle.reading_model.specs.Reading.{ReadingStarts, ReadingFeeds, ReadingTakes, ReadingBreaks, ReadingTooLong, ReadingStays, ReadingEndsCut, ReadingEnds}
-use Rattle.reading_model.proofs.More.{Shortens, bind_ok, record_more, record_over, until_end_next, until_end_fault}
+use Rattle.wire_model.proofs.More.{Shortens, bind_ok, record_more, record_over, until_end_next, until_end_fault}
 
 went_on : {A : Type 0} (read : Progress) (r : Result A ℕ) (x : A) → or_stop read r ≡ Ok x → r ≡ Ok x
 went_on read (Ok y) x e = let same : y ≡ x = cc in ap (λ (z : _). Ok z) same

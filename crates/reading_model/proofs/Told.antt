@@ -13,15 +13,15 @@ use Rattle.address_model.proofs.BitLaws.{length-bits_of}
 use Rattle.route_model.specs.Events.{Peer, IsPeer, Event, Down, IsEvent}
 use Rattle.route_model.proofs.Elems.{all_more}
 use Rattle.octet_fields.specs.Field.{◌>>=◌, refuse, octet_at, octets_at, number_at, all_read, one_more, times, steps, until_end}
-use Rattle.reading_model.specs.declared.place.Place.{Place}
-use Rattle.reading_model.specs.declared.place.Place.TheVariants.{Rib, Update}
+use Rattle.wire_model.specs.declared.place.Place.{Place}
+use Rattle.wire_model.specs.declared.place.Place.TheVariants.{Rib, Update}
 use Rattle.reading_model.specs.declared.session.Session.{Session}
 use Rattle.reading_model.specs.declared.session.Session.TheVariants.{StateChange, Message}
-use Rattle.reading_model.specs.Wire.{octets_for, address_at, prefix_at, prefixes, family_of, family_at}
-use Rattle.reading_model.specs.Attribute.{ReachAttr, Unreached, Found, nothing_found, hop_of, is_hop_length, next_hop_at, is_of, full_hop, rib_hop, reach_of_rib, reach_in, unreach_in, keep_first, with_as_path, next_hop_in, with_next_hop, with_reach, with_unreach, with_value, is_second, attribute_at, Listed, attributes}
+use Rattle.wire_model.specs.Wire.{octets_for, address_at, prefix_at, prefixes, family_of, family_at}
+use Rattle.wire_model.specs.Attribute.{ReachAttr, Unreached, Found, nothing_found, hop_of, is_hop_length, next_hop_at, is_of, full_hop, rib_hop, reach_of_rib, reach_in, unreach_in, keep_first, with_as_path, next_hop_in, with_next_hop, with_reach, with_unreach, with_value, is_second, attribute_at, Listed, attributes}
 use Rattle.reading_model.specs.Rib.{peer_at, peer_table, entry_hop, event_of, indexed, rib_entry_at, rib}
 use Rattle.reading_model.specs.Update.{withdrawn, routes, unreach_events, reach_events, update, message, is_lost, state_change, session_of, session_events, session_behind, session_in, bgp4mp}
-use Rattle.reading_model.specs.Record.{Record, record_at}
+use Rattle.wire_model.specs.Record.{Record, record_at}
 use Rattle.reading_model.specs.Input.{Progress, Stopped, start, rib_behind, is_dump, is_session, record_in, counted, or_stop, read_record, input}
 use Rattle.reading_model.specs.Reading.{ReadsEvents}
 

@@ -4,8 +4,8 @@ use Rattle.address_model.specs.declared.family.Family.{Family}
 use Rattle.address_model.specs.declared.family.Family.TheVariants.{V4, V6}
 use Rattle.route_model.specs.Events.{Peer, Event}
 use Rattle.octet_fields.specs.Field.{◌>>=◌, until_end}
-use Rattle.reading_model.specs.Rules.{no_peer_table}
-use Rattle.reading_model.specs.Record.{Record, record_at}
+use Rattle.wire_model.specs.Rules.{no_peer_table}
+use Rattle.wire_model.specs.Record.{Record, record_at}
 use Rattle.reading_model.specs.Rib.{peer_table, rib}
 use Rattle.reading_model.specs.Update.{bgp4mp}
 

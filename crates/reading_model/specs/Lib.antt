@@ -1,11 +1,4 @@
-pub mod Rules
-pub mod Record
-pub mod Pieces
-pub mod Wire
-pub mod Path
-pub mod Attribute
 pub mod Rib
 pub mod Update
 pub mod Input
 pub mod Reading
-pub mod End

@@ -2,8 +2,8 @@
 use Rattle.std.specs.Prelude.{◌≡◌, ℕ, ◌<◌, List, [], ◌++◌, length, Option, Ok, Err}
 use Rattle.route_model.specs.Events.{Peer, Event}
 use Rattle.octet_fields.specs.Field.{until_end}
-use Rattle.reading_model.specs.Rules.{too_long}
-use Rattle.reading_model.specs.Record.{Record, record_at}
+use Rattle.wire_model.specs.Rules.{too_long}
+use Rattle.wire_model.specs.Record.{Record, record_at}
 use Rattle.reading_model.specs.Input.{Progress, Stopped, start, record_in, counted, read_record, input}
 
 -- Of the octets fed this much was read, and the octets left follow, whatever comes after.

@@ -6,10 +6,10 @@ use Rattle.address_model.specs.declared.family.Family.TheVariants.{V4, V6}
 use Rattle.address_model.specs.Address.{Address, Prefix}
 use Rattle.route_model.specs.Events.{Peer, Event, Announce, Withdraw}
 use Rattle.octet_fields.specs.Field.{◌>>=◌, octet_at, octets_at, number_at, all_read, one_more, times}
-use Rattle.reading_model.specs.declared.place.Place.TheVariants.{Rib}
-use Rattle.reading_model.specs.Rules.{peer_table_form, peer_index, rib_form}
-use Rattle.reading_model.specs.Wire.{address_at, prefix_at}
-use Rattle.reading_model.specs.Attribute.{ReachAttr, Listed, attributes}
+use Rattle.wire_model.specs.declared.place.Place.TheVariants.{Rib}
+use Rattle.wire_model.specs.Rules.{peer_table_form, peer_index, rib_form}
+use Rattle.wire_model.specs.Wire.{address_at, prefix_at}
+use Rattle.wire_model.specs.Attribute.{ReachAttr, Listed, attributes}
 
 -- ---- PEER_INDEX_TABLE (4.3.1)
 

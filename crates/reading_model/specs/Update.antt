@@ -5,13 +5,13 @@ use Rattle.address_model.specs.declared.family.Family.TheVariants.{V4}
 use Rattle.address_model.specs.Address.{Address, Prefix}
 use Rattle.route_model.specs.Events.{Peer, Event, Withdraw, Down}
 use Rattle.octet_fields.specs.Field.{◌>>=◌, refuse, octet_at, octets_at, number_at, all_read}
-use Rattle.reading_model.specs.declared.place.Place.TheVariants.{Update}
+use Rattle.wire_model.specs.declared.place.Place.TheVariants.{Update}
 use Rattle.reading_model.specs.declared.session.Session.{Session}
 use Rattle.reading_model.specs.declared.session.Session.TheVariants.{StateChange, Message}
-use Rattle.reading_model.specs.Rules.{session_form, message_length, update_lengths}
-use Rattle.reading_model.specs.Wire.{address_at, prefixes, family_of}
-use Rattle.reading_model.specs.Path.{as_size}
-use Rattle.reading_model.specs.Attribute.{ReachAttr, Unreached, attributes}
+use Rattle.wire_model.specs.Rules.{session_form, message_length, update_lengths}
+use Rattle.wire_model.specs.Wire.{address_at, prefixes, family_of}
+use Rattle.wire_model.specs.Path.{as_size}
+use Rattle.wire_model.specs.Attribute.{ReachAttr, Unreached, attributes}
 use Rattle.reading_model.specs.Rib.{event_of}
 
 -- ---- UPDATE

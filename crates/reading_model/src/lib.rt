@@ -1,10 +1,9 @@
-//! The model of reading: MRT input as functions on lists of octets, by cases in the order of the fields.
+//! The model of reading: what the records of MRT input say, event by event, as functions on lists of octets.
 //!
 //! The definitions stand in `specs/`. Each function here is a law: it does nothing, and its clauses hold for all values.
-//! `Place` and `Session` are declared here since the definitions speak of them.
+//! `Session` is declared here since the definitions speak of it.
 #![tactic(auto)]
 
-mod place;
 mod session;
 
 ghost use Rattle.std.specs.Prelude.{◌≡◌, ℕ, List, Ok, Err};
@@ -12,31 +11,18 @@ ghost use Rattle.std.specs.List.{AllByRecursion};
 ghost use Rattle.address_model.specs.declared.family.Family.{Family};
 ghost use Rattle.route_model.specs.Events.{IsEvent};
 ghost use Rattle.octet_fields.specs.Field.{one_more};
-ghost use Rattle.reading_model.specs.Wire.{prefix_at};
-ghost use Rattle.reading_model.specs.Path.{segment_at};
-ghost use Rattle.reading_model.specs.Attribute.{attribute_at};
-ghost use Rattle.reading_model.specs.Record.{next_record};
+ghost use Rattle.wire_model.specs.Wire.{prefix_at};
+ghost use Rattle.wire_model.specs.declared.place.Place.{Place};
+ghost use Rattle.wire_model.specs.Path.{segment_at};
+ghost use Rattle.wire_model.specs.Attribute.{attribute_at};
+ghost use Rattle.wire_model.specs.Record.{next_record};
 ghost use Rattle.reading_model.specs.Input.{Progress, Stopped, read_record, input};
-ghost use Rattle.reading_model.specs.End.{ReadsToEnd};
-ghost use Rattle.reading_model.specs.Pieces.{StartsSo, FeedsOn, TakesOn, StaysTooLong, StaysBroken, EndsCut, EndsSo, KeepsFront};
+ghost use Rattle.wire_model.specs.End.{ReadsToEnd};
 ghost use Rattle.reading_model.specs.Reading.{ReadsEvents, ReadingStarts, ReadingFeeds, ReadingTakes, ReadingBreaks, ReadingTooLong, ReadingStays, ReadingEndsCut, ReadingEnds};
 
-pub use place::Place;
 pub use session::Session;
 
-/// An input may come in pieces: what was taken of it and what is left determine what it is, however it was cut.
-pub fn in_pieces()
-    ensures starts { StartsSo }
-    ensures feeds { FeedsOn }
-    ensures takes { TakesOn }
-    ensures too_long { StaysTooLong }
-    ensures broken { StaysBroken }
-    ensures ends_cut { EndsCut }
-    ensures ends { EndsSo }
-    ensures front { KeepsFront }
-{}
-
-/// The same with all that the records say: what was read and what is left determine what the input says.
+/// An input may come in pieces: what was read of it and what is left determine what it says, however it was cut.
 pub fn reading_in_pieces()
     ensures starts { ReadingStarts }
     ensures feeds { ReadingFeeds }

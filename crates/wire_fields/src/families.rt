@@ -2,7 +2,7 @@
 
 ghost use Rattle.std.specs.Prelude.{◌≡◌, ◌<◌};
 ghost use Rattle.octet_fields.specs.Gives.{Gives};
-ghost use Rattle.reading_model.specs.Wire as model;
+ghost use Rattle.wire_model.specs.Wire as model;
 ghost use Rattle.fib_addr.specs.Views.{addr_as};
 
 use crate::rule::ATTRIBUTE_VALUE;
@@ -26,7 +26,7 @@ pub fn family_of(afi: u16) -> Option<Family>
 /// The family that AFI and SAFI name, `None` where the AFI is unknown or the SAFI isn't unicast; and what follows them.
 ///
 /// A cut breaks `ATTRIBUTE_VALUE`.
-#[tactic(auto, unfolding(reading_model::specs::Wire::family_at))]
+#[tactic(auto, unfolding(wire_model::specs::Wire::family_at))]
 pub fn family(bytes: &[u8]) -> Result<(Option<Family>, &[u8]), u8>
     ensures { Gives (λ x. (x.0, x.1.now)) result (model.family_at bytes.now) }
 {
@@ -41,7 +41,7 @@ pub fn family(bytes: &[u8]) -> Result<(Option<Family>, &[u8]), u8>
 }
 
 /// An address of as many octets as its family has, and what follows it. A cut breaks the rule.
-#[tactic(auto, unfolding(reading_model::specs::Wire::address_at))]
+#[tactic(auto, unfolding(wire_model::specs::Wire::address_at))]
 pub fn address(rule: u8, family: Family, bytes: &[u8]) -> Result<(Addr, &[u8]), u8>
     ensures { Gives (λ x. (addr_as x.0, x.1.now)) result (model.address_at rule family bytes.now) }
 {

@@ -1,7 +1,7 @@
 //! What attribute lists, UPDATE messages and MRT records have in common: addresses, prefixes and families on the wire, and
 //! the rules of reading by name.
 //!
-//! Each reader takes its field from the front, and stands against its definition in `reading_model::specs::Wire`. The
+//! Each reader takes its field from the front, and stands against its definition in `wire_model::specs::Wire`. The
 //! rule that a cut breaks is handed in where it depends on the place. All cost what they read, and only `prefixes_of` takes
 //! memory.
 #![tactic(auto)]

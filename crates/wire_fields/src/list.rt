@@ -1,7 +1,7 @@
 //! Prefixes to the end of their octets.
 
 ghost use Rattle.std.specs.Prelude.{map};
-ghost use Rattle.reading_model.specs.Wire.{prefixes};
+ghost use Rattle.wire_model.specs.Wire.{prefixes};
 ghost use Rattle.fib_addr.specs.Views.{prefix_as};
 ghost use Rattle.wire_fields.specs.Gives.{GivesInMemory, Passes};
 

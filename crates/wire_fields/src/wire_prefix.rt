@@ -2,7 +2,7 @@
 
 ghost use Rattle.std.specs.Prelude.{ℕ, ◌≤◌, ◌<◌, length, IfOk};
 ghost use Rattle.octet_fields.specs.Gives.{Gives};
-ghost use Rattle.reading_model.specs.Wire.{prefix_at};
+ghost use Rattle.wire_model.specs.Wire.{prefix_at};
 ghost use Rattle.fib_addr.specs.Views.{prefix_as};
 ghost use Rattle.wire_fields.specs.Gives.{GivesPrefix};
 
@@ -23,7 +23,7 @@ pub enum WireFault {
 
 /// The prefix at the front (RFC 4271, section 4.3), and how many octets it takes: its length in bits, and the fewest octets
 /// that hold them. Bits past the length are dropped.
-#[tactic(auto, unfolding(reading_model::specs::Wire::prefix_at))]
+#[tactic(auto, unfolding(wire_model::specs::Wire::prefix_at))]
 pub fn read_wire_prefix(bytes: &[u8], family: Family) -> Result<(Prefix, usize), WireFault>
     ensures value { (cut : ℕ) → GivesPrefix cut bytes.now result (prefix_at cut family bytes.now) }
     ensures some { IfOk result (λ x. 0 < x.1) }

@@ -1,6 +1,6 @@
 use Rattle.std.proofs.Common.{refl}
 use Rattle.std.proofs.lemmas.Result.{err_from_is_err_and}
-use Rattle.reading_model.specs.Attribute.{attributes}
+use Rattle.wire_model.specs.Attribute.{attributes}
 use Rattle.octet_fields.proofs.Steps.{left_after, left_at_fault, left_at_end}
 use Rattle.bgp_attrs.proofs.list.read_attrs.Goals as goal
 

@@ -1,6 +1,6 @@
 use Rattle.std.proofs.Common.{length}
 use Rattle.octet_fields.specs.Field.{until_end}
-use Rattle.reading_model.specs.Attribute.{attribute_at, nothing_found}
+use Rattle.wire_model.specs.Attribute.{attribute_at, nothing_found}
 use Rattle.bgp_attrs.specs.Views.{found_as}
 use Rattle.octet_fields.proofs.Steps.{Left}
 use Rattle.bgp_attrs.proofs.list.read_attrs.Given as goal

@@ -1,6 +1,6 @@
 use Rattle.std.proofs.Common.{arith}
 use Rattle.std.proofs.lemmas.Result.{err_from_is_err_and}
-use Rattle.reading_model.specs.Path.{path_of}
+use Rattle.wire_model.specs.Path.{path_of}
 use Rattle.octet_fields.proofs.Steps.{left_at_start, left_after, left_at_fault, left_at_end}
 use Rattle.bgp_attrs.proofs.path.path_length.Goals as goal
 

@@ -1,5 +1,5 @@
 use Rattle.std.proofs.Common.{◌+◌, ◌≤◌, length}
-use Rattle.reading_model.specs.Path.{as_size, segment_at, path_of}
+use Rattle.wire_model.specs.Path.{as_size, segment_at, path_of}
 use Rattle.octet_fields.proofs.Steps.{Left}
 use Rattle.bgp_attrs.proofs.path.path_length.Given as goal
 

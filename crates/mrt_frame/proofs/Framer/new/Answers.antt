@@ -1,5 +1,5 @@
 use Rattle.std.proofs.Common.{[], refl}
-use Rattle.reading_model.proofs.More.{starts_so}
+use Rattle.wire_model.proofs.More.{starts_so}
 use Rattle.mrt_frame.proofs.Standing.{stands_on}
 use Rattle.mrt_frame.proofs.Framer.new.Goals as goal
 

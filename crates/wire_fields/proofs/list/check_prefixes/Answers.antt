@@ -1,6 +1,6 @@
 use Rattle.std.proofs.Common.{[]}
 use Rattle.std.proofs.lemmas.Result.{err_from_is_err_and}
-use Rattle.reading_model.specs.Wire.{prefixes}
+use Rattle.wire_model.specs.Wire.{prefixes}
 use Rattle.octet_fields.proofs.Steps.{left_at_start, left_at_end, one_more_left, one_more_fault}
 use Rattle.wire_fields.proofs.list.check_prefixes.Goals as goal
 

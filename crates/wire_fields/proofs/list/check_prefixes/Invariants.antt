@@ -1,7 +1,7 @@
 use Rattle.std.proofs.Common.{length, List}
 use Rattle.address_model.specs.Address.{Prefix}
 use Rattle.octet_fields.specs.Field.{one_more}
-use Rattle.reading_model.specs.Wire.{prefix_at, prefixes}
+use Rattle.wire_model.specs.Wire.{prefix_at, prefixes}
 use Rattle.octet_fields.proofs.Steps.{Left}
 use Rattle.wire_fields.proofs.list.check_prefixes.Given as goal
 

@@ -2,7 +2,7 @@ use Rattle.std.proofs.Common.{[]}
 use Rattle.std.proofs.lemmas.List.{map_push}
 use Rattle.std.proofs.lemmas.Result.{err_from_is_err_and}
 use Rattle.fib_addr.specs.Views.{prefix_as}
-use Rattle.reading_model.specs.Wire.{prefix_at, prefixes}
+use Rattle.wire_model.specs.Wire.{prefix_at, prefixes}
 use Rattle.octet_fields.proofs.Steps.{left_at_start, left_at_end, one_more_left, one_more_fault}
 use Rattle.wire_fields.proofs.list.prefixes_of.Goals as goal
 

@@ -2,7 +2,7 @@ use Rattle.std.proofs.Common.{length}
 use Rattle.std.specs.Prelude.{map}
 use Rattle.octet_fields.specs.Field.{one_more}
 use Rattle.fib_addr.specs.Views.{prefix_as}
-use Rattle.reading_model.specs.Wire.{prefix_at, prefixes}
+use Rattle.wire_model.specs.Wire.{prefix_at, prefixes}
 use Rattle.octet_fields.proofs.Steps.{Left}
 use Rattle.wire_fields.proofs.list.prefixes_of.Given as goal
 

@@ -6,7 +6,7 @@ use Rattle.address_model.specs.Bits.{octet_bits}
 use Rattle.address_model.specs.Width.{width}
 use Rattle.address_model.specs.Address.{Address, Prefix}
 use Rattle.octet_fields.specs.Field.{◌>>=◌, refuse, octet_at, octets_at, number_at, one_more, until_end}
-use Rattle.reading_model.specs.Rules.{prefix_length, attribute_value}
+use Rattle.wire_model.specs.Rules.{prefix_length, attribute_value}
 
 -- the octets that hold so many bits
 abbrev pub octets_for : ℕ → ℕ

@@ -1,8 +1,8 @@
 -- An input that comes in pieces.
 use Rattle.std.specs.Prelude.{◌≡◌, ℕ, ◌<◌, List, [], ◌∷◌, ◌++◌, length, Ok, Err}
 use Rattle.octet_fields.specs.Field.{until_end}
-use Rattle.reading_model.specs.Record.{Record, Fault, record_at, next_record, records_in}
-use Rattle.reading_model.specs.Rules.{too_long}
+use Rattle.wire_model.specs.Record.{Record, Fault, record_at, next_record, records_in}
+use Rattle.wire_model.specs.Rules.{too_long}
 
 -- Of the octets fed these records were taken, and the octets left follow them, whatever comes after.
 pub record TakesRecords (fed : List ℕ) (taken : List Record) (left : List ℕ) : Type 0 where

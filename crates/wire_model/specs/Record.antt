@@ -1,7 +1,7 @@
 -- MRT records (RFC 6396, 2).
 use Rattle.std.specs.Prelude.{ℕ, List, [], ◌∷◌, ◌++◌, length, Result, Ok, Err, nat_lt}
 use Rattle.octet_fields.specs.Field.{◌>>=◌, refuse, octets_at, number_at, until_end}
-use Rattle.reading_model.specs.Rules.{header_cut, body_cut, too_long}
+use Rattle.wire_model.specs.Rules.{header_cut, body_cut, too_long}
 
 pub record Record : Type 0 where
   pub kind : ℕ

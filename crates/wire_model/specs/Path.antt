@@ -1,7 +1,7 @@
 -- AS_PATH (RFC 4271, 4.3; RFC 5065, 3): how long a path is (RFC 4271, 9.1.2.2 a; RFC 5065, 5.3).
 use Rattle.std.specs.Prelude.{ℕ, ◌+◌, ◌*◌, List, Result, Ok, Bool, nat_lt, ◌==◌, ◌||◌, if◌then◌else◌}
 use Rattle.octet_fields.specs.Field.{◌>>=◌, refuse, octet_at, octets_at, until_end}
-use Rattle.reading_model.specs.Rules.{attribute_value}
+use Rattle.wire_model.specs.Rules.{attribute_value}
 
 -- What a segment counts: an AS_SEQUENCE (2) each of its AS numbers, an AS_SET (1) that isn't empty one; confederation segments (3 and 4) nothing.
 abbrev pub segment_length : ℕ → ℕ → ℕ

@@ -5,11 +5,11 @@ use Rattle.address_model.specs.declared.family.Family.TheVariants.{V4, V6}
 use Rattle.address_model.specs.Address.{Address, Prefix, same_family}
 use Rattle.address_model.specs.Bits.{octet_bits}
 use Rattle.octet_fields.specs.Field.{◌>>=◌, refuse, octet_at, octets_at, number_at, until_end}
-use Rattle.reading_model.specs.declared.place.Place.{Place}
-use Rattle.reading_model.specs.declared.place.Place.TheVariants.{Rib, Update}
-use Rattle.reading_model.specs.Rules.{attribute_cut, attribute_value, second_mp}
-use Rattle.reading_model.specs.Wire.{family_at, prefixes}
-use Rattle.reading_model.specs.Path.{as_size, path_of}
+use Rattle.wire_model.specs.declared.place.Place.{Place}
+use Rattle.wire_model.specs.declared.place.Place.TheVariants.{Rib, Update}
+use Rattle.wire_model.specs.Rules.{attribute_cut, attribute_value, second_mp}
+use Rattle.wire_model.specs.Wire.{family_at, prefixes}
+use Rattle.wire_model.specs.Path.{as_size, path_of}
 
 -- what MP_REACH_NLRI gives: a next hop for these prefixes
 pub record ReachAttr : Type 0 where

@@ -1,0 +1,24 @@
+//! The model of what stands on the wire: records of MRT input, prefixes, paths and attribute lists, as functions on lists of
+//! octets, by cases in the order of the fields; and the rules that they may break.
+//!
+//! The definitions stand in `specs/`. The function here is a law: it does nothing, and its clauses hold for all values.
+//! `Place` is declared here since the definitions speak of it.
+#![tactic(auto)]
+
+mod place;
+
+ghost use Rattle.wire_model.specs.Pieces.{StartsSo, FeedsOn, TakesOn, StaysTooLong, StaysBroken, EndsCut, EndsSo, KeepsFront};
+
+pub use place::Place;
+
+/// An input may come in pieces: what was taken of it and what is left determine what it is, however it was cut.
+pub fn in_pieces()
+    ensures starts { StartsSo }
+    ensures feeds { FeedsOn }
+    ensures takes { TakesOn }
+    ensures too_long { StaysTooLong }
+    ensures broken { StaysBroken }
+    ensures ends_cut { EndsCut }
+    ensures ends { EndsSo }
+    ensures front { KeepsFront }
+{}
