@@ -5,6 +5,7 @@ use Rattle.std.specs.List.{AllByRecursion, position_or_len}
 use Rattle.std.proofs.lemmas.Bool.{eqb-true, ltb-true}
 use Rattle.address_model.specs.Width.{width}
 use Rattle.address_model.specs.Address.{Address, Prefix, same_address, same_family}
+use Rattle.address_model.specs.Regions.{half_at}
 use Rattle.address_model.specs.declared.family.Family.{Family}
 use Rattle.address_model.specs.declared.family.Family.TheVariants.{V4, V6}
 use Rattle.table_model.specs.Table.{Table, lpm, cut, half, inherit, root, here}
@@ -15,16 +16,14 @@ use Rattle.least_model.specs.Regions.{lift, join}
 use Rattle.least_model.specs.Sets.{is_in, common, or_else, side, set_of, smallest, pick, own, agg, answers}
 use Rattle.least_model.specs.Both.{aggregate_in, aggregate_in_both}
 use Rattle.least_model.proofs.Laws.{lpm_candidate}
-use Rattle.cert_model.specs.Rows.{CertRow, half_at, same_hop, one_answer, leaf_or, region_rows, family_rows, certificate_of}
+use Rattle.cert_model.specs.Rows.{CertRow, same_hop, one_answer, leaf_or, region_rows, family_rows, certificate_of}
 use Rattle.route_model.specs.Events.{Elem, elem_prefix}
 use Rattle.route_model.specs.Choice.{Candidates, after_elem, after_elems, chosen_for, routes_of}
 use Rattle.feed_model.specs.Feed.{at_event, brought, change_by, change_of, changes_from, entries_of, hops_after, load_changes, number_in}
-use Rattle.feed_model.proofs.Numbers.{routes_numbered}
+use Rattle.feed_model.proofs.Numbers.{hops_distinct, entries_have}
 use Rattle.printed_model.specs.Numbered.{HaveHops}
-use Rattle.printed_model.proofs.Few.{folded_distinct}
 use Rattle.fib_main.specs.Due.{Feed, answers_to, printed}
 use Rattle.fib_main.specs.Runs.{ChangeHasHop, HasHops, RowHasHop}
-use Rattle.fib_main.proofs.Printing.{have_hops, none_distinct}
 
 -- ---- numbers up to n
 
@@ -222,10 +221,10 @@ has_hops load updates asks =
     let elems : List Elem = load.elems ++ updates.elems in
     let hops : List Address = hops_after [] elems in
     let R : Entries = entries_of hops (after_elems [] elems) in
-    let routes : HaveHops hops R = have_hops hops (routes_of (after_elems [] elems)) (routes_numbered elems) in
+    let routes : HaveHops hops R = entries_have elems in
     let few : EntriesAtMost (length hops) R = few_of hops R routes in
     record {
-      distinct = folded_distinct [] (flat_map brought elems) none_distinct;
+      distinct = hops_distinct elems;
       routes = routes;
       changes = both (λ (c : ℕ × Change). ChangeHasHop hops c.1) (load_changes hops (after_elems [] load.elems)) (changes_from hops 1 (after_elems [] load.elems) updates.elems) (added_have hops (routes_of (after_elems [] load.elems))) (changes_have hops 1 (after_elems [] load.elems) updates.elems);
       answers = answers_at_most (length hops) R asks few;

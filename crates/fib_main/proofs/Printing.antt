@@ -13,12 +13,11 @@ use Rattle.route_model.specs.Events.{Elem}
 use Rattle.route_model.specs.Choice.{Candidates, after_elems, routes_of}
 use Rattle.route_model.proofs.Elems.{candidates_stay}
 use Rattle.route_model.proofs.Said.{none_yet}
-use Rattle.feed_model.specs.Feed.{IsNumbered, brought, entries_of, hops_after, number_in}
-use Rattle.feed_model.proofs.Numbers.{routes_numbered}
+use Rattle.feed_model.specs.Feed.{entries_of, hops_after}
+use Rattle.feed_model.proofs.Numbers.{hops_distinct, entries_have}
 use Rattle.fib_addr.specs.Hops.{most_hops}
-use Rattle.fib_addr.proofs.HopLists.{folded_distinct}
 use Rattle.printed_model.specs.Rows.{PrintedRow, IsRow, text_of as rows_text}
-use Rattle.printed_model.specs.Numbered.{of_route, of_least, of_cert, IsOther, HaveHops, Proves, rows_with}
+use Rattle.printed_model.specs.Numbered.{of_route, of_least, of_cert, IsOther, Proves, rows_with}
 use Rattle.printed_model.specs.Used.{printed_in, used_of}
 use Rattle.printed_model.proofs.Few.{printed_read}
 use Rattle.printed_model.proofs.Renamed.{printed_proves}
@@ -63,19 +62,6 @@ between_other hops told =
     (both_other (map (of_change hops) told.changes) (map (of_answer hops) told.answers) (all_other (of_change hops) (λ c. change_other hops c.0 c.1) told.changes) (all_other (of_answer hops) (λ a. tt) told.answers))
     (all_other (table_entry_row hops) (λ e. tt) told.table)
 
--- ---- the hops
-
-pub none_distinct : IsDistinct same_address []
-unfolding IsDistinct
-none_distinct = tt
-
--- routes whose hops have numbers
-pub have_hops : (hops : List Address) (routes : List (Prefix × Address)) → AllByRecursion (λ (r : Prefix × Address). IsNumbered hops r.1) routes → HaveHops hops (map (λ (r : Prefix × Address). (r.0, number_in hops r.1)) routes)
-have_hops hops [] n = tt
-have_hops hops (r ∷ routes) n =
-    let is : number_in hops r.1 ≡ n.0.0 = ap (λ o. unwrap_or o 0) n.0.1 in
-    (subst (λ m. (1 ≤ m) × (m ≤ length hops)) (sym is) (n.0.2, n.0.3), have_hops hops routes n.1)
-
 -- ---- the text
 
 pub checks_yes : (load updates : Feed) (fed : Fed) (state : State) (asks : List Address) (run : Told) (text : List ℕ) → IsFed load updates fed state → run ≡ (printed load updates asks).told
@@ -101,7 +87,7 @@ checks_yes load updates fed state asks run text f r proper e =
     subst (AllByRecursion IsRow) same (subst (λ h. AllByRecursion IsRow (printed_rows h told)) s.hops (subst (λ x. AllByRecursion IsRow (printed_rows state.hops.list x)) r proper))
     in
     let right : Proves (used_of (rows_with hops R T C between after)) =
-    printed_proves hops R T C between after (folded_distinct [] (flat_map brought elems) none_distinct) (have_hops hops (routes_of held) (routes_numbered elems)) others (tt, (tt, (tt, (tt, (tt, tt))))) cert
+    printed_proves hops R T C between after (hops_distinct elems) (entries_have elems) others (tt, (tt, (tt, (tt, (tt, tt))))) cert
     in
     record {
       used = used_of (rows_with hops R T C between after);
