@@ -1,7 +1,7 @@
 //! MRT records by their types: peer tables and RIB records of TABLE_DUMP_V2, and BGP4MP (RFC 6396, sections 4.3 and 4.4).
 //!
 //! `read_record` takes a record's type, subtype and body, behind the latest peer table, and gives its events; records of
-//! other types and subtypes are skipped.
+//! other types and subtypes are skipped. `read_rib` and `read_bgp4mp` read bodies of one type.
 //!
 //! A body that can't be read gives the rule (`wire_fields::rule`) that its first wrong field breaks, and none of its events.
 //! Reading costs the body's octets, in memory too.
@@ -13,8 +13,10 @@ mod peer_table;
 mod record;
 mod rib;
 
+pub use bgp4mp::read_bgp4mp;
 pub use peer_table::PeerTable;
 pub use record::read_record;
+pub use rib::read_rib;
 pub use wire_fields::Refusal;
 
 #[cfg(test)]
