@@ -94,14 +94,14 @@ steps_grow (suc n) p (b ∷ octets) = by_step (read_record p (b ∷ octets)) ref
         (one.0 ++ more.0, more.1 ∙ (ap (λ es. es ++ more.0) one.1 ∙ append_assoc p.events one.0 more.0))
     by_step (Err stopped) e ih = ([], ap (λ (q : Progress). q.events) (record_stops p (b ∷ octets) stopped e) ∙ sym (append-nil p.events))
 
-input_grows : (octets left : List ℕ) (read : Progress) → ReadsEvents octets read left → Grows read (input octets)
+pub input_grows : (octets left : List ℕ) (read : Progress) → ReadsEvents octets read left → Grows read (input octets)
 input_grows octets left read r =
     let same : input octets ≡ until_end read_record read (left ++ []) = ap input (sym (append-nil octets)) ∙ r.whatever [] in
     subst (Grows read) (sym same) (steps_grow (length (left ++ [])) read (left ++ []))
 
 -- ---- refusals
 
-reads_on : (octets : List ℕ) (read : Progress) (reader : Reader) → reading.reader_refusal reader ≡ None → reading.ReaderStands octets read reader → ReadsEvents octets read (reading.reader_left reader)
+pub reads_on : (octets : List ℕ) (read : Progress) (reader : Reader) → reading.reader_refusal reader ≡ None → reading.ReaderStands octets read reader → ReadsEvents octets read (reading.reader_left reader)
 reads_on octets read reader none s = rw none at s.goes_on
 
 full_due : (which : Which) (before : List Elem) (octets left : List ℕ) (read : Progress) (n : ℕ) → ReadsEvents octets read left → IsFull before (elems_in before read) n → feed_of which before octets ≡ Err (Refused (outcome.HopsFull (event_in which n)))

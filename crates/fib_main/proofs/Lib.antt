@@ -2,8 +2,11 @@ pub mod Addressed
 pub mod AskLemmas
 pub mod Certifying
 pub mod Completing
+pub mod Counting
 pub mod Due
 pub mod Feeding
+pub mod FewElems
+pub mod FewEvents
 pub mod Fitting
 pub mod Looking
 pub mod Printing

@@ -1,5 +1,5 @@
 -- One elementary event after another.
-use Rattle.std.proofs.Common.{◌≡◌, ℕ, suc, ◌+◌, ◌<◌, ◌≤◌, List, [], ◌∷◌, ◌++◌, true, false, cond, Option, Some, None, Result, Err, length, map, take, drop, refl, sym, ap, ◌∙◌, arith, subst, append_assoc, append-nil, length-append, inl, inr}
+use Rattle.std.proofs.Common.{◌≡◌, ℕ, suc, ◌+◌, ◌<◌, ◌≤◌, List, [], ◌∷◌, ◌++◌, true, false, cond, Option, Some, None, Result, Ok, Err, length, map, take, drop, refl, sym, ap, ◌∙◌, arith, subst, append_assoc, append-nil, length-append, inl, inr}
 use Rattle.std.specs.Prelude.{option_map, get_or, ◌⊎◌}
 use Rattle.std.proofs.Math.Seq.{drop-cons}
 use Rattle.std.proofs.lemmas.List.{take_all, take_more, take-append-drop, map-append}
@@ -92,7 +92,7 @@ full_here which before done elem state event counted s over =
 elems_push : (before done : List Elem) (elem : Elem) → before ++ (done ++ elem ∷ []) ≡ (before ++ done) ++ elem ∷ []
 elems_push before done elem = sym (append_assoc before done (elem ∷ []))
 
-after_push : (held : Candidates) (done : List Elem) (elem : Elem) → after_elems held (done ++ elem ∷ []) ≡ after_elem (after_elems held done) elem
+pub after_push : (held : Candidates) (done : List Elem) (elem : Elem) → after_elems held (done ++ elem ∷ []) ≡ after_elem (after_elems held done) elem
 after_push held done elem = fold-append after_elem held done (elem ∷ [])
 
 changes_push : (hops : List Address) (n : ℕ) (held : Candidates) (done : List Elem) (elem : Elem) → changes_from hops n held (done ++ elem ∷ []) ≡ changes_from hops n held done ++ at_event (n + length done) (change_by hops (after_elems held done) elem)
@@ -285,3 +285,11 @@ next_none before done = append-nil done
 
 pub next_counted : (done : List Elem) (elem : Elem) (n count : ℕ) → count ≡ length done → n ≡ count + 1 → n ≡ length (done ++ elem ∷ [])
 next_counted done elem n count c e = omega (arith, c, e, length-append done (elem ∷ []))
+
+-- one elementary event more was taken
+pub taken_push : (which : Which) (before done front all : List Elem) (elem : Elem) (count : ℕ) (old new : State) → (count ≡ length (done ++ front)) × StateStands which before (done ++ front) old → StateTakes {T = Unit {0}} which (count + 1) (elem ∷ []) old (Ok tt) new → all ≡ front ++ elem ∷ []
+    → (count + 1 ≡ length (done ++ all)) × StateStands which before (done ++ all) new
+taken_push which before done front all elem count old new so_far takes next =
+    let at : count + 1 ≡ length ((done ++ front) ++ elem ∷ []) = next_counted (done ++ front) elem (count + 1) count so_far.0 refl in
+    let same : (done ++ front) ++ elem ∷ [] ≡ done ++ all = append_assoc done front (elem ∷ []) ∙ ap (λ es. done ++ es) (sym next) in
+    (at ∙ ap length same, subst (λ es. StateStands which before es new) same (takes before (done ++ front) at so_far.1))

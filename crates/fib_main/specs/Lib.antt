@@ -1,6 +1,7 @@
 pub mod Asks
 pub mod Stops
 pub mod Checks
+pub mod Counts
 pub mod Due
 pub mod Views
 pub mod Held

@@ -1,7 +1,8 @@
 //! What an input of records brings.
 
-ghost use Rattle.std.specs.Prelude.{List, []};
+ghost use Rattle.std.specs.Prelude.{List, [], ◌+◌, ◌*◌, ◌^◌, ◌<◌, length, IfOk};
 ghost use Rattle.route_model.specs.Events.{Elem};
+ghost use Rattle.fib_main.specs.Counts.{AreFew};
 ghost use Rattle.fib_main.specs.Due.{feed_of};
 ghost use Rattle.fib_main.specs.Standing.{StateBrings, StateStands};
 
@@ -21,14 +22,18 @@ pub struct Counts {
     pub events: u64,
 }
 
-/// Takes all that an input brings, record by record.
+/// Takes all that an input brings, record by record. Its counts have 64 bits where the candidates and two for each octet do.
 pub fn feed(
     alloc: Global,
     state: &mut State,
     which: Which,
     octets: &[u8],
 ) -> Result<Counts, FeedError>
-    ensures { (before : List Elem) → StateStands which before [] state.old → StateBrings which before result state.new (feed_of which before octets.now) }
+    requires { length state.old.candidates.candidates + 2 * length octets.now < 2 ^ 64 }
+    ensures brings { (before : List Elem) → StateStands which before [] state.old
+        → StateBrings which before result state.new (feed_of which before octets.now) }
+    ensures few { IfOk result (λ counts. AreFew (length octets.now)
+        state.old.candidates.candidates counts state.new.candidates.candidates) }
 {
     let mut reader = Reader::new(alloc);
     reader.feed(octets)?;

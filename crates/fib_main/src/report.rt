@@ -13,6 +13,7 @@ ghost use Rattle.feed_model.specs.Feed.{at_event};
 ghost use Rattle.fib_addr.specs.Views.{addr_as, entry_as};
 ghost use Rattle.fib_main.specs.Due.{answers_to, Feed, printed, printed_text};
 ghost use Rattle.fib_report.specs.Views.{run_as};
+ghost use Rattle.fib_main.specs.Counts.{AddUp};
 ghost use Rattle.fib_main.specs.Standing.{IsFed};
 ghost use Rattle.fib_main.specs.Held.{AreBoth, Hold, IsLooked};
 ghost use Rattle.fib_main.specs.Proves.{ChecksYes};
@@ -83,24 +84,18 @@ fn changes(
     Ok(changes)
 }
 
-/// The counts of both inputs and of the routes; an error where a sum is over 64 bits.
-fn totals(load: &Counts, updates: &Counts, routes: usize) -> Result<Report, AllocError>
-    ensures { IfOk result (λ report. report ≡ totals load.now updates.now routes) }
+/// The counts of both inputs and of the routes.
+fn totals(load: &Counts, updates: &Counts, routes: usize) -> Report
+    requires { AddUp load.now updates.now }
+    ensures { result ≡ totals load.now updates.now routes }
 {
-    let (Some(records), Some(skipped), Some(events)) = (
-        load.records.checked_add(updates.records),
-        load.skipped.checked_add(updates.skipped),
-        load.events.checked_add(updates.events),
-    ) else {
-        return Err(AllocError);
-    };
-    Ok(Report {
-        records,
-        skipped,
-        events,
+    Report {
+        records: load.records + updates.records,
+        skipped: load.skipped + updates.skipped,
+        events: load.events + updates.events,
         routes: routes as u64,
         entries: routes as u64,
-    })
+    }
 }
 
 /// What the trees of the routes give.
@@ -141,6 +136,7 @@ pub struct Fed<'a> {
 
 /// All that is told.
 fn report_of(alloc: Global, state: &State, fed: &Fed<'_>, asks: &[Addr]) -> Result<Run, AllocError>
+    requires { AddUp fed.now.load fed.now.updates }
     ensures { (load updates : Feed) → IsFed load updates fed.now state.now → IfOk result (λ run. run_as run ≡ (printed load updates (map addr_as asks.now)).told) }
 {
     let routes = entries(alloc, &state.hops, &state.candidates.routes()?)?;
@@ -149,7 +145,7 @@ fn report_of(alloc: Global, state: &State, fed: &Fed<'_>, asks: &[Addr]) -> Resu
     Ok(Run {
         changes: changes(alloc, &loaded, &state.changes)?,
         answers: looked.answers,
-        report: totals(&fed.load, &fed.updates, routes.len())?,
+        report: totals(&fed.load, &fed.updates, routes.len()),
         table: Vec::from_slice(alloc, &routes)?,
         least: looked.least,
         cert: looked.cert,
@@ -164,6 +160,7 @@ pub fn write_text(
     fed: &Fed<'_>,
     asks: &[Addr],
 ) -> Result<Vec<u8>, AllocError>
+    requires { AddUp fed.now.load fed.now.updates }
     ensures text { (load updates : Feed) → IsFed load updates fed.now state.now → IfOk result (λ text. text.items ≡ printed_text (printed load updates (map addr_as asks.now))) }
     ensures yes { (load updates : Feed) → IsFed load updates fed.now state.now → IfOk result (λ text. ChecksYes text.items) }
 {

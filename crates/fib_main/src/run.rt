@@ -3,6 +3,7 @@
 ghost use Rattle.std.specs.Prelude.{◌≡◌, ◌≤◌, ◌^◌, List, [], Some, None, length, map, IfErr, IfOk, IsSome, OnErr, OnOk, option_to_list};
 ghost use Rattle.fib_io.specs.Causes.{Rose};
 ghost use Rattle.fib_addr.specs.Views.{addr_as};
+ghost use Rattle.fib_main.specs.Counts.{AreFew};
 ghost use Rattle.fib_main.specs.Due.{asks_at, checked, feed_at, input_at, output_at, reply_at, run_at, told_at, used_at, with_reply, with_text};
 ghost use Rattle.fib_main.specs.Ends.{feeds_named, OneRose, reads_asked, reads_named, ReadsFor};
 ghost use Rattle.fib_main.specs.Owned.{HasRecords, IsOf, Owns, StopsAt, StopsIn};
@@ -107,7 +108,7 @@ fn outcome_of_refusal(which: Which, error: FeedError) -> Outcome
     }
 }
 
-/// Takes what an input brings.
+/// Takes what an input brings. The candidates of the inputs before it are few enough: 2^40 at most.
 #[tactic(auto, unfolding(crate::specs::Due::feed_at))]
 fn feed_of<I: Inputs>(
     alloc: Global,
@@ -116,8 +117,11 @@ fn feed_of<I: Inputs>(
     which: Which,
     name: &str,
 ) -> Result<Counts, Outcome>
+    requires { length state.old.candidates.candidates ≤ 2 ^ 40 }
     ensures due { (before : List Elem) → StateStands which before [] state.old → StateFeeds which before result state.new (feed_at (I.content inputs.old) which before (Some name.now)) }
     ensures stops { HasRecords which → IfErr result (StopsAt which) }
+    ensures few { IfOk result (λ counts. AreFew (2 ^ 36) state.old.candidates.candidates
+        counts state.new.candidates.candidates) }
     ensures same { I.content inputs.new ≡ I.content inputs.old }
     ensures cause { ReadsFor (Rose (I.faults inputs.old name.now) (I.faults inputs.new name.now)) (I.faults inputs.old) (I.faults inputs.new) result }
 {
@@ -133,9 +137,12 @@ fn updates_of<I: Inputs>(
     state: &mut State,
     command: &RunWords<'_>,
 ) -> Result<Counts, Outcome>
+    requires { length state.old.candidates.candidates ≤ 2 ^ 40 }
     ensures due { (before : List Elem) → StateStands Which.Updates before [] state.old → StateFeeds Which.Updates before result state.new (feed_at (I.content inputs.old) Which.Updates before (named_as command.now).updates) }
     ensures stops { IfErr result (StopsAt Which.Updates) }
     ensures named { OnErr result (IsSome (named_as command.now).updates) }
+    ensures few { IfOk result (λ counts. AreFew (2 ^ 36) state.old.candidates.candidates
+        counts state.new.candidates.candidates) }
     ensures same { I.content inputs.new ≡ I.content inputs.old }
     ensures cause { ReadsFor (OneRose (option_to_list (named_as command.now).updates) (I.faults inputs.old) (I.faults inputs.new)) (I.faults inputs.old) (I.faults inputs.new) result }
 {

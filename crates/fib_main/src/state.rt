@@ -8,6 +8,7 @@ ghost use Rattle.route_choice.specs.Held.{IsChoice};
 ghost use Rattle.feed_model.specs.Feed.{change_of, hops_after, number_in};
 ghost use Rattle.fib_addr.specs.Hops.{most_hops};
 ghost use Rattle.fib_report.specs.Views.{change_as};
+ghost use Rattle.fib_main.specs.Counts.{CountsFit, CountsOn};
 ghost use Rattle.fib_main.specs.Standing.{of_read, StateTakes, StateTakesAll};
 ghost use Rattle.fib_main.specs.declared.state.FeedError.TheVariants.{Malformed as IsMalformed, NoMemory as IsNoMemory};
 
@@ -28,7 +29,7 @@ pub enum FeedError {
     /// The elementary event of this number brings one hop too many.
     #[error("event {0} brings one hop too many")]
     HopsFull(u64),
-    /// Memory ran out, or a count did.
+    /// Memory ran out.
     #[error("no memory")]
     NoMemory,
 }
@@ -135,7 +136,9 @@ fn number_hop(hops: &mut HopTable, elem: &Elem) -> Result<(), HopError>
 /// Takes the elementary event of this number: its hop gets a number, and the candidates change. Of updates it keeps the change
 /// that it makes; of a dump nobody asks for it.
 fn step(state: &mut State, which: Which, event: u64, elem: &Elem) -> Result<(), FeedError>
-    ensures { StateTakes which event (elem_as elem.now ∷ []) state.old result state.new }
+    ensures takes { StateTakes which event (elem_as elem.now ∷ []) state.old result state.new }
+    ensures candidates { OnOk result (state.new.candidates.candidates
+        ≡ after_elem state.old.candidates.candidates (elem_as elem.now)) }
 {
     match number_hop(&mut state.hops, elem) {
         Ok(()) => {}
@@ -156,16 +159,17 @@ fn step(state: &mut State, which: Which, event: u64, elem: &Elem) -> Result<(), 
 
 /// Takes an event after so many elementary events, and gives how many there are then.
 fn take_event(state: &mut State, which: Which, before: u64, event: &Event) -> Result<u64, FeedError>
-    ensures { StateTakesAll which before (event_as event.now ∷ []) state.old result state.new }
+    requires { CountsFit state.old.candidates.candidates (event_as event.now ∷ []) before }
+    ensures takes { StateTakesAll which before (event_as event.now ∷ [])
+        state.old result state.new }
+    ensures counts { IfOk result (λ after. CountsOn state.old.candidates.candidates
+        (event_as event.now ∷ []) before after state.new.candidates.candidates) }
 {
     let elems = state.candidates.elementary(event)?;
     let mut count = before;
     for elem in &elems {
-        let Some(next) = count.checked_add(1) else {
-            return Err(FeedError::NoMemory);
-        };
-        step(state, which, next, elem)?;
-        count = next;
+        count += 1;
+        step(state, which, count, elem)?;
     }
     Ok(count)
 }
@@ -177,7 +181,11 @@ pub fn take_events(
     before: u64,
     events: &[Event],
 ) -> Result<u64, FeedError>
-    ensures { StateTakesAll which before (map event_as events.now) state.old result state.new }
+    requires { CountsFit state.old.candidates.candidates (map event_as events.now) before }
+    ensures takes { StateTakesAll which before (map event_as events.now)
+        state.old result state.new }
+    ensures counts { IfOk result (λ after. CountsOn state.old.candidates.candidates
+        (map event_as events.now) before after state.new.candidates.candidates) }
 {
     let mut count = before;
     for event in events {
