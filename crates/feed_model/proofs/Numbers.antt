@@ -29,8 +29,8 @@ hops_next : (hops : List Address) (elem : Elem) (elems : List Elem) → hops_aft
 hops_next hops elem elems = hops_more hops (elem ∷ []) elems
 
 pub one_more_at_most : (hops : List Address) (elem : Elem) → (length hops ≤ length (hops_after hops (elem ∷ []))) × (length (hops_after hops (elem ∷ [])) ≤ length hops + 1)
-one_more_at_most hops (Cut peer prefix) = (omega arith, omega arith)
-one_more_at_most hops (Put peer prefix path hop) = by_test (list_any (same_address hop) hops)
+one_more_at_most hops (Cut via prefix) = (omega arith, omega arith)
+one_more_at_most hops (Put via prefix path hop) = by_test (list_any (same_address hop) hops)
   where
     by_test : (b : Bool) → (length hops ≤ length (cond b hops (hops ++ hop ∷ []))) × (length (cond b hops (hops ++ hop ∷ [])) ≤ length hops + 1)
     by_test true = (omega arith, omega arith)
@@ -146,15 +146,15 @@ more_numbered hops elems (c ∷ held) a = (still_numbered hops elems c.1.hop a.0
 
 numbered_after : (hops : List Address) (held : Candidates) (elems : List Elem) → AllNumbered hops held → AllNumbered (hops_after hops elems) (after_elems held elems)
 numbered_after hops held [] a = a
-numbered_after hops held (Put peer prefix path hop ∷ elems) a =
-    let at : Place = record { prefix = prefix; peer = peer } in
+numbered_after hops held (Put via prefix path hop ∷ elems) a =
+    let at : Place = record { prefix = prefix; via = via } in
     let offer : Offer = record { path = path; hop = hop } in
-    let elem = Put peer prefix path hop in
+    let elem = Put via prefix path hop in
     let old = more_numbered hops (elem ∷ []) held a in
     numbered_after (with_hop hops hop) (after_elem held elem) elems (values_put place_cmp (λ (x : Offer). IsNumbered (with_hop hops hop) x.hop) held at offer old (brought_is hops hop))
-numbered_after hops held (Cut peer prefix ∷ elems) a =
-    let at : Place = record { prefix = prefix; peer = peer } in
-    numbered_after hops (after_elem held (Cut peer prefix)) elems (values_cut (same_place at) (λ (x : Offer). IsNumbered hops x.hop) held a)
+numbered_after hops held (Cut via prefix ∷ elems) a =
+    let at : Place = record { prefix = prefix; via = via } in
+    numbered_after hops (after_elem held (Cut via prefix)) elems (values_cut (same_place at) (λ (x : Offer). IsNumbered hops x.hop) held a)
 
 numbered_routes : (hops : List Address) (cs : Candidates) → AllNumbered hops cs → AllByRecursion (λ (r : Prefix × Address). IsNumbered hops r.1) (map (λ c. (c.0.prefix, c.1.hop)) cs)
 numbered_routes hops [] a = tt

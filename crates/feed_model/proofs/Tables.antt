@@ -31,26 +31,26 @@ keys_numbered : (hops : List Address) (routes : List (Prefix × Address)) → ke
 keys_numbered hops [] = refl
 keys_numbered hops (r ∷ routes) = ap (λ ps. r.0 ∷ ps) (keys_numbered hops routes)
 
-entry_at : (hops : List Address) (held : Candidates) (p : Prefix) → lookup (same_prefix p) (entries_of hops held) ≡ option_map (number_in hops) (chosen_for held p)
+pub entry_at : (hops : List Address) (held : Candidates) (p : Prefix) → lookup (same_prefix p) (entries_of hops held) ≡ option_map (number_in hops) (chosen_for held p)
 entry_at hops held p = lookup-map_values (number_in hops) (same_prefix p) (routes_of held)
 
-entries_sorted : (hops : List Address) (held : Candidates) → AreCandidates held → IsStrictlySortedBy prefix_cmp (keys_of (entries_of hops held))
+pub entries_sorted : (hops : List Address) (held : Candidates) → AreCandidates held → IsStrictlySortedBy prefix_cmp (keys_of (entries_of hops held))
 entries_sorted hops held a = subst (IsStrictlySortedBy prefix_cmp) (sym (keys_numbered hops (routes_of held))) (routes_sorted held a)
 
-entries_at_prefixes : (hops : List Address) (held : Candidates) → AreCandidates held → AllByRecursion IsPrefix (keys_of (entries_of hops held))
+pub entries_at_prefixes : (hops : List Address) (held : Candidates) → AreCandidates held → AllByRecursion IsPrefix (keys_of (entries_of hops held))
 entries_at_prefixes hops held a = subst (AllByRecursion IsPrefix) (sym (keys_numbered hops (routes_of held))) (routes_at_prefixes held a)
 
 -- ---- one elementary event
 
-at_prefix : (elem : Elem) → IsElem elem → IsPrefix (elem_prefix elem)
-at_prefix (Put peer prefix path hop) e = e.0
-at_prefix (Cut peer prefix) e = e.0
+pub at_prefix : (elem : Elem) → IsElem elem → IsPrefix (elem_prefix elem)
+at_prefix (Put via prefix path hop) e = e.0
+at_prefix (Cut via prefix) e = e.0
 
-abbrev new_entry : List Address → Candidates → Elem → Option ℕ
+abbrev pub new_entry : List Address → Candidates → Elem → Option ℕ
 new_entry hops held elem = option_map (number_in hops) (chosen_for (after_elem held elem) (elem_prefix elem))
 
 -- what a look-up finds after the event: at its prefix the new route, elsewhere the old one
-entry_after : (hops : List Address) (held : Candidates) (elem : Elem) (q : Prefix) → AreCandidates held → IsElem elem
+pub entry_after : (hops : List Address) (held : Candidates) (elem : Elem) (q : Prefix) → AreCandidates held → IsElem elem
     → lookup (same_prefix q) (entries_of hops (after_elem held elem)) ≡ cond (same_prefix q (elem_prefix elem)) (new_entry hops held elem) (lookup (same_prefix q) (entries_of hops held))
 entry_after hops held elem q a e = by_test (same_prefix q (elem_prefix elem)) refl
   where

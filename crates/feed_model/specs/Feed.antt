@@ -12,8 +12,8 @@ use Rattle.fib_addr.specs.Hops.{hop_at, most_hops, number_of, with_hop}
 
 -- the next hop that an elementary event brings, if it puts a candidate
 abbrev pub brought : Elem → List Address
-brought (Put peer prefix path hop) = hop ∷ []
-brought (Cut peer prefix) = []
+brought (Put via prefix path hop) = hop ∷ []
+brought (Cut via prefix) = []
 
 -- the hops that have numbers after elementary events: the different ones in the order in which they were first brought
 abbrev pub hops_after : List Address → List Elem → List Address

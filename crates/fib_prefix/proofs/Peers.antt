@@ -1,4 +1,4 @@
--- The order that the code gives peers is the model's.
+-- The orders that the code gives peers and ways are the model's.
 use Rattle.std.proofs.Common.{◌≡◌, refl, sym, ap, ◌∙◌, mod-eq_of_lt}
 use Rattle.std.specs.Cmp.{IsTotalOrder}
 use Rattle.std.specs.Ordering.{nat_cmp, ordering_then, ordering_reverse}
@@ -15,10 +15,11 @@ use Rattle.fib_addr.specs.Views.{addr_as, prefix_as}
 use Rattle.fib_addr.specs.Order.{code_cmp}
 use Rattle.fib_addr.proofs.Ordering.{cmp_is}
 use Rattle.fib_prefix.specs.declared.event.Peer.{Peer}
-use Rattle.fib_prefix.specs.Views.{peer_as}
-use Rattle.fib_prefix.specs.Order.{code_peer_cmp}
-use Rattle.route_model.specs.Events.{peer_cmp}
-use Rattle.route_model.proofs.Places.{peer_key, prefix_key}
+use Rattle.fib_prefix.specs.declared.event.Via.{Via}
+use Rattle.fib_prefix.specs.Views.{peer_as, via_as}
+use Rattle.fib_prefix.specs.Order.{code_peer_cmp, code_via_cmp}
+use Rattle.route_model.specs.Events.{peer_cmp, via_cmp}
+use Rattle.route_model.proofs.Places.{peer_key, via_key, prefix_key}
 
 regroup : (a b c : Ordering) → ordering_then (ordering_then a b) c ≡ ordering_then a (ordering_then b c)
 regroup Less b c = refl
@@ -35,6 +36,9 @@ peer_is p q =
     ∙ (ap (λ n. ordering_then (family_cmp p.addr.family q.addr.family) (ordering_then (nat_cmp n q.addr.bits) (nat_cmp p.asn q.asn))) (sym (value_is p.addr))
     ∙ ap (λ n. ordering_then (family_cmp p.addr.family q.addr.family) (ordering_then (nat_cmp (value_of (addr_as p.addr).bits) n) (nat_cmp p.asn q.asn))) (sym (value_is q.addr))))
 
+pub via_is : (v u : Via) → code_via_cmp v u ≡ via_cmp (via_as v) (via_as u)
+via_is v u = ap (λ o. ordering_then o (nat_cmp v.id u.id)) (peer_is v.peer u.peer)
+
 total_by : {K : Type 0} {R S : K → K → Ordering} → ((x y : K) → R x y ≡ S x y) → IsTotalOrder S → IsTotalOrder R
 total_by {R = R} {S = S} h o = record {
   antisymm = λ x y. h x y ∙ (o.antisymm x y ∙ ap ordering_reverse (sym (h y x)));
@@ -44,6 +48,9 @@ total_by {R = R} {S = S} h o = record {
 
 pub peer_total : IsTotalOrder code_peer_cmp
 peer_total = total_by peer_is (on_total peer_as peer_key.total)
+
+pub via_total : IsTotalOrder code_via_cmp
+via_total = total_by via_is (on_total via_as via_key.total)
 
 pub prefix_total : IsTotalOrder code_cmp
 prefix_total = total_by cmp_is (on_total prefix_as prefix_key.total)

@@ -11,22 +11,32 @@ pub struct Peer {
     pub asn: u32,
 }
 
+/// By which way a route comes: its peer, and the path identifier that tells the peer's routes of one prefix apart (RFC 7911, 3).
+/// Ways are ordered by peer, then by path identifier.
+#[derive(Clone, Copy, Debug, PartialEq, Eq, PartialOrd, Ord, Hash)]
+pub struct Via {
+    /// The peer.
+    pub peer: Peer,
+    /// The path identifier, 0 where the peer sends none.
+    pub id: u32,
+}
+
 /// What a peer says.
 #[derive(Clone, Copy, Debug, PartialEq, Eq)]
 pub enum Event {
-    /// A prefix, with the length of its path and its next hop.
-    Announce(Peer, Prefix, u32, Addr),
-    /// A prefix is gone.
-    Withdraw(Peer, Prefix),
-    /// The session is lost, and all of the peer's prefixes with it.
+    /// A route of a prefix, with the length of its path and its next hop.
+    Announce(Via, Prefix, u32, Addr),
+    /// A route is gone.
+    Withdraw(Via, Prefix),
+    /// The session is lost, and all of the peer's routes with it.
     Down(Peer),
 }
 
-/// What is said of one prefix and one peer.
+/// What is said of one prefix and one way.
 #[derive(Clone, Copy, Debug, PartialEq, Eq)]
 pub enum Elem {
-    /// This is the peer's candidate from now on, with the length of its path and its next hop.
-    Put(Peer, Prefix, u32, Addr),
-    /// The peer has none from now on.
-    Cut(Peer, Prefix),
+    /// This is the candidate by that way from now on, with the length of its path and its next hop.
+    Put(Via, Prefix, u32, Addr),
+    /// There is none by that way from now on.
+    Cut(Via, Prefix),
 }

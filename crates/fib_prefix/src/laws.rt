@@ -1,12 +1,18 @@
 //! Laws: each function does nothing, and its clauses hold for all values.
 
 ghost use Rattle.std.specs.Prelude.{◌≡◌};
-ghost use Rattle.fib_prefix.specs.Order.{code_peer_cmp};
-ghost use Rattle.fib_prefix.specs.Views.{peer_as};
+ghost use Rattle.fib_prefix.specs.Order.{code_peer_cmp, code_via_cmp};
+ghost use Rattle.fib_prefix.specs.Views.{peer_as, via_as};
 ghost use Rattle.fib_prefix.specs.declared.event.Peer as code_peer;
-ghost use Rattle.route_model.specs.Events.{peer_cmp};
+ghost use Rattle.fib_prefix.specs.declared.event.Via as code_via;
+ghost use Rattle.route_model.specs.Events.{peer_cmp, via_cmp};
 
 /// `cmp` of peers is their order: by address, IPv4 before IPv6, then by AS number.
 pub fn peer_order_law()
     ensures { (p q : code_peer.Peer) → code_peer_cmp p q ≡ peer_cmp (peer_as p) (peer_as q) }
+{}
+
+/// `cmp` of ways is their order: by peer, then by path identifier.
+pub fn via_order_law()
+    ensures { (v u : code_via.Via) → code_via_cmp v u ≡ via_cmp (via_as v) (via_as u) }
 {}

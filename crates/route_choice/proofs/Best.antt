@@ -12,36 +12,36 @@ use Rattle.std.proofs.lemmas.Cmp.{tied_itself, tied_back, ranked}
 use Rattle.address_model.specs.Address.{Prefix, same_prefix}
 use Rattle.address_model.proofs.Same.{same_prefix_is}
 use Rattle.fib_addr.specs.Views.{prefix_as}
-use Rattle.fib_prefix.specs.Views.{peer_as}
+use Rattle.fib_prefix.specs.Views.{via_as}
 use Rattle.fib_addr.specs.Order.{code_cmp}
 use Rattle.fib_addr.specs.declared.prefix.Prefix as code
-use Rattle.fib_prefix.specs.declared.event.Peer.{Peer}
+use Rattle.fib_prefix.specs.declared.event.Via.{Via}
 use Rattle.route_model.specs.Events as events
-use Rattle.route_model.specs.Events.{same_peer, peer_cmp}
+use Rattle.route_model.specs.Events.{same_via, via_cmp}
 use Rattle.route_model.specs.Choice as model
 use Rattle.route_model.specs.Choice.{Place, Candidates, IsHeld, same_place, beats}
-use Rattle.route_model.proofs.Places.{peer_key}
+use Rattle.route_model.proofs.Places.{via_key}
 use Rattle.route_model.proofs.Choices.{beats_flipped}
 use Rattle.route_choice.specs.declared.keys.Seat.{Seat}
 use Rattle.route_choice.specs.declared.keys.Rank.{Rank}
 use Rattle.route_choice.specs.declared.keys.Offer.{Offer}
 use Rattle.route_choice.specs.declared.keys.Candidate.{Candidate}
 use Rattle.route_choice.specs.Orders.{seat_cmp, rank_cmp}
-use Rattle.fib_prefix.specs.Order.{code_peer_cmp}
+use Rattle.fib_prefix.specs.Order.{code_via_cmp}
 use Rattle.route_choice.specs.Seats.{Seats, held_in, flat, offer_at, rank_at, seat_of, IsIndexed}
 use Rattle.route_choice.specs.Walks.{ranks_of, offer_with_path, offer_ranked, is_out, or_next, first_in}
-use Rattle.route_choice.proofs.Orders.{place_as, peer_is, peer_same, prefix_same, prefix_total, seat_total, rank_total, peer_total}
+use Rattle.route_choice.proofs.Orders.{place_as, via_is, via_same, prefix_same, prefix_total, seat_total, rank_total, via_total, seat_tied}
 use Rattle.route_choice.proofs.Views.{offer_as, at_seat, held_seat, lookup_by_test}
 
 -- ---- what the walk over ranks finds
 
-record IsFirst (seats : Seats) (but : Option Peer) (Q : Rank → Type 0) (ranks : List Rank) (c : Candidate) : Type 0 where
+record IsFirst (seats : Seats) (but : Option Via) (Q : Rank → Type 0) (ranks : List Rank) (c : Candidate) : Type 0 where
   rank : Rank
   meets : Q rank
   live : offer_ranked seats rank ≡ Some c.offer
-  peer : rank.peer ≡ c.peer
-  kept : is_out but rank.peer ≡ false
-  least : AllByRecursion (λ t. (offer : Offer) → offer_ranked seats t ≡ Some offer → is_out but t.peer ≡ false → is_gt (rank_cmp rank t) ≡ false) ranks
+  via : rank.via ≡ c.via
+  kept : is_out but rank.via ≡ false
+  least : AllByRecursion (λ t. (offer : Offer) → offer_ranked seats t ≡ Some offer → is_out but t.via ≡ false → is_gt (rank_cmp rank t) ≡ false) ranks
 
 all_map : {K : Type 0} (P Q : K → Type 0) (ks : List K) → ((k : K) → P k → Q k) → AllByRecursion P ks → AllByRecursion Q ks
 all_map P Q [] f a = tt
@@ -50,48 +50,48 @@ all_map P Q (k ∷ ks) f a = (f k a.0, all_map P Q ks f a.1)
 candidate_is : (c d : Candidate) → Some c ≡ Some d → c ≡ d
 candidate_is c d e = cc
 
-candidate_peer : (q : Peer) (offer : Offer) (c : Candidate) → Some (record { peer = q; offer = offer }) ≡ Some c → q ≡ c.peer
-candidate_peer q offer c e = ap (λ (d : Candidate). d.peer) (candidate_is (record { peer = q; offer = offer }) c e)
+candidate_via : (q : Via) (offer : Offer) (c : Candidate) → Some (record { via = q; offer = offer }) ≡ Some c → q ≡ c.via
+candidate_via q offer c e = ap (λ (d : Candidate). d.via) (candidate_is (record { via = q; offer = offer }) c e)
 
-candidate_offer : (q : Peer) (offer : Offer) (c : Candidate) → Some (record { peer = q; offer = offer }) ≡ Some c → offer ≡ c.offer
-candidate_offer q offer c e = ap (λ (d : Candidate). d.offer) (candidate_is (record { peer = q; offer = offer }) c e)
+candidate_offer : (q : Via) (offer : Offer) (c : Candidate) → Some (record { via = q; offer = offer }) ≡ Some c → offer ≡ c.offer
+candidate_offer q offer c e = ap (λ (d : Candidate). d.offer) (candidate_is (record { via = q; offer = offer }) c e)
 
 all_both : {K : Type 0} (P Q : K → Type 0) (ks : List K) → AllByRecursion P ks → AllByRecursion Q ks → AllByRecursion (λ k. P k × Q k) ks
 all_both P Q [] a b = tt
 all_both P Q (k ∷ ks) a b = ((a.0, b.0), all_both P Q ks a.1 b.1)
 
-first_is : (seats : Seats) (but : Option Peer) (Q : Rank → Type 0) (ranks : List Rank) (c : Candidate) → IsStrictlySortedBy rank_cmp ranks → AllByRecursion Q ranks → first_in seats but ranks ≡ Some c → IsFirst seats but Q ranks c
+first_is : (seats : Seats) (but : Option Via) (Q : Rank → Type 0) (ranks : List Rank) (c : Candidate) → IsStrictlySortedBy rank_cmp ranks → AllByRecursion Q ranks → first_in seats but ranks ≡ Some c → IsFirst seats but Q ranks c
 unfolding IsStrictlySortedBy first_in
 first_is seats but Q [] c s a h = absurd cc
-first_is seats but Q (r ∷ ranks) c s a h = by_out (is_out but r.peer) refl (offer_ranked seats r) refl h (first_is seats but Q ranks c s.1 a.1)
+first_is seats but Q (r ∷ ranks) c s a h = by_out (is_out but r.via) refl (offer_ranked seats r) refl h (first_is seats but Q ranks c s.1 a.1)
   where
-    later : IsFirst seats but Q ranks c → ((offer : Offer) → offer_ranked seats r ≡ Some offer → is_out but r.peer ≡ false → ⊥) → IsFirst seats but Q (r ∷ ranks) c
-    later f none = record { rank = f.rank; meets = f.meets; live = f.live; peer = f.peer; kept = f.kept; least = ((λ offer g o. absurd (none offer g o)), f.least) }
+    later : IsFirst seats but Q ranks c → ((offer : Offer) → offer_ranked seats r ≡ Some offer → is_out but r.via ≡ false → ⊥) → IsFirst seats but Q (r ∷ ranks) c
+    later f none = record { rank = f.rank; meets = f.meets; live = f.live; via = f.via; kept = f.kept; least = ((λ offer g o. absurd (none offer g o)), f.least) }
 
-    by_out : (b : Bool) → is_out but r.peer ≡ b → (o : Option Offer) → offer_ranked seats r ≡ o → (if b then first_in seats but ranks else or_next r.peer o (first_in seats but ranks)) ≡ Some c
+    by_out : (b : Bool) → is_out but r.via ≡ b → (o : Option Offer) → offer_ranked seats r ≡ o → (if b then first_in seats but ranks else or_next r.via o (first_in seats but ranks)) ≡ Some c
         → (first_in seats but ranks ≡ Some c → IsFirst seats but Q ranks c) → IsFirst seats but Q (r ∷ ranks) c
     by_out true t o g e ih = later (ih e) (λ offer x y. let z : true ≡ false = sym t ∙ y in absurd cc)
     by_out false t None g e ih = later (ih e) (λ offer x y. let z : None ≡ Some offer = sym g ∙ x in absurd cc)
     by_out false t (Some offer) g e ih =
-        let x : r.peer ≡ c.peer = candidate_peer r.peer offer c e in
-        let y : offer ≡ c.offer = candidate_offer r.peer offer c e in
+        let x : r.via ≡ c.via = candidate_via r.via offer c e in
+        let y : offer ≡ c.offer = candidate_offer r.via offer c e in
         record {
           rank = r;
           meets = a.0;
           live = g ∙ ap Some y;
-          peer = x;
+          via = x;
           kept = t;
-          least = ((λ offer x y. ap is_gt (tied_itself rank_total r)), all_map (λ t. rank_cmp r t ≡ Less) (λ t. (offer : Offer) → offer_ranked seats t ≡ Some offer → is_out but t.peer ≡ false → is_gt (rank_cmp r t) ≡ false) ranks (λ t l offer x y. ap is_gt l) s.0);
+          least = ((λ offer x y. ap is_gt (tied_itself rank_total r)), all_map (λ t. rank_cmp r t ≡ Less) (λ t. (offer : Offer) → offer_ranked seats t ≡ Some offer → is_out but t.via ≡ false → is_gt (rank_cmp r t) ≡ false) ranks (λ t l offer x y. ap is_gt l) s.0);
         }
 
-none_is : (seats : Seats) (but : Option Peer) (ranks : List Rank) → first_in seats but ranks ≡ None → AllByRecursion (λ t. (offer : Offer) → offer_ranked seats t ≡ Some offer → is_out but t.peer ≡ true) ranks
+none_is : (seats : Seats) (but : Option Via) (ranks : List Rank) → first_in seats but ranks ≡ None → AllByRecursion (λ t. (offer : Offer) → offer_ranked seats t ≡ Some offer → is_out but t.via ≡ true) ranks
 unfolding first_in
 none_is seats but [] h = tt
-none_is seats but (r ∷ ranks) h = by_out (is_out but r.peer) refl (offer_ranked seats r) refl h (none_is seats but ranks)
+none_is seats but (r ∷ ranks) h = by_out (is_out but r.via) refl (offer_ranked seats r) refl h (none_is seats but ranks)
   where
-    by_out : (b : Bool) → is_out but r.peer ≡ b → (o : Option Offer) → offer_ranked seats r ≡ o → (if b then first_in seats but ranks else or_next r.peer o (first_in seats but ranks)) ≡ None
-        → (first_in seats but ranks ≡ None → AllByRecursion (λ t. (offer : Offer) → offer_ranked seats t ≡ Some offer → is_out but t.peer ≡ true) ranks)
-        → AllByRecursion (λ t. (offer : Offer) → offer_ranked seats t ≡ Some offer → is_out but t.peer ≡ true) (r ∷ ranks)
+    by_out : (b : Bool) → is_out but r.via ≡ b → (o : Option Offer) → offer_ranked seats r ≡ o → (if b then first_in seats but ranks else or_next r.via o (first_in seats but ranks)) ≡ None
+        → (first_in seats but ranks ≡ None → AllByRecursion (λ t. (offer : Offer) → offer_ranked seats t ≡ Some offer → is_out but t.via ≡ true) ranks)
+        → AllByRecursion (λ t. (offer : Offer) → offer_ranked seats t ≡ Some offer → is_out but t.via ≡ true) (r ∷ ranks)
     by_out true t o g e ih = ((λ offer x. t), ih e)
     by_out false t None g e ih = ((λ offer x. let z : None ≡ Some offer = sym g ∙ x in absurd cc), ih e)
     by_out false t (Some offer) g e ih = absurd cc
@@ -179,13 +179,13 @@ path_equal x y e = ranked x y Equal (sym e)
 pub record SameRank (r t : Rank) : Type 0 where
   pub prefix : code_cmp r.prefix t.prefix ≡ Equal
   pub path : r.path ≡ t.path
-  pub peer : code_peer_cmp r.peer t.peer ≡ Equal
+  pub via : code_via_cmp r.via t.via ≡ Equal
 
 pub same_rank : (r t : Rank) → is_eq (rank_cmp r t) ≡ true → SameRank r t
 same_rank r t e =
-    let x = eq_parts (code_cmp r.prefix t.prefix) (ordering_then (nat_cmp r.path t.path) (code_peer_cmp r.peer t.peer)) e in
-    let y = eq_parts (nat_cmp r.path t.path) (code_peer_cmp r.peer t.peer) x.1 in
-    record { prefix = x.0; path = path_equal r.path t.path y.0; peer = is_equal (code_peer_cmp r.peer t.peer) y.1 }
+    let x = eq_parts (code_cmp r.prefix t.prefix) (ordering_then (nat_cmp r.path t.path) (code_via_cmp r.via t.via)) e in
+    let y = eq_parts (nat_cmp r.path t.path) (code_via_cmp r.via t.via) x.1 in
+    record { prefix = x.0; path = path_equal r.path t.path y.0; via = is_equal (code_via_cmp r.via t.via) y.1 }
 
 -- seats that the order doesn't tell apart offer the same
 pub same_offer : (seats : Seats) (s t : Seat) → seat_cmp s t ≡ Equal → offer_at seats t ≡ offer_at seats s
@@ -214,7 +214,7 @@ record Ranked (seats : Seats) (T : Rank → Type 0) (d : Place × model.Offer) :
   offer : Offer
   live : offer_ranked seats rank ≡ Some offer
   path : rank.path ≡ d.1.path
-  peer : peer_as rank.peer ≡ d.0.peer
+  via : via_as rank.via ≡ d.0.via
 
 rank_of : (seats : Seats) (ranks : List Rank) (p : code.Prefix) (T : Rank → Type 0) (d : Place × model.Offer) → IsIndexed seats ranks → AllByRecursion T (ranks_of p ranks) → IsHeld (held_in seats) d → same_prefix (prefix_as p) d.0.prefix ≡ true → Ranked seats T d
 rank_of seats ranks p T d i a h e =
@@ -226,41 +226,41 @@ rank_of seats ranks p T d i a h e =
     any_filtered (is_at (rank_cmp own)) (λ r. is_eq (code_cmp p r.prefix)) ranks (λ k t. ap is_eq (prefix_total.congr p s.prefix k.prefix at_p ∙ (same_rank own k t).prefix)) (i s c.offer c.here) in
     let r = any_element (is_at (rank_cmp own)) T (ranks_of p ranks) there a in
     let f = same_rank own r.0 r.1 in
-    let seat : seat_cmp s (seat_of r.0) ≡ Equal = ap (λ o. ordering_then o (code_cmp s.prefix r.0.prefix)) f.peer ∙ f.prefix in
-    let peer : code_peer_cmp r.0.peer s.peer ≡ Equal = tied_back peer_total s.peer r.0.peer f.peer in
+    let seat : seat_cmp s (seat_of r.0) ≡ Equal = seat_tied s (seat_of r.0) f.prefix f.via in
+    let via : code_via_cmp r.0.via s.via ≡ Equal = tied_back via_total s.via r.0.via f.via in
     record {
       rank = r.0;
       meets = r.2;
       offer = c.offer;
       live = ap (offer_with_path r.0.path) (same_offer seats s (seat_of r.0) seat ∙ c.here) ∙ with_own_path r.0.path c.offer f.path;
       path = sym f.path ∙ ap (λ (o : model.Offer). o.path) c.is;
-      peer = peer_key.same (peer_as r.0.peer) (peer_as s.peer) (sym (peer_same r.0.peer s.peer) ∙ ap is_eq peer) ∙ ap (λ (q : Place). q.peer) c.place;
+      via = via_key.same (via_as r.0.via) (via_as s.via) (sym (via_same r.0.via s.via) ∙ ap is_eq via) ∙ ap (λ (q : Place). q.via) c.place;
     }
 
--- ---- the best candidate of a prefix, of the peers that aren't out
+-- ---- the best candidate of a prefix, of the ways that aren't out
 
-abbrev pub IsBestOf : Candidates → Prefix → (events.Peer → Bool) → Option (Place × model.Offer) → Type 0
-IsBestOf held p out None = (d : Place × model.Offer) → IsHeld held d → same_prefix p d.0.prefix ≡ true → out d.0.peer ≡ true
+abbrev pub IsBestOf : Candidates → Prefix → (events.Via → Bool) → Option (Place × model.Offer) → Type 0
+IsBestOf held p out None = (d : Place × model.Offer) → IsHeld held d → same_prefix p d.0.prefix ≡ true → out d.0.via ≡ true
 IsBestOf held p out (Some c) =
-    IsHeld held c × (c.0.prefix ≡ p) × (out c.0.peer ≡ false) × ((d : Place × model.Offer) → IsHeld held d → same_prefix p d.0.prefix ≡ true → out d.0.peer ≡ false → beats d c ≡ false)
+    IsHeld held c × (c.0.prefix ≡ p) × (out c.0.via ≡ false) × ((d : Place × model.Offer) → IsHeld held d → same_prefix p d.0.prefix ≡ true → out d.0.via ≡ false → beats d c ≡ false)
 
-abbrev pub out_as : Option Peer → events.Peer → Bool
+abbrev pub out_as : Option Via → events.Via → Bool
 out_as None m = false
-out_as (Some q) m = same_peer (peer_as q) m
+out_as (Some q) m = same_via (via_as q) m
 
-is_out_as : (but : Option Peer) (q : Peer) → is_out but q ≡ out_as but (peer_as q)
+is_out_as : (but : Option Via) (q : Via) → is_out but q ≡ out_as but (via_as q)
 is_out_as None q = refl
-is_out_as (Some p) q = peer_same p q
+is_out_as (Some p) q = via_same p q
 
 abbrev pub candidate_as : Prefix → Candidate → Place × model.Offer
-candidate_as p c = (record { prefix = p; peer = peer_as c.peer }, offer_as c.offer)
+candidate_as p c = (record { prefix = p; via = via_as c.via }, offer_as c.offer)
 
-pub best_is : (seats : Seats) (ranks : List Rank) (p : code.Prefix) (but : Option Peer) → IsIndexed seats ranks → IsStrictlySortedBy rank_cmp ranks → (o : Option Candidate) → first_in seats but (ranks_of p ranks) ≡ o → IsBestOf (held_in seats) (prefix_as p) (out_as but) (option_map (candidate_as (prefix_as p)) o)
+pub best_is : (seats : Seats) (ranks : List Rank) (p : code.Prefix) (but : Option Via) → IsIndexed seats ranks → IsStrictlySortedBy rank_cmp ranks → (o : Option Candidate) → first_in seats but (ranks_of p ranks) ≡ o → IsBestOf (held_in seats) (prefix_as p) (out_as but) (option_map (candidate_as (prefix_as p)) o)
 best_is seats ranks p but i s None f = λ d h e.
     let a = none_is seats but (ranks_of p ranks) f in
-    let r = rank_of seats ranks p (λ t. (offer : Offer) → offer_ranked seats t ≡ Some offer → is_out but t.peer ≡ true) d i a h e in
-    sym (ap (out_as but) r.peer) ∙ (sym (is_out_as but r.rank.peer) ∙ r.meets r.offer r.live)
-best_is seats ranks p but i s (Some c) f = (held, refl, sym (is_out_as but c.peer) ∙ (ap (is_out but) (sym b.peer) ∙ b.kept), best)
+    let r = rank_of seats ranks p (λ t. (offer : Offer) → offer_ranked seats t ≡ Some offer → is_out but t.via ≡ true) d i a h e in
+    sym (ap (out_as but) r.via) ∙ (sym (is_out_as but r.rank.via) ∙ r.meets r.offer r.live)
+best_is seats ranks p but i s (Some c) f = (held, refl, sym (is_out_as but c.via) ∙ (ap (is_out but) (sym b.via) ∙ b.kept), best)
   where
     b : IsFirst seats but (λ r. is_eq (code_cmp p r.prefix) ≡ true) (ranks_of p ranks) c
     b = first_is seats but (λ r. is_eq (code_cmp p r.prefix) ≡ true) (ranks_of p ranks) c (filtered_sorted rank_cmp (λ r. is_eq (code_cmp p r.prefix)) ranks s) (filtered (λ r. is_eq (code_cmp p r.prefix)) ranks) f
@@ -272,19 +272,19 @@ best_is seats ranks p but i s (Some c) f = (held, refl, sym (is_out_as but c.pee
     prefix = sym (same_prefix_is (prefix_as p) (prefix_as b.rank.prefix) (sym (prefix_same p b.rank.prefix) ∙ b.meets))
 
     place : place_as (seat_of b.rank) ≡ (candidate_as (prefix_as p) c).0
-    place = ap (λ y. let r : Place = record { prefix = y; peer = peer_as b.rank.peer } in r) prefix ∙ ap (λ y. let r : Place = record { prefix = prefix_as p; peer = peer_as y } in r) b.peer
+    place = ap (λ y. let r : Place = record { prefix = y; via = via_as b.rank.via } in r) prefix ∙ ap (λ y. let r : Place = record { prefix = prefix_as p; via = via_as y } in r) b.via
 
     held : IsHeld (held_in seats) (candidate_as (prefix_as p) c)
     held = ap (λ y. lookup (same_place y) (held_in seats)) (sym place) ∙ (at_seat (seat_of b.rank) seats ∙ ap (option_map offer_as) x.0)
 
-    best : (d : Place × model.Offer) → IsHeld (held_in seats) d → same_prefix (prefix_as p) d.0.prefix ≡ true → out_as but d.0.peer ≡ false → beats d (candidate_as (prefix_as p) c) ≡ false
+    best : (d : Place × model.Offer) → IsHeld (held_in seats) d → same_prefix (prefix_as p) d.0.prefix ≡ true → out_as but d.0.via ≡ false → beats d (candidate_as (prefix_as p) c) ≡ false
     best d h e n =
-        let both_meet = all_both (λ t. is_eq (code_cmp p t.prefix) ≡ true) (λ t. (offer : Offer) → offer_ranked seats t ≡ Some offer → is_out but t.peer ≡ false → is_gt (rank_cmp b.rank t) ≡ false) (ranks_of p ranks) (filtered (λ r. is_eq (code_cmp p r.prefix)) ranks) b.least in
-        let r = rank_of seats ranks p (λ t. (is_eq (code_cmp p t.prefix) ≡ true) × ((offer : Offer) → offer_ranked seats t ≡ Some offer → is_out but t.peer ≡ false → is_gt (rank_cmp b.rank t) ≡ false)) d i both_meet h e in
-        let kept : is_out but r.rank.peer ≡ false = is_out_as but r.rank.peer ∙ (ap (out_as but) r.peer ∙ n) in
+        let both_meet = all_both (λ t. is_eq (code_cmp p t.prefix) ≡ true) (λ t. (offer : Offer) → offer_ranked seats t ≡ Some offer → is_out but t.via ≡ false → is_gt (rank_cmp b.rank t) ≡ false) (ranks_of p ranks) (filtered (λ r. is_eq (code_cmp p r.prefix)) ranks) b.least in
+        let r = rank_of seats ranks p (λ t. (is_eq (code_cmp p t.prefix) ≡ true) × ((offer : Offer) → offer_ranked seats t ≡ Some offer → is_out but t.via ≡ false → is_gt (rank_cmp b.rank t) ≡ false)) d i both_meet h e in
+        let kept : is_out but r.rank.via ≡ false = is_out_as but r.rank.via ∙ (ap (out_as but) r.via ∙ n) in
         let up : is_gt (rank_cmp b.rank r.rank) ≡ false = r.meets.1 r.offer r.live kept in
         let same : code_cmp b.rank.prefix r.rank.prefix ≡ Equal = sym (prefix_total.congr p b.rank.prefix r.rank.prefix (is_equal _ b.meets)) ∙ is_equal _ r.meets.0 in
-        let up2 : is_gt (ordering_then (nat_cmp b.rank.path r.rank.path) (code_peer_cmp b.rank.peer r.rank.peer)) ≡ false = ap (λ o. is_gt (ordering_then o (ordering_then (nat_cmp b.rank.path r.rank.path) (code_peer_cmp b.rank.peer r.rank.peer)))) (sym same) ∙ up in
-        let peers : code_peer_cmp b.rank.peer r.rank.peer ≡ peer_cmp (peer_as c.peer) d.0.peer = peer_is b.rank.peer r.rank.peer ∙ (ap (λ y. peer_cmp (peer_as y) (peer_as r.rank.peer)) b.peer ∙ ap (peer_cmp (peer_as c.peer)) r.peer) in
+        let up2 : is_gt (ordering_then (nat_cmp b.rank.path r.rank.path) (code_via_cmp b.rank.via r.rank.via)) ≡ false = ap (λ o. is_gt (ordering_then o (ordering_then (nat_cmp b.rank.path r.rank.path) (code_via_cmp b.rank.via r.rank.via)))) (sym same) ∙ up in
+        let vias : code_via_cmp b.rank.via r.rank.via ≡ via_cmp (via_as c.via) d.0.via = via_is b.rank.via r.rank.via ∙ (ap (λ y. via_cmp (via_as y) (via_as r.rank.via)) b.via ∙ ap (via_cmp (via_as c.via)) r.via) in
         let paths : nat_cmp b.rank.path r.rank.path ≡ nat_cmp c.offer.path d.1.path = ap (λ n. nat_cmp n r.rank.path) (sym x.1) ∙ ap (nat_cmp c.offer.path) r.path in
-        sym (beats_flipped d (candidate_as (prefix_as p) c)) ∙ (sym (ap (λ o. is_gt (ordering_then o (peer_cmp (peer_as c.peer) d.0.peer))) paths) ∙ (sym (ap (λ o. is_gt (ordering_then (nat_cmp b.rank.path r.rank.path) o)) peers) ∙ up2))
+        sym (beats_flipped d (candidate_as (prefix_as p) c)) ∙ (sym (ap (λ o. is_gt (ordering_then o (via_cmp (via_as c.via) d.0.via))) paths) ∙ (sym (ap (λ o. is_gt (ordering_then (nat_cmp b.rank.path r.rank.path) o)) vias) ∙ up2))

@@ -10,16 +10,16 @@ use Rattle.std.proofs.lemmas.Bool.{and_from}
 use Rattle.address_model.specs.Address.{Address, Prefix, same_prefix}
 use Rattle.address_model.proofs.Same.{same_prefix_is, same_prefix_itself}
 use Rattle.fib_addr.specs.Views.{addr_as, prefix_as}
-use Rattle.fib_prefix.specs.Views.{peer_as, elem_as}
+use Rattle.fib_prefix.specs.Views.{via_as, elem_as}
 use Rattle.fib_addr.specs.declared.prefix.Prefix as code
-use Rattle.fib_prefix.specs.declared.event.Peer.{Peer}
+use Rattle.fib_prefix.specs.declared.event.Via.{Via}
 use Rattle.fib_prefix.specs.declared.event.Elem.{Elem}
 use Rattle.fib_prefix.specs.declared.event.Elem.TheVariants as elem
 use Rattle.route_model.specs.Events as events
-use Rattle.route_model.specs.Events.{same_peer}
+use Rattle.route_model.specs.Events.{same_via}
 use Rattle.route_model.specs.Choice as model
 use Rattle.route_model.specs.Choice.{Place, Candidates, AreCandidates, IsHeld, same_place, after_elem, beats, chosen_for, offered}
-use Rattle.route_model.proofs.Places.{place_key, peer_key}
+use Rattle.route_model.proofs.Places.{place_key, via_key}
 use Rattle.route_model.proofs.Choices.{chosen_for-best, chosen_for-none, not_itself, not_back, not_beaten}
 use Rattle.route_model.proofs.Said.{candidates_after, offer_after}
 use Rattle.route_choice.specs.declared.keys.Seat.{Seat}
@@ -28,19 +28,19 @@ use Rattle.route_choice.specs.declared.keys.Offer.{Offer}
 use Rattle.route_choice.specs.declared.keys.Candidate.{Candidate}
 use Rattle.route_choice.specs.declared.choice.Choice.{Choice}
 use Rattle.route_choice.specs.Orders.{rank_cmp}
-use Rattle.fib_prefix.specs.Order.{code_peer_cmp}
+use Rattle.fib_prefix.specs.Order.{code_via_cmp}
 use Rattle.route_choice.specs.Seats.{Seats, held_in, offer_at, IsIndexed, seat_in, offer_in}
 use Rattle.route_choice.specs.Walks.{ranks_of, first_in, better_of}
 use Rattle.route_model.specs.Events.{elem_prefix}
 use Rattle.route_choice.specs.Held.{IsChoice}
-use Rattle.route_choice.proofs.Orders.{place_as, peer_is}
+use Rattle.route_choice.proofs.Orders.{place_as, via_is}
 use Rattle.route_choice.proofs.Views.{offer_as, are_candidates, at_seat, about_is, offered_is, is_elem}
 use Rattle.route_choice.proofs.Best.{IsBestOf, out_as, candidate_as, best_is}
 
-abbrev place_at : Prefix → events.Peer → Place
-place_at p q = record { prefix = p; peer = q }
+abbrev place_at : Prefix → events.Via → Place
+place_at p q = record { prefix = p; via = q }
 
--- the better of what a peer offers and what the others do
+-- the better of what comes by a way and what by the others
 abbrev model_better : Place → Option model.Offer → Option (Place × model.Offer) → Option Address
 model_better at None None = None
 model_better at None (Some c) = Some c.1.hop
@@ -50,22 +50,22 @@ model_better at (Some o) (Some c) = if beats (at, o) c then Some o.hop else Some
 same_value : {X : Type 0} (v w : X) → Some v ≡ Some w → v ≡ w
 same_value v w i = cc
 
--- a candidate of the prefix and the peer is what is offered there
-is_own : (held : Candidates) (p : Prefix) (q : events.Peer) (d : Place × model.Offer) → IsHeld held d → same_prefix p d.0.prefix ≡ true → same_peer q d.0.peer ≡ true → (lookup (same_place (place_at p q)) held ≡ Some d.1) × (place_at p q ≡ d.0)
+-- a candidate of the prefix and the way is what is offered there
+is_own : (held : Candidates) (p : Prefix) (q : events.Via) (d : Place × model.Offer) → IsHeld held d → same_prefix p d.0.prefix ≡ true → same_via q d.0.via ≡ true → (lookup (same_place (place_at p q)) held ≡ Some d.1) × (place_at p q ≡ d.0)
 is_own held p q d h e t =
-    let x : place_at p q ≡ d.0 = place_key.same (place_at p q) d.0 (and_from (same_prefix p d.0.prefix) (same_peer q d.0.peer) e t) in
+    let x : place_at p q ≡ d.0 = place_key.same (place_at p q) d.0 (and_from (same_prefix p d.0.prefix) (same_via q d.0.via) e t) in
     (ap (λ y. lookup (same_place y) held) x ∙ h, x)
 
-joined : (held : Candidates) (p : Prefix) (q : events.Peer) (own : Option model.Offer) (others : Option (Place × model.Offer)) → AreCandidates held → lookup (same_place (place_at p q)) held ≡ own → IsBestOf held p (same_peer q) others → chosen_for held p ≡ model_better (place_at p q) own others
+joined : (held : Candidates) (p : Prefix) (q : events.Via) (own : Option model.Offer) (others : Option (Place × model.Offer)) → AreCandidates held → lookup (same_place (place_at p q)) held ≡ own → IsBestOf held p (same_via q) others → chosen_for held p ≡ model_better (place_at p q) own others
 joined held p q None None a l b = chosen_for-none held p a (λ d h. by_test d h (same_prefix p d.0.prefix) refl)
   where
     by_test : (d : Place × model.Offer) → IsHeld held d → (t : Bool) → same_prefix p d.0.prefix ≡ t → t ≡ false
     by_test d h true e = let x = is_own held p q d h e (b d h e) in let y : None ≡ Some d.1 = sym l ∙ x.0 in absurd cc
     by_test d h false e = refl
 joined held p q None (Some c) a l b =
-    ap (chosen_for held) (sym b.1) ∙ chosen_for-best held c a b.0 (λ d h e. by_test d h (ap (same_prefix p) (same_prefix_is d.0.prefix c.0.prefix e ∙ b.1) ∙ same_prefix_itself p) (same_peer q d.0.peer) refl)
+    ap (chosen_for held) (sym b.1) ∙ chosen_for-best held c a b.0 (λ d h e. by_test d h (ap (same_prefix p) (same_prefix_is d.0.prefix c.0.prefix e ∙ b.1) ∙ same_prefix_itself p) (same_via q d.0.via) refl)
   where
-    by_test : (d : Place × model.Offer) → IsHeld held d → same_prefix p d.0.prefix ≡ true → (t : Bool) → same_peer q d.0.peer ≡ t → beats d c ≡ false
+    by_test : (d : Place × model.Offer) → IsHeld held d → same_prefix p d.0.prefix ≡ true → (t : Bool) → same_via q d.0.via ≡ t → beats d c ≡ false
     by_test d h e true t = let x = is_own held p q d h e t in let y : None ≡ Some d.1 = sym l ∙ x.0 in absurd cc
     by_test d h e false t = b.3 d h e t
 joined held p q (Some o) None a l b =
@@ -81,24 +81,24 @@ joined held p q (Some o) (Some c) a l b = by_beats (beats (place_at p q, o) c) r
     mine : Place × model.Offer
     mine = (place_at p q, o)
 
-    same_mine : (d : Place × model.Offer) → IsHeld held d → same_prefix p d.0.prefix ≡ true → same_peer q d.0.peer ≡ true → (e : Place × model.Offer) → beats d e ≡ beats (place_at p q, o) e
+    same_mine : (d : Place × model.Offer) → IsHeld held d → same_prefix p d.0.prefix ≡ true → same_via q d.0.via ≡ true → (e : Place × model.Offer) → beats d e ≡ beats (place_at p q, o) e
     same_mine d h e t f =
         let x = is_own held p q d h e t in
         let y : d.1 ≡ o = same_value d.1 o (sym x.0 ∙ l) in
         ap (λ (z : Place). beats (z, d.1) f) (sym x.1) ∙ ap (λ (z : model.Offer). beats (place_at p q, z) f) y
 
-    over_mine : beats (place_at p q, o) c ≡ true → (d : Place × model.Offer) → IsHeld held d → same_prefix p d.0.prefix ≡ true → (t : Bool) → same_peer q d.0.peer ≡ t → beats d (place_at p q, o) ≡ false
+    over_mine : beats (place_at p q, o) c ≡ true → (d : Place × model.Offer) → IsHeld held d → same_prefix p d.0.prefix ≡ true → (t : Bool) → same_via q d.0.via ≡ t → beats d (place_at p q, o) ≡ false
     over_mine w d h e true t = same_mine d h e t (place_at p q, o) ∙ not_itself (place_at p q, o)
     over_mine w d h e false t = not_beaten (place_at p q, o) c d (not_back c (place_at p q, o) w) (b.3 d h e t)
 
-    over_other : beats (place_at p q, o) c ≡ false → (d : Place × model.Offer) → IsHeld held d → same_prefix p d.0.prefix ≡ true → (t : Bool) → same_peer q d.0.peer ≡ t → beats d c ≡ false
+    over_other : beats (place_at p q, o) c ≡ false → (d : Place × model.Offer) → IsHeld held d → same_prefix p d.0.prefix ≡ true → (t : Bool) → same_via q d.0.via ≡ t → beats d c ≡ false
     over_other w d h e true t = same_mine d h e t c ∙ w
     over_other w d h e false t = b.3 d h e t
 
     by_beats : (w : Bool) → beats (place_at p q, o) c ≡ w → chosen_for held p ≡ (if w then Some o.hop else Some c.1.hop)
-    by_beats true w = chosen_for-best held (place_at p q, o) a l (λ d h e. over_mine w d h (ap (same_prefix p) (same_prefix_is d.0.prefix p e) ∙ same_prefix_itself p) (same_peer q d.0.peer) refl)
+    by_beats true w = chosen_for-best held (place_at p q, o) a l (λ d h e. over_mine w d h (ap (same_prefix p) (same_prefix_is d.0.prefix p e) ∙ same_prefix_itself p) (same_via q d.0.via) refl)
     by_beats false w =
-        ap (chosen_for held) (sym b.1) ∙ chosen_for-best held c a b.0 (λ d h e. over_other w d h (ap (same_prefix p) (same_prefix_is d.0.prefix c.0.prefix e ∙ b.1) ∙ same_prefix_itself p) (same_peer q d.0.peer) refl)
+        ap (chosen_for held) (sym b.1) ∙ chosen_for-best held c a b.0 (λ d h e. over_other w d h (ap (same_prefix p) (same_prefix_is d.0.prefix c.0.prefix e ∙ b.1) ∙ same_prefix_itself p) (same_via q d.0.via) refl)
 
 -- ---- the code's comparison
 
@@ -110,13 +110,13 @@ is_better x y o = by_tests (nat_lt x y) (x == y)
     by_tests false true = refl
     by_tests false false = refl
 
-better_as : (p : Prefix) (q : Peer) (own : Option Offer) (others : Option Candidate) → option_map addr_as (better_of q own others) ≡ model_better (place_at p (peer_as q)) (option_map offer_as own) (option_map (candidate_as p) others)
+better_as : (p : Prefix) (q : Via) (own : Option Offer) (others : Option Candidate) → option_map addr_as (better_of q own others) ≡ model_better (place_at p (via_as q)) (option_map offer_as own) (option_map (candidate_as p) others)
 better_as p q None None = refl
 better_as p q None (Some c) = refl
 better_as p q (Some o) None = refl
 better_as p q (Some o) (Some c) =
-    mapped (nat_lt o.path c.offer.path || (o.path == c.offer.path && is_lt (code_peer_cmp q c.peer)))
-    ∙ ap (λ (b : Bool). if b then Some (addr_as o.hop) else Some (addr_as c.offer.hop)) (is_better o.path c.offer.path (code_peer_cmp q c.peer) ∙ ap (λ x. is_lt (ordering_then (nat_cmp o.path c.offer.path) x)) (peer_is q c.peer))
+    mapped (nat_lt o.path c.offer.path || (o.path == c.offer.path && is_lt (code_via_cmp q c.via)))
+    ∙ ap (λ (b : Bool). if b then Some (addr_as o.hop) else Some (addr_as c.offer.hop)) (is_better o.path c.offer.path (code_via_cmp q c.via) ∙ ap (λ x. is_lt (ordering_then (nat_cmp o.path c.offer.path) x)) (via_is q c.via))
   where
     mapped : (b : Bool) → option_map addr_as (if b then Some o.hop else Some c.offer.hop) ≡ (if b then Some (addr_as o.hop) else Some (addr_as c.offer.hop))
     mapped true = refl
@@ -124,10 +124,10 @@ better_as p q (Some o) (Some c) =
 
 -- ---- the others stay the best of the others
 
-best_after : (held : Candidates) (at : Place) (e : events.Elem) (c : Option (Place × model.Offer)) → ((d : Place × model.Offer) → same_peer at.peer d.0.peer ≡ false → lookup (same_place d.0) (after_elem held e) ≡ lookup (same_place d.0) held) → IsBestOf held at.prefix (same_peer at.peer) c → IsBestOf (after_elem held e) at.prefix (same_peer at.peer) c
-best_after held at e None keeps b = λ d h g. by_test d h g (same_peer at.peer d.0.peer) refl
+best_after : (held : Candidates) (at : Place) (e : events.Elem) (c : Option (Place × model.Offer)) → ((d : Place × model.Offer) → same_via at.via d.0.via ≡ false → lookup (same_place d.0) (after_elem held e) ≡ lookup (same_place d.0) held) → IsBestOf held at.prefix (same_via at.via) c → IsBestOf (after_elem held e) at.prefix (same_via at.via) c
+best_after held at e None keeps b = λ d h g. by_test d h g (same_via at.via d.0.via) refl
   where
-    by_test : (d : Place × model.Offer) → IsHeld (after_elem held e) d → same_prefix at.prefix d.0.prefix ≡ true → (t : Bool) → same_peer at.peer d.0.peer ≡ t → t ≡ true
+    by_test : (d : Place × model.Offer) → IsHeld (after_elem held e) d → same_prefix at.prefix d.0.prefix ≡ true → (t : Bool) → same_via at.via d.0.via ≡ t → t ≡ true
     by_test d h g true t = refl
     by_test d h g false t = sym t ∙ b d (sym (keeps d t) ∙ h) g
 best_after held at e (Some c) keeps b = (keeps c b.2 ∙ b.0, b.1, b.2, λ d h g t. b.3 d (sym (keeps d t) ∙ h) g t)
@@ -145,29 +145,29 @@ at_after seats e at =
 own_after : (seats : Seats) (e : Elem) → lookup (same_place (place_as (seat_in e))) (after_elem (held_in seats) (elem_as e)) ≡ option_map offer_as (offer_in e)
 own_after seats e = at_after seats e (place_as (seat_in e)) ∙ ap (λ b. cond b (option_map offer_as (offer_in e)) (lookup (same_place (place_as (seat_in e))) (held_in seats))) (place_key.itself (place_as (seat_in e)))
 
-others_stay : (seats : Seats) (e : Elem) (d : Place × model.Offer) → same_peer (peer_as (seat_in e).peer) d.0.peer ≡ false → lookup (same_place d.0) (after_elem (held_in seats) (elem_as e)) ≡ lookup (same_place d.0) (held_in seats)
+others_stay : (seats : Seats) (e : Elem) (d : Place × model.Offer) → same_via (via_as (seat_in e).via) d.0.via ≡ false → lookup (same_place d.0) (after_elem (held_in seats) (elem_as e)) ≡ lookup (same_place d.0) (held_in seats)
 others_stay seats e d n = at_after seats e d.0 ∙ ap (λ b. cond b (option_map offer_as (offer_in e)) (lookup (same_place d.0) (held_in seats))) (by_test (same_place d.0 (place_as (seat_in e))) refl)
   where
     by_test : (b : Bool) → same_place d.0 (place_as (seat_in e)) ≡ b → b ≡ false
     by_test true t =
         let x : d.0 ≡ place_as (seat_in e) = place_key.same d.0 (place_as (seat_in e)) t in
-        let y : same_peer (peer_as (seat_in e).peer) d.0.peer ≡ true = ap (λ (z : Place). same_peer (peer_as (seat_in e).peer) z.peer) x ∙ peer_key.itself (peer_as (seat_in e).peer) in absurd cc
+        let y : same_via (via_as (seat_in e).via) d.0.via ≡ true = ap (λ (z : Place). same_via (via_as (seat_in e).via) z.via) x ∙ via_key.itself (via_as (seat_in e).via) in absurd cc
     by_test false t = refl
 
-choice_is : (seats : Seats) (ranks : List Rank) (e : Elem) (others : Option Candidate) (choice : Choice) → IsIndexed seats ranks → IsStrictlySortedBy rank_cmp ranks → first_in seats (Some (seat_in e).peer) (ranks_of (seat_in e).prefix ranks) ≡ others
-    → choice.prefix ≡ (seat_in e).prefix → choice.before ≡ better_of (seat_in e).peer (offer_at seats (seat_in e)) others → choice.after ≡ better_of (seat_in e).peer (offer_in e) others → IsChoice (held_in seats) (elem_as e) choice
+choice_is : (seats : Seats) (ranks : List Rank) (e : Elem) (others : Option Candidate) (choice : Choice) → IsIndexed seats ranks → IsStrictlySortedBy rank_cmp ranks → first_in seats (Some (seat_in e).via) (ranks_of (seat_in e).prefix ranks) ≡ others
+    → choice.prefix ≡ (seat_in e).prefix → choice.before ≡ better_of (seat_in e).via (offer_at seats (seat_in e)) others → choice.after ≡ better_of (seat_in e).via (offer_in e) others → IsChoice (held_in seats) (elem_as e) choice
 choice_is seats ranks e others choice i s f cp cb ca =
     let at = seat_in e in
     let p = prefix_as at.prefix in
-    let q = peer_as at.peer in
-    let best = best_is seats ranks at.prefix (Some at.peer) i s others f in
+    let q = via_as at.via in
+    let best = best_is seats ranks at.prefix (Some at.via) i s others f in
     let later = best_after (held_in seats) (place_as at) (elem_as e) (option_map (candidate_as p) others) (others_stay seats e) best in
     let before = joined (held_in seats) p q (option_map offer_as (offer_at seats at)) (option_map (candidate_as p) others) (are_candidates seats) (at_seat at seats) best in
     let after = joined (after_elem (held_in seats) (elem_as e)) p q (option_map offer_as (offer_in e)) (option_map (candidate_as p) others) (candidates_after (held_in seats) (elem_as e) (are_candidates seats) (is_elem e)) (own_after seats e) later in
     record {
       prefix = ap prefix_as cp ∙ sym (prefix_in e);
-      before = ap (option_map addr_as) cb ∙ (better_as p at.peer (offer_at seats at) others ∙ (sym before ∙ ap (chosen_for (held_in seats)) (sym (prefix_in e))));
-      after = ap (option_map addr_as) ca ∙ (better_as p at.peer (offer_in e) others ∙ (sym after ∙ ap (chosen_for (after_elem (held_in seats) (elem_as e))) (sym (prefix_in e))));
+      before = ap (option_map addr_as) cb ∙ (better_as p at.via (offer_at seats at) others ∙ (sym before ∙ ap (chosen_for (held_in seats)) (sym (prefix_in e))));
+      after = ap (option_map addr_as) ca ∙ (better_as p at.via (offer_in e) others ∙ (sym after ∙ ap (chosen_for (after_elem (held_in seats) (elem_as e))) (sym (prefix_in e))));
     }
 
 -- the chosen hop of a prefix is the best candidate's
@@ -183,14 +183,14 @@ chosen_is seats ranks p best i s f = by_best best (best_is seats ranks p None i 
     by_best (Some c) b = sym (chosen_for-best (held_in seats) (candidate_as (prefix_as p) c) (are_candidates seats) b.0 (λ d h e. b.3 d h (ap (same_prefix (prefix_as p)) (same_prefix_is d.0.prefix (prefix_as p) e) ∙ same_prefix_itself (prefix_as p)) refl))
 
 -- as the code computes it
-choice_at : (seats : Seats) (ranks : List Rank) (e : Elem) (at : Seat) (others : Option Candidate) (own new : Option Offer) (choice : Choice) → IsIndexed seats ranks → IsStrictlySortedBy rank_cmp ranks → at ≡ seat_in e → others ≡ first_in seats (Some at.peer) (ranks_of at.prefix ranks)
-    → choice.prefix ≡ at.prefix → own ≡ offer_at seats at → choice.before ≡ better_of at.peer own others → new ≡ offer_in e → choice.after ≡ better_of at.peer new others → IsChoice (held_in seats) (elem_as e) choice
+choice_at : (seats : Seats) (ranks : List Rank) (e : Elem) (at : Seat) (others : Option Candidate) (own new : Option Offer) (choice : Choice) → IsIndexed seats ranks → IsStrictlySortedBy rank_cmp ranks → at ≡ seat_in e → others ≡ first_in seats (Some at.via) (ranks_of at.prefix ranks)
+    → choice.prefix ≡ at.prefix → own ≡ offer_at seats at → choice.before ≡ better_of at.via own others → new ≡ offer_in e → choice.after ≡ better_of at.via new others → IsChoice (held_in seats) (elem_as e) choice
 choice_at seats ranks e at others own new choice i s a f cp o cb n ca =
-    choice_is seats ranks e others choice i s (ap (λ (t : Seat). first_in seats (Some t.peer) (ranks_of t.prefix ranks)) (sym a) ∙ sym f) (cp ∙ ap (λ (t : Seat). t.prefix) a)
-    (cb ∙ (ap (λ x. better_of at.peer x others) o ∙ ap (λ (t : Seat). better_of t.peer (offer_at seats t) others) a)) (ca ∙ (ap (λ x. better_of at.peer x others) n ∙ ap (λ (t : Seat). better_of t.peer (offer_in e) others) a))
+    choice_is seats ranks e others choice i s (ap (λ (t : Seat). first_in seats (Some t.via) (ranks_of t.prefix ranks)) (sym a) ∙ sym f) (cp ∙ ap (λ (t : Seat). t.prefix) a)
+    (cb ∙ (ap (λ x. better_of at.via x others) o ∙ ap (λ (t : Seat). better_of t.via (offer_at seats t) others) a)) (ca ∙ (ap (λ x. better_of at.via x others) n ∙ ap (λ (t : Seat). better_of t.via (offer_in e) others) a))
 
--- with the peer and the prefix as the code reads them
-pub choice_by : (seats : Seats) (ranks : List Rank) (e : Elem) (at : Seat) (q : Peer) (p f : code.Prefix) (others : Option Candidate) (own new : Option Offer) (choice : Choice) → IsIndexed seats ranks → IsStrictlySortedBy rank_cmp ranks → at ≡ seat_in e → q ≡ at.peer → p ≡ at.prefix → f ≡ at.prefix → others ≡ first_in seats (Some q) (ranks_of p ranks)
+-- with the way and the prefix as the code reads them
+pub choice_by : (seats : Seats) (ranks : List Rank) (e : Elem) (at : Seat) (q : Via) (p f : code.Prefix) (others : Option Candidate) (own new : Option Offer) (choice : Choice) → IsIndexed seats ranks → IsStrictlySortedBy rank_cmp ranks → at ≡ seat_in e → q ≡ at.via → p ≡ at.prefix → f ≡ at.prefix → others ≡ first_in seats (Some q) (ranks_of p ranks)
     → choice.prefix ≡ f → own ≡ offer_at seats at → choice.before ≡ better_of q own others → new ≡ offer_in e → choice.after ≡ better_of q new others → IsChoice (held_in seats) (elem_as e) choice
 choice_by seats ranks e at q p f others own new choice i s a b d g h cp o cb n ca =
-    choice_at seats ranks e at others own new choice i s a (h ∙ (ap (λ x. first_in seats (Some x) (ranks_of p ranks)) b ∙ ap (λ x. first_in seats (Some at.peer) (ranks_of x ranks)) d)) (cp ∙ g) o (cb ∙ ap (λ x. better_of x own others) b) n (ca ∙ ap (λ x. better_of x new others) b)
+    choice_at seats ranks e at others own new choice i s a (h ∙ (ap (λ x. first_in seats (Some x) (ranks_of p ranks)) b ∙ ap (λ x. first_in seats (Some at.via) (ranks_of x ranks)) d)) (cp ∙ g) o (cb ∙ ap (λ x. better_of x own others) b) n (ca ∙ ap (λ x. better_of x new others) b)

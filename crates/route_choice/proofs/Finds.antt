@@ -3,7 +3,8 @@ use Rattle.std.proofs.Common.{◌≡◌, ℕ, ◌<◌, List, [], ◌∷◌, ◌+
 use Rattle.std.specs.Prelude.{if◌then◌else◌, filter, ◌&&◌, is_some}
 use Rattle.std.specs.List.{AllByRecursion}
 use Rattle.std.specs.List.Sorted.{IsStrictlySortedBy}
-use Rattle.std.specs.Ordering.{nat_cmp, ordering_then, ordering_reverse, is_eq, is_lt, is_le, is_gt}
+use Rattle.std.specs.Map.{keys_of}
+use Rattle.std.specs.Ordering.{nat_cmp, ordering_then, is_eq, is_le, is_gt}
 use Rattle.std.specs.declared.cmp.Ordering.{Ordering}
 use Rattle.std.specs.declared.cmp.Ordering.TheVariants.{Less, Equal, Greater}
 use Rattle.std.proofs.lemmas.Bool.{not-true, not-false}
@@ -12,22 +13,23 @@ use Rattle.address_model.specs.declared.family.Family.{Family}
 use Rattle.address_model.specs.declared.family.Family.TheVariants.{V4, V6}
 use Rattle.address_model.specs.contracts.family.Family.{the_type}
 use Rattle.address_model.specs.contracts.family.FamilyOrd.TheImpl as family_ord
-use Rattle.fib_prefix.specs.contracts.event.PeerPartialEq.TheImpl as peer_same
+use Rattle.fib_prefix.specs.contracts.event.ViaPartialEq.TheImpl as via_same
 use Rattle.fib_addr.specs.contracts.prefix.PrefixPartialEq.TheImpl as prefix_same
 use Rattle.std.specs.Option.{option_eq}
 use Rattle.fib_addr.specs.Order.{code_cmp}
 use Rattle.fib_addr.specs.declared.prefix.Prefix as code
 use Rattle.fib_prefix.specs.declared.event.Peer.{Peer}
+use Rattle.fib_prefix.specs.declared.event.Via.{Via}
 use Rattle.fib_prefix.specs.declared.event.Elem.{Elem}
 use Rattle.fib_prefix.specs.declared.event.Elem.TheVariants.{Cut}
 use Rattle.route_choice.specs.declared.keys.Seat.{Seat}
 use Rattle.route_choice.specs.declared.keys.Rank.{Rank}
 use Rattle.route_choice.specs.declared.keys.Offer.{Offer}
 use Rattle.route_choice.specs.Orders.{seat_cmp, rank_cmp}
-use Rattle.fib_prefix.specs.Order.{code_peer_cmp}
+use Rattle.fib_prefix.specs.Order.{code_peer_cmp, code_via_cmp}
 use Rattle.route_choice.specs.Seats.{Seats}
 use Rattle.route_choice.specs.Walks.{ranks_of, seats_of, offer_ranked, is_out, or_next, first_in, cuts_in}
-use Rattle.route_choice.proofs.Orders.{prefix_total, seat_total}
+use Rattle.route_choice.proofs.Orders.{prefix_total, peer_total}
 use denote.Enum.Bare.{sameb}
 
 -- ---- the code's tests of equality say what its orders do
@@ -59,6 +61,11 @@ peer_eq p q =
     ∙ (ap (λ b. (is_eq f && is_eq (nat_cmp p.addr.bits q.addr.bits)) && b) (number_eq p.asn q.asn)
     ∙ (ap (λ b. b && is_eq (nat_cmp p.asn q.asn)) (sym (then_eq f (nat_cmp p.addr.bits q.addr.bits))) ∙ sym (then_eq (ordering_then f (nat_cmp p.addr.bits q.addr.bits)) (nat_cmp p.asn q.asn)))))
 
+pub via_eq : (p q : Via) → (((sameb the_type p.peer.addr.family q.peer.addr.family && nat_eq p.peer.addr.bits q.peer.addr.bits) && nat_eq p.peer.asn q.peer.asn) && nat_eq p.id q.id) ≡ is_eq (code_via_cmp p q)
+via_eq p q =
+    ap (λ b. b && nat_eq p.id q.id) (peer_eq p.peer q.peer)
+    ∙ (ap (λ b. is_eq (code_peer_cmp p.peer q.peer) && b) (number_eq p.id q.id) ∙ sym (then_eq (code_peer_cmp p.peer q.peer) (nat_cmp p.id q.id)))
+
 pub prefix_eq : (p q : code.Prefix) → (sameb the_type p.family q.family && (nat_eq p.bits q.bits && nat_eq p.len q.len)) ≡ is_eq (code_cmp p q)
 prefix_eq p q =
     let f = (family_ord.ghosts).cmp p.family q.family in
@@ -68,10 +75,10 @@ prefix_eq p q =
     ∙ (ap (λ b. is_eq f && b) (sym (then_eq (nat_cmp p.bits q.bits) (nat_cmp p.len q.len))) ∙ sym (then_eq f (ordering_then (nat_cmp p.bits q.bits) (nat_cmp p.len q.len))))))
 
 -- and so do its tests of what there may be
-module _ (but : Option Peer) (p q : Peer) (b : Bool) (test : b ≡ not (option_eq (peer_same.ghosts).eq but (Some p))) (own : p ≡ q) where
-  ne_out : (o : Option Peer) → not (option_eq (peer_same.ghosts).eq o (Some p)) ≡ not (is_out o q)
+module _ (but : Option Via) (p q : Via) (b : Bool) (test : b ≡ not (option_eq (via_same.ghosts).eq but (Some p))) (own : p ≡ q) where
+  ne_out : (o : Option Via) → not (option_eq (via_same.ghosts).eq o (Some p)) ≡ not (is_out o q)
   ne_out None = refl
-  ne_out (Some r) = ap not (peer_eq r p ∙ ap (λ x. is_eq (code_peer_cmp r x)) own)
+  ne_out (Some r) = ap not (via_eq r p ∙ ap (λ x. is_eq (code_via_cmp r x)) own)
 
   pub stays_in : b ≡ true → is_out but q ≡ false
   stays_in t = not-true _ (sym (test ∙ ne_out but) ∙ t)
@@ -171,7 +178,7 @@ abbrev pub ranks_from : Rank → List Rank → List Rank
 ranks_from least ranks = filter (λ r. is_le (rank_cmp least r) && not false) ranks
 
 pub from_above : (p : code.Prefix) (least : Rank) (ranks : List Rank) → least.prefix ≡ p → AllByRecursion (λ r. is_gt (code_cmp p r.prefix) ≡ false) (ranks_from least ranks)
-from_above p least ranks e = all_filtered (λ r. is_le (rank_cmp least r) && not false) (λ r. is_gt (code_cmp p r.prefix) ≡ false) ranks (λ r t. ap (λ q. is_gt (code_cmp q r.prefix)) (sym e) ∙ not_above (code_cmp least.prefix r.prefix) (ordering_then (nat_cmp least.path r.path) (code_peer_cmp least.peer r.peer)) (le_is (rank_cmp least r) (sym (from_least (is_le (rank_cmp least r))) ∙ t)))
+from_above p least ranks e = all_filtered (λ r. is_le (rank_cmp least r) && not false) (λ r. is_gt (code_cmp p r.prefix) ≡ false) ranks (λ r t. ap (λ q. is_gt (code_cmp q r.prefix)) (sym e) ∙ not_above (code_cmp least.prefix r.prefix) (ordering_then (nat_cmp least.path r.path) (code_via_cmp least.via r.via)) (le_is (rank_cmp least r) (sym (from_least (is_le (rank_cmp least r))) ∙ t)))
 
 pub from_same : (p : code.Prefix) (least : Rank) (ranks : List Rank) → ((r : Rank) → code_cmp p r.prefix ≡ Equal → is_gt (rank_cmp least r) ≡ false) → ranks_of p (ranks_from least ranks) ≡ ranks_of p ranks
 from_same p least ranks h = filter_part (λ r. is_eq (code_cmp p r.prefix)) (λ r. is_le (rank_cmp least r) && not false) ranks (λ r t. from_least (is_le (rank_cmp least r)) ∙ is_le_from (rank_cmp least r) (h r (is_equal (code_cmp p r.prefix) t)))
@@ -185,7 +192,7 @@ past_it p r rest s g n = by_order (code_cmp p r.prefix) refl g n
     later e [] a = tt
     later e (t ∷ rs) a = (by_next (code_cmp r.prefix t.prefix) refl a.0, later e rs a.1)
       where
-        by_next : (o : Ordering) → code_cmp r.prefix t.prefix ≡ o → ordering_then o (ordering_then (nat_cmp r.path t.path) (code_peer_cmp r.peer t.peer)) ≡ Less → is_eq (code_cmp p t.prefix) ≡ false
+        by_next : (o : Ordering) → code_cmp r.prefix t.prefix ≡ o → ordering_then o (ordering_then (nat_cmp r.path t.path) (code_via_cmp r.via t.via)) ≡ Less → is_eq (code_cmp p t.prefix) ≡ false
         by_next Less u l = ap is_eq (prefix_total.trans p r.prefix t.prefix e u)
         by_next Equal u l = ap is_eq (sym (alike_right prefix_total r.prefix t.prefix p u) ∙ e)
         by_next Greater u l = absurd cc
@@ -196,21 +203,21 @@ past_it p r rest s g n = by_order (code_cmp p r.prefix) refl g n
     by_order Greater e g n = absurd cc
 
 -- at a rank of the prefix
-pub at_rank : (seats : Seats) (but : Option Peer) (p : code.Prefix) (r : Rank) (rest : List Rank) → is_eq (code_cmp p r.prefix) ≡ true → first_in seats but (ranks_of p (r ∷ rest)) ≡ (if is_out but r.peer then first_in seats but (ranks_of p rest) else or_next r.peer (offer_ranked seats r) (first_in seats but (ranks_of p rest)))
+pub at_rank : (seats : Seats) (but : Option Via) (p : code.Prefix) (r : Rank) (rest : List Rank) → is_eq (code_cmp p r.prefix) ≡ true → first_in seats but (ranks_of p (r ∷ rest)) ≡ (if is_out but r.via then first_in seats but (ranks_of p rest) else or_next r.via (offer_ranked seats r) (first_in seats but (ranks_of p rest)))
 unfolding first_in
 at_rank seats but p r rest e = ap (λ b. first_in seats but (cond b (r ∷ ranks_of p rest) (ranks_of p rest))) e
 
-pub nothing_in : (seats : Seats) (but : Option Peer) → first_in seats but [] ≡ None
+pub nothing_in : (seats : Seats) (but : Option Via) → first_in seats but [] ≡ None
 unfolding first_in
 nothing_in seats but = refl
 
-pub record AtRanks (seats : Seats) (but : Option Peer) (p : code.Prefix) (ranks rest : List Rank) : Type 0 where
+pub record AtRanks (seats : Seats) (but : Option Via) (p : code.Prefix) (ranks rest : List Rank) : Type 0 where
   pub ordered : IsStrictlySortedBy rank_cmp ranks
   pub sorted : IsStrictlySortedBy rank_cmp rest
   pub above : AllByRecursion (λ r. is_gt (code_cmp p r.prefix) ≡ false) rest
   pub found : first_in seats but (ranks_of p ranks) ≡ first_in seats but (ranks_of p rest)
 
-pub walk_start : (seats : Seats) (but : Option Peer) (p : code.Prefix) (least : Rank) (ranks items rest : List Rank) → IsStrictlySortedBy rank_cmp ranks → items ≡ ranks_from least ranks → rest ≡ items → least.prefix ≡ p → ((r : Rank) → code_cmp p r.prefix ≡ Equal → is_gt (rank_cmp least r) ≡ false) → AtRanks seats but p ranks rest
+pub walk_start : (seats : Seats) (but : Option Via) (p : code.Prefix) (least : Rank) (ranks items rest : List Rank) → IsStrictlySortedBy rank_cmp ranks → items ≡ ranks_from least ranks → rest ≡ items → least.prefix ≡ p → ((r : Rank) → code_cmp p r.prefix ≡ Equal → is_gt (rank_cmp least r) ≡ false) → AtRanks seats but p ranks rest
 walk_start seats but p least ranks items rest s e f g h =
     let x : ranks_from least ranks ≡ rest = sym (f ∙ e) in
     record {
@@ -220,7 +227,7 @@ walk_start seats but p least ranks items rest s e f g h =
       found = ap (first_in seats but) (sym (from_same p least ranks h)) ∙ ap (λ rs. first_in seats but (ranks_of p rs)) x;
     }
 
-module _ (seats : Seats) (but : Option Peer) (p : code.Prefix) (ranks it : List Rank) (r : Rank) (rest : List Rank) (at : AtRanks seats but p ranks it) (step : it ≡ r ∷ rest) (f : code.Prefix) (own : f ≡ r.prefix) (ne : Bool)
+module _ (seats : Seats) (but : Option Via) (p : code.Prefix) (ranks it : List Rank) (r : Rank) (rest : List Rank) (at : AtRanks seats but p ranks it) (step : it ≡ r ∷ rest) (f : code.Prefix) (own : f ≡ r.prefix) (ne : Bool)
     (test : ne ≡ not (sameb the_type p.family f.family && (nat_eq p.bits f.bits && nat_eq p.len f.len))) where
   here : AtRanks seats but p ranks (r ∷ rest)
   here = subst (λ rs. AtRanks seats but p ranks rs) step at
@@ -234,70 +241,127 @@ module _ (seats : Seats) (but : Option Peer) (p : code.Prefix) (ranks it : List 
   is_same : ne ≡ false → is_eq (code_cmp p r.prefix) ≡ true
   is_same t = not-false _ (sym differs ∙ t)
 
-  pub walk_found : ne ≡ false → (out : Bool) → out ≡ is_out but r.peer → out ≡ false → (o : Option Offer) → o ≡ offer_ranked seats r → (offer : Offer) → o ≡ Some offer → Some (record { peer = r.peer; offer = offer }) ≡ first_in seats but (ranks_of p ranks)
+  pub walk_found : ne ≡ false → (out : Bool) → out ≡ is_out but r.via → out ≡ false → (o : Option Offer) → o ≡ offer_ranked seats r → (offer : Offer) → o ≡ Some offer → Some (record { via = r.via; offer = offer }) ≡ first_in seats but (ranks_of p ranks)
   walk_found t out a b o c offer d =
-      sym (here.found ∙ (at_rank seats but p r rest (is_same t) ∙ (ap (λ x. if x then first_in seats but (ranks_of p rest) else or_next r.peer (offer_ranked seats r) (first_in seats but (ranks_of p rest))) (sym a ∙ b) ∙ ap (λ x. or_next r.peer x (first_in seats but (ranks_of p rest))) (sym c ∙ d))))
+      sym (here.found ∙ (at_rank seats but p r rest (is_same t) ∙ (ap (λ x. if x then first_in seats but (ranks_of p rest) else or_next r.via (offer_ranked seats r) (first_in seats but (ranks_of p rest))) (sym a ∙ b) ∙ ap (λ x. or_next r.via x (first_in seats but (ranks_of p rest))) (sym c ∙ d))))
 
   walk_on : first_in seats but (ranks_of p (r ∷ rest)) ≡ first_in seats but (ranks_of p rest) → AtRanks seats but p ranks rest
   unfolding IsStrictlySortedBy
   walk_on e = record { ordered = here.ordered; sorted = here.sorted.1; above = here.above.1; found = here.found ∙ e }
 
-  pub walk_out : ne ≡ false → (out : Bool) → out ≡ is_out but r.peer → out ≡ true → AtRanks seats but p ranks rest
-  walk_out t out a b = walk_on (at_rank seats but p r rest (is_same t) ∙ ap (λ x. if x then first_in seats but (ranks_of p rest) else or_next r.peer (offer_ranked seats r) (first_in seats but (ranks_of p rest))) (sym a ∙ b))
+  pub walk_out : ne ≡ false → (out : Bool) → out ≡ is_out but r.via → out ≡ true → AtRanks seats but p ranks rest
+  walk_out t out a b = walk_on (at_rank seats but p r rest (is_same t) ∙ ap (λ x. if x then first_in seats but (ranks_of p rest) else or_next r.via (offer_ranked seats r) (first_in seats but (ranks_of p rest))) (sym a ∙ b))
 
-  pub walk_none : ne ≡ false → (out : Bool) → out ≡ is_out but r.peer → out ≡ false → (o : Option Offer) → o ≡ offer_ranked seats r → o ≡ None → AtRanks seats but p ranks rest
+  pub walk_none : ne ≡ false → (out : Bool) → out ≡ is_out but r.via → out ≡ false → (o : Option Offer) → o ≡ offer_ranked seats r → o ≡ None → AtRanks seats but p ranks rest
   walk_none t out a b o c d =
-      walk_on (at_rank seats but p r rest (is_same t) ∙ (ap (λ x. if x then first_in seats but (ranks_of p rest) else or_next r.peer (offer_ranked seats r) (first_in seats but (ranks_of p rest))) (sym a ∙ b) ∙ ap (λ x. or_next r.peer x (first_in seats but (ranks_of p rest))) (sym c ∙ d)))
+      walk_on (at_rank seats but p r rest (is_same t) ∙ (ap (λ x. if x then first_in seats but (ranks_of p rest) else or_next r.via (offer_ranked seats r) (first_in seats but (ranks_of p rest))) (sym a ∙ b) ∙ ap (λ x. or_next r.via x (first_in seats but (ranks_of p rest))) (sym c ∙ d)))
 
-pub walk_end : (seats : Seats) (but : Option Peer) (p : code.Prefix) (ranks it : List Rank) → AtRanks seats but p ranks it → it ≡ [] → None ≡ first_in seats but (ranks_of p ranks)
+pub walk_end : (seats : Seats) (but : Option Via) (p : code.Prefix) (ranks it : List Rank) → AtRanks seats but p ranks it → it ≡ [] → None ≡ first_in seats but (ranks_of p ranks)
 walk_end seats but p ranks it at e = sym (at.found ∙ (ap (λ rs. first_in seats but (ranks_of p rs)) e ∙ nothing_in seats but))
 
 -- ---- the walk over a peer's seats
 
-flip_lt : (o : Ordering) → is_gt (ordering_reverse o) ≡ is_lt o
-flip_lt Less = refl
-flip_lt Equal = refl
-flip_lt Greater = refl
+-- at the first seat that isn't below the least of the peer
+abbrev seats_from : Seat → Seats → Seats
+seats_from least seats = filter (λ e. is_le (seat_cmp least e.0) && not false) seats
 
-between_is : (q : Peer) (lo hi : Seat) (seats items : Seats) → items ≡ filter (λ e. is_le (seat_cmp lo e.0) && not (is_lt (seat_cmp hi e.0))) seats → lo.peer ≡ q → hi.peer ≡ q
-    → ((s : Seat) → code_peer_cmp q s.peer ≡ Equal → is_gt (seat_cmp lo s) ≡ false) → ((s : Seat) → code_peer_cmp q s.peer ≡ Equal → is_gt (seat_cmp s hi) ≡ false) → items ≡ seats_of q seats
-between_is q lo hi seats items e l h least greatest = e ∙ filter_congr (λ x. is_le (seat_cmp lo x.0) && not (is_lt (seat_cmp hi x.0))) (λ x. is_eq (code_peer_cmp q x.0.peer)) seats (λ x. at x.0)
+-- seats that aren't below a peer's
+abbrev FromPeer : Peer → Seats → Type 0
+FromPeer q seats = AllByRecursion (λ (e : Seat × Option Offer). is_gt (code_peer_cmp q e.0.via.peer) ≡ false) seats
+
+keys_kept : (p : Seat → Bool) (Q : Seat → Type 0) (seats : Seats) → AllByRecursion Q (keys_of seats) → AllByRecursion Q (keys_of (filter (λ e. p e.0) seats))
+keys_kept p Q [] a = tt
+keys_kept p Q (e ∷ seats) a = by_test (p e.0) (keys_kept p Q seats a.1)
   where
-    low : (s : Seat) → code_peer_cmp lo.peer s.peer ≡ code_peer_cmp q s.peer
-    low s = ap (λ p. code_peer_cmp p s.peer) l
+    by_test : (b : Bool) → AllByRecursion Q (keys_of (filter (λ (e : Seat × Option Offer). p e.0) seats)) → AllByRecursion Q (keys_of (cond b (e ∷ filter (λ (e : Seat × Option Offer). p e.0) seats) (filter (λ (e : Seat × Option Offer). p e.0) seats)))
+    by_test true ih = (a.0, ih)
+    by_test false ih = ih
 
-    high : (s : Seat) → code_peer_cmp hi.peer s.peer ≡ code_peer_cmp q s.peer
-    high s = ap (λ p. code_peer_cmp p s.peer) h
+seats_sorted : (p : Seat → Bool) (seats : Seats) → IsStrictlySortedBy seat_cmp (keys_of seats) → IsStrictlySortedBy seat_cmp (keys_of (filter (λ e. p e.0) seats))
+unfolding IsStrictlySortedBy
+seats_sorted p [] s = tt
+seats_sorted p (e ∷ seats) s = by_test (p e.0) (seats_sorted p seats s.1)
+  where
+    by_test : (b : Bool) → IsStrictlySortedBy seat_cmp (keys_of (filter (λ (e : Seat × Option Offer). p e.0) seats)) → IsStrictlySortedBy seat_cmp (keys_of (cond b (e ∷ filter (λ (e : Seat × Option Offer). p e.0) seats) (filter (λ (e : Seat × Option Offer). p e.0) seats)))
+    by_test true ih = (keys_kept p (λ t. seat_cmp e.0 t ≡ Less) seats s.0, ih)
+    by_test false ih = ih
 
-    by_order : (s : Seat) (o : Ordering) → code_peer_cmp q s.peer ≡ o → (is_le (ordering_then o (code_cmp lo.prefix s.prefix)) && not (is_lt (ordering_then o (code_cmp hi.prefix s.prefix)))) ≡ is_eq o
-    by_order s Less e = refl
-    by_order s Greater e = refl
-    by_order s Equal e =
-        let x : is_le (code_cmp lo.prefix s.prefix) ≡ true = ap (λ o. is_le (ordering_then o (code_cmp lo.prefix s.prefix))) (sym (low s ∙ e)) ∙ is_le_from (seat_cmp lo s) (least s e) in
-        let y : is_lt (code_cmp hi.prefix s.prefix) ≡ false = ap (λ o. is_lt (ordering_then o (code_cmp hi.prefix s.prefix))) (sym (high s ∙ e)) ∙ (sym (flip_lt (seat_cmp hi s)) ∙ (ap is_gt (sym (seat_total.antisymm s hi)) ∙ greatest s e)) in
-        ap (λ b. b && not (is_lt (code_cmp hi.prefix s.prefix))) x ∙ ap not y
+-- past the peer nothing is left
+past_peer : (q : Peer) (e : Seat × Option Offer) (rest : Seats) → IsStrictlySortedBy seat_cmp (keys_of (e ∷ rest)) → is_gt (code_peer_cmp q e.0.via.peer) ≡ false → is_eq (code_peer_cmp q e.0.via.peer) ≡ false → seats_of q (e ∷ rest) ≡ []
+unfolding IsStrictlySortedBy
+past_peer q e rest s g n = by_order (code_peer_cmp q e.0.via.peer) refl g n
+  where
+    later : code_peer_cmp q e.0.via.peer ≡ Less → (es : Seats) → AllByRecursion (λ t. seat_cmp e.0 t ≡ Less) (keys_of es) → AllByRecursion (λ (d : Seat × Option Offer). is_eq (code_peer_cmp q d.0.via.peer) ≡ false) es
+    later l [] a = tt
+    later l (d ∷ es) a = (by_next (code_peer_cmp e.0.via.peer d.0.via.peer) refl a.0, later l es a.1)
+      where
+        by_next : (o : Ordering) → code_peer_cmp e.0.via.peer d.0.via.peer ≡ o → ordering_then o (ordering_then (code_cmp e.0.prefix d.0.prefix) (nat_cmp e.0.via.id d.0.via.id)) ≡ Less → is_eq (code_peer_cmp q d.0.via.peer) ≡ false
+        by_next Less u x = ap is_eq (peer_total.trans q e.0.via.peer d.0.via.peer l u)
+        by_next Equal u x = ap is_eq (sym (alike_right peer_total e.0.via.peer d.0.via.peer q u) ∙ l)
+        by_next Greater u x = absurd cc
 
-    at : (s : Seat) → (is_le (seat_cmp lo s) && not (is_lt (seat_cmp hi s))) ≡ is_eq (code_peer_cmp q s.peer)
-    at s =
-        ap (λ o. is_le (ordering_then o (code_cmp lo.prefix s.prefix)) && not (is_lt (seat_cmp hi s))) (low s)
-        ∙ (ap (λ o. is_le (ordering_then (code_peer_cmp q s.peer) (code_cmp lo.prefix s.prefix)) && not (is_lt (ordering_then o (code_cmp hi.prefix s.prefix)))) (high s) ∙ by_order s (code_peer_cmp q s.peer) refl)
+    by_order : (o : Ordering) → code_peer_cmp q e.0.via.peer ≡ o → is_gt o ≡ false → is_eq o ≡ false → seats_of q (e ∷ rest) ≡ []
+    by_order Less l g n = filter_none (λ d. is_eq (code_peer_cmp q d.0.via.peer)) (e ∷ rest) (ap is_eq l, later l rest s.0)
+    by_order Equal l g n = absurd cc
+    by_order Greater l g n = absurd cc
 
-pub cut_more : (q : Peer) (s : Seat) (o : Option Offer) (cuts more : List Elem) (it rest all : Seats) → it ≡ (s, o) ∷ rest → (b : Bool) → b ≡ is_some o → b ≡ true → more ≡ cuts ++ (Cut q s.prefix ∷ []) → cuts ++ cuts_in q it ≡ cuts_in q all → more ++ cuts_in q rest ≡ cuts_in q all
+pub record AtSeats (q : Peer) (seats : Seats) (cuts : List Elem) (rest : Seats) : Type 0 where
+  pub ordered : IsStrictlySortedBy seat_cmp (keys_of seats)
+  pub sorted : IsStrictlySortedBy seat_cmp (keys_of rest)
+  pub above : FromPeer q rest
+  pub cut : cuts ++ cuts_in (seats_of q rest) ≡ cuts_in (seats_of q seats)
+
+pub seats_start : (q : Peer) (least : Seat) (seats items rest : Seats) (cuts : List Elem) → cuts ≡ [] → IsStrictlySortedBy seat_cmp (keys_of seats) → items ≡ seats_from least seats → rest ≡ items → least.via.peer ≡ q → ((s : Seat) → code_peer_cmp q s.via.peer ≡ Equal → is_gt (seat_cmp least s) ≡ false) → AtSeats q seats cuts rest
+seats_start q least seats items rest cuts n s e f g h =
+    let x : seats_from least seats ≡ rest = sym (f ∙ e) in
+    record {
+      ordered = s;
+      sorted = subst (λ es. IsStrictlySortedBy seat_cmp (keys_of es)) x (seats_sorted (λ t. is_le (seat_cmp least t) && not false) seats s);
+      above =
+          subst (FromPeer q) x (all_filtered (λ (d : Seat × Option Offer). is_le (seat_cmp least d.0) && not false) (λ d. is_gt (code_peer_cmp q d.0.via.peer) ≡ false) seats (λ d t.
+          ap (λ p. is_gt (code_peer_cmp p d.0.via.peer)) (sym g) ∙ not_above (code_peer_cmp least.via.peer d.0.via.peer) (ordering_then (code_cmp least.prefix d.0.prefix) (nat_cmp least.via.id d.0.via.id)) (le_is (seat_cmp least d.0) (sym (from_least (is_le (seat_cmp least d.0))) ∙ t))));
+      cut =
+          ap (λ xs. xs ++ cuts_in (seats_of q rest)) n
+          ∙ (ap (λ es. cuts_in (seats_of q es)) (sym x)
+          ∙ ap cuts_in (filter_part (λ d. is_eq (code_peer_cmp q d.0.via.peer)) (λ (d : Seat × Option Offer). is_le (seat_cmp least d.0) && not false) seats (λ d t. from_least (is_le (seat_cmp least d.0)) ∙ is_le_from (seat_cmp least d.0) (h d.0 (is_equal (code_peer_cmp q d.0.via.peer) t)))));
+    }
+
+module _ (q : Peer) (seats it : Seats) (cuts : List Elem) (s : Seat) (o : Option Offer) (rest : Seats) (at : AtSeats q seats cuts it) (step : it ≡ (s, o) ∷ rest) (f : Peer) (own : f ≡ s.via.peer) (ne : Bool)
+    (test : ne ≡ not ((sameb the_type q.addr.family f.addr.family && nat_eq q.addr.bits f.addr.bits) && nat_eq q.asn f.asn)) where
+  seat_here : AtSeats q seats cuts ((s, o) ∷ rest)
+  seat_here = subst (λ es. AtSeats q seats cuts es) step at
+
+  peer_differs : ne ≡ not (is_eq (code_peer_cmp q s.via.peer))
+  peer_differs = test ∙ (ap not (peer_eq q f) ∙ ap (λ x. not (is_eq (code_peer_cmp q x))) own)
+
+  -- at a seat of another peer all is cut
+  pub cut_all : ne ≡ true → cuts ≡ cuts_in (seats_of q seats)
+  unfolding cuts_in
+  cut_all t =
+      sym (append-nil cuts)
+      ∙ (ap (λ es. cuts ++ cuts_in es) (sym (past_peer q (s, o) rest seat_here.sorted seat_here.above.0 (not-true _ (sym peer_differs ∙ t)))) ∙ seat_here.cut)
+
+  more_seats : ne ≡ false → seats_of q ((s, o) ∷ rest) ≡ (s, o) ∷ seats_of q rest
+  more_seats t = ap (λ b. cond b ((s, o) ∷ seats_of q rest) (seats_of q rest)) (not-false _ (sym peer_differs ∙ t))
+
+  pub cut_more : ne ≡ false → (b : Bool) → b ≡ is_some o → b ≡ true → (more : List Elem) (v : Via) (p : code.Prefix) → v ≡ s.via → p ≡ s.prefix → more ≡ cuts ++ (Cut v p ∷ []) → AtSeats q seats more rest
+  unfolding IsStrictlySortedBy cuts_in
+  cut_more t b u w more v p a d m = record { ordered = seat_here.ordered; sorted = seat_here.sorted.1; above = seat_here.above.1; cut = by_offer o (sym u ∙ w) (ap (λ es. cuts ++ cuts_in es) (sym (more_seats t)) ∙ seat_here.cut) }
+    where
+      by_offer : (o : Option Offer) → is_some o ≡ true → cuts ++ cuts_in ((s, o) ∷ seats_of q rest) ≡ cuts_in (seats_of q seats) → more ++ cuts_in (seats_of q rest) ≡ cuts_in (seats_of q seats)
+      by_offer (Some offer) x h =
+          ap (λ xs. xs ++ cuts_in (seats_of q rest)) (m ∙ (ap (λ y. cuts ++ (Cut y p ∷ [])) a ∙ ap (λ y. cuts ++ (Cut s.via y ∷ [])) d)) ∙ (append_assoc cuts (Cut s.via s.prefix ∷ []) (cuts_in (seats_of q rest)) ∙ h)
+      by_offer None x h = absurd cc
+
+  pub no_cut : ne ≡ false → (b : Bool) → b ≡ is_some o → b ≡ false → AtSeats q seats cuts rest
+  unfolding IsStrictlySortedBy cuts_in
+  no_cut t b u w = record { ordered = seat_here.ordered; sorted = seat_here.sorted.1; above = seat_here.above.1; cut = by_offer o (sym u ∙ w) (ap (λ es. cuts ++ cuts_in es) (sym (more_seats t)) ∙ seat_here.cut) }
+    where
+      by_offer : (o : Option Offer) → is_some o ≡ false → cuts ++ cuts_in ((s, o) ∷ seats_of q rest) ≡ cuts_in (seats_of q seats) → cuts ++ cuts_in (seats_of q rest) ≡ cuts_in (seats_of q seats)
+      by_offer (Some offer) x h = absurd cc
+      by_offer None x h = h
+
+-- after the last seat, too
+pub cut_last : (q : Peer) (seats it : Seats) (cuts : List Elem) → AtSeats q seats cuts it → it ≡ [] → cuts ≡ cuts_in (seats_of q seats)
 unfolding cuts_in
-cut_more q s (Some offer) cuts more it rest all e b t u m h =
-    ap (λ xs. xs ++ cuts_in q rest) m ∙ (append_assoc cuts (Cut q s.prefix ∷ []) (cuts_in q rest) ∙ (ap (λ es. cuts ++ cuts_in q es) (sym e) ∙ h))
-cut_more q s None cuts more it rest all e b t u m h = let x : true ≡ false = sym u ∙ t in absurd cc
-
-pub no_cut : (q : Peer) (s : Seat) (o : Option Offer) (cuts : List Elem) (it rest all : Seats) → it ≡ (s, o) ∷ rest → (b : Bool) → b ≡ is_some o → b ≡ false → cuts ++ cuts_in q it ≡ cuts_in q all → cuts ++ cuts_in q rest ≡ cuts_in q all
-unfolding cuts_in
-no_cut q s (Some offer) cuts it rest all e b t u h = let x : false ≡ true = sym u ∙ t in absurd cc
-no_cut q s None cuts it rest all e b t u h = ap (λ es. cuts ++ cuts_in q es) (sym e) ∙ h
-
-pub all_cut : (q : Peer) (cuts : List Elem) (it all : Seats) → it ≡ [] → cuts ++ cuts_in q it ≡ cuts_in q all → cuts ≡ cuts_in q all
-unfolding cuts_in
-all_cut q cuts it all e h = sym (append-nil cuts) ∙ (ap (λ es. cuts ++ cuts_in q es) (sym e) ∙ h)
-
-pub between_at : (q : Peer) (lo hi a b : Seat) (seats items : Seats) → a ≡ lo → b ≡ hi → items ≡ filter (λ e. is_le (seat_cmp a e.0) && not (is_lt (seat_cmp b e.0))) seats → lo.peer ≡ q → hi.peer ≡ q
-    → ((s : Seat) → code_peer_cmp q s.peer ≡ Equal → is_gt (seat_cmp lo s) ≡ false) → ((s : Seat) → code_peer_cmp q s.peer ≡ Equal → is_gt (seat_cmp s hi) ≡ false) → items ≡ seats_of q seats
-between_at q lo hi a b seats items x y e l h least greatest =
-    between_is q a b seats items e (ap (λ (s : Seat). s.peer) x ∙ l) (ap (λ (s : Seat). s.peer) y ∙ h) (λ s t. ap (λ r. is_gt (seat_cmp r s)) x ∙ least s t) (λ s t. ap (λ r. is_gt (seat_cmp s r)) y ∙ greatest s t)
+cut_last q seats it cuts at e = sym (append-nil cuts) ∙ (ap (λ es. cuts ++ cuts_in (seats_of q es)) (sym e) ∙ at.cut)

@@ -3,14 +3,13 @@ use Rattle.std.proofs.Common.{◌≡◌, ℕ, List, Bool, true, false, cond, not
 use Rattle.std.specs.Prelude.{◌||◌, ◌&&◌, is_some, option_map, Result, Ok, Err, OnOk, OnErr}
 use Rattle.std.specs.Option.{option_flatten}
 use Rattle.std.specs.Map.{lookup}
-use Rattle.std.specs.Ordering.{ordering_then, is_eq}
+use Rattle.std.specs.Ordering.{is_eq}
 use Rattle.std.specs.BTreeMap.{is_at}
 use Rattle.std.proofs.lemmas.Bool.{or_left, or_right}
 use Rattle.std.proofs.lemmas.Cmp.{tied_itself}
-use Rattle.fib_addr.specs.Order.{code_cmp}
 use Rattle.fib_addr.specs.declared.addr.Addr.{Addr}
 use Rattle.fib_addr.specs.declared.prefix.Prefix as code
-use Rattle.fib_prefix.specs.declared.event.Peer.{Peer}
+use Rattle.fib_prefix.specs.declared.event.Via.{Via}
 use Rattle.fib_prefix.specs.Views.{elem_as}
 use Rattle.fib_prefix.specs.declared.event.Elem.{Elem}
 use Rattle.fib_prefix.specs.declared.event.Elem.TheVariants as elem
@@ -22,7 +21,7 @@ use Rattle.route_choice.specs.Orders.{seat_cmp, rank_cmp}
 use Rattle.route_choice.specs.Seats.{Seats, flat, offer_at, rank_at, seat_of, has_rank, has_seat, IsIndexed, HasRoom, seat_in, offer_in}
 use Rattle.route_choice.specs.Walks.{offer_with_path, offer_ranked}
 use Rattle.route_choice.specs.Kept.{IsKept, EachSeatServes, EachRankServes, holds_seat, holds_rank}
-use Rattle.route_choice.proofs.Orders.{seat_total, rank_total}
+use Rattle.route_choice.proofs.Orders.{seat_total, rank_total, seat_tied}
 use Rattle.route_choice.proofs.Views.{flips, lookup_by_test}
 use Rattle.route_choice.proofs.Best.{same_offer, same_rank, with_path_parts, is_equal}
 use Rattle.route_choice.proofs.Rooms.{any_by_test, own_rank, same_offers, same_put, same_ranks, more_ranks, indexed_put, indexed_cut, indexed_after}
@@ -45,7 +44,7 @@ alike_offers seats s t e = sym (same_offer seats s t (is_equal (seat_cmp s t) e)
 seat_of_rank : (q r : Rank) → is_eq (rank_cmp q r) ≡ true → is_eq (seat_cmp (seat_of q) (seat_of r)) ≡ true
 seat_of_rank q r e =
     let f = same_rank q r e in
-    ap is_eq (ap (λ o. ordering_then o (code_cmp q.prefix r.prefix)) f.peer ∙ f.prefix)
+    ap is_eq (seat_tied (seat_of q) (seat_of r) f.prefix f.via)
 
 alike_ranked : (seats : Seats) (q r : Rank) → is_eq (rank_cmp q r) ≡ true → offer_ranked seats q ≡ offer_ranked seats r
 alike_ranked seats q r e =
@@ -54,12 +53,12 @@ alike_ranked seats q r e =
 held_alike_rank : (plan : Option Elem) (q r : Rank) → is_eq (rank_cmp q r) ≡ true → holds_rank plan q ≡ true → holds_rank plan r ≡ true
 held_alike_rank None q r e h = h
 held_alike_rank (Some (elem.Cut p x)) q r e h = h
-held_alike_rank (Some (elem.Put p x path hop)) q r e h = ap is_eq (rank_total.congr (record { prefix = x; path = path; peer = p }) q r (is_equal _ h)) ∙ e
+held_alike_rank (Some (elem.Put p x path hop)) q r e h = ap is_eq (rank_total.congr (record { prefix = x; path = path; via = p }) q r (is_equal _ h)) ∙ e
 
 held_alike_seat : (plan : Option Elem) (s t : Seat) → is_eq (seat_cmp s t) ≡ true → holds_seat plan s ≡ true → holds_seat plan t ≡ true
 held_alike_seat None s t e h = h
 held_alike_seat (Some (elem.Cut p x)) s t e h = h
-held_alike_seat (Some (elem.Put p x path hop)) s t e h = ap is_eq (seat_total.congr (record { peer = p; prefix = x }) s t (is_equal _ h)) ∙ e
+held_alike_seat (Some (elem.Put p x path hop)) s t e h = ap is_eq (seat_total.congr (record { via = p; prefix = x }) s t (is_equal _ h)) ∙ e
 
 -- ---- a plan as clauses see it
 
@@ -69,10 +68,10 @@ kept_put seats ranks (elem.Cut q p) (elem.Put r o way next) e k = absurd cc
 kept_put seats ranks (elem.Put q p path hop) (elem.Cut r o) e k = absurd cc
 kept_put seats ranks (elem.Put q p path hop) (elem.Put r o way next) e k =
     let same = same_put q r p o path way hop next e in
-    let s : Seat = record { peer = q; prefix = p } in
-    let t : Seat = record { peer = r; prefix = o } in
-    let a : Rank = record { prefix = p; path = path; peer = q } in
-    let b : Rank = record { prefix = o; path = way; peer = r } in
+    let s : Seat = record { via = q; prefix = p } in
+    let t : Seat = record { via = r; prefix = o } in
+    let a : Rank = record { prefix = p; path = path; via = q } in
+    let b : Rank = record { prefix = o; path = way; via = r } in
     record {
       indexed = k.indexed;
       room = (sym (alike_seats seats s t (ap is_eq same.0)) ∙ k.room.0, sym (alike_ranks ranks a b (ap is_eq same.1)) ∙ k.room.1);
@@ -131,7 +130,7 @@ rank_room seats old new r (Some (elem.Cut q p)) n h k = tt
 rank_room seats old new r (Some (elem.Put q p path hop)) n h k = (k.0, h own (flips rank_total r own ∙ n) ∙ k.1)
   where
     own : Rank
-    own = record { prefix = p; path = path; peer = q }
+    own = record { prefix = p; path = path; via = q }
 
 pub seat_room : (old new : Seats) (s : Seat) (plan : Option Elem) → holds_seat plan s ≡ false → ((q : Seat) → is_eq (seat_cmp s q) ≡ false → has_seat new q ≡ has_seat old q) → (ranks : List Rank) → HasRoom old ranks plan → HasRoom new ranks plan
 seat_room old new s None n h ranks k = tt
@@ -139,7 +138,7 @@ seat_room old new s (Some (elem.Cut q p)) n h ranks k = tt
 seat_room old new s (Some (elem.Put q p path hop)) n h ranks k = (h own (flips seat_total s own ∙ n) ∙ k.0, k.1)
   where
     own : Seat
-    own = record { peer = q; prefix = p }
+    own = record { via = q; prefix = p }
 
 -- what is held for the plan needn't be held for an earlier one
 pub held_rank : (seats : Seats) (ranks : List Rank) (r : Rank) (plan : Option Elem) → holds_rank plan r ≡ true → EachRankServes seats ranks (λ q. is_eq (rank_cmp r q) || holds_rank plan q) → EachRankServes seats ranks (holds_rank plan)
@@ -161,7 +160,7 @@ same_serve : (old new : Seats) (ranks : List Rank) (held : Rank → Bool) → ((
 same_serve old new ranks held h k = λ r t. ap (λ o. is_some (offer_with_path r.path o) || held r) (h (seat_of r)) ∙ k r t
 
 -- the room of an earlier plan is given back
-pub gave_back : (old new : Seats) (before after : List Rank) (here : Seat) (r : Rank) (q : Peer) (p : code.Prefix) (path : ℕ) (hop : Addr) (earlier plan : Option Elem) → earlier ≡ Some (elem.Put q p path hop) → here ≡ record { peer = q; prefix = p } → r ≡ rank_at here path
+pub gave_back : (old new : Seats) (before after : List Rank) (here : Seat) (r : Rank) (q : Via) (p : code.Prefix) (path : ℕ) (hop : Addr) (earlier plan : Option Elem) → earlier ≡ Some (elem.Put q p path hop) → here ≡ record { via = q; prefix = p } → r ≡ rank_at here path
     → (IsIndexed old before → IsIndexed old after) → (EachRankServes old before (λ t. is_eq (rank_cmp r t) || holds_rank plan t) → EachRankServes old after (holds_rank plan)) → (HasRoom old before plan → HasRoom old after plan)
     → ((s : Seat) → offer_at new s ≡ offer_at old s) → (EachSeatServes old (λ s. is_eq (seat_cmp here s) || holds_seat plan s) → EachSeatServes new (holds_seat plan)) → ((ranks : List Rank) → HasRoom old ranks plan → HasRoom new ranks plan)
     → IsKept old before earlier plan → IsKept new after None plan
@@ -217,9 +216,9 @@ kept_ranks seats after old new earlier plan same h k = record {
     by_plan : (plan : Option Elem) → HasRoom seats old plan → HasRoom after new plan
     by_plan None k = tt
     by_plan (Some (elem.Cut q p)) k = tt
-    by_plan (Some (elem.Put q p path hop)) k = (ap (λ x. has_seat x (record { peer = q; prefix = p })) same ∙ k.0, h (record { prefix = p; path = path; peer = q }) ∙ k.1)
+    by_plan (Some (elem.Put q p path hop)) k = (ap (λ x. has_seat x (record { via = q; prefix = p })) same ∙ k.0, h (record { prefix = p; path = path; via = q }) ∙ k.1)
 
-pub made_room : (old new : Seats) (before after : List Rank) (here : Seat) (r : Rank) (q : Peer) (p : code.Prefix) (path : ℕ) (hop : Addr) → here ≡ record { peer = q; prefix = p } → r ≡ rank_at here path → ((s : Seat) → offer_at new s ≡ offer_at old s) → ((s : Seat) → has_seat new s ≡ cond (is_eq (seat_cmp here s)) true (has_seat old s))
+pub made_room : (old new : Seats) (before after : List Rank) (here : Seat) (r : Rank) (q : Via) (p : code.Prefix) (path : ℕ) (hop : Addr) → here ≡ record { via = q; prefix = p } → r ≡ rank_at here path → ((s : Seat) → offer_at new s ≡ offer_at old s) → ((s : Seat) → has_seat new s ≡ cond (is_eq (seat_cmp here s)) true (has_seat old s))
     → ((t : Rank) → has_rank after t ≡ cond (is_eq (rank_cmp r t)) true (has_rank before t)) → (e : Elem) → e ≡ elem.Put q p path hop → (plan : Option Elem) → IsKept old before None plan → IsKept new after plan (Some e)
 made_room old new before after here r q p path hop e f o hs hr x is plan k = subst (λ (y : Elem). IsKept new after plan (Some y)) (sym is) (record {
   indexed = same_offers old new after o (more_ranks old before after r hr k.indexed);
@@ -232,10 +231,10 @@ made_room old new before after here r q p path hop e f o hs hr x is plan k = sub
 })
   where
     own : Seat
-    own = record { peer = q; prefix = p }
+    own = record { via = q; prefix = p }
 
     top : Rank
-    top = record { prefix = p; path = path; peer = q }
+    top = record { prefix = p; path = path; via = q }
 
     is_top : r ≡ top
     is_top = f ∙ ap (λ x. rank_at x path) e
@@ -353,7 +352,7 @@ carried_kept old new before after e was w o hs i rs k = record {
     planned : (e : Elem) (q : Rank) → ((s : Seat) → offer_at new s ≡ cond (is_eq (seat_cmp (seat_in e) s)) (offer_in e) (offer_at old s)) → holds_rank (Some e) q ≡ true → is_some (offer_ranked new q) ≡ true
     planned (elem.Cut p x) q o h = absurd cc
     planned (elem.Put p x path hop) q o h =
-        let here : Seat = record { peer = p; prefix = x } in
+        let here : Seat = record { via = p; prefix = x } in
         let offer : Offer = record { path = path; hop = hop } in
         ap is_some (own_rank new q here offer (flips rank_total q (rank_at here path) ∙ h) (o here ∙ ap (λ b. cond b (Some offer) (offer_at old here)) (ap is_eq (tied_itself seat_total here))))
 

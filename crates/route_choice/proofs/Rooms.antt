@@ -6,29 +6,28 @@ use Rattle.std.specs.List.{list_any}
 use Rattle.std.specs.Map.{lookup}
 use Rattle.std.specs.Ordering.{nat_cmp, ordering_then, is_eq}
 use Rattle.std.specs.BTreeMap.{is_at}
-use Rattle.std.specs.declared.cmp.Ordering.{Ordering}
-use Rattle.std.specs.declared.cmp.Ordering.TheVariants.{Less, Equal, Greater}
+use Rattle.std.specs.declared.cmp.Ordering.TheVariants.{Equal}
 use Rattle.std.proofs.lemmas.Cmp.{nat_cmp_total, tied_itself}
 use Rattle.address_model.specs.Address.{Address, Prefix, same_prefix}
 use Rattle.fib_addr.specs.Views.{addr_as, prefix_as}
-use Rattle.fib_prefix.specs.Views.{peer_as, elem_as}
+use Rattle.fib_prefix.specs.Views.{via_as, elem_as}
 use Rattle.fib_addr.specs.Order.{code_cmp}
 use Rattle.fib_addr.specs.declared.addr.Addr.{Addr}
 use Rattle.fib_addr.specs.declared.prefix.Prefix as code
-use Rattle.fib_prefix.specs.declared.event.Peer.{Peer}
+use Rattle.fib_prefix.specs.declared.event.Via.{Via}
 use Rattle.fib_prefix.specs.declared.event.Elem.{Elem}
 use Rattle.fib_prefix.specs.declared.event.Elem.TheVariants as elem
 use Rattle.route_model.specs.Events as model
-use Rattle.route_model.specs.Events.{same_peer}
-use Rattle.route_model.proofs.Places.{peer_key, prefix_key}
+use Rattle.route_model.specs.Events.{same_via}
+use Rattle.route_model.proofs.Places.{via_key, prefix_key}
 use Rattle.route_choice.specs.declared.keys.Seat.{Seat}
 use Rattle.route_choice.specs.declared.keys.Rank.{Rank}
 use Rattle.route_choice.specs.declared.keys.Offer.{Offer}
 use Rattle.route_choice.specs.Orders.{seat_cmp, rank_cmp}
-use Rattle.fib_prefix.specs.Order.{code_peer_cmp}
+use Rattle.fib_prefix.specs.Order.{code_via_cmp}
 use Rattle.route_choice.specs.Seats.{Seats, flat, offer_at, rank_at, seat_of, has_rank, has_seat, IsIndexed, HasRoom, seat_in, offer_in}
 use Rattle.route_choice.specs.Walks.{offer_with_path, offer_ranked}
-use Rattle.route_choice.proofs.Orders.{peer_same, prefix_same, rank_total}
+use Rattle.route_choice.proofs.Orders.{via_same, prefix_same, rank_total, seat_tied, tied_prefix, tied_via}
 use Rattle.route_choice.proofs.Best.{same_offer, SameRank, same_rank, with_own_path, is_equal}
 use denote.Ref.{Bor}
 
@@ -36,7 +35,7 @@ use denote.Ref.{Bor}
 pub own_rank : (seats : Seats) (r : Rank) (s : Seat) (offer : Offer) → is_eq (rank_cmp r (rank_at s offer.path)) ≡ true → offer_at seats s ≡ Some offer → offer_ranked seats r ≡ Some offer
 own_rank seats r s offer e h =
     let f : SameRank r (rank_at s offer.path) = same_rank r (rank_at s offer.path) e in
-    let seat : seat_cmp (seat_of r) s ≡ Equal = ap (λ o. ordering_then o (code_cmp r.prefix s.prefix)) f.peer ∙ f.prefix in
+    let seat : seat_cmp (seat_of r) s ≡ Equal = seat_tied (seat_of r) s f.prefix f.via in
     ap (offer_with_path r.path) (sym (same_offer seats (seat_of r) s seat) ∙ h) ∙ with_own_path r.path offer (sym f.path)
 
 pub pruned_rank : (seats : Seats) (old new : List Rank) (r : Rank) (o : Option Offer) → o ≡ offer_ranked seats r → (b : Bool) → is_some o ≡ not b → b ≡ true → ((q : Rank) → has_rank new q ≡ cond (is_eq (rank_cmp r q)) false (has_rank old q)) → IsIndexed seats old → IsIndexed seats new
@@ -99,7 +98,7 @@ room_seat seats ranks (elem.Put q p path hop) r offer h = r.0
 room_seat seats ranks (elem.Cut q p) r offer h = absurd cc
 
 room_rank : (seats : Seats) (ranks : List Rank) (e : Elem) → HasRoom seats ranks (Some e) → (offer : Offer) → offer_in e ≡ Some offer → has_rank ranks (rank_at (seat_in e) offer.path) ≡ true
-room_rank seats ranks (elem.Put q p path hop) r offer h = ap (λ n. has_rank ranks (record { prefix = p; path = n; peer = q })) (sym (ap (λ (o : Offer). o.path) (same_value (record { path = path; hop = hop }) offer h))) ∙ r.1
+room_rank seats ranks (elem.Put q p path hop) r offer h = ap (λ n. has_rank ranks (record { prefix = p; path = n; via = q })) (sym (ap (λ (o : Offer). o.path) (same_value (record { path = path; hop = hop }) offer h))) ∙ r.1
   where
     same_value : (v w : Offer) → Some v ≡ Some w → v ≡ w
     same_value v w i = cc
@@ -110,40 +109,34 @@ any_by_test f g [] h = refl
 any_by_test f g (k ∷ ks) h = ap (λ b. b || list_any f ks) (h k) ∙ ap (λ b. g k || b) (any_by_test f g ks h)
 
 -- puts that clauses don't tell apart have the same seat and rank
-pub same_put : (q r : Peer) (p o : code.Prefix) (path way : ℕ) (hop next : Addr) → elem_as (elem.Put q p path hop) ≡ elem_as (elem.Put r o way next)
-    → (seat_cmp (record { peer = q; prefix = p }) (record { peer = r; prefix = o }) ≡ Equal) × (rank_cmp (record { prefix = p; path = path; peer = q }) (record { prefix = o; path = way; peer = r }) ≡ Equal)
+pub same_put : (q r : Via) (p o : code.Prefix) (path way : ℕ) (hop next : Addr) → elem_as (elem.Put q p path hop) ≡ elem_as (elem.Put r o way next)
+    → (seat_cmp (record { via = q; prefix = p }) (record { via = r; prefix = o }) ≡ Equal) × (rank_cmp (record { prefix = p; path = path; via = q }) (record { prefix = o; path = way; via = r }) ≡ Equal)
 same_put q r p o path way hop next e =
-    let x : peer_as q ≡ peer_as r = put_peer (peer_as q) (peer_as r) (prefix_as p) (prefix_as o) path way (addr_as hop) (addr_as next) e in
-    let y : prefix_as p ≡ prefix_as o = put_prefix (peer_as q) (peer_as r) (prefix_as p) (prefix_as o) path way (addr_as hop) (addr_as next) e in
-    let z : path ≡ way = put_path (peer_as q) (peer_as r) (prefix_as p) (prefix_as o) path way (addr_as hop) (addr_as next) e in
-    let peers : code_peer_cmp q r ≡ Equal = is_equal (code_peer_cmp q r) (peer_same q r ∙ (ap (same_peer (peer_as q)) (sym x) ∙ peer_key.itself (peer_as q))) in
+    let x : via_as q ≡ via_as r = put_via (via_as q) (via_as r) (prefix_as p) (prefix_as o) path way (addr_as hop) (addr_as next) e in
+    let y : prefix_as p ≡ prefix_as o = put_prefix (via_as q) (via_as r) (prefix_as p) (prefix_as o) path way (addr_as hop) (addr_as next) e in
+    let z : path ≡ way = put_path (via_as q) (via_as r) (prefix_as p) (prefix_as o) path way (addr_as hop) (addr_as next) e in
+    let ways : code_via_cmp q r ≡ Equal = is_equal (code_via_cmp q r) (via_same q r ∙ (ap (same_via (via_as q)) (sym x) ∙ via_key.itself (via_as q))) in
     let prefixes : code_cmp p o ≡ Equal = is_equal (code_cmp p o) (prefix_same p o ∙ (ap (same_prefix (prefix_as p)) (sym y) ∙ prefix_key.itself (prefix_as p))) in
     let paths : nat_cmp path way ≡ Equal = ap (nat_cmp path) (sym z) ∙ tied_itself nat_cmp_total path in (
-      ap (λ w. ordering_then w (code_cmp p o)) peers ∙ prefixes,
-      ap (λ w. ordering_then w (ordering_then (nat_cmp path way) (code_peer_cmp q r))) prefixes ∙ (ap (λ w. ordering_then w (code_peer_cmp q r)) paths ∙ peers),
+      seat_tied (record { via = q; prefix = p }) (record { via = r; prefix = o }) prefixes ways,
+      ap (λ w. ordering_then w (ordering_then (nat_cmp path way) (code_via_cmp q r))) prefixes ∙ (ap (λ w. ordering_then w (code_via_cmp q r)) paths ∙ ways),
     )
   where
-    put_peer : (q r : model.Peer) (p o : Prefix) (m n : ℕ) (a b : Address) → model.Put q p m a ≡ model.Put r o n b → q ≡ r
-    put_peer q r p o m n a b i = cc
+    put_via : (q r : model.Via) (p o : Prefix) (m n : ℕ) (a b : Address) → model.Put q p m a ≡ model.Put r o n b → q ≡ r
+    put_via q r p o m n a b i = cc
 
-    put_prefix : (q r : model.Peer) (p o : Prefix) (m n : ℕ) (a b : Address) → model.Put q p m a ≡ model.Put r o n b → p ≡ o
+    put_prefix : (q r : model.Via) (p o : Prefix) (m n : ℕ) (a b : Address) → model.Put q p m a ≡ model.Put r o n b → p ≡ o
     put_prefix q r p o m n a b i = cc
 
-    put_path : (q r : model.Peer) (p o : Prefix) (m n : ℕ) (a b : Address) → model.Put q p m a ≡ model.Put r o n b → m ≡ n
+    put_path : (q r : model.Via) (p o : Prefix) (m n : ℕ) (a b : Address) → model.Put q p m a ≡ model.Put r o n b → m ≡ n
     put_path q r p o m n a b i = cc
 
 -- ---- after it was carried out
 
-both_equal : (a b : Ordering) → ordering_then a b ≡ Equal → (a ≡ Equal) × (b ≡ Equal)
-both_equal Less b w = cc
-both_equal Equal b w = (refl, w)
-both_equal Greater b w = cc
-
 -- an offer of one path ranks the same at seats that the order doesn't tell apart
 pub same_ranks : (s t : Seat) (path : ℕ) → seat_cmp s t ≡ Equal → rank_cmp (rank_at s path) (rank_at t path) ≡ Equal
 same_ranks s t path e =
-    let x = both_equal (code_peer_cmp s.peer t.peer) (code_cmp s.prefix t.prefix) e in
-    ap (λ w. ordering_then w (ordering_then (nat_cmp path path) (code_peer_cmp s.peer t.peer))) x.1 ∙ (ap (λ w. ordering_then w (code_peer_cmp s.peer t.peer)) (tied_itself nat_cmp_total path) ∙ x.0)
+    ap (λ w. ordering_then w (ordering_then (nat_cmp path path) (code_via_cmp s.via t.via))) (tied_prefix s t e) ∙ (ap (λ w. ordering_then w (code_via_cmp s.via t.via)) (tied_itself nat_cmp_total path) ∙ tied_via s t e)
 
 -- what is offered elsewhere keeps its rank, and what is offered here has one
 pub indexed_here : (old new : Seats) (ranks : List Rank) (here : Seat) (o : Option Offer) → ((offer : Offer) → o ≡ Some offer → has_rank ranks (rank_at here offer.path) ≡ true) → ((s : Seat) → offer_at new s ≡ cond (is_eq (seat_cmp here s)) o (offer_at old s)) → IsIndexed old ranks → IsIndexed new ranks

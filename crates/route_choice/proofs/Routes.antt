@@ -25,7 +25,7 @@ use Rattle.route_choice.specs.declared.keys.Rank.{Rank}
 use Rattle.route_choice.specs.declared.keys.Offer.{Offer}
 use Rattle.route_choice.specs.declared.keys.Candidate.{Candidate}
 use Rattle.route_choice.specs.Orders.{rank_cmp}
-use Rattle.fib_prefix.specs.Order.{code_peer_cmp}
+use Rattle.fib_prefix.specs.Order.{code_via_cmp}
 use Rattle.route_choice.specs.Seats.{Seats, held_in, rank_at, IsIndexed}
 use Rattle.route_choice.specs.Walks.{offer_ranked, or_next, first_in, ranks_of}
 use Rattle.route_choice.proofs.Orders.{prefix_same, is_prefix}
@@ -61,7 +61,7 @@ not_above Greater b e = cc
 
 from_first : (r : Rank) (ranks : List Rank) → AllByRecursion (λ t. rank_cmp r t ≡ Less) ranks → From r.prefix ranks
 from_first r [] a = tt
-from_first r (t ∷ ranks) a = (not_above (code_cmp r.prefix t.prefix) (ordering_then (nat_cmp r.path t.path) (code_peer_cmp r.peer t.peer)) a.0, from_first r ranks a.1)
+from_first r (t ∷ ranks) a = (not_above (code_cmp r.prefix t.prefix) (ordering_then (nat_cmp r.path t.path) (code_via_cmp r.via t.via)) a.0, from_first r ranks a.1)
 
 less_of : (o : Ordering) → is_gt o ≡ false → is_eq o ≡ false → o ≡ Less
 less_of Less g e = refl
@@ -131,8 +131,8 @@ walked_lookup seats p last (r ∷ ranks) n = by_tests (last_is last r.prefix) re
     other e false t = refl
 
     -- what comes of the ranks of p where this one is one of them
-    rank_first : (o : Option Offer) → offer_ranked seats r ≡ o → first_in seats None (r ∷ ranks_at p ranks) ≡ or_next r.peer o (first_in seats None (ranks_at p ranks))
-    rank_first o e = ap (λ x. or_next r.peer x (first_in seats None (ranks_at p ranks))) e
+    rank_first : (o : Option Offer) → offer_ranked seats r ≡ o → first_in seats None (r ∷ ranks_at p ranks) ≡ or_next r.via o (first_in seats None (ranks_at p ranks))
+    rank_first o e = ap (λ x. or_next r.via x (first_in seats None (ranks_at p ranks))) e
 
     by_tests : (b : Bool) → last_is last r.prefix ≡ b → (m : Bool) → same_prefix p (prefix_as r.prefix) ≡ m → (o : Option Offer) → offer_ranked seats r ≡ o
         → ((l : Option code.Prefix) → is_prefix_last l p ≡ false → lookup (same_prefix p) (walked seats l ranks) ≡ hop_of (first_in seats None (ranks_at p ranks)))

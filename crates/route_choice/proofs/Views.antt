@@ -97,8 +97,8 @@ offered_is (elem.Put q p path hop) = refl
 offered_is (elem.Cut q p) = refl
 
 pub is_elem : (e : Elem) → IsElem (elem_as e)
-is_elem (elem.Put q p path hop) = (is_prefix p, is_peer q)
-is_elem (elem.Cut q p) = (is_prefix p, is_peer q)
+is_elem (elem.Put q p path hop) = (is_prefix p, is_peer q.peer)
+is_elem (elem.Cut q p) = (is_prefix p, is_peer q.peer)
 
 -- two are tied whichever comes first
 pub flips : {K : Type 0} {R : K → K → Ordering} → IsTotalOrder R → (x y : K) → is_eq (R x y) ≡ is_eq (R y x)

@@ -11,13 +11,13 @@ use Rattle.route_choice.specs.Walks.{offer_ranked}
 
 -- whether the seat, or the rank, is held for a plan
 abbrev pub holds_seat : Option Elem → Seat → Bool
-holds_seat (Some (elem.Put q p path hop)) s = is_eq (seat_cmp (record { peer = q; prefix = p }) s)
-holds_seat (Some (elem.Cut q p)) s = false
+holds_seat (Some (elem.Put v p path hop)) s = is_eq (seat_cmp (record { via = v; prefix = p }) s)
+holds_seat (Some (elem.Cut v p)) s = false
 holds_seat None s = false
 
 abbrev pub holds_rank : Option Elem → Rank → Bool
-holds_rank (Some (elem.Put q p path hop)) r = is_eq (rank_cmp (record { prefix = p; path = path; peer = q }) r)
-holds_rank (Some (elem.Cut q p)) r = false
+holds_rank (Some (elem.Put v p path hop)) r = is_eq (rank_cmp (record { prefix = p; path = path; via = v }) r)
+holds_rank (Some (elem.Cut v p)) r = false
 holds_rank None r = false
 
 -- each seat offers something, or is held

@@ -5,10 +5,10 @@ use Rattle.route_choice.specs.declared.keys.Rank.{Rank}
 use Rattle.route_choice.specs.contracts.keys.SeatOrd.TheImpl as seat_ord
 use Rattle.route_choice.specs.contracts.keys.RankOrd.TheImpl as rank_ord
 
--- by peer, then by prefix
+-- by peer, then by prefix, then by path identifier
 abbrev pub seat_cmp : Seat → Seat → Ordering
 seat_cmp = (seat_ord.ghosts).cmp
 
--- by prefix, then by path, then by peer
+-- by prefix, then by path, then by way
 abbrev pub rank_cmp : Rank → Rank → Ordering
 rank_cmp = (rank_ord.ghosts).cmp

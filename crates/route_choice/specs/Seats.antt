@@ -4,7 +4,7 @@ use Rattle.std.specs.List.{list_any}
 use Rattle.std.specs.Map.{lookup}
 use Rattle.std.specs.BTreeMap.{is_at}
 use Rattle.fib_addr.specs.Views.{addr_as, prefix_as}
-use Rattle.fib_prefix.specs.Views.{peer_as}
+use Rattle.fib_prefix.specs.Views.{via_as}
 use Rattle.fib_prefix.specs.declared.event.Elem.{Elem}
 use Rattle.fib_prefix.specs.declared.event.Elem.TheVariants as elem
 use Rattle.route_model.specs.Events as model
@@ -20,8 +20,8 @@ Seats = List (Seat × Option Offer)
 
 -- what a seat says of its place: what is offered there, or nothing
 abbrev pub said_by : Seat → Option Offer → model.Elem
-said_by s (Some offer) = model.Put (peer_as s.peer) (prefix_as s.prefix) offer.path (addr_as offer.hop)
-said_by s None = model.Cut (peer_as s.peer) (prefix_as s.prefix)
+said_by s (Some offer) = model.Put (via_as s.via) (prefix_as s.prefix) offer.path (addr_as offer.hop)
+said_by s None = model.Cut (via_as s.via) (prefix_as s.prefix)
 
 -- the candidates: what all seats say
 unfoldable pub held_in : Seats → Candidates
@@ -38,10 +38,10 @@ offer_at seats s = flat (lookup (is_at (seat_cmp s)) seats)
 
 -- the rank of what is offered at a seat with this path, and the seat of a rank
 abbrev pub rank_at : Seat → ℕ → Rank
-rank_at s path = record { prefix = s.prefix; path = path; peer = s.peer }
+rank_at s path = record { prefix = s.prefix; path = path; via = s.via }
 
 abbrev pub seat_of : Rank → Seat
-seat_of r = record { peer = r.peer; prefix = r.prefix }
+seat_of r = record { via = r.via; prefix = r.prefix }
 
 abbrev pub has_rank : List Rank → Rank → Bool
 has_rank ranks r = list_any (is_at (rank_cmp r)) ranks
@@ -56,15 +56,15 @@ IsIndexed seats ranks = (s : Seat) (offer : Offer) → offer_at seats s ≡ Some
 
 -- the seat that an elementary event is about, and what it offers there
 abbrev pub seat_in : Elem → Seat
-seat_in (elem.Put q p path hop) = record { peer = q; prefix = p }
-seat_in (elem.Cut q p) = record { peer = q; prefix = p }
+seat_in (elem.Put v p path hop) = record { via = v; prefix = p }
+seat_in (elem.Cut v p) = record { via = v; prefix = p }
 
 abbrev pub offer_in : Elem → Option Offer
-offer_in (elem.Put q p path hop) = Some (record { path = path; hop = hop })
-offer_in (elem.Cut q p) = None
+offer_in (elem.Put v p path hop) = Some (record { path = path; hop = hop })
+offer_in (elem.Cut v p) = None
 
 -- there is room for what it offers
 abbrev pub HasRoom : Seats → List Rank → Option Elem → Type 0
 HasRoom seats ranks None = ⊤
-HasRoom seats ranks (Some (elem.Put q p path hop)) = (has_seat seats (record { peer = q; prefix = p }) ≡ true) × (has_rank ranks (record { prefix = p; path = path; peer = q }) ≡ true)
-HasRoom seats ranks (Some (elem.Cut q p)) = ⊤
+HasRoom seats ranks (Some (elem.Put v p path hop)) = (has_seat seats (record { via = v; prefix = p }) ≡ true) × (has_rank ranks (record { prefix = p; path = path; via = v }) ≡ true)
+HasRoom seats ranks (Some (elem.Cut v p)) = ⊤

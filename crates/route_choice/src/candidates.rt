@@ -16,7 +16,7 @@ ghost use Rattle.route_choice.specs.Walks.{offer_ranked as ranked, first_in, bet
 
 use crate::choice::{Choice, Pick};
 use crate::keys::{Candidate, Offer, Rank, Seat};
-use fib_prefix::{Addr, Elem, Event, Peer, Prefix};
+use fib_prefix::{Addr, Elem, Event, Peer, Prefix, Via};
 use std::alloc::{AllocError, Global};
 use std::collections::{BTreeMap, BTreeSet};
 use std::marker::Model;
@@ -47,8 +47,8 @@ fn seat_of(elem: &Elem) -> Seat
     ensures { result ≡ seat_in elem.now }
 {
     match *elem {
-        Elem::Put(peer, prefix, _, _) => Seat::new(&peer, &prefix),
-        Elem::Cut(peer, prefix) => Seat::new(&peer, &prefix),
+        Elem::Put(via, prefix, _, _) => Seat::new(&via, &prefix),
+        Elem::Cut(via, prefix) => Seat::new(&via, &prefix),
     }
 }
 
@@ -82,12 +82,12 @@ fn offer_ranked(seats: &BTreeMap<Seat, Option<Offer>>, rank: &Rank) -> Option<Of
     }
 }
 
-/// The preferred route for a prefix, that of a peer left out.
+/// The preferred route for a prefix, that of a way left out.
 fn best_but(
     seats: &BTreeMap<Seat, Option<Offer>>,
     ranks: &BTreeSet<Rank>,
     prefix: &Prefix,
-    but: Option<Peer>,
+    but: Option<Via>,
 ) -> Option<Candidate>
     ensures first { result ≡ first_in seats.now.entries but (ranks_of prefix.now ranks.now.keys) }
     ensures ordered { set.IsOrdered rank_cmp ranks.now }
@@ -96,10 +96,10 @@ fn best_but(
         if *prefix != rank.prefix() {
             return None;
         }
-        if but != Some(rank.peer()) {
+        if but != Some(rank.via()) {
             if let Some(offer) = offer_ranked(seats, rank) {
                 return Some(Candidate {
-                    peer: rank.peer(),
+                    via: rank.via(),
                     offer,
                 });
             }
@@ -108,9 +108,9 @@ fn best_but(
     None
 }
 
-/// The next hop of the preferred one of a peer's route and that of the others.
-fn better_hop(peer: Peer, own: Option<Offer>, others: &Option<Candidate>) -> Option<Addr>
-    ensures { result ≡ better_of peer own others.now }
+/// The next hop of the preferred one of the route by a way and that of the others.
+fn better_hop(via: Via, own: Option<Offer>, others: &Option<Candidate>) -> Option<Addr>
+    ensures { result ≡ better_of via own others.now }
 {
     match (own, others) {
         (None, None) => None,
@@ -118,7 +118,7 @@ fn better_hop(peer: Peer, own: Option<Offer>, others: &Option<Candidate>) -> Opt
         (None, Some(other)) => Some(other.offer.hop()),
         (Some(offer), Some(other)) => {
             let is_own = offer.path() < other.offer.path()
-                || (offer.path() == other.offer.path() && peer < other.peer);
+                || (offer.path() == other.offer.path() && via < other.via);
             Some(if is_own {
                 offer.hop()
             } else {
@@ -128,20 +128,22 @@ fn better_hop(peer: Peer, own: Option<Offer>, others: &Option<Candidate>) -> Opt
     }
 }
 
-/// A cut for each route of a peer, in the order of prefixes.
+/// A cut for each route of a peer, in the order of prefixes, then of path identifiers.
 fn cuts_of(
     alloc: Global,
     seats: &BTreeMap<Seat, Option<Offer>>,
     peer: Peer,
 ) -> Result<Vec<Elem>, AllocError>
-    ensures cuts { IfOk result (λ cuts. cuts.items ≡ cuts_in peer
-        (seats_of peer seats.now.entries)) }
+    ensures cuts { IfOk result (λ cuts. cuts.items ≡ cuts_in (seats_of peer seats.now.entries)) }
     ensures ordered { tree.IsOrdered seat_cmp seats.now }
 {
     let mut cuts = Vec::new(alloc);
-    for (seat, offer) in seats.range(Seat::first(&peer)..=Seat::last(&peer)) {
+    for (seat, offer) in seats.range(Seat::first(&peer)..) {
+        if peer != seat.peer() {
+            return Ok(cuts);
+        }
         if offer.is_some() {
-            cuts.push(Elem::Cut(peer, seat.prefix()))?;
+            cuts.push(Elem::Cut(seat.via(), seat.prefix()))?;
         }
     }
     Ok(cuts)
@@ -211,7 +213,7 @@ fn holds_seat(plan: &Option<Elem>, seat: &Seat) -> bool
     ensures { result ≡ seat_held plan.now seat.now }
 {
     match plan {
-        Some(Elem::Put(peer, prefix, _, _)) => Seat::new(peer, prefix) == *seat,
+        Some(Elem::Put(via, prefix, _, _)) => Seat::new(via, prefix) == *seat,
         _ => false,
     }
 }
@@ -221,7 +223,7 @@ fn holds_rank(plan: &Option<Elem>, rank: &Rank) -> bool
     ensures { result ≡ rank_held plan.now rank.now }
 {
     match plan {
-        Some(Elem::Put(peer, prefix, path, _)) => Seat::new(peer, prefix).rank(*path) == *rank,
+        Some(Elem::Put(via, prefix, path, _)) => Seat::new(via, prefix).rank(*path) == *rank,
         _ => false,
     }
 }
@@ -273,8 +275,8 @@ fn give_back(
     let Some(earlier) = earlier else {
         return;
     };
-    if let Elem::Put(peer, prefix, path, _) = earlier {
-        let seat = Seat::new(&peer, &prefix);
+    if let Elem::Put(via, prefix, path, _) = earlier {
+        let seat = Seat::new(&via, &prefix);
         give_back_rank(seats, ranks, &seat.rank(path), plan);
         give_back_seat(seats, &seat, plan);
     }
@@ -332,8 +334,8 @@ fn make_room_for(
         ranks.new.keys) }
 {
     match *elem {
-        Elem::Put(peer, prefix, path, _) => {
-            let seat = Seat::new(&peer, &prefix);
+        Elem::Put(via, prefix, path, _) => {
+            let seat = Seat::new(&via, &prefix);
             make_room(seats, ranks, &seat, &seat.rank(path))
         }
         Elem::Cut(_, _) => Ok(()),
@@ -421,7 +423,8 @@ impl Candidates {
         }
     }
 
-    /// The event as elementary events: a cut for each route of a peer whose session is lost, in the order of prefixes.
+    /// The event as elementary events: a cut for each route of a peer whose session is lost, in the order of prefixes, then
+    /// of path identifiers.
     ///
     /// # Errors
     ///
@@ -431,10 +434,10 @@ impl Candidates {
             ≡ elems_of self.now.candidates (event_as event.now)) }
     {
         match *event {
-            Event::Announce(peer, prefix, path, hop) => Ok(vec![in self.alloc;
-                Elem::Put(peer, prefix, path, hop),
+            Event::Announce(via, prefix, path, hop) => Ok(vec![in self.alloc;
+                Elem::Put(via, prefix, path, hop),
             ]?),
-            Event::Withdraw(peer, prefix) => Ok(vec![in self.alloc; Elem::Cut(peer, prefix)]?),
+            Event::Withdraw(via, prefix) => Ok(vec![in self.alloc; Elem::Cut(via, prefix)]?),
             Event::Down(peer) => cuts_of(self.alloc, &self.seats, peer),
         }
     }
@@ -444,12 +447,12 @@ impl Candidates {
         ensures { IsChoice self.now.candidates (elem_as elem.now) result }
     {
         let seat = seat_of(elem);
-        let peer = seat.peer();
-        let others = best_but(&self.seats, &self.ranks, &seat.prefix(), Some(peer));
+        let via = seat.via();
+        let others = best_but(&self.seats, &self.ranks, &seat.prefix(), Some(via));
         Choice {
             prefix: seat.prefix(),
-            before: better_hop(peer, offer_at(&self.seats, &seat), &others),
-            after: better_hop(peer, offer_of(elem), &others),
+            before: better_hop(via, offer_at(&self.seats, &seat), &others),
+            after: better_hop(via, offer_of(elem), &others),
         }
     }
 

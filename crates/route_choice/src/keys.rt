@@ -3,17 +3,20 @@
 ghost use Rattle.std.specs.Prelude.{◌≡◌, ◌≤◌, ◌-◌, ◌%◌, ◌^◌, ◌<◌, false};
 ghost use Rattle.address_model.specs.Width.{width};
 
-use fib_prefix::{Addr, Family, Peer, Prefix};
+use fib_prefix::{Addr, Family, Peer, Prefix, Via};
 use std::cmp::Ordering;
 use std::marker::Model;
 
-/// The least peer.
-const LEAST_PEER: Peer = Peer {
-    addr: Addr {
-        family: Family::V4,
-        bits: 0,
+/// The least way.
+const LEAST_VIA: Via = Via {
+    peer: Peer {
+        addr: Addr {
+            family: Family::V4,
+            bits: 0,
+        },
+        asn: 0,
     },
-    asn: 0,
+    id: 0,
 };
 
 /// The least prefix.
@@ -23,20 +26,14 @@ const LEAST_PREFIX: Prefix = Prefix {
     len: 0,
 };
 
-/// The greatest prefix.
-const GREATEST_PREFIX: Prefix = Prefix {
-    family: Family::V6,
-    bits: u128::MAX,
-    len: 128,
-};
-
-/// Where a peer's route for a prefix is found: by peer, then by prefix. Contracts see both; the numbers stand first
-/// here, so that a seat takes 48 octets.
+/// Where a route is found: by peer, then by prefix, then by path identifier. Contracts see its way and its prefix; the
+/// numbers stand first here, so that a seat takes 48 octets.
 #[derive(Clone, Copy)]
 pub struct Seat {
     bits: u128,
     peer_bits: u128,
     asn: u32,
+    id: u32,
     family: Family,
     len: u8,
     peer_family: Family,
@@ -51,23 +48,23 @@ impl Model for Seat {
 
     ghost Value = { SeatKey };
 
-    ghost view = { λ s. record { peer = record { addr = record { family = s.peer_family; bits = s.peer_bits; below = s.peer_below }; asn = s.asn }; prefix = record { family = s.family; bits = s.bits; len = s.len; fits = s.fits; below = s.below; cleared = s.cleared } } };
+    ghost view = { λ s. record { via = record { peer = record { addr = record { family = s.peer_family; bits = s.peer_bits; below = s.peer_below }; asn = s.asn }; id = s.id }; prefix = record { family = s.family; bits = s.bits; len = s.len; fits = s.fits; below = s.below; cleared = s.cleared } } };
 
-    ghost inverse = { λ k. record { bits = k.prefix.bits; peer_bits = k.peer.addr.bits; asn = k.peer.asn; family = k.prefix.family; len = k.prefix.len; peer_family = k.peer.addr.family; fits = k.prefix.fits; below = k.prefix.below; cleared = k.prefix.cleared; peer_below = k.peer.addr.below } };
+    ghost inverse = { λ k. record { bits = k.prefix.bits; peer_bits = k.via.peer.addr.bits; asn = k.via.peer.asn; id = k.via.id; family = k.prefix.family; len = k.prefix.len; peer_family = k.via.peer.addr.family; fits = k.prefix.fits; below = k.prefix.below; cleared = k.prefix.cleared; peer_below = k.via.peer.addr.below } };
 }
 
 impl PartialEq for Seat {
     ghost use Rattle.std.specs.Cmp.{partial_equiv_from_equiv};
-    ghost use Rattle.std.specs.Ordering.{on, then_cmp, eq_by_cmp};
-    ghost use Rattle.std.proofs.lemmas.Cmp.{on_total, then_total, eq_by_cmp_equiv};
+    ghost use Rattle.std.specs.Ordering.{nat_cmp, on, then_cmp, eq_by_cmp};
+    ghost use Rattle.std.proofs.lemmas.Cmp.{nat_cmp_total, on_total, then_total, eq_by_cmp_equiv};
     ghost use Rattle.fib_addr.specs.Order.{code_cmp};
     ghost use Rattle.fib_prefix.specs.Order.{code_peer_cmp};
     ghost use Rattle.fib_prefix.proofs.Peers.{peer_total, prefix_total};
     ghost use Rattle.route_choice.specs.Keys.{SeatKey};
 
-    ghost eq = { eq_by_cmp (then_cmp (on (λ (s : SeatKey). s.peer) code_peer_cmp) (on (λ (s : SeatKey). s.prefix) code_cmp)) };
+    ghost eq = { eq_by_cmp (then_cmp (on (λ (s : SeatKey). s.via.peer) code_peer_cmp) (then_cmp (on (λ (s : SeatKey). s.prefix) code_cmp) (on (λ (s : SeatKey). s.via.id) nat_cmp))) };
 
-    ghost laws = { partial_equiv_from_equiv (eq_by_cmp_equiv (then_total (on_total (λ (s : SeatKey). s.peer) peer_total) (on_total (λ (s : SeatKey). s.prefix) prefix_total))) };
+    ghost laws = { partial_equiv_from_equiv (eq_by_cmp_equiv (then_total (on_total (λ (s : SeatKey). s.via.peer) peer_total) (then_total (on_total (λ (s : SeatKey). s.prefix) prefix_total) (on_total (λ (s : SeatKey). s.via.id) nat_cmp_total)))) };
 
     fn eq(&self, other: &Seat) -> bool {
         self.cmp(other).is_eq()
@@ -75,26 +72,26 @@ impl PartialEq for Seat {
 }
 
 impl Eq for Seat {
-    ghost use Rattle.std.specs.Ordering.{on, then_cmp, eq_by_cmp};
-    ghost use Rattle.std.proofs.lemmas.Cmp.{on_total, then_total, eq_by_cmp_equiv};
+    ghost use Rattle.std.specs.Ordering.{nat_cmp, on, then_cmp, eq_by_cmp};
+    ghost use Rattle.std.proofs.lemmas.Cmp.{nat_cmp_total, on_total, then_total, eq_by_cmp_equiv};
     ghost use Rattle.fib_prefix.proofs.Peers.{peer_total, prefix_total};
     ghost use Rattle.route_choice.specs.Keys.{SeatKey};
 
-    ghost laws = { eq_by_cmp_equiv (then_total (on_total (λ (s : SeatKey). s.peer) peer_total) (on_total (λ (s : SeatKey). s.prefix) prefix_total)) };
+    ghost laws = { eq_by_cmp_equiv (then_total (on_total (λ (s : SeatKey). s.via.peer) peer_total) (then_total (on_total (λ (s : SeatKey). s.prefix) prefix_total) (on_total (λ (s : SeatKey). s.via.id) nat_cmp_total))) };
 }
 
 impl Ord for Seat {
-    ghost use Rattle.std.specs.Ordering.{on, then_cmp};
+    ghost use Rattle.std.specs.Ordering.{nat_cmp, on, then_cmp};
     ghost use Rattle.std.proofs.Common.{refl};
-    ghost use Rattle.std.proofs.lemmas.Cmp.{on_total, then_total};
+    ghost use Rattle.std.proofs.lemmas.Cmp.{nat_cmp_total, on_total, then_total};
     ghost use Rattle.fib_addr.specs.Order.{code_cmp};
     ghost use Rattle.fib_prefix.specs.Order.{code_peer_cmp};
     ghost use Rattle.fib_prefix.proofs.Peers.{peer_total, prefix_total};
     ghost use Rattle.route_choice.specs.Keys.{SeatKey};
 
-    ghost cmp = { then_cmp (on (λ (s : SeatKey). s.peer) code_peer_cmp) (on (λ (s : SeatKey). s.prefix) code_cmp) };
+    ghost cmp = { then_cmp (on (λ (s : SeatKey). s.via.peer) code_peer_cmp) (then_cmp (on (λ (s : SeatKey). s.prefix) code_cmp) (on (λ (s : SeatKey). s.via.id) nat_cmp)) };
 
-    ghost total = { then_total (on_total (λ (s : SeatKey). s.peer) peer_total) (on_total (λ (s : SeatKey). s.prefix) prefix_total) };
+    ghost total = { then_total (on_total (λ (s : SeatKey). s.via.peer) peer_total) (then_total (on_total (λ (s : SeatKey). s.prefix) prefix_total) (on_total (λ (s : SeatKey). s.via.id) nat_cmp_total)) };
 
     ghost matches_partial_cmp = { λ s t. refl };
 
@@ -102,25 +99,28 @@ impl Ord for Seat {
 
     fn cmp(&self, other: &Seat) -> Ordering {
         match self.peer().cmp(&other.peer()) {
-            Ordering::Equal => self.prefix().cmp(&other.prefix()),
+            Ordering::Equal => match self.prefix().cmp(&other.prefix()) {
+                Ordering::Equal => self.id.cmp(&other.id),
+                order => order,
+            },
             order => order,
         }
     }
 }
 
 impl PartialOrd for Seat {
-    ghost use Rattle.std.specs.Ordering.{on, then_cmp, as_partial_cmp};
+    ghost use Rattle.std.specs.Ordering.{nat_cmp, on, then_cmp, as_partial_cmp};
     ghost use Rattle.std.specs.Cmp.{po};
     ghost use Rattle.std.proofs.Common.{refl};
     ghost use Rattle.fib_addr.specs.Order.{code_cmp};
     ghost use Rattle.fib_prefix.specs.Order.{code_peer_cmp};
-    ghost use Rattle.std.proofs.lemmas.Cmp.{on_total, then_total};
+    ghost use Rattle.std.proofs.lemmas.Cmp.{nat_cmp_total, on_total, then_total};
     ghost use Rattle.fib_prefix.proofs.Peers.{peer_total, prefix_total};
     ghost use Rattle.route_choice.specs.Keys.{SeatKey};
 
-    ghost partial_cmp = { as_partial_cmp (then_cmp (on (λ (s : SeatKey). s.peer) code_peer_cmp) (on (λ (s : SeatKey). s.prefix) code_cmp)) };
+    ghost partial_cmp = { as_partial_cmp (then_cmp (on (λ (s : SeatKey). s.via.peer) code_peer_cmp) (then_cmp (on (λ (s : SeatKey). s.prefix) code_cmp) (on (λ (s : SeatKey). s.via.id) nat_cmp))) };
 
-    ghost laws = { po (then_total (on_total (λ (s : SeatKey). s.peer) peer_total) (on_total (λ (s : SeatKey). s.prefix) prefix_total)) (λ x y. refl) };
+    ghost laws = { po (then_total (on_total (λ (s : SeatKey). s.via.peer) peer_total) (then_total (on_total (λ (s : SeatKey). s.prefix) prefix_total) (on_total (λ (s : SeatKey). s.via.id) nat_cmp_total))) (λ x y. refl) };
 
     fn partial_cmp(&self, other: &Seat) -> Option<Ordering> {
         Some(self.cmp(other))
@@ -147,13 +147,14 @@ impl Model for Offer {
 }
 
 /// A route's preference: of two routes for a prefix the preferred one comes first. Contracts see the prefix, the length of
-/// the path and the peer; the numbers stand first here, so that a rank takes 48 octets.
+/// the path and the way; the numbers stand first here, so that a rank takes 48 octets.
 #[derive(Clone, Copy)]
 pub struct Rank {
     bits: u128,
     peer_bits: u128,
     path: u32,
     asn: u32,
+    id: u32,
     family: Family,
     len: u8,
     peer_family: Family,
@@ -168,9 +169,9 @@ impl Model for Rank {
 
     ghost Value = { RankKey };
 
-    ghost view = { λ r. record { prefix = record { family = r.family; bits = r.bits; len = r.len; fits = r.fits; below = r.below; cleared = r.cleared }; path = r.path; peer = record { addr = record { family = r.peer_family; bits = r.peer_bits; below = r.peer_below }; asn = r.asn } } };
+    ghost view = { λ r. record { prefix = record { family = r.family; bits = r.bits; len = r.len; fits = r.fits; below = r.below; cleared = r.cleared }; path = r.path; via = record { peer = record { addr = record { family = r.peer_family; bits = r.peer_bits; below = r.peer_below }; asn = r.asn }; id = r.id } } };
 
-    ghost inverse = { λ k. record { bits = k.prefix.bits; peer_bits = k.peer.addr.bits; path = k.path; asn = k.peer.asn; family = k.prefix.family; len = k.prefix.len; peer_family = k.peer.addr.family; fits = k.prefix.fits; below = k.prefix.below; cleared = k.prefix.cleared; peer_below = k.peer.addr.below } };
+    ghost inverse = { λ k. record { bits = k.prefix.bits; peer_bits = k.via.peer.addr.bits; path = k.path; asn = k.via.peer.asn; id = k.via.id; family = k.prefix.family; len = k.prefix.len; peer_family = k.via.peer.addr.family; fits = k.prefix.fits; below = k.prefix.below; cleared = k.prefix.cleared; peer_below = k.via.peer.addr.below } };
 }
 
 impl PartialEq for Rank {
@@ -178,13 +179,13 @@ impl PartialEq for Rank {
     ghost use Rattle.std.specs.Ordering.{nat_cmp, on, then_cmp, eq_by_cmp};
     ghost use Rattle.std.proofs.lemmas.Cmp.{nat_cmp_total, on_total, then_total, eq_by_cmp_equiv};
     ghost use Rattle.fib_addr.specs.Order.{code_cmp};
-    ghost use Rattle.fib_prefix.specs.Order.{code_peer_cmp};
-    ghost use Rattle.fib_prefix.proofs.Peers.{peer_total, prefix_total};
+    ghost use Rattle.fib_prefix.specs.Order.{code_via_cmp};
+    ghost use Rattle.fib_prefix.proofs.Peers.{via_total, prefix_total};
     ghost use Rattle.route_choice.specs.Keys.{RankKey};
 
-    ghost eq = { eq_by_cmp (then_cmp (on (λ (r : RankKey). r.prefix) code_cmp) (then_cmp (on (λ (r : RankKey). r.path) nat_cmp) (on (λ (r : RankKey). r.peer) code_peer_cmp))) };
+    ghost eq = { eq_by_cmp (then_cmp (on (λ (r : RankKey). r.prefix) code_cmp) (then_cmp (on (λ (r : RankKey). r.path) nat_cmp) (on (λ (r : RankKey). r.via) code_via_cmp))) };
 
-    ghost laws = { partial_equiv_from_equiv (eq_by_cmp_equiv (then_total (on_total (λ (r : RankKey). r.prefix) prefix_total) (then_total (on_total (λ (r : RankKey). r.path) nat_cmp_total) (on_total (λ (r : RankKey). r.peer) peer_total)))) };
+    ghost laws = { partial_equiv_from_equiv (eq_by_cmp_equiv (then_total (on_total (λ (r : RankKey). r.prefix) prefix_total) (then_total (on_total (λ (r : RankKey). r.path) nat_cmp_total) (on_total (λ (r : RankKey). r.via) via_total)))) };
 
     fn eq(&self, other: &Rank) -> bool {
         self.cmp(other).is_eq()
@@ -194,10 +195,10 @@ impl PartialEq for Rank {
 impl Eq for Rank {
     ghost use Rattle.std.specs.Ordering.{nat_cmp, on, then_cmp, eq_by_cmp};
     ghost use Rattle.std.proofs.lemmas.Cmp.{nat_cmp_total, on_total, then_total, eq_by_cmp_equiv};
-    ghost use Rattle.fib_prefix.proofs.Peers.{peer_total, prefix_total};
+    ghost use Rattle.fib_prefix.proofs.Peers.{via_total, prefix_total};
     ghost use Rattle.route_choice.specs.Keys.{RankKey};
 
-    ghost laws = { eq_by_cmp_equiv (then_total (on_total (λ (r : RankKey). r.prefix) prefix_total) (then_total (on_total (λ (r : RankKey). r.path) nat_cmp_total) (on_total (λ (r : RankKey). r.peer) peer_total))) };
+    ghost laws = { eq_by_cmp_equiv (then_total (on_total (λ (r : RankKey). r.prefix) prefix_total) (then_total (on_total (λ (r : RankKey). r.path) nat_cmp_total) (on_total (λ (r : RankKey). r.via) via_total))) };
 }
 
 impl Ord for Rank {
@@ -205,13 +206,13 @@ impl Ord for Rank {
     ghost use Rattle.std.proofs.Common.{refl};
     ghost use Rattle.std.proofs.lemmas.Cmp.{nat_cmp_total, on_total, then_total};
     ghost use Rattle.fib_addr.specs.Order.{code_cmp};
-    ghost use Rattle.fib_prefix.specs.Order.{code_peer_cmp};
-    ghost use Rattle.fib_prefix.proofs.Peers.{peer_total, prefix_total};
+    ghost use Rattle.fib_prefix.specs.Order.{code_via_cmp};
+    ghost use Rattle.fib_prefix.proofs.Peers.{via_total, prefix_total};
     ghost use Rattle.route_choice.specs.Keys.{RankKey};
 
-    ghost cmp = { then_cmp (on (λ (r : RankKey). r.prefix) code_cmp) (then_cmp (on (λ (r : RankKey). r.path) nat_cmp) (on (λ (r : RankKey). r.peer) code_peer_cmp)) };
+    ghost cmp = { then_cmp (on (λ (r : RankKey). r.prefix) code_cmp) (then_cmp (on (λ (r : RankKey). r.path) nat_cmp) (on (λ (r : RankKey). r.via) code_via_cmp)) };
 
-    ghost total = { then_total (on_total (λ (r : RankKey). r.prefix) prefix_total) (then_total (on_total (λ (r : RankKey). r.path) nat_cmp_total) (on_total (λ (r : RankKey). r.peer) peer_total)) };
+    ghost total = { then_total (on_total (λ (r : RankKey). r.prefix) prefix_total) (then_total (on_total (λ (r : RankKey). r.path) nat_cmp_total) (on_total (λ (r : RankKey). r.via) via_total)) };
 
     ghost matches_partial_cmp = { λ s t. refl };
 
@@ -220,7 +221,7 @@ impl Ord for Rank {
     fn cmp(&self, other: &Rank) -> Ordering {
         match self.prefix().cmp(&other.prefix()) {
             Ordering::Equal => match self.path.cmp(&other.path) {
-                Ordering::Equal => self.peer().cmp(&other.peer()),
+                Ordering::Equal => self.via().cmp(&other.via()),
                 order => order,
             },
             order => order,
@@ -233,25 +234,25 @@ impl PartialOrd for Rank {
     ghost use Rattle.std.specs.Cmp.{po};
     ghost use Rattle.std.proofs.Common.{refl};
     ghost use Rattle.fib_addr.specs.Order.{code_cmp};
-    ghost use Rattle.fib_prefix.specs.Order.{code_peer_cmp};
+    ghost use Rattle.fib_prefix.specs.Order.{code_via_cmp};
     ghost use Rattle.std.proofs.lemmas.Cmp.{nat_cmp_total, on_total, then_total};
-    ghost use Rattle.fib_prefix.proofs.Peers.{peer_total, prefix_total};
+    ghost use Rattle.fib_prefix.proofs.Peers.{via_total, prefix_total};
     ghost use Rattle.route_choice.specs.Keys.{RankKey};
 
-    ghost partial_cmp = { as_partial_cmp (then_cmp (on (λ (r : RankKey). r.prefix) code_cmp) (then_cmp (on (λ (r : RankKey). r.path) nat_cmp) (on (λ (r : RankKey). r.peer) code_peer_cmp))) };
+    ghost partial_cmp = { as_partial_cmp (then_cmp (on (λ (r : RankKey). r.prefix) code_cmp) (then_cmp (on (λ (r : RankKey). r.path) nat_cmp) (on (λ (r : RankKey). r.via) code_via_cmp))) };
 
-    ghost laws = { po (then_total (on_total (λ (r : RankKey). r.prefix) prefix_total) (then_total (on_total (λ (r : RankKey). r.path) nat_cmp_total) (on_total (λ (r : RankKey). r.peer) peer_total))) (λ x y. refl) };
+    ghost laws = { po (then_total (on_total (λ (r : RankKey). r.prefix) prefix_total) (then_total (on_total (λ (r : RankKey). r.path) nat_cmp_total) (on_total (λ (r : RankKey). r.via) via_total))) (λ x y. refl) };
 
     fn partial_cmp(&self, other: &Rank) -> Option<Ordering> {
         Some(self.cmp(other))
     }
 }
 
-/// A peer's route for some prefix.
+/// A route for some prefix.
 #[derive(Clone, Copy)]
 pub struct Candidate {
-    /// Whose it is.
-    pub peer: Peer,
+    /// By which way it comes.
+    pub via: Via,
     /// What it offers.
     pub offer: Offer,
 }
@@ -263,23 +264,24 @@ impl Seat {
     ghost use Rattle.fib_prefix.specs.Order.{code_peer_cmp};
     ghost use Rattle.route_choice.specs.Seats.{rank_at};
 
-    /// The seat of a peer and a prefix.
-    pub fn new(peer: &Peer, prefix: &Prefix) -> Seat
-        ensures { result ≡ record { peer = peer.now; prefix = prefix.now } }
+    /// The seat of a way and a prefix.
+    pub fn new(via: &Via, prefix: &Prefix) -> Seat
+        ensures { result ≡ record { via = via.now; prefix = prefix.now } }
     {
         Seat {
             bits: prefix.bits,
-            peer_bits: peer.addr.bits,
-            asn: peer.asn,
+            peer_bits: via.peer.addr.bits,
+            asn: via.peer.asn,
+            id: via.id,
             family: prefix.family,
             len: prefix.len,
-            peer_family: peer.addr.family,
+            peer_family: via.peer.addr.family,
         }
     }
 
     /// The peer's address.
     fn addr(&self) -> Addr
-        ensures { result ≡ self.now.peer.addr }
+        ensures { result ≡ self.now.via.peer.addr }
     {
         Addr {
             family: self.peer_family,
@@ -289,11 +291,21 @@ impl Seat {
 
     /// The peer.
     pub fn peer(&self) -> Peer
-        ensures { result ≡ self.now.peer }
+        ensures { result ≡ self.now.via.peer }
     {
         Peer {
             addr: self.addr(),
             asn: self.asn,
+        }
+    }
+
+    /// The way.
+    pub fn via(&self) -> Via
+        ensures { result ≡ self.now.via }
+    {
+        Via {
+            peer: self.peer(),
+            id: self.id,
         }
     }
 
@@ -310,20 +322,11 @@ impl Seat {
 
     /// The least seat of a peer.
     pub fn first(peer: &Peer) -> Seat
-        ensures peer { result.peer ≡ peer.now }
-        ensures least { (s : Seat) → code_peer_cmp peer.now s.peer ≡ Equal
+        ensures peer { result.via.peer ≡ peer.now }
+        ensures least { (s : Seat) → code_peer_cmp peer.now s.via.peer ≡ Equal
             → is_gt (seat_cmp result s) ≡ false }
     {
-        Seat::new(peer, &LEAST_PREFIX)
-    }
-
-    /// The greatest seat of a peer.
-    pub fn last(peer: &Peer) -> Seat
-        ensures peer { result.peer ≡ peer.now }
-        ensures greatest { (s : Seat) → code_peer_cmp peer.now s.peer ≡ Equal
-            → is_gt (seat_cmp s result) ≡ false }
-    {
-        Seat::new(peer, &GREATEST_PREFIX)
+        Seat::new(&Via { peer: *peer, id: 0 }, &LEAST_PREFIX)
     }
 
     /// The rank of what is offered here with this path.
@@ -335,6 +338,7 @@ impl Seat {
             peer_bits: self.peer_bits,
             path,
             asn: self.asn,
+            id: self.id,
             family: self.family,
             len: self.len,
             peer_family: self.peer_family,
@@ -385,7 +389,17 @@ impl Rank {
         ensures least { (r : Rank) → code_cmp prefix.now r.prefix ≡ Equal
             → is_gt (rank_cmp result r) ≡ false }
     {
-        Seat::new(&LEAST_PEER, prefix).rank(0)
+        Seat::new(&LEAST_VIA, prefix).rank(0)
+    }
+
+    /// The way.
+    pub fn via(&self) -> Via
+        ensures { result ≡ self.now.via }
+    {
+        Via {
+            peer: self.peer(),
+            id: self.id,
+        }
     }
 
     /// The prefix.
@@ -408,7 +422,7 @@ impl Rank {
 
     /// The peer's address.
     fn addr(&self) -> Addr
-        ensures { result ≡ self.now.peer.addr }
+        ensures { result ≡ self.now.via.peer.addr }
     {
         Addr {
             family: self.peer_family,
@@ -417,8 +431,8 @@ impl Rank {
     }
 
     /// The peer.
-    pub fn peer(&self) -> Peer
-        ensures { result ≡ self.now.peer }
+    fn peer(&self) -> Peer
+        ensures { result ≡ self.now.via.peer }
     {
         Peer {
             addr: self.addr(),
@@ -430,6 +444,6 @@ impl Rank {
     pub fn seat(&self) -> Seat
         ensures { result ≡ seat_of self.now }
     {
-        Seat::new(&self.peer(), &self.prefix())
+        Seat::new(&self.via(), &self.prefix())
     }
 }

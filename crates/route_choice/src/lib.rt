@@ -1,5 +1,5 @@
 //! The routes of all peers, and the one that is chosen for each prefix: that of the shortest AS_PATH, and among those
-//! the one of the lowest peer.
+//! the one of the lowest peer, and of its routes the one of the lowest path identifier.
 //!
 //! These are the steps of BGP-4's decision process (RFC 4271, sections 9.1.1 and 9.1.2.2), and which of them are taken:
 //!
@@ -11,8 +11,9 @@
 //! - d) EBGP before IBGP and e) the lowest interior cost aren't asked for: a collector's records don't carry them.
 //! - f) The lowest BGP Identifier isn't asked for: a dump's peer table has it, and the messages of a session don't.
 //! - g) The lowest peer address is preferred, IPv4 before IPv6, and of peers of one address the lowest AS.
+//!   Of one peer's routes that of the lowest path identifier is preferred (RFC 7911, section 3, leaves it open).
 //!
-//! A peer's route for a prefix has a seat, by peer and then prefix, which says what is offered there, and a rank, by prefix
+//! A route has a seat, by peer, then prefix, then path identifier, which says what is offered there, and a rank, by prefix
 //! and then by preference. So a peer's routes lie together, and a prefix's routes lie together with the preferred one first.
 //! A change costs a few look-ups, whatever the other routes are; what a lost session takes costs its own routes.
 #![tactic(auto)]

@@ -15,13 +15,13 @@ use Rattle.address_model.specs.Address.{Address, Prefix, same_prefix}
 use Rattle.address_model.specs.Order.{prefix_cmp}
 use Rattle.address_model.proofs.Same.{same_prefix_is, same_prefix_itself}
 use Rattle.address_model.proofs.Ordered.{equal_are_same}
-use Rattle.route_model.specs.Events.{peer_cmp}
+use Rattle.route_model.specs.Events.{via_cmp}
 use Rattle.route_model.specs.Choice.{Place, Offer, Candidates, AreCandidates, IsHeld, IsPlace, same_place, place_cmp, choice_cmp, beats, is_chosen, chosen_in, IsChosen, routes_of, chosen_for}
 use Rattle.route_model.proofs.Keyed.{found_meets, found_later, found_fails, none_passes, lookup-filter, sorted_filter, all_filter}
-use Rattle.route_model.proofs.Places.{place_key, peer_total, peer_exact, both_equal}
+use Rattle.route_model.proofs.Places.{place_key, via_total, via_exact, both_equal}
 
 choice_total : IsTotalOrder choice_cmp
-choice_total = then_total (on_total (λ (c : Place × Offer). c.1.path) nat_cmp_total) (on_total (λ (c : Place × Offer). c.0.peer) peer_total)
+choice_total = then_total (on_total (λ (c : Place × Offer). c.1.path) nat_cmp_total) (on_total (λ (c : Place × Offer). c.0.via) via_total)
 
 flipped : (o : Ordering) → is_gt (ordering_reverse o) ≡ is_lt o
 flipped Less = refl
@@ -159,11 +159,11 @@ one_alone held c d a h g e = by_order (choice_cmp c d) refl
     by_order Less u = let z : beats c d ≡ true = ap is_lt u in let w : beats c d ≡ false = y in absurd cc
     by_order Greater u = let z : beats d c ≡ true = sym (beats_flipped d c) ∙ ap is_gt u in let w : beats d c ≡ false = x in absurd cc
     by_order Equal u =
-        let b = both_equal (nat_cmp c.1.path d.1.path) (peer_cmp c.0.peer d.0.peer) u in
+        let b = both_equal (nat_cmp c.1.path d.1.path) (via_cmp c.0.via d.0.via) u in
         let hc = found_meets place_key IsPlace c.0 c.1 held a.0 (chosen_is_held held c a h) in
         let hd = found_meets place_key IsPlace d.0 d.1 held a.0 (chosen_is_held held d a g) in
-        let i : c.0.peer ≡ d.0.peer = peer_exact c.0.peer d.0.peer hc.1 hd.1 b.1 in
-        let j : c.0 ≡ d.0 = ap (λ z. let r : Place = record { prefix = z; peer = c.0.peer } in r) e ∙ ap (λ z. let r : Place = record { prefix = d.0.prefix; peer = z } in r) i in
+        let i : c.0.via ≡ d.0.via = via_exact c.0.via d.0.via hc.1 hd.1 b.1 in
+        let j : c.0 ≡ d.0 = ap (λ z. let r : Place = record { prefix = z; via = c.0.via } in r) e ∙ ap (λ z. let r : Place = record { prefix = d.0.prefix; via = z } in r) i in
         let k : Some c.1 ≡ Some d.1 = sym h ∙ (ap (λ z. lookup (same_place z) (chosen_in held)) j ∙ g) in
         let l : c.1 ≡ d.1 = same_value c.1 d.1 k in
         ap (λ (z : Place). (z, c.1)) j ∙ ap (λ (z : Offer). (d.0, z)) l
@@ -171,16 +171,16 @@ one_alone held c d a h g e = by_order (choice_cmp c d) refl
 pub least_path : (held : Candidates) (c d : Place × Offer) → AreCandidates held → IsChosen held c → IsHeld held d → c.0.prefix ≡ d.0.prefix → c.1.path ≤ d.1.path
 least_path held c d a h g e = by_order (nat_cmp d.1.path c.1.path) refl (chosen_wins held c d a h g e)
   where
-    by_order : (o : Ordering) → nat_cmp d.1.path c.1.path ≡ o → is_lt (ordering_then o (peer_cmp d.0.peer c.0.peer)) ≡ false → c.1.path ≤ d.1.path
+    by_order : (o : Ordering) → nat_cmp d.1.path c.1.path ≡ o → is_lt (ordering_then o (via_cmp d.0.via c.0.via)) ≡ false → c.1.path ≤ d.1.path
     by_order Less u w = absurd cc
     by_order Equal u w = let x : d.1.path ≡ c.1.path = ranked d.1.path c.1.path Equal (sym u) in omega (arith, x)
     by_order Greater u w = let x : c.1.path < d.1.path = ranked d.1.path c.1.path Greater (sym u) in omega (arith, x)
 
-pub least_peer : (held : Candidates) (c d : Place × Offer) → AreCandidates held → IsChosen held c → IsHeld held d → c.0.prefix ≡ d.0.prefix → c.1.path ≡ d.1.path → peer_cmp d.0.peer c.0.peer ≡ Less → ⊥
-least_peer held c d a h g e f l =
+pub least_via : (held : Candidates) (c d : Place × Offer) → AreCandidates held → IsChosen held c → IsHeld held d → c.0.prefix ≡ d.0.prefix → c.1.path ≡ d.1.path → via_cmp d.0.via c.0.via ≡ Less → ⊥
+least_via held c d a h g e f l =
     let x : beats d c ≡ false = chosen_wins held c d a h g e in
     let y : nat_cmp d.1.path c.1.path ≡ Equal = ap (nat_cmp d.1.path) f ∙ tied_itself nat_cmp_total d.1.path in
-    let z : beats d c ≡ true = ap (λ o. is_lt (ordering_then o (peer_cmp d.0.peer c.0.peer))) y ∙ ap is_lt l in absurd cc
+    let z : beats d c ≡ true = ap (λ o. is_lt (ordering_then o (via_cmp d.0.via c.0.via))) y ∙ ap is_lt l in absurd cc
 
 -- ---- the routes
 
@@ -226,7 +226,7 @@ unfolding IsStrictlySortedBy
 above e [] s x a l n = tt
 above e (c ∷ cs) s x a l n = (strict (prefix_cmp e.0.prefix c.0.prefix) refl l.0, above e cs s.1 x a.1 l.1 (λ d h. n d (found_later place_key d.0 d.1 c cs s h)))
   where
-    strict : (o : Ordering) → prefix_cmp e.0.prefix c.0.prefix ≡ o → ordering_then o (peer_cmp e.0.peer c.0.peer) ≡ Less → o ≡ Less
+    strict : (o : Ordering) → prefix_cmp e.0.prefix c.0.prefix ≡ o → ordering_then o (via_cmp e.0.via c.0.via) ≡ Less → o ≡ Less
     strict Less u v = refl
     strict Equal u v = absurd (n c (held_first c cs) (equal_are_same e.0.prefix c.0.prefix x.0 a.0.0 u))
     strict Greater u v = cc

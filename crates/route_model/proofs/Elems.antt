@@ -4,7 +4,7 @@ use Rattle.std.specs.Prelude.{map}
 use Rattle.std.specs.List.{AllByRecursion, filter}
 use Rattle.std.specs.Map.{keys_of}
 use Rattle.std.proofs.lemmas.List.Sums.{fold-append}
-use Rattle.route_model.specs.Events.{Peer, IsPeer, Event, Announce, Withdraw, Down, IsEvent, Elem, same_peer}
+use Rattle.route_model.specs.Events.{Event, Announce, Withdraw, Down, IsEvent, Elem, same_peer}
 use Rattle.route_model.specs.Choice.{Place, Offer, Candidates, AreCandidates, IsPlace, IsElem, after_elem, after_elems, cut_of, elems_of, elems_after}
 use Rattle.route_model.proofs.Keyed.{all_filter}
 use Rattle.route_model.proofs.Said.{candidates_after}
@@ -17,16 +17,16 @@ pub all_more : {X : Type 0} (P : X → Type 0) (xs ys : List X) → AllByRecursi
 all_more P [] ys a b = b
 all_more P (x ∷ xs) ys a b = (a.0, all_more P xs ys a.1 b)
 
-cuts : (peer : Peer) (cs : Candidates) → IsPeer peer → AllByRecursion IsPlace (keys_of cs) → AllByRecursion IsElem (map (cut_of peer) cs)
-cuts peer [] p a = tt
-cuts peer (c ∷ cs) p a = ((a.0.0, p), cuts peer cs p a.1)
+cuts : (cs : Candidates) → AllByRecursion IsPlace (keys_of cs) → AllByRecursion IsElem (map cut_of cs)
+cuts [] a = tt
+cuts (c ∷ cs) a = (a.0, cuts cs a.1)
 
 pub elems_of_event : (held : Candidates) (event : Event) → AreCandidates held → IsEvent event → AllByRecursion IsElem (elems_of held event)
-elems_of_event held (Announce peer prefix path hop) a e = ((e.1, e.0), tt)
-elems_of_event held (Withdraw peer prefix) a e = ((e.1, e.0), tt)
+elems_of_event held (Announce via prefix path hop) a e = ((e.1, e.0), tt)
+elems_of_event held (Withdraw via prefix) a e = ((e.1, e.0), tt)
 elems_of_event held (Down peer) a e =
-    let of_peer : Place × Offer → Bool = λ c. same_peer peer c.0.peer in
-    cuts peer (filter of_peer held) e (all_filter of_peer IsPlace held a.0)
+    let of_peer : Place × Offer → Bool = λ c. same_peer peer c.0.via.peer in
+    cuts (filter of_peer held) (all_filter of_peer IsPlace held a.0)
 
 pub elems_of_events : (held : Candidates) (events : List Event) → AreCandidates held → AllByRecursion IsEvent events → AllByRecursion IsElem (elems_after held events)
 unfolding elems_after

@@ -6,7 +6,7 @@ use Rattle.std.specs.List.Sorted.{IsStrictlySortedBy}
 use Rattle.std.specs.Map.{lookup, keys_of}
 use Rattle.address_model.specs.Address.{Prefix, IsPrefix, same_prefix}
 use Rattle.address_model.proofs.Same.{same_prefix_is, same_prefix_itself}
-use Rattle.route_model.specs.Events.{Elem, Put, Cut, elem_prefix, same_peer}
+use Rattle.route_model.specs.Events.{Elem, Put, Cut, elem_prefix, same_via}
 use Rattle.route_model.specs.Choice.{Place, Offer, Candidates, AreCandidates, IsHeld, IsPlace, IsElem, same_place, place_cmp, after_elem, is_about, offered, is_chosen, chosen_in, routes_of, chosen_for}
 use Rattle.route_model.proofs.Keyed.{found_later, found_fails, all_filter}
 use Rattle.route_model.proofs.Places.{place_key}
@@ -65,8 +65,8 @@ apart at p q n i = by_test (same_prefix at.prefix p) refl
     by_test false t = refl
 
 not_about : (at : Place) (elem : Elem) (q : Prefix) → same_prefix (elem_prefix elem) q ≡ false → at.prefix ≡ q → is_about at elem ≡ false
-not_about at (Put peer prefix path hop) q n i = ap (λ b. b && same_peer at.peer peer) (apart at prefix q n i)
-not_about at (Cut peer prefix) q n i = ap (λ b. b && same_peer at.peer peer) (apart at prefix q n i)
+not_about at (Put via prefix path hop) q n i = ap (λ b. b && same_via at.via via) (apart at prefix q n i)
+not_about at (Cut via prefix) q n i = ap (λ b. b && same_via at.via via) (apart at prefix q n i)
 
 -- an elementary event changes the route of its prefix alone
 pub chosen_elsewhere : (held : Candidates) (elem : Elem) (q : Prefix) → AreCandidates held → IsElem elem → same_prefix (elem_prefix elem) q ≡ false → chosen_for (after_elem held elem) q ≡ chosen_for held q

@@ -1,4 +1,4 @@
--- The orders of peers and of places tell apart what their tests do.
+-- The orders of peers, of ways and of places tell apart what their tests do.
 use Rattle.std.proofs.Common.{◌≡◌, ℕ, true, refl, sym, ap, ◌∙◌, arith}
 use Rattle.std.specs.Prelude.{◌==◌}
 use Rattle.std.specs.Cmp.{IsTotalOrder}
@@ -16,7 +16,7 @@ use Rattle.address_model.specs.declared.family.Family.TheVariants.{V4, V6}
 use Rattle.address_model.proofs.BitLaws.{bits_from_value}
 use Rattle.address_model.proofs.Same.{same_address_is, same_address_itself, same_prefix_is, same_prefix_itself}
 use Rattle.address_model.proofs.Ordered.{prefix_total, equal_are_same}
-use Rattle.route_model.specs.Events.{Peer, IsPeer, same_peer, peer_cmp}
+use Rattle.route_model.specs.Events.{Peer, IsPeer, same_peer, peer_cmp, Via, IsVia, same_via, via_cmp}
 use Rattle.route_model.specs.Choice.{Place, IsPlace, same_place, place_cmp}
 use Rattle.route_model.proofs.Keyed.{IsKey}
 
@@ -68,6 +68,30 @@ peer_exact q r hq hr e =
 pub peer_key : IsKey peer_cmp same_peer IsPeer
 peer_key = record { total = peer_total; exact = peer_exact; same = same_peer_is; itself = same_peer_itself }
 
+-- ---- ways
+
+via_from : (v u : Via) → v.peer ≡ u.peer → v.id ≡ u.id → v ≡ u
+via_from v u p i = ap (λ x. let w : Via = record { peer = x; id = v.id } in w) p ∙ ap (λ x. let w : Via = record { peer = u.peer; id = x } in w) i
+
+same_via_is : (v u : Via) → same_via v u ≡ true → v ≡ u
+same_via_is v u e =
+    let h = and_parts (same_peer v.peer u.peer) (v.id == u.id) e in
+    via_from v u (same_peer_is v.peer u.peer h.0) (same_number v.id u.id h.1)
+
+same_via_itself : (v : Via) → same_via v v ≡ true
+same_via_itself v = and_from _ _ (same_peer_itself v.peer) (same_number_itself v.id)
+
+pub via_total : IsTotalOrder via_cmp
+via_total = then_total (on_total (λ (v : Via). v.peer) peer_total) (on_total (λ (v : Via). v.id) nat_cmp_total)
+
+pub via_exact : (v u : Via) → IsVia v → IsVia u → via_cmp v u ≡ Equal → v ≡ u
+via_exact v u hv hu e =
+    let x = both_equal _ _ e in
+    via_from v u (peer_exact v.peer u.peer hv hu x.0) (equal_numbers _ _ x.1)
+
+pub via_key : IsKey via_cmp same_via IsVia
+via_key = record { total = via_total; exact = via_exact; same = same_via_is; itself = same_via_itself }
+
 -- ---- prefixes
 
 pub prefix_key : IsKey prefix_cmp same_prefix IsPrefix
@@ -75,25 +99,25 @@ prefix_key = record { total = prefix_total; exact = equal_are_same; same = same_
 
 -- ---- places
 
-place_from : (p q : Place) → p.prefix ≡ q.prefix → p.peer ≡ q.peer → p ≡ q
-place_from p q a n = ap (λ x. let r : Place = record { prefix = x; peer = p.peer } in r) a ∙ ap (λ x. let r : Place = record { prefix = q.prefix; peer = x } in r) n
+place_from : (p q : Place) → p.prefix ≡ q.prefix → p.via ≡ q.via → p ≡ q
+place_from p q a n = ap (λ x. let r : Place = record { prefix = x; via = p.via } in r) a ∙ ap (λ x. let r : Place = record { prefix = q.prefix; via = x } in r) n
 
 same_place_is : (p q : Place) → same_place p q ≡ true → p ≡ q
 same_place_is p q e =
-    let h = and_parts (same_prefix p.prefix q.prefix) (same_peer p.peer q.peer) e in
-    place_from p q (same_prefix_is p.prefix q.prefix h.0) (same_peer_is p.peer q.peer h.1)
+    let h = and_parts (same_prefix p.prefix q.prefix) (same_via p.via q.via) e in
+    place_from p q (same_prefix_is p.prefix q.prefix h.0) (same_via_is p.via q.via h.1)
 
 same_place_itself : (p : Place) → same_place p p ≡ true
-same_place_itself p = and_from _ _ (same_prefix_itself p.prefix) (same_peer_itself p.peer)
+same_place_itself p = and_from _ _ (same_prefix_itself p.prefix) (same_via_itself p.via)
 
 place_exact : (p q : Place) → IsPlace p → IsPlace q → place_cmp p q ≡ Equal → p ≡ q
 place_exact p q hp hq e =
     let x = both_equal _ _ e in
-    place_from p q (equal_are_same p.prefix q.prefix hp.0 hq.0 x.0) (peer_exact p.peer q.peer hp.1 hq.1 x.1)
+    place_from p q (equal_are_same p.prefix q.prefix hp.0 hq.0 x.0) (via_exact p.via q.via hp.1 hq.1 x.1)
 
 pub place_key : IsKey place_cmp same_place IsPlace
 place_key = record {
-  total = then_total (on_total (λ (p : Place). p.prefix) prefix_total) (on_total (λ (p : Place). p.peer) peer_total);
+  total = then_total (on_total (λ (p : Place). p.prefix) prefix_total) (on_total (λ (p : Place). p.via) via_total);
   exact = place_exact;
   same = same_place_is;
   itself = same_place_itself;

@@ -10,21 +10,21 @@ use Rattle.route_model.proofs.Keyed.{all_put, sorted_put, all_cut, sorted_cut, l
 use Rattle.route_model.proofs.Places.{place_key}
 
 pub candidates_after : (held : Candidates) (elem : Elem) → AreCandidates held → IsElem elem → AreCandidates (after_elem held elem)
-candidates_after held (Put peer prefix path hop) a h =
-    let at : Place = record { prefix = prefix; peer = peer } in
+candidates_after held (Put via prefix path hop) a h =
+    let at : Place = record { prefix = prefix; via = via } in
     let offer : Offer = record { path = path; hop = hop } in
     (all_put place_cmp IsPlace held at offer a.0 h, sorted_put place_key held at offer a.1)
-candidates_after held (Cut peer prefix) a h =
-    let at : Place = record { prefix = prefix; peer = peer } in
+candidates_after held (Cut via prefix) a h =
+    let at : Place = record { prefix = prefix; via = via } in
     (all_cut (same_place at) IsPlace held a.0, sorted_cut place_cmp (same_place at) held a.1)
 
 -- what is offered at a place after one elementary event
 pub offer_after : (at : Place) (held : Candidates) (elem : Elem) → AreCandidates held → IsElem elem → lookup (same_place at) (after_elem held elem) ≡ (if is_about at elem then offered elem else lookup (same_place at) held)
-offer_after at held (Put peer prefix path hop) a h =
-    let put : Place = record { prefix = prefix; peer = peer } in
+offer_after at held (Put via prefix path hop) a h =
+    let put : Place = record { prefix = prefix; via = via } in
     let offer : Offer = record { path = path; hop = hop } in
     lookup-put place_key at held put offer a.0 h
-offer_after at held (Cut peer prefix) a h = lookup-cut place_key at (record { prefix = prefix; peer = peer }) held a.1
+offer_after at held (Cut via prefix) a h = lookup-cut place_key at (record { prefix = prefix; via = via }) held a.1
 
 said_from : (at : Place) (held : Candidates) (elems : List Elem) → AreCandidates held → AllByRecursion IsElem elems → lookup (same_place at) (after_elems held elems) ≡ fold (λ offer elem. if is_about at elem then offered elem else offer) (lookup (same_place at) held) elems
 said_from at held [] a h = refl

@@ -6,7 +6,7 @@
 -- * b) the lowest ORIGIN, c) the lowest MULTI_EXIT_DISC: not taken; each peer sends them as its own policy set them, and c compares routes of one neighboring AS alone
 -- * d) EBGP before IBGP, e) the lowest interior cost: not taken; a collector's records don't carry them
 -- * f) the lowest BGP Identifier: not taken; a dump's peer table has it, and the messages of a session don't
--- * g) the lowest peer address: taken, IPv4 before IPv6, and of peers of one address the lowest AS
+-- * g) the lowest peer address: taken, IPv4 before IPv6, and of peers of one address the lowest AS; of one peer's routes the lowest path identifier (RFC 7911, 3, leaves it open)
 use Rattle.std.specs.Prelude.{◌≡◌, ℕ, List, [], ◌∷◌, ◌++◌, Bool, not, ◌&&◌, map, filter, fold, Option, Some, None, if◌then◌else◌}
 use Rattle.std.specs.List.{list_any, AllByRecursion}
 use Rattle.std.specs.List.Sorted.{IsStrictlySortedBy}
@@ -16,23 +16,23 @@ use Rattle.std.specs.Ordering.{nat_cmp, ordering_then, is_lt}
 use Rattle.std.specs.declared.cmp.Ordering.{Ordering}
 use Rattle.address_model.specs.Address.{Address, Prefix, IsPrefix, same_prefix}
 use Rattle.address_model.specs.Order.{prefix_cmp}
-use Rattle.route_model.specs.Events.{Peer, IsPeer, same_peer, peer_cmp, Event, Announce, Withdraw, Down, Elem, Put, Cut}
+use Rattle.route_model.specs.Events.{same_peer, Via, IsVia, same_via, via_cmp, Event, Announce, Withdraw, Down, Elem, Put, Cut}
 
--- where a candidate stands: its prefix and its peer
+-- where a candidate stands: its prefix and the way by which it comes
 pub record Place : Type 0 where
   pub prefix : Prefix
-  pub peer : Peer
+  pub via : Via
 
 -- a place that there is: its prefix is one, and its peer has an address
 abbrev pub IsPlace : Place → Type 0
-IsPlace p = IsPrefix p.prefix × IsPeer p.peer
+IsPlace p = IsPrefix p.prefix × IsVia p.via
 
 abbrev pub same_place : Place → Place → Bool
-same_place p q = same_prefix p.prefix q.prefix && same_peer p.peer q.peer
+same_place p q = same_prefix p.prefix q.prefix && same_via p.via q.via
 
--- by prefix, then by peer
+-- by prefix, then by peer and path identifier
 abbrev pub place_cmp : Place → Place → Ordering
-place_cmp p q = ordering_then (prefix_cmp p.prefix q.prefix) (peer_cmp p.peer q.peer)
+place_cmp p q = ordering_then (prefix_cmp p.prefix q.prefix) (via_cmp p.via q.via)
 
 -- what a peer's route for a prefix offers: the length of its path and its next hop
 pub record Offer : Type 0 where
@@ -51,10 +51,10 @@ AreCandidates held = AllByRecursion IsPlace (keys_of held) × IsStrictlySortedBy
 abbrev pub IsHeld : Candidates → Place × Offer → Type 0
 IsHeld held c = lookup (same_place c.0) held ≡ Some c.1
 
--- A Put is the candidate of its prefix and peer from now on; after a Cut there is none.
+-- A Put is the candidate of its prefix and way from now on; after a Cut there is none.
 abbrev pub after_elem : Candidates → Elem → Candidates
-after_elem held (Put peer prefix path hop) = insert_entry place_cmp held (record { prefix = prefix; peer = peer }) (record { path = path; hop = hop })
-after_elem held (Cut peer prefix) = remove_entry (same_place (record { prefix = prefix; peer = peer })) held
+after_elem held (Put via prefix path hop) = insert_entry place_cmp held (record { prefix = prefix; via = via }) (record { path = path; hop = hop })
+after_elem held (Cut via prefix) = remove_entry (same_place (record { prefix = prefix; via = via })) held
 
 -- the candidates after elementary events
 abbrev pub after_elems : Candidates → List Elem → Candidates
@@ -62,14 +62,14 @@ after_elems held elems = fold after_elem held elems
 
 -- ---- events as elementary events
 
-abbrev pub cut_of : Peer → Place × Offer → Elem
-cut_of peer c = Cut peer c.0.prefix
+abbrev pub cut_of : Place × Offer → Elem
+cut_of c = Cut c.0.via c.0.prefix
 
--- An Announce is one Put, a Withdraw one Cut, and a Down one Cut for each prefix of which the peer has a candidate, in the order of prefixes.
+-- An Announce is one Put, a Withdraw one Cut, and a Down one Cut for each candidate of the peer, in the order of prefixes, then of path identifiers.
 abbrev pub elems_of : Candidates → Event → List Elem
-elems_of held (Announce peer prefix path hop) = Put peer prefix path hop ∷ []
-elems_of held (Withdraw peer prefix) = Cut peer prefix ∷ []
-elems_of held (Down peer) = map (cut_of peer) (filter (λ c. same_peer peer c.0.peer) held)
+elems_of held (Announce via prefix path hop) = Put via prefix path hop ∷ []
+elems_of held (Withdraw via prefix) = Cut via prefix ∷ []
+elems_of held (Down peer) = map cut_of (filter (λ c. same_peer peer c.0.via.peer) held)
 
 -- the elementary events of events, each after those before it
 unfoldable pub elems_after : Candidates → List Event → List Elem
@@ -78,11 +78,11 @@ elems_after held (event ∷ events) = elems_of held event ++ elems_after (after_
 
 -- ---- choice
 
--- by preference: by the length of the path, then by the peer
+-- by preference: by the length of the path, then by the peer and the path identifier
 abbrev pub choice_cmp : Place × Offer → Place × Offer → Ordering
-choice_cmp c d = ordering_then (nat_cmp c.1.path d.1.path) (peer_cmp c.0.peer d.0.peer)
+choice_cmp c d = ordering_then (nat_cmp c.1.path d.1.path) (via_cmp c.0.via d.0.via)
 
--- whether the first of two candidates is preferred: a shorter path, or a lesser peer where the paths are equally long
+-- whether the first of two candidates is preferred: a shorter path, or where the paths are equally long a lesser peer, and of one peer the lesser path identifier
 abbrev pub beats : Place × Offer → Place × Offer → Bool
 beats c d = is_lt (choice_cmp c d)
 
@@ -110,18 +110,18 @@ chosen_for held p = lookup (same_prefix p) (routes_of held)
 
 -- the elementary event is about a place that there is
 abbrev pub IsElem : Elem → Type 0
-IsElem (Put peer prefix path hop) = IsPlace (record { prefix = prefix; peer = peer })
-IsElem (Cut peer prefix) = IsPlace (record { prefix = prefix; peer = peer })
+IsElem (Put via prefix path hop) = IsPlace (record { prefix = prefix; via = via })
+IsElem (Cut via prefix) = IsPlace (record { prefix = prefix; via = via })
 
 -- whether the elementary event is about this place
 abbrev pub is_about : Place → Elem → Bool
-is_about at (Put peer prefix path hop) = same_place at (record { prefix = prefix; peer = peer })
-is_about at (Cut peer prefix) = same_place at (record { prefix = prefix; peer = peer })
+is_about at (Put via prefix path hop) = same_place at (record { prefix = prefix; via = via })
+is_about at (Cut via prefix) = same_place at (record { prefix = prefix; via = via })
 
 -- what it offers there
 abbrev pub offered : Elem → Option Offer
-offered (Put peer prefix path hop) = Some (record { path = path; hop = hop })
-offered (Cut peer prefix) = None
+offered (Put via prefix path hop) = Some (record { path = path; hop = hop })
+offered (Cut via prefix) = None
 
 -- what the last of the elementary events about a place offers
 abbrev pub last_offer : Place → List Elem → Option Offer

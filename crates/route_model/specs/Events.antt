@@ -21,24 +21,39 @@ same_peer q r = same_address q.addr r.addr && q.asn == r.asn
 abbrev pub peer_cmp : Peer → Peer → Ordering
 peer_cmp q r = ordering_then (family_cmp q.addr.family r.addr.family) (ordering_then (nat_cmp (value_of q.addr.bits) (value_of r.addr.bits)) (nat_cmp q.asn r.asn))
 
--- What a peer says: a prefix with the length of its path and its next hop, that a prefix is gone, or that the session is lost and all of the peer's prefixes with it.
+-- By which way a route comes: its peer, and the path identifier that tells the peer's routes of one prefix apart (RFC 7911, 3), which is 0 where the peer sends none.
+pub record Via : Type 0 where
+  pub peer : Peer
+  pub id : ℕ
+
+abbrev pub IsVia : Via → Type 0
+IsVia v = IsPeer v.peer
+
+abbrev pub same_via : Via → Via → Bool
+same_via v u = same_peer v.peer u.peer && v.id == u.id
+
+-- by peer, then by path identifier
+abbrev pub via_cmp : Via → Via → Ordering
+via_cmp v u = ordering_then (peer_cmp v.peer u.peer) (nat_cmp v.id u.id)
+
+-- What a peer says: a route of a prefix, with the length of its path and its next hop; that a route is gone; or that the session is lost and all of the peer's routes with it.
 pub data Event : Type 0 where
-  Announce : Peer → Prefix → ℕ → Address → Event
-  Withdraw : Peer → Prefix → Event
+  Announce : Via → Prefix → ℕ → Address → Event
+  Withdraw : Via → Prefix → Event
   Down : Peer → Event
 
 -- the event is of a peer, a prefix and a next hop that there are
 abbrev pub IsEvent : Event → Type 0
-IsEvent (Announce peer prefix path hop) = IsPeer peer × IsPrefix prefix × IsAddress hop
-IsEvent (Withdraw peer prefix) = IsPeer peer × IsPrefix prefix
+IsEvent (Announce via prefix path hop) = IsVia via × IsPrefix prefix × IsAddress hop
+IsEvent (Withdraw via prefix) = IsVia via × IsPrefix prefix
 IsEvent (Down peer) = IsPeer peer
 
--- what is said of one prefix and one peer
+-- what is said of one prefix and one way
 pub data Elem : Type 0 where
-  Put : Peer → Prefix → ℕ → Address → Elem
-  Cut : Peer → Prefix → Elem
+  Put : Via → Prefix → ℕ → Address → Elem
+  Cut : Via → Prefix → Elem
 
 -- the prefix that an elementary event is about
 abbrev pub elem_prefix : Elem → Prefix
-elem_prefix (Put peer prefix path hop) = prefix
-elem_prefix (Cut peer prefix) = prefix
+elem_prefix (Put via prefix path hop) = prefix
+elem_prefix (Cut via prefix) = prefix

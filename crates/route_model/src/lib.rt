@@ -11,7 +11,7 @@ ghost use Rattle.std.specs.Map.{lookup, keys_of};
 ghost use Rattle.std.specs.declared.cmp.Ordering.TheVariants.{Less};
 ghost use Rattle.address_model.specs.Address.{Prefix, same_prefix};
 ghost use Rattle.address_model.specs.Order.{prefix_cmp};
-ghost use Rattle.route_model.specs.Events.{Event, IsEvent, Elem, peer_cmp, elem_prefix};
+ghost use Rattle.route_model.specs.Events.{Event, IsEvent, Elem, via_cmp, elem_prefix};
 ghost use Rattle.route_model.specs.Choice.{Place, Offer, Candidates, AreCandidates, IsHeld, IsChosen, IsElem, same_place, after_elem, after_elems, elems_of, elems_after, last_offer, routes_of, chosen_for};
 
 /// The candidate at a place is what the last elementary event about it offers.
@@ -28,7 +28,7 @@ pub fn order_law()
 {}
 
 /// Where a prefix has candidates, exactly one of them is chosen: the route of the shortest path, and among those that of the
-/// least peer.
+/// least way: of the least peer, and of its routes that of the least path identifier.
 pub fn choice_law()
     ensures one { (held : Candidates) (c : Place × Offer) → AreCandidates held → IsHeld held c
         → (d : Place × Offer) × IsChosen held d × (d.0.prefix ≡ c.0.prefix) }
@@ -38,9 +38,9 @@ pub fn choice_law()
         → IsChosen held c → IsHeld held c }
     ensures least_path { (held : Candidates) (c d : Place × Offer) → AreCandidates held
         → IsChosen held c → IsHeld held d → c.0.prefix ≡ d.0.prefix → c.1.path ≤ d.1.path }
-    ensures least_peer { (held : Candidates) (c d : Place × Offer) → AreCandidates held
+    ensures least_via { (held : Candidates) (c d : Place × Offer) → AreCandidates held
         → IsChosen held c → IsHeld held d → c.0.prefix ≡ d.0.prefix → c.1.path ≡ d.1.path
-        → peer_cmp d.0.peer c.0.peer ≡ Less → ⊥ }
+        → via_cmp d.0.via c.0.via ≡ Less → ⊥ }
 {}
 
 /// The routes stand in strict order of their prefixes, and hold exactly the prefixes with a candidate, each with the next

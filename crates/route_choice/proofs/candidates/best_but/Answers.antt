@@ -1,5 +1,5 @@
 use Rattle.std.proofs.Common.{ap, ◌∙◌, refl, Some}
-use Rattle.fib_prefix.specs.declared.event.Peer.{Peer}
+use Rattle.fib_prefix.specs.declared.event.Via.{Via}
 use Rattle.route_choice.specs.declared.keys.Candidate.{Candidate}
 use Rattle.route_choice.specs.Walks.{is_out}
 use Rattle.route_choice.proofs.Finds.{stays_in, left_out, walk_start, walk_past, walk_found, walk_out, walk_none, walk_end}
@@ -16,20 +16,20 @@ pub returns-then-ne-clause-first : goal.returns-then-ne-clause-first
 returns-then-ne-clause-first c = walk_past c.args.seats.now.entries c.args.but c.args.prefix.now c.args.ranks.now.keys c.loop-rank.rank-iterator c.in-Some.rank.now _ c.loop-rank.invariant.walk c.in-Some.ensures.steps c.prefix.result c.prefix.ensures c.ne.result c.ne.ensures c.if-ne.true
 
 pub returns-in-Some-offer_ranked-clause-first : goal.returns-in-Some-offer_ranked-clause-first
-returns-in-Some-offer_ranked-clause-first c = ap (λ (q : Peer). let r : Candidate = record { peer = q; offer = c.in-Some-offer_ranked.offer } in Some r) c.peer-in-Some-offer_ranked.ensures ∙ walk_found c.args.seats.now.entries c.args.but c.args.prefix.now c.args.ranks.now.keys c.loop-rank.rank-iterator c.in-Some.rank.now _ c.loop-rank.invariant.walk c.in-Some.ensures.steps c.prefix.result c.prefix.ensures c.ne.result c.ne.ensures c.if-ne.false (is_out c.args.but c.in-Some.rank.now.peer) refl (stays_in c.args.but c.peer.result c.in-Some.rank.now.peer c.ne-in-loop-rank.result c.ne-in-loop-rank.ensures c.peer.ensures c.if-ne-2.true) c.offer_ranked.result c.offer_ranked.ensures c.in-Some-offer_ranked.offer c.in-Some-offer_ranked.is
+returns-in-Some-offer_ranked-clause-first c = ap (λ (q : Via). let r : Candidate = record { via = q; offer = c.in-Some-offer_ranked.offer } in Some r) c.via-in-Some-offer_ranked.ensures ∙ walk_found c.args.seats.now.entries c.args.but c.args.prefix.now c.args.ranks.now.keys c.loop-rank.rank-iterator c.in-Some.rank.now _ c.loop-rank.invariant.walk c.in-Some.ensures.steps c.prefix.result c.prefix.ensures c.ne.result c.ne.ensures c.if-ne.false (is_out c.args.but c.in-Some.rank.now.via) refl (stays_in c.args.but c.via.result c.in-Some.rank.now.via c.ne-in-loop-rank.result c.ne-in-loop-rank.ensures c.via.ensures c.if-ne-2.true) c.offer_ranked.result c.offer_ranked.ensures c.in-Some-offer_ranked.offer c.in-Some-offer_ranked.is
 
 pub loop-rank-preserved-in_default : goal.loop-rank-preserved-in_default
 loop-rank-preserved-in_default c = record {
   next = tt;
   finite = tt;
-  walk = walk_none c.args.seats.now.entries c.args.but c.args.prefix.now c.args.ranks.now.keys c.loop-rank.rank-iterator c.in-Some.rank.now _ c.loop-rank.invariant.walk c.in-Some.ensures.steps c.prefix.result c.prefix.ensures c.ne.result c.ne.ensures c.if-ne.false (is_out c.args.but c.in-Some.rank.now.peer) refl (stays_in c.args.but c.peer.result c.in-Some.rank.now.peer c.ne-in-loop-rank.result c.ne-in-loop-rank.ensures c.peer.ensures c.if-ne-2.true) c.offer_ranked.result c.offer_ranked.ensures c.in_default.is;
+  walk = walk_none c.args.seats.now.entries c.args.but c.args.prefix.now c.args.ranks.now.keys c.loop-rank.rank-iterator c.in-Some.rank.now _ c.loop-rank.invariant.walk c.in-Some.ensures.steps c.prefix.result c.prefix.ensures c.ne.result c.ne.ensures c.if-ne.false (is_out c.args.but c.in-Some.rank.now.via) refl (stays_in c.args.but c.via.result c.in-Some.rank.now.via c.ne-in-loop-rank.result c.ne-in-loop-rank.ensures c.via.ensures c.if-ne-2.true) c.offer_ranked.result c.offer_ranked.ensures c.in_default.is;
 }
 
 pub loop-rank-preserved : goal.loop-rank-preserved
 loop-rank-preserved c = record {
   next = tt;
   finite = tt;
-  walk = walk_out c.args.seats.now.entries c.args.but c.args.prefix.now c.args.ranks.now.keys c.loop-rank.rank-iterator c.in-Some.rank.now _ c.loop-rank.invariant.walk c.in-Some.ensures.steps c.prefix.result c.prefix.ensures c.ne.result c.ne.ensures c.if-ne.false (is_out c.args.but c.in-Some.rank.now.peer) refl (left_out c.args.but c.peer.result c.in-Some.rank.now.peer c.ne-in-loop-rank.result c.ne-in-loop-rank.ensures c.peer.ensures c.if-ne-2.false);
+  walk = walk_out c.args.seats.now.entries c.args.but c.args.prefix.now c.args.ranks.now.keys c.loop-rank.rank-iterator c.in-Some.rank.now _ c.loop-rank.invariant.walk c.in-Some.ensures.steps c.prefix.result c.prefix.ensures c.ne.result c.ne.ensures c.if-ne.false (is_out c.args.but c.in-Some.rank.now.via) refl (left_out c.args.but c.via.result c.in-Some.rank.now.via c.ne-in-loop-rank.result c.ne-in-loop-rank.ensures c.via.ensures c.if-ne-2.false);
 }
 
 pub returns-clause-first : goal.returns-clause-first

@@ -8,7 +8,7 @@ use Rattle.route_choice.proofs.candidates.Candidates.choice_of.Goals as goal
 
 pub returns : goal.returns
 returns c =
-    let r = choice_by c.self.inside.seats.entries c.self.inside.ranks.keys c.args.elem.now c.seat_of-seat.result c.peer-peer.result c.prefix.result c.prefix-2.result c.best_but-others.result c.offer_at.result c.offer_of.result (record { prefix = c.prefix-2.result; before = c.better_hop.result; after = c.better_hop-2.result }) c.self.invariant.indexed c.best_but-others.ensures.ordered c.seat_of-seat.ensures c.peer-peer.ensures c.prefix.ensures c.prefix-2.ensures c.best_but-others.ensures.first refl c.offer_at.ensures c.better_hop.ensures c.offer_of.ensures c.better_hop-2.ensures in
+    let r = choice_by c.self.inside.seats.entries c.self.inside.ranks.keys c.args.elem.now c.seat_of-seat.result c.via-via.result c.prefix.result c.prefix-2.result c.best_but-others.result c.offer_at.result c.offer_of.result (record { prefix = c.prefix-2.result; before = c.better_hop.result; after = c.better_hop-2.result }) c.self.invariant.indexed c.best_but-others.ensures.ordered c.seat_of-seat.ensures c.via-via.ensures c.prefix.ensures c.prefix-2.ensures c.best_but-others.ensures.first refl c.offer_at.ensures c.better_hop.ensures c.offer_of.ensures c.better_hop-2.ensures in
     let e = elem_as c.args.elem.now in
     record {
       prefix = r.prefix;

@@ -11,5 +11,5 @@ use Rattle.route_choice.proofs.candidates.Candidates.elementary.Goals as goal
 
 pub returns-in-Down : goal.returns-in-Down
 returns-in-Down c =
-    IfOk-weaker c.cuts_of.result (λ cuts. cuts.items ≡ cuts_in c.in-Down.peer (seats_of c.in-Down.peer c.self.inside.seats.entries)) (λ elems. map elem_as elems.items ≡ elems_of c.args.self.now.candidates (event_as c.args.event.now))
+    IfOk-weaker c.cuts_of.result (λ cuts. cuts.items ≡ cuts_in (seats_of c.in-Down.peer c.self.inside.seats.entries)) (λ elems. map elem_as elems.items ≡ elems_of c.args.self.now.candidates (event_as c.args.event.now))
     (λ cuts e. ap (map elem_as) e ∙ (down_is c.in-Down.peer c.self.inside.seats.entries c.cuts_of.ensures.ordered ∙ (ap (λ (h : Held). elems_of h.candidates (Down (peer_as c.in-Down.peer))) c.self.view_is ∙ ap (λ event. elems_of c.args.self.now.candidates (event_as event)) (sym c.in-Down.is)))) c.cuts_of.ensures.cuts
