@@ -7,7 +7,9 @@ use Rattle.address_model.specs.Bits.{number}
 use Rattle.address_model.specs.Width.{width}
 use Rattle.octet_fields.specs.Field.{◌>>=◌, refuse, octet_at, octets_at, number_at, one_more, steps, until_end}
 use Rattle.wire_model.specs.declared.place.Place.{Place}
-use Rattle.wire_model.specs.Wire.{octets_for, prefix_at}
+use Rattle.wire_model.specs.declared.rule.Rule.{Rule}
+use Rattle.wire_model.specs.declared.rule.Rule.TheVariants.{PrefixLength, AttributeCut, AttributeValue, SecondMp}
+use Rattle.wire_model.specs.Wire.{octets_for, prefix_at, id_size, nlri_at}
 use Rattle.wire_model.specs.Path.{segment_at}
 use Rattle.wire_model.specs.Attribute.{Found, is_second, with_value, attribute_at}
 use Rattle.wire_model.specs.Record.{next_record}
@@ -52,33 +54,39 @@ one_leaves item h front octets = then_meets (item octets) _ (λ x. length x.1 < 
 
 -- ---- each step leaves fewer octets
 
-prefix_leaves : (cut : ℕ) (family : Family) (octets : List ℕ) → Leaves (length octets) (prefix_at cut family octets)
+prefix_leaves : (cut : Rule) (family : Family) (octets : List ℕ) → Leaves (length octets) (prefix_at cut family octets)
 unfolding prefix_at
 prefix_leaves cut family octets =
     then_meets (octet_at cut octets) _ (λ x. length x.1 < length octets) _ (octet_leaves cut octets) (λ len less.
-    then_any (refuse 6 (nat_lt (width family) len.0)) _ _ (λ short.
+    then_any (refuse PrefixLength (nat_lt (width family) len.0)) _ _ (λ short.
     then_meets (octets_at cut (octets_for len.0) len.1) _ (λ x. length x.1 ≤ length len.1) _ (octets_leave cut (octets_for len.0) len.1) (λ front le. omega (arith, less, le))))
+
+nlri_leaves : (cut : Rule) (ids : Bool) (family : Family) (octets : List ℕ) → Leaves (length octets) (nlri_at cut ids family octets)
+unfolding nlri_at
+nlri_leaves cut ids family octets =
+    then_meets (number_at cut (id_size ids) octets) _ (λ x. length x.1 ≤ length octets) _ (number_leaves cut (id_size ids) octets) (λ id le.
+    then_meets (prefix_at cut family id.1) _ (λ x. length x.1 < length id.1) _ (prefix_leaves cut family id.1) (λ prefix less. omega (arith, le, less)))
 
 segment_leaves : (size so_far : ℕ) (octets : List ℕ) → Leaves (length octets) (segment_at size so_far octets)
 unfolding segment_at
 segment_leaves size so_far octets =
-    then_meets (octet_at 10 octets) _ (λ x. length x.1 < length octets) _ (octet_leaves 10 octets) (λ kind less.
-    then_any (refuse 10 (nat_lt kind.0 1 || nat_lt 4 kind.0)) _ _ (λ known.
-    then_meets (octet_at 10 kind.1) _ (λ x. length x.1 < length kind.1) _ (octet_leaves 10 kind.1) (λ count fewer.
-    then_meets (octets_at 10 (count.0 * size) count.1) _ (λ x. length x.1 ≤ length count.1) _ (octets_leave 10 (count.0 * size) count.1) (λ numbers le. omega (arith, less, fewer, le)))))
+    then_meets (octet_at AttributeValue octets) _ (λ x. length x.1 < length octets) _ (octet_leaves AttributeValue octets) (λ kind less.
+    then_any (refuse AttributeValue (nat_lt kind.0 1 || nat_lt 4 kind.0)) _ _ (λ known.
+    then_meets (octet_at AttributeValue kind.1) _ (λ x. length x.1 < length kind.1) _ (octet_leaves AttributeValue kind.1) (λ count fewer.
+    then_meets (octets_at AttributeValue (count.0 * size) count.1) _ (λ x. length x.1 ≤ length count.1) _ (octets_leave AttributeValue (count.0 * size) count.1) (λ numbers le. omega (arith, less, fewer, le)))))
 
 attribute_leaves : (place : Place) (found : Found) (octets : List ℕ) → Leaves (length octets) (attribute_at place found octets)
 unfolding attribute_at
 attribute_leaves place found octets =
-    then_meets (octet_at 9 octets) _ (λ x. length x.1 < length octets) _ (octet_leaves 9 octets) (λ flags less.
-    then_meets (octet_at 9 flags.1) _ (λ x. length x.1 < length flags.1) _ (octet_leaves 9 flags.1) (λ kind fewer.
-    then_any (refuse 11 (is_second found kind.0)) _ _ (λ first.
-    then_meets (number_at 9 (if bit_and flags.0 16 == 0 then 1 else 2) kind.1) _ (λ x. length x.1 ≤ length kind.1) _ (number_leaves 9 (if bit_and flags.0 16 == 0 then 1 else 2) kind.1) (λ len le.
-    then_meets (octets_at 9 len.0 len.1) _ (λ x. length x.1 ≤ length len.1) _ (octets_leave 9 len.0 len.1) (λ value le2.
+    then_meets (octet_at AttributeCut octets) _ (λ x. length x.1 < length octets) _ (octet_leaves AttributeCut octets) (λ flags less.
+    then_meets (octet_at AttributeCut flags.1) _ (λ x. length x.1 < length flags.1) _ (octet_leaves AttributeCut flags.1) (λ kind fewer.
+    then_any (refuse SecondMp (is_second found kind.0)) _ _ (λ first.
+    then_meets (number_at AttributeCut (if bit_and flags.0 16 == 0 then 1 else 2) kind.1) _ (λ x. length x.1 ≤ length kind.1) _ (number_leaves AttributeCut (if bit_and flags.0 16 == 0 then 1 else 2) kind.1) (λ len le.
+    then_meets (octets_at AttributeCut len.0 len.1) _ (λ x. length x.1 ≤ length len.1) _ (octets_leave AttributeCut len.0 len.1) (λ value le2.
     then_any (with_value place found kind.0 value.0) _ _ (λ next. omega (arith, less, fewer, le, le2)))))))
 
-pub prefixes_end : (cut : ℕ) (family : Family) → ReadsToEnd (one_more (prefix_at cut family))
-prefixes_end cut family = to_end (one_more (prefix_at cut family)) (leaves (one_more (prefix_at cut family)) (one_leaves (prefix_at cut family) (prefix_leaves cut family)))
+pub nlri_ends : (cut : Rule) (ids : Bool) (family : Family) → ReadsToEnd (one_more (nlri_at cut ids family))
+nlri_ends cut ids family = to_end (one_more (nlri_at cut ids family)) (leaves (one_more (nlri_at cut ids family)) (one_leaves (nlri_at cut ids family) (nlri_leaves cut ids family)))
 
 pub path_ends : (size : ℕ) → ReadsToEnd (segment_at size)
 path_ends size = to_end (segment_at size) (leaves (segment_at size) (segment_leaves size))

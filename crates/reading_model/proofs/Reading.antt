@@ -1,28 +1,31 @@
 -- An input that comes in pieces, with all that it says.
 use Rattle.std.proofs.Common.{◌≡◌, ℕ, ◌<◌, List, [], ◌++◌, length, Option, Result, Ok, Err, refl, sym, ap, ◌∙◌, append_assoc, append-nil, length-append, arith}
-use Rattle.route_model.specs.Events.{Peer, Event}
+use Rattle.route_model.specs.Events.{Peer}
 use Rattle.octet_fields.specs.Field.{◌>>=◌, steps, until_end}
+use Rattle.wire_model.specs.declared.rule.Rule.{Rule}
+use Rattle.wire_model.specs.declared.rule.Rule.TheVariants.{TooLong}
 use Rattle.wire_model.specs.Record.{Record, record_at}
+use Rattle.reading_model.specs.Update.{Said}
 use Rattle.reading_model.specs.Input.{Progress, or_stop, record_in, counted, read_record, input}
 use Rattle.reading_model.specs.Reading.{ReadingStarts, ReadingFeeds, ReadingTakes, ReadingBreaks, ReadingTooLong, ReadingStays, ReadingEndsCut, ReadingEnds}
 use Rattle.wire_model.proofs.More.{Shortens, bind_ok, record_more, record_over, until_end_next, until_end_fault}
 
-went_on : {A : Type 0} (read : Progress) (r : Result A ℕ) (x : A) → or_stop read r ≡ Ok x → r ≡ Ok x
+went_on : {A : Type 0} (read : Progress) (r : Result A Rule) (x : A) → or_stop read r ≡ Ok x → r ≡ Ok x
 went_on read (Ok y) x e = let same : y ≡ x = cc in ap (λ (z : _). Ok z) same
 went_on read (Err f) x e = absurd cc
 
 same_value : {A F : Type 0} (r : Result A F) (x y : A) → r ≡ Ok x → r ≡ Ok y → x ≡ y
 same_value r x y e h = let both : r ≡ Ok x = e in cc
 
-takes : (read : Progress) (octets after : List ℕ) (r : Record) (told : Option (List Peer) × Option (List Event)) → record_at octets ≡ Ok (r, after) → record_in read.peers r ≡ Ok told → read_record read octets ≡ Ok (counted read told, after)
+takes : (read : Progress) (octets after : List ℕ) (r : Record) (told : Option (List Peer) × Option Said) → record_at octets ≡ Ok (r, after) → record_in read.peers r ≡ Ok told → read_record read octets ≡ Ok (counted read told, after)
 unfolding read_record
 takes read octets after r told e h = rw (e, h) refl
 
-breaks : (read : Progress) (octets after : List ℕ) (r : Record) (rule : ℕ) → record_at octets ≡ Ok (r, after) → record_in read.peers r ≡ Err rule → read_record read octets ≡ Err (record { read = read; rule = rule })
+breaks : (read : Progress) (octets after : List ℕ) (r : Record) (rule : Rule) → record_at octets ≡ Ok (r, after) → record_in read.peers r ≡ Err rule → read_record read octets ≡ Err (record { read = read; rule = rule })
 unfolding read_record
 breaks read octets after r rule e h = rw (e, h) refl
 
-no_record : (read : Progress) (octets : List ℕ) (rule : ℕ) → record_at octets ≡ Err rule → read_record read octets ≡ Err (record { read = read; rule = rule })
+no_record : (read : Progress) (octets : List ℕ) (rule : Rule) → record_at octets ≡ Err rule → read_record read octets ≡ Err (record { read = read; rule = rule })
 unfolding read_record
 no_record read octets rule e = rw e refl
 
@@ -66,7 +69,7 @@ pub reading_too_long : ReadingTooLong
 reading_too_long fed left read t over = record {
   whatever = λ more.
       let long = record_over left more over in
-      t.whatever more ∙ until_end_fault read_record read (left ++ more) (record { read = read; rule = 3 }) (omega (arith, long.1, length-append left more)) (no_record read (left ++ more) 3 long.0);
+      t.whatever more ∙ until_end_fault read_record read (left ++ more) (record { read = read; rule = TooLong }) (omega (arith, long.1, length-append left more)) (no_record read (left ++ more) TooLong long.0);
 }
 
 pub reading_stays : ReadingStays

@@ -1,6 +1,6 @@
 -- What is read is well formed: addresses and prefixes have no more bits than their families.
 use Rattle.std.proofs.Common.{◌≡◌, ℕ, zero, suc, ◌*◌, ◌≤◌, Bool, true, false, List, [], ◌∷◌, ◌++◌, length, take, drop, Option, Some, None, Result, Ok, Err, refl, sym, ap, subst, ◌∙◌, arith, append_assoc, append-nil, length-append}
-use Rattle.std.specs.Prelude.{nat_lt, slice_get, not, ◌==◌, if◌then◌else◌, IfOk, IfSome, MatchResult}
+use Rattle.std.specs.Prelude.{nat_lt, slice_get, unwrap_or, not, ◌==◌, ◌||◌, if◌then◌else◌, IfOk, IfSome, MatchResult}
 use Rattle.std.specs.List.{AllByRecursion}
 use Rattle.std.proofs.lemmas.Bool.{ltb-false, eqb-true}
 use Rattle.std.proofs.lemmas.List.{length-take-le}
@@ -10,19 +10,21 @@ use Rattle.address_model.specs.Address.{Address, Prefix, IsAddress, IsPrefix}
 use Rattle.address_model.specs.Bits.{bits_of, octet_bits}
 use Rattle.address_model.specs.Width.{width}
 use Rattle.address_model.proofs.BitLaws.{length-bits_of}
-use Rattle.route_model.specs.Events.{Peer, IsPeer, Event, Down, IsEvent}
+use Rattle.route_model.specs.Events.{Peer, IsPeer, Via, IsVia, Event, Down, IsEvent}
 use Rattle.route_model.proofs.Elems.{all_more}
 use Rattle.octet_fields.specs.Field.{◌>>=◌, refuse, octet_at, octets_at, number_at, all_read, one_more, times, steps, until_end}
 use Rattle.wire_model.specs.declared.place.Place.{Place}
 use Rattle.wire_model.specs.declared.place.Place.TheVariants.{Rib, Update}
 use Rattle.reading_model.specs.declared.session.Session.{Session}
 use Rattle.reading_model.specs.declared.session.Session.TheVariants.{StateChange, Message}
-use Rattle.wire_model.specs.Wire.{octets_for, address_at, prefix_at, prefixes, family_of, family_at}
-use Rattle.wire_model.specs.Attribute.{ReachAttr, Unreached, Found, nothing_found, hop_of, is_hop_length, next_hop_at, is_of, full_hop, rib_hop, reach_of_rib, reach_in, unreach_in, keep_first, with_as_path, next_hop_in, with_next_hop, with_reach, with_unreach, with_value, is_second, attribute_at, Listed, attributes}
+use Rattle.wire_model.specs.declared.rule.Rule.{Rule}
+use Rattle.wire_model.specs.declared.rule.Rule.TheVariants.{PeerTableForm, PrefixLength, RibForm, AttributeCut, AttributeValue, SecondMp, SessionForm, MessageLength, UpdateLengths}
+use Rattle.wire_model.specs.Wire.{octets_for, address_at, prefix_at, Nlri, id_size, nlri_at, nlris, family_of, family_at}
+use Rattle.wire_model.specs.Attribute.{ReachAttr, Unreached, Found, nothing_found, hop_of, is_hop_length, next_hop_at, is_of, full_hop, rib_hop, reach_of_rib, reach_in, unreach_in, judged, keep_first, with_as_path, next_hop_in, with_next_hop, with_reach, with_unreach, with_value, is_second, attribute_at, Listed, is_bad, listed, attributes}
 use Rattle.reading_model.specs.Rib.{peer_at, peer_table, entry_hop, event_of, indexed, rib_entry_at, rib}
-use Rattle.reading_model.specs.Update.{withdrawn, routes, unreach_events, reach_events, update, message, is_lost, state_change, session_of, session_events, session_behind, session_in, bgp4mp}
+use Rattle.reading_model.specs.Update.{Said, said, via_of, withdrawn, routes, unreach_events, reach_events, update, message, is_lost, state_change, session_of, session_says, session_behind, session_in, bgp4mp}
 use Rattle.wire_model.specs.Record.{Record, record_at}
-use Rattle.reading_model.specs.Input.{Progress, Stopped, start, rib_behind, is_dump, is_session, record_in, counted, or_stop, read_record, input}
+use Rattle.reading_model.specs.Input.{Progress, Stopped, start, rib_behind, is_dump, is_session, rib_of, record_behind, record_in, counted, or_stop, read_record, input}
 use Rattle.reading_model.specs.Reading.{ReadsEvents}
 
 -- ---- what a reader's value meets
@@ -90,7 +92,7 @@ whole : (family : Family) → 8 * octets_for (width family) ≡ width family
 whole V4 = refl
 whole V6 = refl
 
-address_meets : (cut : ℕ) (family : Family) (octets : List ℕ) → IfOk (address_at cut family octets) (λ x. IsAddress x.0)
+address_meets : (cut : Rule) (family : Family) (octets : List ℕ) → IfOk (address_at cut family octets) (λ x. IsAddress x.0)
 unfolding address_at
 address_meets cut family octets =
     then_meets (octets_at cut (octets_for (width family)) octets) _ (λ x. length x.0 ≡ octets_for (width family)) _ (octets_meet cut (octets_for (width family)) octets)
@@ -101,19 +103,28 @@ length-take-at_most zero xs = omega arith
 length-take-at_most (suc n) [] = omega arith
 length-take-at_most (suc n) (x ∷ xs) = omega (arith, length-take-at_most n xs)
 
-prefix_meets : (cut : ℕ) (family : Family) (octets : List ℕ) → IfOk (prefix_at cut family octets) (λ x. IsPrefix x.0)
+prefix_meets : (cut : Rule) (family : Family) (octets : List ℕ) → IfOk (prefix_at cut family octets) (λ x. IsPrefix x.0)
 unfolding prefix_at
 prefix_meets cut family octets =
     then_any (octet_at cut octets) _ _ (λ len.
-    then_meets (refuse 6 (nat_lt (width family) len.0)) _ (λ x. nat_lt (width family) len.0 ≡ false) _ (refuse_meets 6 (nat_lt (width family) len.0)) (λ short e.
+    then_meets (refuse PrefixLength (nat_lt (width family) len.0)) _ (λ x. nat_lt (width family) len.0 ≡ false) _ (refuse_meets PrefixLength (nat_lt (width family) len.0)) (λ short e.
     then_any (octets_at cut (octets_for len.0) len.1) _ _ (λ front.
     let le : len.0 ≤ width family = ltb-false (width family) len.0 e in
     omega (arith, le, length-take-at_most len.0 (octet_bits front.0)))))
 
-prefixes_meet : (cut : ℕ) (family : Family) (octets : List ℕ) → IfOk (prefixes cut family octets) (AllByRecursion IsPrefix)
-unfolding prefixes
-prefixes_meet cut family octets =
-    until_end_meets (one_more (prefix_at cut family)) (AllByRecursion IsPrefix) (one_more_meets (prefix_at cut family) IsPrefix (prefix_meets cut family)) [] octets tt
+abbrev IsNlri : Nlri → Type 0
+IsNlri n = IsPrefix n.prefix
+
+nlri_meets : (cut : Rule) (ids : Bool) (family : Family) (octets : List ℕ) → IfOk (nlri_at cut ids family octets) (λ x. IsNlri x.0)
+unfolding nlri_at
+nlri_meets cut ids family octets =
+    then_any (number_at cut (id_size ids) octets) _ _ (λ id.
+    then_meets (prefix_at cut family id.1) _ (λ x. IsPrefix x.0) _ (prefix_meets cut family id.1) (λ prefix p. p))
+
+nlris_meet : (cut : Rule) (ids : Bool) (family : Family) (octets : List ℕ) → IfOk (nlris cut ids family octets) (AllByRecursion IsNlri)
+unfolding nlris
+nlris_meet cut ids family octets =
+    until_end_meets (one_more (nlri_at cut ids family)) (AllByRecursion IsNlri) (one_more_meets (nlri_at cut ids family) IsNlri (nlri_meets cut ids family)) [] octets tt
 
 -- ---- attributes
 
@@ -142,14 +153,14 @@ unrefused false e = absurd cc
 next_hop_meets : (family : Family) (octets : List ℕ) → IfOk (next_hop_at family octets) (λ x. IsAddress x.0)
 unfolding next_hop_at
 next_hop_meets family octets =
-    then_any (octet_at 10 octets) _ _ (λ len.
-    then_meets (refuse 10 (not (is_hop_length family len.0))) _ (λ x. not (is_hop_length family len.0) ≡ false) _ (refuse_meets 10 (not (is_hop_length family len.0))) (λ known e.
-    then_meets (octets_at 10 len.0 len.1) _ (λ x. length x.0 ≡ len.0) _ (octets_meet 10 len.0 len.1) (λ hop l.
+    then_any (octet_at AttributeValue octets) _ _ (λ len.
+    then_meets (refuse AttributeValue (not (is_hop_length family len.0))) _ (λ x. not (is_hop_length family len.0) ≡ false) _ (refuse_meets AttributeValue (not (is_hop_length family len.0))) (λ known e.
+    then_meets (octets_at AttributeValue len.0 len.1) _ (λ x. length x.0 ≡ len.0) _ (octets_meet AttributeValue len.0 len.1) (λ hop l.
     hop_meets family hop.0 (ap (is_hop_length family) l ∙ unrefused (is_hop_length family len.0) e))))
 
 full_hop_meets : (family : Family) (value : List ℕ) → IfOk (full_hop family value) (λ x. IsAddress x.0)
 unfolding full_hop
-full_hop_meets family value = then_any (family_at value) _ _ (λ other. then_any (refuse {F = ℕ} 10 (not (is_of family other.0))) _ _ (λ known. next_hop_meets family other.1))
+full_hop_meets family value = then_any (family_at value) _ _ (λ other. then_any (refuse {F = Rule} AttributeValue (not (is_of family other.0))) _ _ (λ known. next_hop_meets family other.1))
 
 rib_hop_meets : (family : Family) (value : List ℕ) → IfOk (rib_hop family value) (λ x. IsAddress x.0)
 unfolding rib_hop
@@ -158,64 +169,72 @@ rib_hop_meets family (zero ∷ rest) = full_hop_meets family (0 ∷ rest)
 rib_hop_meets family (suc n ∷ rest) = next_hop_meets family (suc n ∷ rest)
 
 abbrev IsReached : ReachAttr → Type 0
-IsReached reach = IsAddress reach.hop × AllByRecursion IsPrefix reach.nlri
+IsReached reach = IsAddress reach.hop × AllByRecursion IsNlri reach.nlri
 
 abbrev IsUnreached : Unreached → Type 0
-IsUnreached unreach = AllByRecursion IsPrefix unreach.nlri
+IsUnreached unreach = AllByRecursion IsNlri unreach.nlri
 
-reach_of_rib_meets : (family : Family) (hop : Result (Address × List ℕ) ℕ) → IfOk hop (λ x. IsAddress x.0) → IfSome (reach_of_rib family hop) IsReached
+reach_of_rib_meets : (family : Family) (hop : Result (Address × List ℕ) Rule) → IfOk hop (λ x. IsAddress x.0) → IfSome (reach_of_rib family hop) IsReached
 reach_of_rib_meets family (Ok hop) h = (h, tt)
 reach_of_rib_meets family (Err rule) h = tt
 
-reach_in_meets : (family : Option Family) (octets : List ℕ) → IfOk (reach_in family octets) (λ x. IfSome x IsReached)
+reach_in_meets : (ids : Bool) (family : Option Family) (octets : List ℕ) → IfOk (reach_in ids family octets) (λ x. IfSome x IsReached)
 unfolding reach_in
-reach_in_meets None octets = tt
-reach_in_meets (Some family) octets =
+reach_in_meets ids None octets = tt
+reach_in_meets ids (Some family) octets =
     then_meets (next_hop_at family octets) _ (λ x. IsAddress x.0) _ (next_hop_meets family octets) (λ hop h.
-    then_any (octet_at 10 hop.1) _ _ (λ reserved.
-    then_meets (prefixes 10 family reserved.1) _ (AllByRecursion IsPrefix) _ (prefixes_meet 10 family reserved.1) (λ nlri n. (h, n))))
+    then_any (octet_at AttributeValue hop.1) _ _ (λ reserved.
+    then_meets (nlris AttributeValue ids family reserved.1) _ (AllByRecursion IsNlri) _ (nlris_meet AttributeValue ids family reserved.1) (λ nlri n. (h, n))))
 
-unreach_in_meets : (family : Option Family) (octets : List ℕ) → IfOk (unreach_in family octets) (λ x. IfSome x IsUnreached)
+unreach_in_meets : (ids : Bool) (family : Option Family) (octets : List ℕ) → IfOk (unreach_in ids family octets) (λ x. IfSome x IsUnreached)
 unfolding unreach_in
-unreach_in_meets None octets = tt
-unreach_in_meets (Some family) octets = then_meets (prefixes 10 family octets) _ (AllByRecursion IsPrefix) _ (prefixes_meet 10 family octets) (λ nlri n. n)
+unreach_in_meets ids None octets = tt
+unreach_in_meets ids (Some family) octets = then_meets (nlris AttributeValue ids family octets) _ (AllByRecursion IsNlri) _ (nlris_meet AttributeValue ids family octets) (λ nlri n. n)
 
 -- what stood in a list so far has next hops that are addresses, and prefixes
 abbrev IsFound : Found → Type 0
-IsFound found = IfSome found.hop IsAddress × IfSome found.reach IsReached × IfSome found.unreach IsUnreached
+IsFound found = IfSome found.hop (λ hop. IfSome hop IsAddress) × IfSome found.reach IsReached × IfSome found.unreach IsUnreached
 
-keep_first_meets : {A : Type 0} (P : A → Type 0) (old : Option A) (read : Result A ℕ) → IfSome old P → IfOk read P → IfOk (keep_first old read) (λ x. IfSome x P)
+keep_first_meets : {A : Type 0} (P : A → Type 0) (old : Option A) (read : Result A Rule) → IfSome old P → IfOk read P → IfOk (keep_first old read) (λ x. IfSome x P)
 keep_first_meets P (Some x) read p r = p
 keep_first_meets P None read p r = then_meets read _ P _ r (λ x q. q)
 
 ipv4_meets : (value : List ℕ) → IfOk (next_hop_in value) IsAddress
 ipv4_meets value = by_test (length value == 4) refl
   where
-    by_test : (b : Bool) → (length value == 4) ≡ b → IfOk {E = ℕ} (if b then Ok (record { family = V4; bits = octet_bits value }) else Err 10) IsAddress
+    by_test : (b : Bool) → (length value == 4) ≡ b → IfOk {E = Rule} (if b then Ok (record { family = V4; bits = octet_bits value }) else Err AttributeValue) IsAddress
     by_test true e = let four : length value ≡ 4 = eqb-true (length value) 4 e in omega (arith, four, length-octet_bits value)
     by_test false e = tt
+
+judged_meets : {A : Type 0} (P : A → Type 0) (place : Place) (read : Result A Rule) → IfOk read P → IfOk (judged place read) (λ x. IfSome x P)
+judged_meets P place (Ok x) p = p
+judged_meets P (Rib family) (Err rule) p = tt
+judged_meets P (Update wide ids) (Err rule) p = tt
 
 with_path_meets : (place : Place) (found : Found) (value : List ℕ) → IsFound found → IfOk (with_as_path place found value) IsFound
 unfolding with_as_path
 with_path_meets place found value h = then_any (keep_first found.path _) _ _ (λ path. h)
 
-with_hop_meets : (found : Found) (value : List ℕ) → IsFound found → IfOk (with_next_hop found value) IsFound
+with_hop_meets : (place : Place) (found : Found) (value : List ℕ) → IsFound found → IfOk (with_next_hop place found value) IsFound
 unfolding with_next_hop
-with_hop_meets found value h = then_meets (keep_first found.hop (next_hop_in value)) _ (λ x. IfSome x IsAddress) _ (keep_first_meets IsAddress found.hop (next_hop_in value) h.0 (ipv4_meets value)) (λ hop p. (p, h.1, h.2))
+with_hop_meets place found value h =
+    then_meets (keep_first found.hop (judged place (next_hop_in value))) _ (λ x. IfSome x (λ hop. IfSome hop IsAddress)) _
+    (keep_first_meets (λ hop. IfSome hop IsAddress) found.hop (judged place (next_hop_in value)) h.0 (judged_meets IsAddress place (next_hop_in value) (ipv4_meets value)))
+    (λ hop p. (p, h.1, h.2))
 
 with_reach_meets : (place : Place) (found : Found) (value : List ℕ) → IsFound found → IfOk (with_reach place found value) IsFound
 unfolding with_reach
 with_reach_meets (Rib family) found value h = (h.0, reach_of_rib_meets family (rib_hop family value) (rib_hop_meets family value), h.2)
-with_reach_meets (Update wide) found value h =
+with_reach_meets (Update wide ids) found value h =
     then_any (family_at value) _ _ (λ family.
-    then_meets (reach_in family.0 family.1) _ (λ x. IfSome x IsReached) _ (reach_in_meets family.0 family.1) (λ reach p. (h.0, p, h.2)))
+    then_meets (reach_in ids family.0 family.1) _ (λ x. IfSome x IsReached) _ (reach_in_meets ids family.0 family.1) (λ reach p. (h.0, p, h.2)))
 
 with_unreach_meets : (place : Place) (found : Found) (value : List ℕ) → IsFound found → IfOk (with_unreach place found value) IsFound
 unfolding with_unreach
 with_unreach_meets (Rib family) found value h = h
-with_unreach_meets (Update wide) found value h =
+with_unreach_meets (Update wide ids) found value h =
     then_any (family_at value) _ _ (λ family.
-    then_meets (unreach_in family.0 family.1) _ (λ x. IfSome x IsUnreached) _ (unreach_in_meets family.0 family.1) (λ unreach p. (h.0, h.1, p)))
+    then_meets (unreach_in ids family.0 family.1) _ (λ x. IfSome x IsUnreached) _ (unreach_in_meets ids family.0 family.1) (λ unreach p. (h.0, h.1, p)))
 
 either : {A F : Type 0} (b : Bool) (r s : Result A F) (P : A → Type 0) → IfOk r P → IfOk s P → IfOk (if b then r else s) P
 either true r s P p q = p
@@ -225,46 +244,54 @@ with_value_meets : (place : Place) (found : Found) (kind : ℕ) (value : List �
 unfolding with_value
 with_value_meets place found kind value h =
     either (kind == 2) _ _ _ (with_path_meets place found value h)
-    (either (kind == 3) _ _ _ (with_hop_meets found value h)
+    (either (kind == 3) _ _ _ (with_hop_meets place found value h)
     (either (kind == 14) _ _ _ (with_reach_meets place found value h)
     (either (kind == 15) _ _ _ (with_unreach_meets place found value h) h)))
 
 attribute_meets : (place : Place) (found : Found) (octets : List ℕ) → IsFound found → IfOk (attribute_at place found octets) (λ x. IsFound x.0)
 unfolding attribute_at
 attribute_meets place found octets h =
-    then_any (octet_at 9 octets) _ _ (λ flags.
-    then_any (octet_at 9 flags.1) _ _ (λ kind.
-    then_any (refuse {F = ℕ} 11 (is_second found kind.0)) _ _ (λ first.
-    then_any (number_at 9 _ kind.1) _ _ (λ len.
-    then_any (octets_at 9 len.0 len.1) _ _ (λ value.
+    then_any (octet_at AttributeCut octets) _ _ (λ flags.
+    then_any (octet_at AttributeCut flags.1) _ _ (λ kind.
+    then_any (refuse {F = Rule} SecondMp (is_second found kind.0)) _ _ (λ first.
+    then_any (number_at AttributeCut _ kind.1) _ _ (λ len.
+    then_any (octets_at AttributeCut len.0 len.1) _ _ (λ value.
     then_meets (with_value place found kind.0 value.0) _ IsFound _ (with_value_meets place found kind.0 value.0 h) (λ next p. p))))))
 
 abbrev IsListed : Listed → Type 0
 IsListed list = IfSome list.hop IsAddress × IfSome list.reach IsReached × IfSome list.unreach IsUnreached
 
+hop_or_none : (found : Option (Option Address)) → IfSome found (λ hop. IfSome hop IsAddress) → (bad : Bool) → IfSome (if bad then None else unwrap_or found None) IsAddress
+hop_or_none found h true = tt
+hop_or_none (Some hop) h false = h
+hop_or_none None h false = tt
+
+listed_meets : (found : Found) → IsFound found → IsListed (listed found)
+listed_meets found h = (hop_or_none found.hop h.0 (is_bad found.path || is_bad found.hop), h.1, h.2)
+
 attributes_meet : (place : Place) (octets : List ℕ) → IfOk (attributes place octets) IsListed
 unfolding attributes
-attributes_meet place octets = then_meets (until_end (attribute_at place) nothing_found octets) _ IsFound _ (until_end_meets (attribute_at place) IsFound (attribute_meets place) nothing_found octets (tt, tt, tt)) (λ found p. p)
+attributes_meet place octets = then_meets (until_end (attribute_at place) nothing_found octets) _ IsFound _ (until_end_meets (attribute_at place) IsFound (attribute_meets place) nothing_found octets (tt, tt, tt)) listed_meets
 
 -- ---- RIB records
 
 peer_meets : (octets : List ℕ) → IfOk (peer_at octets) (λ x. IsPeer x.0)
 unfolding peer_at
 peer_meets octets =
-    then_any (octet_at 4 octets) _ _ (λ kind.
-    then_any (octets_at 4 4 kind.1) _ _ (λ id.
-    then_meets (address_at 4 _ id.1) _ (λ x. IsAddress x.0) _ (address_meets 4 _ id.1) (λ addr p.
-    then_any (number_at 4 _ addr.1) _ _ (λ asn. p))))
+    then_any (octet_at PeerTableForm octets) _ _ (λ kind.
+    then_any (octets_at PeerTableForm 4 kind.1) _ _ (λ id.
+    then_meets (address_at PeerTableForm _ id.1) _ (λ x. IsAddress x.0) _ (address_meets PeerTableForm _ id.1) (λ addr p.
+    then_any (number_at PeerTableForm _ addr.1) _ _ (λ asn. p))))
 
 peer_table_meets : (body : List ℕ) → IfOk (peer_table body) (AllByRecursion IsPeer)
 unfolding peer_table
 peer_table_meets body =
-    then_any (octets_at 4 4 body) _ _ (λ id.
-    then_any (number_at 4 2 id.1) _ _ (λ len.
-    then_any (octets_at 4 len.0 len.1) _ _ (λ name.
-    then_any (number_at 4 2 name.1) _ _ (λ count.
+    then_any (octets_at PeerTableForm 4 body) _ _ (λ id.
+    then_any (number_at PeerTableForm 2 id.1) _ _ (λ len.
+    then_any (octets_at PeerTableForm len.0 len.1) _ _ (λ name.
+    then_any (number_at PeerTableForm 2 name.1) _ _ (λ count.
     then_meets (times (one_more peer_at) count.0 [] count.1) _ (λ x. AllByRecursion IsPeer x.0) _ (times_meet (one_more peer_at) (AllByRecursion IsPeer) (one_more_meets peer_at IsPeer peer_meets) count.0 [] count.1 tt) (λ peers p.
-    all_read_meets 4 (AllByRecursion IsPeer) peers p)))))
+    all_read_meets PeerTableForm (AllByRecursion IsPeer) peers p)))))
 
 indexed_meets : (peers : List Peer) (i : ℕ) → AllByRecursion IsPeer peers → IfOk (indexed (slice_get peers i)) IsPeer
 indexed_meets [] i a = tt
@@ -274,7 +301,7 @@ indexed_meets (peer ∷ peers) (suc i) a = indexed_meets peers i a.1
 entry_hop_meets : (family : Family) (list : Listed) → IsListed list → IfSome (entry_hop family list) IsAddress
 entry_hop_meets family list h = by_family family list.hop list.reach h.0 h.1
   where
-    by_family : (family : Family) (hop : Option Address) (reach : Option ReachAttr) → IfSome hop IsAddress → IfSome reach IsReached → IfSome (entry_hop family (record { path = list.path; hop = hop; reach = reach; unreach = list.unreach })) IsAddress
+    by_family : (family : Family) (hop : Option Address) (reach : Option ReachAttr) → IfSome hop IsAddress → IfSome reach IsReached → IfSome (entry_hop family (record { path = list.path; hop = hop; reach = reach; unreach = list.unreach; bad = list.bad })) IsAddress
     by_family V4 (Some hop) reach p q = p
     by_family V4 None (Some reach) p q = q.0
     by_family V4 None None p q = tt
@@ -282,73 +309,81 @@ entry_hop_meets family list h = by_family family list.hop list.reach h.0 h.1
     by_family V6 (Some hop) None p q = p
     by_family V6 None None p q = tt
 
-event_meets : (peer : Peer) (path : ℕ) (hop : Option Address) (prefix : Prefix) → IsPeer peer → IfSome hop IsAddress → IsPrefix prefix → IsEvent (event_of peer path hop prefix)
-event_meets peer path (Some hop) prefix p h x = (p, x, h)
-event_meets peer path None prefix p h x = (p, x)
+event_meets : (path : ℕ) (hop : Option Address) (via : Via) (prefix : Prefix) → IsVia via → IfSome hop IsAddress → IsPrefix prefix → IsEvent (event_of path hop via prefix)
+event_meets path (Some hop) via prefix p h x = (p, x, h)
+event_meets path None via prefix p h x = (p, x)
 
-entry_meets : (peers : List Peer) (family : Family) (prefix : Prefix) (octets : List ℕ) → AllByRecursion IsPeer peers → IsPrefix prefix → IfOk (rib_entry_at peers family prefix octets) (λ x. IsEvent x.0)
+entry_meets : (peers : List Peer) (ids : Bool) (family : Family) (prefix : Prefix) (octets : List ℕ) → AllByRecursion IsPeer peers → IsPrefix prefix → IfOk (rib_entry_at peers ids family prefix octets) (λ x. IsEvent x.0)
 unfolding rib_entry_at
-entry_meets peers family prefix octets a x =
-    then_any (number_at 8 2 octets) _ _ (λ index.
+entry_meets peers ids family prefix octets a x =
+    then_any (number_at RibForm 2 octets) _ _ (λ index.
     then_meets (indexed (slice_get peers index.0)) _ IsPeer _ (indexed_meets peers index.0 a) (λ peer p.
-    then_any (octets_at 8 4 index.1) _ _ (λ time.
-    then_any (number_at 8 2 time.1) _ _ (λ len.
-    then_any (octets_at 8 len.0 len.1) _ _ (λ area.
+    then_any (octets_at RibForm 4 index.1) _ _ (λ time.
+    then_any (number_at RibForm (id_size ids) time.1) _ _ (λ id.
+    then_any (number_at RibForm 2 id.1) _ _ (λ len.
+    then_any (octets_at RibForm len.0 len.1) _ _ (λ area.
     then_meets (attributes (Rib family) area.0) _ IsListed _ (attributes_meet (Rib family) area.0) (λ list h.
-    event_meets peer list.path (entry_hop family list) prefix p (entry_hop_meets family list h) x))))))
+    event_meets list.path (entry_hop family list) (record { peer = peer; id = id.0 }) prefix p (entry_hop_meets family list h) x)))))))
 
-rib_meets : (peers : List Peer) (family : Family) (body : List ℕ) → AllByRecursion IsPeer peers → IfOk (rib peers family body) (AllByRecursion IsEvent)
+rib_meets : (peers : List Peer) (ids : Bool) (family : Family) (body : List ℕ) → AllByRecursion IsPeer peers → IfOk (rib peers ids family body) (AllByRecursion IsEvent)
 unfolding rib
-rib_meets peers family body a =
-    then_any (octets_at 8 4 body) _ _ (λ sequence.
-    then_meets (prefix_at 8 family sequence.1) _ (λ x. IsPrefix x.0) _ (prefix_meets 8 family sequence.1) (λ prefix x.
-    then_any (number_at 8 2 prefix.1) _ _ (λ count.
-    then_meets (times (one_more (rib_entry_at peers family prefix.0)) count.0 [] count.1) _ (λ y. AllByRecursion IsEvent y.0) _
-    (times_meet (one_more (rib_entry_at peers family prefix.0)) (AllByRecursion IsEvent) (one_more_meets (rib_entry_at peers family prefix.0) IsEvent (λ octets. entry_meets peers family prefix.0 octets a x)) count.0 [] count.1 tt) (λ events e.
-    all_read_meets 8 (AllByRecursion IsEvent) events e))))
+rib_meets peers ids family body a =
+    then_any (octets_at RibForm 4 body) _ _ (λ sequence.
+    then_meets (prefix_at RibForm family sequence.1) _ (λ x. IsPrefix x.0) _ (prefix_meets RibForm family sequence.1) (λ prefix x.
+    then_any (number_at RibForm 2 prefix.1) _ _ (λ count.
+    then_meets (times (one_more (rib_entry_at peers ids family prefix.0)) count.0 [] count.1) _ (λ y. AllByRecursion IsEvent y.0) _
+    (times_meet (one_more (rib_entry_at peers ids family prefix.0)) (AllByRecursion IsEvent) (one_more_meets (rib_entry_at peers ids family prefix.0) IsEvent (λ octets. entry_meets peers ids family prefix.0 octets a x)) count.0 [] count.1 tt) (λ events e.
+    all_read_meets RibForm (AllByRecursion IsEvent) events e))))
 
 -- ---- UPDATE
 
-withdrawn_meet : (peer : Peer) (gone : List Prefix) → IsPeer peer → AllByRecursion IsPrefix gone → AllByRecursion IsEvent (withdrawn peer gone)
+withdrawn_meet : (peer : Peer) (gone : List Nlri) → IsPeer peer → AllByRecursion IsNlri gone → AllByRecursion IsEvent (withdrawn peer gone)
 withdrawn_meet peer [] p a = tt
-withdrawn_meet peer (x ∷ gone) p a = ((p, a.0), withdrawn_meet peer gone p a.1)
+withdrawn_meet peer (n ∷ gone) p a = ((p, a.0), withdrawn_meet peer gone p a.1)
 
-routes_meet : (peer : Peer) (path : ℕ) (hop : Option Address) (nlri : List Prefix) → IsPeer peer → IfSome hop IsAddress → AllByRecursion IsPrefix nlri → AllByRecursion IsEvent (routes peer path hop nlri)
+routes_meet : (peer : Peer) (path : ℕ) (hop : Option Address) (nlri : List Nlri) → IsPeer peer → IfSome hop IsAddress → AllByRecursion IsNlri nlri → AllByRecursion IsEvent (routes peer path hop nlri)
 routes_meet peer path hop [] p h a = tt
-routes_meet peer path hop (x ∷ nlri) p h a = (event_meets peer path hop x p h a.0, routes_meet peer path hop nlri p h a.1)
+routes_meet peer path hop (n ∷ nlri) p h a = (event_meets path hop (via_of peer n) n.prefix p h a.0, routes_meet peer path hop nlri p h a.1)
 
 unreach_meets : (peer : Peer) (unreach : Option Unreached) → IsPeer peer → IfSome unreach IsUnreached → AllByRecursion IsEvent (unreach_events peer unreach)
 unreach_meets peer None p h = tt
 unreach_meets peer (Some unreach) p h = withdrawn_meet peer unreach.nlri p h
 
-reach_meets : (peer : Peer) (path : ℕ) (reach : Option ReachAttr) → IsPeer peer → IfSome reach IsReached → AllByRecursion IsEvent (reach_events peer path reach)
-reach_meets peer path None p h = tt
-reach_meets peer path (Some reach) p h = routes_meet peer path (Some reach.hop) reach.nlri p h.0 h.1
+unless_bad : (bad : Bool) (hop : Address) → IsAddress hop → IfSome (if bad then None else Some hop) IsAddress
+unless_bad true hop h = tt
+unless_bad false hop h = h
 
-update_meets : (wide : Bool) (peer : Peer) (octets : List ℕ) → IsPeer peer → IfOk (update wide peer octets) (AllByRecursion IsEvent)
+reach_meets : (peer : Peer) (list : Listed) (reach : Option ReachAttr) → IsPeer peer → IfSome reach IsReached → AllByRecursion IsEvent (reach_events peer list reach)
+reach_meets peer list None p h = tt
+reach_meets peer list (Some reach) p h = routes_meet peer list.path (if list.bad then None else Some reach.hop) reach.nlri p (unless_bad list.bad reach.hop h.0) h.1
+
+abbrev IsSaid : Said → Type 0
+IsSaid words = AllByRecursion IsEvent words.events
+
+update_meets : (wide ids : Bool) (peer : Peer) (octets : List ℕ) → IsPeer peer → IfOk (update wide ids peer octets) IsSaid
 unfolding update
-update_meets wide peer octets p =
-    then_any (number_at 14 2 octets) _ _ (λ gone_len.
-    then_any (octets_at 14 gone_len.0 gone_len.1) _ _ (λ gone_area.
-    then_meets (prefixes 14 V4 gone_area.0) _ (AllByRecursion IsPrefix) _ (prefixes_meet 14 V4 gone_area.0) (λ gone g.
-    then_any (number_at 14 2 gone_area.1) _ _ (λ list_len.
-    then_any (octets_at 14 list_len.0 list_len.1) _ _ (λ area.
-    then_meets (attributes (Update wide) area.0) _ IsListed _ (attributes_meet (Update wide) area.0) (λ list h.
-    then_meets (prefixes 14 V4 area.1) _ (AllByRecursion IsPrefix) _ (prefixes_meet 14 V4 area.1) (λ nlri n.
+update_meets wide ids peer octets p =
+    then_any (number_at UpdateLengths 2 octets) _ _ (λ gone_len.
+    then_any (octets_at UpdateLengths gone_len.0 gone_len.1) _ _ (λ gone_area.
+    then_meets (nlris UpdateLengths ids V4 gone_area.0) _ (AllByRecursion IsNlri) _ (nlris_meet UpdateLengths ids V4 gone_area.0) (λ gone g.
+    then_any (number_at UpdateLengths 2 gone_area.1) _ _ (λ list_len.
+    then_any (octets_at UpdateLengths list_len.0 list_len.1) _ _ (λ area.
+    then_meets (attributes (Update wide ids) area.0) _ IsListed _ (attributes_meet (Update wide ids) area.0) (λ list h.
+    then_meets (nlris UpdateLengths ids V4 area.1) _ (AllByRecursion IsNlri) _ (nlris_meet UpdateLengths ids V4 area.1) (λ nlri n.
     let own : AllByRecursion IsEvent (routes peer list.path list.hop nlri) = routes_meet peer list.path list.hop nlri p h.0 n in
     let all_gone = all_more IsEvent (withdrawn peer gone) (unreach_events peer list.unreach) (withdrawn_meet peer gone p g) (unreach_meets peer list.unreach p h.2) in
     let before = all_more IsEvent (withdrawn peer gone ++ unreach_events peer list.unreach) (routes peer list.path list.hop nlri) all_gone own in
-    all_more IsEvent (withdrawn peer gone ++ unreach_events peer list.unreach ++ routes peer list.path list.hop nlri) (reach_events peer list.path list.reach) before (reach_meets peer list.path list.reach p h.1))))))))
+    all_more IsEvent (withdrawn peer gone ++ unreach_events peer list.unreach ++ routes peer list.path list.hop nlri) (reach_events peer list list.reach) before (reach_meets peer list list.reach p h.1))))))))
 
-message_meets : (wide : Bool) (peer : Peer) (octets : List ℕ) → IsPeer peer → IfOk (message wide peer octets) (AllByRecursion IsEvent)
+message_meets : (wide ids : Bool) (peer : Peer) (octets : List ℕ) → IsPeer peer → IfOk (message wide ids peer octets) IsSaid
 unfolding message
-message_meets wide peer octets p =
-    then_any (refuse {F = ℕ} 13 (nat_lt (length octets) 19)) _ _ (λ long.
-    then_any (octets_at 13 16 octets) _ _ (λ marker.
-    then_any (number_at 13 2 marker.1) _ _ (λ len.
-    then_any (refuse {F = ℕ} 13 (not (len.0 == length octets))) _ _ (λ all.
-    then_any (octet_at 13 len.1) _ _ (λ kind.
-    either (kind.0 == 2) _ _ _ (update_meets wide peer kind.1 p) tt)))))
+message_meets wide ids peer octets p =
+    then_any (refuse {F = Rule} MessageLength (nat_lt (length octets) 19)) _ _ (λ long.
+    then_any (octets_at MessageLength 16 octets) _ _ (λ marker.
+    then_any (number_at MessageLength 2 marker.1) _ _ (λ len.
+    then_any (refuse {F = Rule} MessageLength (not (len.0 == length octets))) _ _ (λ all.
+    then_any (octet_at MessageLength len.1) _ _ (λ kind.
+    either (kind.0 == 2) _ _ _ (update_meets wide ids peer kind.1 p) tt)))))
 
 -- ---- state changes and sessions
 
@@ -356,37 +391,37 @@ lost_meets : (peer : Peer) (b : Bool) → IsPeer peer → AllByRecursion IsEvent
 lost_meets peer true p = (p, tt)
 lost_meets peer false p = tt
 
-state_change_meets : (peer : Peer) (octets : List ℕ) → IsPeer peer → IfOk (state_change peer octets) (AllByRecursion IsEvent)
+state_change_meets : (peer : Peer) (octets : List ℕ) → IsPeer peer → IfOk (state_change peer octets) IsSaid
 unfolding state_change
 state_change_meets peer octets p =
-    then_any (number_at 12 2 octets) _ _ (λ old.
-    then_any (number_at 12 2 old.1) _ _ (λ new.
-    all_read_meets 12 (AllByRecursion IsEvent) ((if is_lost old.0 new.0 then Down peer ∷ [] else []), new.1) (lost_meets peer (is_lost old.0 new.0) p)))
+    then_any (number_at SessionForm 2 octets) _ _ (λ old.
+    then_any (number_at SessionForm 2 old.1) _ _ (λ new.
+    all_read_meets SessionForm IsSaid (said (if is_lost old.0 new.0 then Down peer ∷ [] else []), new.1) (lost_meets peer (is_lost old.0 new.0) p)))
 
-session_events_meet : (session : Session) (peer : Peer) (octets : List ℕ) → IsPeer peer → IfOk (session_events session peer octets) (AllByRecursion IsEvent)
-session_events_meet (StateChange wide) peer octets p = state_change_meets peer octets p
-session_events_meet (Message wide) peer octets p = message_meets wide peer octets p
+session_says_meets : (session : Session) (peer : Peer) (octets : List ℕ) → IsPeer peer → IfOk (session_says session peer octets) IsSaid
+session_says_meets (StateChange wide) peer octets p = state_change_meets peer octets p
+session_says_meets (Message wide ids) peer octets p = message_meets wide ids peer octets p
 
-session_behind_meets : (session : Session) (asn : ℕ) (family : Option Family) (octets : List ℕ) → IfOk (session_behind session asn family octets) (λ x. IfSome x (AllByRecursion IsEvent))
+session_behind_meets : (session : Session) (asn : ℕ) (family : Option Family) (octets : List ℕ) → IfOk (session_behind session asn family octets) (λ x. IfSome x IsSaid)
 unfolding session_behind
 session_behind_meets session asn None octets = tt
 session_behind_meets session asn (Some family) octets =
-    then_meets (address_at 12 family octets) _ (λ x. IsAddress x.0) _ (address_meets 12 family octets) (λ addr p.
-    then_any (address_at 12 family addr.1) _ _ (λ local.
-    then_meets (session_events session (record { addr = addr.0; asn = asn }) local.1) _ (AllByRecursion IsEvent) _ (session_events_meet session (record { addr = addr.0; asn = asn }) local.1 p) (λ events e. e)))
+    then_meets (address_at SessionForm family octets) _ (λ x. IsAddress x.0) _ (address_meets SessionForm family octets) (λ addr p.
+    then_any (address_at SessionForm family addr.1) _ _ (λ local.
+    then_meets (session_says session (record { addr = addr.0; asn = asn }) local.1) _ IsSaid _ (session_says_meets session (record { addr = addr.0; asn = asn }) local.1 p) (λ events e. e)))
 
-session_in_meets : (session : Option Session) (micro : Bool) (body : List ℕ) → IfOk (session_in session micro body) (λ x. IfSome x (AllByRecursion IsEvent))
+session_in_meets : (session : Option Session) (micro : Bool) (body : List ℕ) → IfOk (session_in session micro body) (λ x. IfSome x IsSaid)
 unfolding session_in
 session_in_meets None micro body = tt
 session_in_meets (Some session) micro body =
-    then_any (octets_at 12 _ body) _ _ (λ time.
-    then_any (number_at 12 _ time.1) _ _ (λ asn.
-    then_any (octets_at 12 _ asn.1) _ _ (λ local.
-    then_any (octets_at 12 2 local.1) _ _ (λ interface.
-    then_any (number_at 12 2 interface.1) _ _ (λ afi.
+    then_any (octets_at SessionForm _ body) _ _ (λ time.
+    then_any (number_at SessionForm _ time.1) _ _ (λ asn.
+    then_any (octets_at SessionForm _ asn.1) _ _ (λ local.
+    then_any (octets_at SessionForm 2 local.1) _ _ (λ interface.
+    then_any (number_at SessionForm 2 interface.1) _ _ (λ afi.
     session_behind_meets session asn.0 (family_of afi.0) afi.1)))))
 
-bgp4mp_meets : (sub : ℕ) (micro : Bool) (body : List ℕ) → IfOk (bgp4mp sub micro body) (λ x. IfSome x (AllByRecursion IsEvent))
+bgp4mp_meets : (sub : ℕ) (micro : Bool) (body : List ℕ) → IfOk (bgp4mp sub micro body) (λ x. IfSome x IsSaid)
 unfolding bgp4mp
 bgp4mp_meets sub micro body = session_in_meets (session_of sub) micro body
 
@@ -395,29 +430,31 @@ bgp4mp_meets sub micro body = session_in_meets (session_of sub) micro body
 abbrev ArePeers : Option (List Peer) → Type 0
 ArePeers peers = IfSome peers (AllByRecursion IsPeer)
 
-abbrev IsTold : Option (List Peer) × Option (List Event) → Type 0
-IsTold told = ArePeers told.0 × IfSome told.1 (AllByRecursion IsEvent)
+abbrev IsTold : Option (List Peer) × Option Said → Type 0
+IsTold told = ArePeers told.0 × IfSome told.1 IsSaid
 
-rib_behind_meets : (peers : Option (List Peer)) (family : Family) (body : List ℕ) → ArePeers peers → IfOk (rib_behind peers family body) (AllByRecursion IsEvent)
-rib_behind_meets (Some peers) family body a = rib_meets peers family body a
-rib_behind_meets None family body a = tt
+rib_behind_meets : (peers : Option (List Peer)) (ids : Bool) (family : Family) (body : List ℕ) → ArePeers peers → IfOk (rib_behind peers ids family body) (AllByRecursion IsEvent)
+rib_behind_meets (Some peers) ids family body a = rib_meets peers ids family body a
+rib_behind_meets None ids family body a = tt
+
+record_behind_meets : (peers : Option (List Peer)) (r : Record) (held : Option (Bool × Family)) → ArePeers peers → IfOk (record_behind peers r held) (λ x. IfSome x IsSaid)
+record_behind_meets peers r (Some (ids, family)) a = then_meets (rib_behind peers ids family r.body) _ (AllByRecursion IsEvent) _ (rib_behind_meets peers ids family r.body a) (λ events e. e)
+record_behind_meets peers r None a = either (is_session r) _ _ _ (bgp4mp_meets r.subtype (r.kind == 17) r.body) tt
 
 record_meets : (peers : Option (List Peer)) (r : Record) → ArePeers peers → IfOk (record_in peers r) IsTold
 unfolding record_in
 record_meets peers r a =
     either (is_dump 1 r) _ _ _ (then_meets (peer_table r.body) _ (AllByRecursion IsPeer) _ (peer_table_meets r.body) (λ table p. (p, tt)))
-    (either (is_dump 2 r) _ _ _ (then_meets (rib_behind peers V4 r.body) _ (AllByRecursion IsEvent) _ (rib_behind_meets peers V4 r.body a) (λ events e. (a, e)))
-    (either (is_dump 4 r) _ _ _ (then_meets (rib_behind peers V6 r.body) _ (AllByRecursion IsEvent) _ (rib_behind_meets peers V6 r.body a) (λ events e. (a, e)))
-    (either (is_session r) _ _ _ (then_meets (bgp4mp r.subtype (r.kind == 17) r.body) _ (λ x. IfSome x (AllByRecursion IsEvent)) _ (bgp4mp_meets r.subtype (r.kind == 17) r.body) (λ events e. (a, e))) (a, tt))))
+    (then_meets (record_behind peers r (rib_of r)) _ (λ x. IfSome x IsSaid) _ (record_behind_meets peers r (rib_of r) a) (λ words e. (a, e)))
 
 abbrev IsProgress : Progress → Type 0
 IsProgress read = ArePeers read.peers × AllByRecursion IsEvent read.events
 
-counted_meets : (read : Progress) (told : Option (List Peer) × Option (List Event)) → IsProgress read → IsTold told → IsProgress (counted read told)
-counted_meets read (peers, Some events) h t = (t.0, all_more IsEvent read.events events h.1 t.1)
+counted_meets : (read : Progress) (told : Option (List Peer) × Option Said) → IsProgress read → IsTold told → IsProgress (counted read told)
+counted_meets read (peers, Some words) h t = (t.0, all_more IsEvent read.events words.events h.1 t.1)
 counted_meets read (peers, None) h t = (t.0, h.1)
 
-stop_meets : {A : Type 0} (P : A → Type 0) (Q : Progress → Type 0) (read : Progress) (r : Result A ℕ) → Q read → IfOk r P → MatchResult (or_stop read r) P (λ s. Q s.read)
+stop_meets : {A : Type 0} (P : A → Type 0) (Q : Progress → Type 0) (read : Progress) (r : Result A Rule) → Q read → IfOk r P → MatchResult (or_stop read r) P (λ s. Q s.read)
 stop_meets P Q read (Ok x) q p = p
 stop_meets P Q read (Err rule) q p = q
 
@@ -446,8 +483,8 @@ stopped_events octets stopped e =
 abbrev Follows : List Event → Progress → Type 0
 Follows front read = (others : List Event) × (read.events ≡ front ++ others)
 
-counted_follows : (front : List Event) (read : Progress) (told : Option (List Peer) × Option (List Event)) → Follows front read → Follows front (counted read told)
-counted_follows front read (peers, Some events) f = (f.0 ++ events, ap (λ es. es ++ events) f.1 ∙ append_assoc front f.0 events)
+counted_follows : (front : List Event) (read : Progress) (told : Option (List Peer) × Option Said) → Follows front read → Follows front (counted read told)
+counted_follows front read (peers, Some words) f = (f.0 ++ words.events, ap (λ es. es ++ words.events) f.1 ∙ append_assoc front f.0 words.events)
 counted_follows front read (peers, None) f = f
 
 record_follows : (front : List Event) (read : Progress) (octets : List ℕ) → Follows front read → MatchResult (read_record read octets) (λ x. Follows front x.0) (λ s. Follows front s.read)

@@ -6,13 +6,14 @@
 
 mod session;
 
-ghost use Rattle.std.specs.Prelude.{◌≡◌, ℕ, List, Ok, Err};
+ghost use Rattle.std.specs.Prelude.{◌≡◌, ℕ, Bool, List, Ok, Err};
 ghost use Rattle.std.specs.List.{AllByRecursion};
 ghost use Rattle.address_model.specs.declared.family.Family.{Family};
 ghost use Rattle.route_model.specs.Events.{IsEvent};
 ghost use Rattle.octet_fields.specs.Field.{one_more};
-ghost use Rattle.wire_model.specs.Wire.{prefix_at};
+ghost use Rattle.wire_model.specs.Wire.{nlri_at};
 ghost use Rattle.wire_model.specs.declared.place.Place.{Place};
+ghost use Rattle.wire_model.specs.declared.rule.Rule.{Rule};
 ghost use Rattle.wire_model.specs.Path.{segment_at};
 ghost use Rattle.wire_model.specs.Attribute.{attribute_at};
 ghost use Rattle.wire_model.specs.Record.{next_record};
@@ -34,10 +35,10 @@ pub fn reading_in_pieces()
     ensures ends { ReadingEnds }
 {}
 
-/// Where a definition reads to the end, nothing is left over: prefixes, the segments of a path, attributes, records, and a
+/// Where a definition reads to the end, nothing is left over: NLRI, the segments of a path, attributes, records, and a
 /// whole input with all that it says.
 pub fn end_law()
-    ensures prefixes { (cut : ℕ) (family : Family) → ReadsToEnd (one_more (prefix_at cut family)) }
+    ensures nlri { (cut : Rule) (ids : Bool) (family : Family) → ReadsToEnd (one_more (nlri_at cut ids family)) }
     ensures path { (size : ℕ) → ReadsToEnd (segment_at size) }
     ensures attributes { (place : Place) → ReadsToEnd (attribute_at place) }
     ensures records { ReadsToEnd next_record }

@@ -5,6 +5,8 @@ use Rattle.std.proofs.lemmas.Bool.{ltb-false, le-ltb}
 use Rattle.std.proofs.lemmas.List.{take-append-le, drop-append-le, length-append, length-drop, append-nil}
 use Rattle.address_model.specs.Bits.{number}
 use Rattle.octet_fields.specs.Field.{◌>>=◌, refuse, octets_at, number_at, steps, until_end}
+use Rattle.wire_model.specs.declared.rule.Rule.{Rule}
+use Rattle.wire_model.specs.declared.rule.Rule.TheVariants.{HeaderCut, BodyCut, TooLong}
 use Rattle.wire_model.specs.Record.{Record, Fault, most_length, at_record, record_at, next_record, records_in}
 use Rattle.wire_model.specs.Pieces.{StartsSo, FeedsOn, TakesOn, StaysTooLong, StaysBroken, EndsCut, EndsSo, KeepsFront}
 
@@ -16,16 +18,16 @@ pub guard_ok : {A F : Type 0} (b : Bool) (d : F) (x y : A) → cond b (Err d) (O
 guard_ok true d x y e = absurd cc
 guard_ok false d x y e = (refl, cc)
 
-not_refused : (rule : ℕ) (b x : Bool) → refuse rule b ≡ Ok x → b ≡ false
+not_refused : (rule : Rule) (b x : Bool) → refuse rule b ≡ Ok x → b ≡ false
 not_refused rule true x e = absurd cc
 not_refused rule false x e = refl
 
 -- a reader that reads the same where more follows
-pub record Steady {A : Type 0} (read : List ℕ → Result (A × List ℕ) ℕ) : Type 0 where
+pub record Steady {A : Type 0} (read : List ℕ → Result (A × List ℕ) Rule) : Type 0 where
   pub more : (bytes more : List ℕ) (x : A) (rest : List ℕ) → read bytes ≡ Ok (x, rest) → read (bytes ++ more) ≡ Ok (x, rest ++ more)
   pub shorter : (bytes : List ℕ) (x : A) (rest : List ℕ) → read bytes ≡ Ok (x, rest) → length rest ≤ length bytes
 
-pub octets_steady : (rule n : ℕ) → Steady (octets_at rule n)
+pub octets_steady : (rule : Rule) (n : ℕ) → Steady (octets_at rule n)
 octets_steady rule n = record {
   more = λ bytes more x rest e.
       let g = guard_ok (ltb (length bytes) n) rule (take n bytes, drop n bytes) (x, rest) e in
@@ -37,7 +39,7 @@ octets_steady rule n = record {
       omega (arith, length-drop n bytes, ap (λ (p : List ℕ × List ℕ). length p.1) g.1);
 }
 
-pub number_steady : (rule n : ℕ) → Steady (number_at rule n)
+pub number_steady : (rule : Rule) (n : ℕ) → Steady (number_at rule n)
 number_steady rule n = record {
   more = λ bytes more x rest e.
       let g = guard_ok (ltb (length bytes) n) rule (number (take n bytes), drop n bytes) (x, rest) e in
@@ -58,7 +60,7 @@ steady_value v = record {
   shorter = λ bytes x rest e. let same = ok_is _ (v, bytes) (x, rest) refl e in omega (arith, ap (λ (p : _). length p.1) same);
 }
 
-pub steady_then : {A B : Type 0} (read : List ℕ → Result (A × List ℕ) ℕ) (next : A → List ℕ → Result (B × List ℕ) ℕ) → Steady read → ((a : A) → Steady (next a)) → Steady (λ bytes. read bytes >>= λ x. next x.0 x.1)
+pub steady_then : {A B : Type 0} (read : List ℕ → Result (A × List ℕ) Rule) (next : A → List ℕ → Result (B × List ℕ) Rule) → Steady read → ((a : A) → Steady (next a)) → Steady (λ bytes. read bytes >>= λ x. next x.0 x.1)
 steady_then read next p q = record {
   more = λ bytes more x rest e.
       let a = bind_ok (read bytes) (λ y. next y.0 y.1) (x, rest) e in
@@ -68,39 +70,39 @@ steady_then read next p q = record {
       omega (arith, p.shorter bytes a.0.0 a.0.1 a.1, (q a.0.0).shorter a.0.1 x rest a.2);
 }
 
-pub steady_if : {A : Type 0} (rule : ℕ) (b : Bool) (read : List ℕ → Result (A × List ℕ) ℕ) → Steady read → Steady (λ bytes. refuse rule b >>= λ x. read bytes)
+pub steady_if : {A : Type 0} (rule : Rule) (b : Bool) (read : List ℕ → Result (A × List ℕ) Rule) → Steady read → Steady (λ bytes. refuse rule b >>= λ x. read bytes)
 steady_if rule false read p = p
 steady_if rule true read p = record { more = λ bytes more x rest e. absurd cc; shorter = λ bytes x rest e. absurd cc }
 
-abbrev body_at : ℕ → ℕ → ℕ → List ℕ → Result (Record × List ℕ) ℕ
-body_at kind sub len bytes = refuse 3 (ltb most_length len) >>= λ allowed. octets_at 2 len bytes >>= λ body. Ok (record { kind = kind; subtype = sub; body = body.0 }, body.1)
+abbrev body_at : ℕ → ℕ → ℕ → List ℕ → Result (Record × List ℕ) Rule
+body_at kind sub len bytes = refuse TooLong (ltb most_length len) >>= λ allowed. octets_at BodyCut len bytes >>= λ body. Ok (record { kind = kind; subtype = sub; body = body.0 }, body.1)
 
-abbrev header_at : List ℕ → Result (Record × List ℕ) ℕ
-header_at bytes = number_at 1 2 bytes >>= λ kind. number_at 1 2 kind.1 >>= λ sub. number_at 1 4 sub.1 >>= λ len. body_at kind.0 sub.0 len.0 len.1
+abbrev header_at : List ℕ → Result (Record × List ℕ) Rule
+header_at bytes = number_at HeaderCut 2 bytes >>= λ kind. number_at HeaderCut 2 kind.1 >>= λ sub. number_at HeaderCut 4 sub.1 >>= λ len. body_at kind.0 sub.0 len.0 len.1
 
 body_steady : (kind sub len : ℕ) → Steady (body_at kind sub len)
 body_steady kind sub len =
-    steady_if 3 (ltb most_length len) (λ bytes. octets_at 2 len bytes >>= λ body. Ok (record { kind = kind; subtype = sub; body = body.0 }, body.1))
-    (steady_then (octets_at 2 len) (λ body bytes. Ok (record { kind = kind; subtype = sub; body = body }, bytes)) (octets_steady 2 len) (λ body. steady_value (record { kind = kind; subtype = sub; body = body })))
+    steady_if TooLong (ltb most_length len) (λ bytes. octets_at BodyCut len bytes >>= λ body. Ok (record { kind = kind; subtype = sub; body = body.0 }, body.1))
+    (steady_then (octets_at BodyCut len) (λ body bytes. Ok (record { kind = kind; subtype = sub; body = body }, bytes)) (octets_steady BodyCut len) (λ body. steady_value (record { kind = kind; subtype = sub; body = body })))
 
 header_steady : Steady header_at
 header_steady =
-    steady_then (number_at 1 2) (λ kind bytes. number_at 1 2 bytes >>= λ sub. number_at 1 4 sub.1 >>= λ len. body_at kind sub.0 len.0 len.1) (number_steady 1 2) (λ kind.
-    steady_then (number_at 1 2) (λ sub bytes. number_at 1 4 bytes >>= λ len. body_at kind sub len.0 len.1) (number_steady 1 2) (λ sub.
-    steady_then (number_at 1 4) (λ len bytes. body_at kind sub len bytes) (number_steady 1 4) (λ len. body_steady kind sub len)))
+    steady_then (number_at HeaderCut 2) (λ kind bytes. number_at HeaderCut 2 bytes >>= λ sub. number_at HeaderCut 4 sub.1 >>= λ len. body_at kind sub.0 len.0 len.1) (number_steady HeaderCut 2) (λ kind.
+    steady_then (number_at HeaderCut 2) (λ sub bytes. number_at HeaderCut 4 bytes >>= λ len. body_at kind sub len.0 len.1) (number_steady HeaderCut 2) (λ sub.
+    steady_then (number_at HeaderCut 4) (λ len bytes. body_at kind sub len bytes) (number_steady HeaderCut 4) (λ len. body_steady kind sub len)))
 
 -- a whole record is the same record where more follows
 pub record_more : (bytes more : List ℕ) (f : Record) (rest : List ℕ) → record_at bytes ≡ Ok (f, rest) → (record_at (bytes ++ more) ≡ Ok (f, rest ++ more)) × (length rest < length bytes)
 unfolding record_at
 record_more bytes more f rest e =
-    let a = bind_ok (refuse 1 (ltb (length bytes) 12)) (λ x. octets_at 1 4 bytes >>= λ time. header_at time.1) (f, rest) e in
-    let long : ltb (length bytes) 12 ≡ false = not_refused 1 (ltb (length bytes) 12) a.0 a.1 in
+    let a = bind_ok (refuse HeaderCut (ltb (length bytes) 12)) (λ x. octets_at HeaderCut 4 bytes >>= λ time. header_at time.1) (f, rest) e in
+    let long : ltb (length bytes) 12 ≡ false = not_refused HeaderCut (ltb (length bytes) 12) a.0 a.1 in
     let le : 12 ≤ length bytes = ltb-false _ _ long in
     let longer : ltb (length (bytes ++ more)) 12 ≡ false = le-ltb _ _ (omega (arith, length-append bytes more)) in
-    let b = bind_ok (octets_at 1 4 bytes) (λ time. header_at time.1) (f, rest) a.2 in
-    let g = guard_ok (ltb (length bytes) 4) 1 (take 4 bytes, drop 4 bytes) b.0 b.1 in
+    let b = bind_ok (octets_at HeaderCut 4 bytes) (λ time. header_at time.1) (f, rest) a.2 in
+    let g = guard_ok (ltb (length bytes) 4) HeaderCut (take 4 bytes, drop 4 bytes) b.0 b.1 in
     let after : length b.0.1 + 4 ≡ length bytes = omega (arith, length-drop 4 bytes, ap (λ (p : List ℕ × List ℕ). length p.1) g.1) in
-    (rw (longer, (octets_steady 1 4).more bytes more b.0.0 b.0.1 b.1) (header_steady.more b.0.1 more f rest b.2), omega (arith, header_steady.shorter b.0.1 f rest b.2))
+    (rw (longer, (octets_steady HeaderCut 4).more bytes more b.0.0 b.0.1 b.1) (header_steady.more b.0.1 more f rest b.2), omega (arith, header_steady.shorter b.0.1 f rest b.2))
 
 -- ---- more steps than octets change nothing
 
@@ -134,7 +136,7 @@ until_end_fault step s (b ∷ bs) f h e = rw e refl
 
 -- ---- records one after another
 
-at_record_ok : {A : Type 0} (n : ℕ) (r : Result A ℕ) (x : A) → at_record n r ≡ Ok x → r ≡ Ok x
+at_record_ok : {A : Type 0} (n : ℕ) (r : Result A Rule) (x : A) → at_record n r ≡ Ok x → r ≡ Ok x
 at_record_ok n (Ok y) x e = let same : y ≡ x = cc in ap (λ (z : _). Ok z) same
 at_record_ok n (Err f) x e = absurd cc
 
@@ -142,7 +144,7 @@ next_is : (before : List Record) (octets after : List ℕ) (r : Record) → reco
 unfolding next_record
 next_is before octets after r e = rw e refl
 
-next_fault : (before : List Record) (octets : List ℕ) (rule : ℕ) → record_at octets ≡ Err rule → next_record before octets ≡ Err (record { number = length before; rule = rule })
+next_fault : (before : List Record) (octets : List ℕ) (rule : Rule) → record_at octets ≡ Err rule → next_record before octets ≡ Err (record { number = length before; rule = rule })
 unfolding next_record
 next_fault before octets rule e = rw e refl
 
@@ -208,7 +210,7 @@ keeps_front fed left taken all t e = steps_front (length (left ++ [])) taken all
 abbrev done : {A : Type 0} (F : Type 0) → A → Result A F
 done F x = Ok x
 
-abbrev made : ℕ → ℕ → List ℕ × List ℕ → Result (Record × List ℕ) ℕ
+abbrev made : ℕ → ℕ → List ℕ × List ℕ → Result (Record × List ℕ) Rule
 made kind sub body = Ok (record { kind = kind; subtype = sub; body = body.0 }, body.1)
 
 bind_err : {A B F : Type 0} (r : Result A F) (f : A → Result B F) (d : F) → (r >>= f) ≡ Err d → (r ≡ Err d) ⊎ ((x : A) × (r ≡ Ok x) × (f x ≡ Err d))
@@ -219,52 +221,58 @@ guard_err : {A F : Type 0} (b : Bool) (d e : F) (x : A) → cond b (Err d) (Ok x
 guard_err true d e x h = cc
 guard_err false d e x h = absurd cc
 
--- a reader whose rule 3 stays
-record Third {A : Type 0} (read : List ℕ → Result (A × List ℕ) ℕ) : Type 0 where
-  stays : (bytes more : List ℕ) → read bytes ≡ Err 3 → read (bytes ++ more) ≡ Err 3
+header_other : HeaderCut ≡ TooLong → ⊥
+header_other h = cc
 
-third_then : {A B : Type 0} (read : List ℕ → Result (A × List ℕ) ℕ) (next : A → List ℕ → Result (B × List ℕ) ℕ) → ((bytes : List ℕ) → read bytes ≡ Err 3 → ⊥) → Steady read → ((a : A) → Third (next a)) → Third (λ bytes. read bytes >>= λ x. next x.0 x.1)
+body_other : BodyCut ≡ TooLong → ⊥
+body_other h = cc
+
+-- a reader that refuses a Length over the limit, whatever follows
+record Third {A : Type 0} (read : List ℕ → Result (A × List ℕ) Rule) : Type 0 where
+  stays : (bytes more : List ℕ) → read bytes ≡ Err TooLong → read (bytes ++ more) ≡ Err TooLong
+
+third_then : {A B : Type 0} (read : List ℕ → Result (A × List ℕ) Rule) (next : A → List ℕ → Result (B × List ℕ) Rule) → ((bytes : List ℕ) → read bytes ≡ Err TooLong → ⊥) → Steady read → ((a : A) → Third (next a)) → Third (λ bytes. read bytes >>= λ x. next x.0 x.1)
 third_then read next other p q = record {
   stays = λ bytes more e.
-      elim (bind_err (read bytes) (λ x. next x.0 x.1) 3 e) [
+      elim (bind_err (read bytes) (λ x. next x.0 x.1) TooLong e) [
         | inl h ↦ absurd (other bytes h)
         | inr h ↦ rw (p.more bytes more h.0.0 h.0.1 h.1) ((q h.0.0).stays h.0.1 more h.2)
       ];
 }
 
-third_none : {A : Type 0} (read : List ℕ → Result (A × List ℕ) ℕ) → ((bytes : List ℕ) → read bytes ≡ Err 3 → ⊥) → Third read
+third_none : {A : Type 0} (read : List ℕ → Result (A × List ℕ) Rule) → ((bytes : List ℕ) → read bytes ≡ Err TooLong → ⊥) → Third read
 third_none read other = record { stays = λ bytes more e. absurd (other bytes e) }
 
-octets_other : (rule n : ℕ) → rule < 3 → (bytes : List ℕ) → octets_at rule n bytes ≡ Err 3 → ⊥
-octets_other rule n lt bytes e = let same = guard_err (ltb (length bytes) n) rule 3 (take n bytes, drop n bytes) e in omega arith
+octets_other : (rule : Rule) (n : ℕ) → (rule ≡ TooLong → ⊥) → (bytes : List ℕ) → octets_at rule n bytes ≡ Err TooLong → ⊥
+octets_other rule n other bytes e = other (guard_err (ltb (length bytes) n) rule TooLong (take n bytes, drop n bytes) e)
 
-number_other : (rule n : ℕ) → rule < 3 → (bytes : List ℕ) → number_at rule n bytes ≡ Err 3 → ⊥
-number_other rule n lt bytes e = let same = guard_err (ltb (length bytes) n) rule 3 (number (take n bytes), drop n bytes) e in omega arith
+number_other : (rule : Rule) (n : ℕ) → (rule ≡ TooLong → ⊥) → (bytes : List ℕ) → number_at rule n bytes ≡ Err TooLong → ⊥
+number_other rule n other bytes e = other (guard_err (ltb (length bytes) n) rule TooLong (number (take n bytes), drop n bytes) e)
 
 not_err : {A F : Type 0} (x : A) (e : F) → done F x ≡ Err e → ⊥
 not_err x e h = cc
 
-over_third : (kind sub len : ℕ) (b : Bool) → Third (λ bytes. refuse 3 b >>= λ allowed. octets_at 2 len bytes >>= λ body. made kind sub body)
+over_third : (kind sub len : ℕ) (b : Bool) → Third (λ bytes. refuse TooLong b >>= λ allowed. octets_at BodyCut len bytes >>= λ body. made kind sub body)
 over_third kind sub len true = record { stays = λ bytes more e. refl }
-over_third kind sub len false = third_none (λ bytes. octets_at 2 len bytes >>= λ body. made kind sub body) (λ bytes e.
-    elim (bind_err (octets_at 2 len bytes) (λ body. made kind sub body) 3 e) [ inl h ↦ octets_other 2 len (omega arith) bytes h | inr h ↦ absurd (not_err _ 3 h.2) ])
+over_third kind sub len false = third_none (λ bytes. octets_at BodyCut len bytes >>= λ body. made kind sub body) (λ bytes e.
+    elim (bind_err (octets_at BodyCut len bytes) (λ body. made kind sub body) TooLong e) [ inl h ↦ octets_other BodyCut len body_other bytes h | inr h ↦ absurd (not_err _ TooLong h.2) ])
 
 header_third : Third header_at
 header_third =
-    third_then (number_at 1 2) (λ kind bytes. number_at 1 2 bytes >>= λ sub. number_at 1 4 sub.1 >>= λ len. body_at kind sub.0 len.0 len.1) (number_other 1 2 (omega arith)) (number_steady 1 2) (λ kind.
-    third_then (number_at 1 2) (λ sub bytes. number_at 1 4 bytes >>= λ len. body_at kind sub len.0 len.1) (number_other 1 2 (omega arith)) (number_steady 1 2) (λ sub.
-    third_then (number_at 1 4) (λ len bytes. body_at kind sub len bytes) (number_other 1 4 (omega arith)) (number_steady 1 4) (λ len. over_third kind sub len (ltb most_length len))))
+    third_then (number_at HeaderCut 2) (λ kind bytes. number_at HeaderCut 2 bytes >>= λ sub. number_at HeaderCut 4 sub.1 >>= λ len. body_at kind sub.0 len.0 len.1) (number_other HeaderCut 2 header_other) (number_steady HeaderCut 2) (λ kind.
+    third_then (number_at HeaderCut 2) (λ sub bytes. number_at HeaderCut 4 bytes >>= λ len. body_at kind sub len.0 len.1) (number_other HeaderCut 2 header_other) (number_steady HeaderCut 2) (λ sub.
+    third_then (number_at HeaderCut 4) (λ len bytes. body_at kind sub len bytes) (number_other HeaderCut 4 header_other) (number_steady HeaderCut 4) (λ len. over_third kind sub len (ltb most_length len))))
 
-pub record_over : (bytes more : List ℕ) → record_at bytes ≡ Err 3 → (record_at (bytes ++ more) ≡ Err 3) × (12 ≤ length bytes)
+pub record_over : (bytes more : List ℕ) → record_at bytes ≡ Err TooLong → (record_at (bytes ++ more) ≡ Err TooLong) × (12 ≤ length bytes)
 unfolding record_at
 record_over bytes more e =
-    elim (bind_err (refuse 1 (ltb (length bytes) 12)) (λ x. octets_at 1 4 bytes >>= λ time. header_at time.1) 3 e) [
-      | inl h ↦ let same = guard_err (ltb (length bytes) 12) 1 3 true h in absurd (omega arith)
+    elim (bind_err (refuse HeaderCut (ltb (length bytes) 12)) (λ x. octets_at HeaderCut 4 bytes >>= λ time. header_at time.1) TooLong e) [
+      | inl h ↦ absurd (header_other (guard_err (ltb (length bytes) 12) HeaderCut TooLong true h))
       | inr a ↦
-          let long : ltb (length bytes) 12 ≡ false = not_refused 1 (ltb (length bytes) 12) a.0 a.1 in
+          let long : ltb (length bytes) 12 ≡ false = not_refused HeaderCut (ltb (length bytes) 12) a.0 a.1 in
           let le : 12 ≤ length bytes = ltb-false _ _ long in
           let longer : ltb (length (bytes ++ more)) 12 ≡ false = le-ltb _ _ (omega (arith, length-append bytes more)) in
-          let rest = third_then (octets_at 1 4) (λ time bytes. header_at bytes) (octets_other 1 4 (omega arith)) (octets_steady 1 4) (λ time. header_third) in
+          let rest = third_then (octets_at HeaderCut 4) (λ time bytes. header_at bytes) (octets_other HeaderCut 4 header_other) (octets_steady HeaderCut 4) (λ time. header_third) in
           (rw longer (rest.stays bytes more a.2), le)
     ]
 
@@ -272,5 +280,5 @@ pub stays_too_long : StaysTooLong
 stays_too_long fed left taken t over = record {
   whatever = λ more.
       let long = record_over left more over in
-      t.whatever more ∙ until_end_fault next_record taken (left ++ more) (record { number = length taken; rule = 3 }) (omega (arith, long.1, length-append left more)) (next_fault taken (left ++ more) 3 long.0);
+      t.whatever more ∙ until_end_fault next_record taken (left ++ more) (record { number = length taken; rule = TooLong }) (omega (arith, long.1, length-append left more)) (next_fault taken (left ++ more) TooLong long.0);
 }

@@ -2,7 +2,8 @@
 use Rattle.std.specs.Prelude.{◌≡◌, ℕ, ◌<◌, List, [], ◌∷◌, ◌++◌, length, Ok, Err}
 use Rattle.octet_fields.specs.Field.{until_end}
 use Rattle.wire_model.specs.Record.{Record, Fault, record_at, next_record, records_in}
-use Rattle.wire_model.specs.Rules.{too_long}
+use Rattle.wire_model.specs.declared.rule.Rule.{Rule}
+use Rattle.wire_model.specs.declared.rule.Rule.TheVariants.{TooLong}
 
 -- Of the octets fed these records were taken, and the octets left follow them, whatever comes after.
 pub record TakesRecords (fed : List ℕ) (taken : List Record) (left : List ℕ) : Type 0 where
@@ -26,7 +27,7 @@ TakesOn = (fed left after : List ℕ) (taken : List Record) (r : Record) → Tak
 
 -- a Length over the limit stays refused
 abbrev pub StaysTooLong : Type 0
-StaysTooLong = (fed left : List ℕ) (taken : List Record) → TakesRecords fed taken left → record_at left ≡ Err too_long → Breaks fed (record { number = length taken; rule = too_long })
+StaysTooLong = (fed left : List ℕ) (taken : List Record) → TakesRecords fed taken left → record_at left ≡ Err TooLong → Breaks fed (record { number = length taken; rule = TooLong })
 
 -- what is refused stays so where more is fed
 abbrev pub StaysBroken : Type 0
@@ -34,7 +35,7 @@ StaysBroken = (fed piece : List ℕ) (fault : Fault) → Breaks fed fault → Br
 
 -- what is left at the end is a header or a body that is cut
 abbrev pub EndsCut : Type 0
-EndsCut = (fed left : List ℕ) (taken : List Record) (rule : ℕ) → TakesRecords fed taken left → 0 < length left → record_at left ≡ Err rule → records_in fed ≡ Err (record { number = length taken; rule = rule })
+EndsCut = (fed left : List ℕ) (taken : List Record) (rule : Rule) → TakesRecords fed taken left → 0 < length left → record_at left ≡ Err rule → records_in fed ≡ Err (record { number = length taken; rule = rule })
 
 -- at the end nothing may be left
 abbrev pub EndsSo : Type 0

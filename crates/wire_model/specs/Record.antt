@@ -1,7 +1,8 @@
 -- MRT records (RFC 6396, 2).
 use Rattle.std.specs.Prelude.{ℕ, List, [], ◌∷◌, ◌++◌, length, Result, Ok, Err, nat_lt}
 use Rattle.octet_fields.specs.Field.{◌>>=◌, refuse, octets_at, number_at, until_end}
-use Rattle.wire_model.specs.Rules.{header_cut, body_cut, too_long}
+use Rattle.wire_model.specs.declared.rule.Rule.{Rule}
+use Rattle.wire_model.specs.declared.rule.Rule.TheVariants.{HeaderCut, BodyCut, TooLong}
 
 pub record Record : Type 0 where
   pub kind : ℕ
@@ -13,23 +14,23 @@ abbrev pub most_length : ℕ
 most_length = 16777216
 
 -- Timestamp, Type, Subtype, Length, and so many octets.
-unfoldable pub record_at : List ℕ → Result (Record × List ℕ) ℕ
+unfoldable pub record_at : List ℕ → Result (Record × List ℕ) Rule
 record_at octets = do
-  whole ← refuse header_cut (nat_lt (length octets) 12)
-  time ← octets_at header_cut 4 octets
-  kind ← number_at header_cut 2 time.1
-  subtype ← number_at header_cut 2 kind.1
-  len ← number_at header_cut 4 subtype.1
-  allowed ← refuse too_long (nat_lt most_length len.0)
-  body ← octets_at body_cut len.0 len.1
+  whole ← refuse HeaderCut (nat_lt (length octets) 12)
+  time ← octets_at HeaderCut 4 octets
+  kind ← number_at HeaderCut 2 time.1
+  subtype ← number_at HeaderCut 2 kind.1
+  len ← number_at HeaderCut 4 subtype.1
+  allowed ← refuse TooLong (nat_lt most_length len.0)
+  body ← octets_at BodyCut len.0 len.1
   Ok (record { kind = kind.0; subtype = subtype.0; body = body.0 }, body.1)
 
 -- a broken rule with the number of its record in the input, from 0
 pub record Fault : Type 0 where
   pub number : ℕ
-  pub rule : ℕ
+  pub rule : Rule
 
-abbrev pub at_record : {A : Type 0} → ℕ → Result A ℕ → Result A Fault
+abbrev pub at_record : {A : Type 0} → ℕ → Result A Rule → Result A Fault
 at_record n (Ok x) = Ok x
 at_record n (Err rule) = Err (record { number = n; rule = rule })
 

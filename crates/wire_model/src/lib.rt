@@ -2,14 +2,16 @@
 //! octets, by cases in the order of the fields; and the rules that they may break.
 //!
 //! The definitions stand in `specs/`. The function here is a law: it does nothing, and its clauses hold for all values.
-//! `Place` is declared here since the definitions speak of it.
+//! `Place` and `Rule` are declared here since the definitions speak of them.
 #![tactic(auto)]
 
 mod place;
+mod rule;
 
 ghost use Rattle.wire_model.specs.Pieces.{StartsSo, FeedsOn, TakesOn, StaysTooLong, StaysBroken, EndsCut, EndsSo, KeepsFront};
 
 pub use place::Place;
+pub use rule::Rule;
 
 /// An input may come in pieces: what was taken of it and what is left determine what it is, however it was cut.
 pub fn in_pieces()

@@ -11,5 +11,7 @@ pub enum Place {
     Update {
         /// Whether AS numbers have four octets, or else two.
         wide: bool,
+        /// Whether each prefix has a path identifier (RFC 7911, section 3).
+        ids: bool,
     },
 }
