@@ -8,7 +8,7 @@ ghost use Rattle.fib_addr.specs.Views.{addr_as};
 
 use fib_addr::{Addr, Family};
 use octet_fields::{octet, octets};
-use wire_fields::{family, rule};
+use wire_fields::{Rule, family};
 
 /// The address in the octets of a next hop: 4 are IPv4, and of 16 or 32 the first 16 are IPv6 (RFC 2545, section 3).
 pub fn next_hop(octets: &[u8]) -> Addr
@@ -35,25 +35,25 @@ fn is_next_hop(family: Family, len: u8) -> bool
 
 /// The next hop behind its length, and what follows it.
 #[tactic(auto, unfolding(wire_model::specs::Attribute::next_hop_at))]
-pub fn next_hop_of(family: Family, bytes: &[u8]) -> Result<(Addr, &[u8]), u8>
+pub fn next_hop_of(family: Family, bytes: &[u8]) -> Result<(Addr, &[u8]), Rule>
     ensures { Gives (λ x. (addr_as x.0, x.1.now)) result (next_hop_at family bytes.now) }
 {
-    let (len, rest) = octet(rule::ATTRIBUTE_VALUE, bytes)?;
+    let (len, rest) = octet(Rule::AttributeValue, bytes)?;
     if !is_next_hop(family, len) {
-        return Err(rule::ATTRIBUTE_VALUE);
+        return Err(Rule::AttributeValue);
     }
-    let (hop, rest) = octets(rule::ATTRIBUTE_VALUE, usize::from(len), rest)?;
+    let (hop, rest) = octets(Rule::AttributeValue, usize::from(len), rest)?;
     Ok((next_hop(hop), rest))
 }
 
 /// The next hop behind AFI and SAFI, which have to name this family.
 #[tactic(auto, unfolding(wire_model::specs::Attribute::full_hop))]
-fn next_hop_in_full(wanted: Family, value: &[u8]) -> Result<(Addr, &[u8]), u8>
+fn next_hop_in_full(wanted: Family, value: &[u8]) -> Result<(Addr, &[u8]), Rule>
     ensures { Gives (λ x. (addr_as x.0, x.1.now)) result (full_hop wanted value.now) }
 {
     let (other, rest) = family(value)?;
     if other != Some(wanted) {
-        return Err(rule::ATTRIBUTE_VALUE);
+        return Err(Rule::AttributeValue);
     }
     next_hop_of(wanted, rest)
 }
@@ -62,11 +62,11 @@ fn next_hop_in_full(wanted: Family, value: &[u8]) -> Result<(Addr, &[u8]), u8>
 /// alone. A value that begins with 0 is RFC 4760's full form, as some daemons write it: no next hop has length 0, and AFI 1
 /// and 2 begin with 0.
 #[tactic(auto, unfolding(wire_model::specs::Attribute::rib_hop))]
-pub fn next_hop_in_rib(family: Family, value: &[u8]) -> Result<(Addr, &[u8]), u8>
+pub fn next_hop_in_rib(family: Family, value: &[u8]) -> Result<(Addr, &[u8]), Rule>
     ensures { Gives (λ x. (addr_as x.0, x.1.now)) result (rib_hop family value.now) }
 {
     match value {
-        [] => Err(rule::ATTRIBUTE_VALUE),
+        [] => Err(Rule::AttributeValue),
         [0, ..] => next_hop_in_full(family, value),
         _ => next_hop_of(family, value),
     }

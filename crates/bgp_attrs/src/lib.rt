@@ -3,7 +3,7 @@
 //!
 //! Everything is read where it lies: no memory is taken, and a list costs its octets. Used are AS_PATH, NEXT_HOP,
 //! MP_REACH_NLRI and MP_UNREACH_NLRI; all other attributes are passed over unread. A list that can't be read gives the rule
-//! (`wire_fields::rule`) that its first wrong field breaks.
+//! (`wire_model::Rule`) that its first wrong field breaks.
 #![tactic(auto)]
 
 mod hops;

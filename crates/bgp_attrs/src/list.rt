@@ -1,11 +1,13 @@
 //! Attribute lists.
 
-ghost use Rattle.std.specs.Prelude.{◌<◌, ◌^◌, ◌==◌, length, IfOk, bit_and, if◌then◌else◌};
+ghost use Rattle.std.specs.Prelude.{◌≡◌, ◌<◌, ◌^◌, ◌==◌, length, IfOk, option_map, bit_and, if◌then◌else◌};
 ghost use Rattle.octet_fields.specs.Field.{number_at};
 ghost use Rattle.octet_fields.specs.Gives.{Gives};
-ghost use Rattle.wire_model.specs.Rules.{attribute_cut};
-ghost use Rattle.wire_model.specs.Attribute.{with_as_path, with_next_hop, with_reach, with_unreach, with_value, attribute_at, attributes};
-ghost use Rattle.bgp_attrs.specs.Views.{found_as, listed_as};
+ghost use Rattle.wire_model.specs.declared.rule.Rule.TheVariants.{AttributeCut};
+ghost use Rattle.wire_model.specs.Path.{as_size, path_of};
+ghost use Rattle.wire_model.specs.Attribute.{attribute_at, attributes, is_bad, is_wide, judged, listed, next_hop_in, nothing_found, with_as_path, with_next_hop, with_reach, with_unreach, with_value};
+ghost use Rattle.fib_addr.specs.Views.{addr_as};
+ghost use Rattle.bgp_attrs.specs.Views.{found_as, judged_as, listed_as};
 
 use crate::hops::next_hop;
 use crate::multiprotocol::{Reach, Unreach};
@@ -13,7 +15,7 @@ use crate::path::path_length;
 use crate::reach::{reach_in_rib, reach_in_update, unreach_in_update};
 use fib_addr::Addr;
 use octet_fields::{octet, octets, u16_at};
-use wire_fields::{family, rule};
+use wire_fields::{Rule, family};
 use wire_model::Place;
 
 const AS_PATH: u8 = 2;
@@ -30,175 +32,216 @@ const EXTENDED_LENGTH: u8 = 0x10;
 /// What an attribute list gives.
 #[derive(Clone, Copy, Debug)]
 pub struct Attrs<'a> {
-    /// How long the path is; 0 without an AS_PATH.
+    /// How long the path is; 0 without an AS_PATH, and where the list is bad.
     pub path: u32,
-    /// NEXT_HOP.
+    /// NEXT_HOP; None where the list is bad.
     pub hop: Option<Addr>,
     /// MP_REACH_NLRI. None where it is missing or of a family that isn't read; in a RIB entry also where it can't be read
     /// or isn't of the record's family.
     pub reach: Option<Reach<'a>>,
     /// MP_UNREACH_NLRI. None where it is missing or of a family that isn't read, and in a RIB entry.
     pub unreach: Option<Unreach<'a>>,
+    /// Whether, in an UPDATE, the first AS_PATH or the first NEXT_HOP isn't of its form, so that the message is treated as a withdrawal
+    /// (RFC 7606, sections 7.2 and 7.3).
+    pub bad: bool,
 }
 
-/// What stood in the list so far.
+/// What stood in the list so far; of AS_PATH and NEXT_HOP the value, or none where it isn't of its form.
 #[derive(Clone, Copy)]
 struct Found<'a> {
-    path: Option<u32>,
-    hop: Option<Addr>,
-    has_reach: bool,
+    hop: Option<Option<Addr>>,
     reach: Option<Reach<'a>>,
-    has_unreach: bool,
     unreach: Option<Unreach<'a>>,
+    path: Option<Option<u32>>,
+    has_reach: bool,
+    has_unreach: bool,
+}
+
+/// Nothing stood there.
+fn nothing<'a>() -> Found<'a>
+    ensures { found_as result ≡ nothing_found }
+{
+    Found {
+        hop: None,
+        reach: None,
+        unreach: None,
+        path: None,
+        has_reach: false,
+        has_unreach: false,
+    }
+}
+
+/// A value, or none where it isn't of its form in an UPDATE; in a RIB entry the rule that it breaks.
+fn judge<A: Drop>(place: Place, read: Result<A, Rule>) -> Result<Option<A>, Rule>
+    ensures { result ≡ judged place read }
+{
+    match (read, place) {
+        (Ok(value), _) => Ok(Some(value)),
+        (Err(rule), Place::Rib(_)) => Err(rule),
+        (Err(_), Place::Update { .. }) => Ok(None),
+    }
+}
+
+/// Whether AS numbers have four octets.
+fn has_wide_as(place: Place) -> bool
+    ensures { result ≡ is_wide place }
+{
+    match place {
+        Place::Rib(_) => true,
+        Place::Update { wide, .. } => wide,
+    }
 }
 
 /// An AS_PATH; the first counts (RFC 7606, section 3 (g)).
 #[tactic(auto, unfolding(wire_model::specs::Attribute::with_as_path))]
-fn with_as_path<'a>(before: Found<'a>, place: Place, value: &[u8]) -> Result<Found<'a>, u8>
+fn take_as_path(found: &mut Found<'_>, place: Place, value: &[u8]) -> Result<(), Rule>
     requires { length value.now < 2 ^ 32 }
-    ensures { Gives found_as result (with_as_path place (found_as before.entry) value.now) }
+    ensures { Gives (λ x. found_as found.new) result
+        (with_as_path place (found_as found.old) value.now) }
 {
-    if before.path.is_some() {
-        return Ok(before);
+    if found.path.is_none() {
+        found.path = Some(judge(place, path_length(value, has_wide_as(place)))?);
     }
-    let wide = match place {
-        Place::Rib(_) => true,
-        Place::Update { wide } => wide,
-    };
-    let path = Some(path_length(value, wide)?);
-    Ok(Found { path, ..before })
+    Ok(())
+}
+
+/// The address in a NEXT_HOP's value, which has four octets.
+fn ipv4_hop(value: &[u8]) -> Result<Addr, Rule>
+    ensures { Gives addr_as result (next_hop_in value.now) }
+{
+    if value.len() != 4 {
+        return Err(Rule::AttributeValue);
+    }
+    Ok(next_hop(value))
 }
 
 /// A NEXT_HOP; the first counts (RFC 7606, section 3 (g)).
 #[tactic(auto, unfolding(wire_model::specs::Attribute::with_next_hop))]
-fn with_next_hop<'a>(before: Found<'a>, value: &[u8]) -> Result<Found<'a>, u8>
-    ensures { Gives found_as result (with_next_hop (found_as before.entry) value.now) }
+fn take_next_hop(found: &mut Found<'_>, place: Place, value: &[u8]) -> Result<(), Rule>
+    ensures { Gives (λ x. found_as found.new) result
+        (with_next_hop place (found_as found.old) value.now) }
 {
-    if before.hop.is_some() {
-        return Ok(before);
+    if found.hop.is_none() {
+        found.hop = Some(judge(place, ipv4_hop(value))?);
     }
-    if value.len() != 4 {
-        return Err(rule::ATTRIBUTE_VALUE);
-    }
-    let hop = Some(next_hop(value));
-    Ok(Found { hop, ..before })
+    Ok(())
 }
 
 /// An MP_REACH_NLRI.
 #[tactic(auto, unfolding(wire_model::specs::Attribute::with_reach))]
-fn with_mp_reach<'a>(before: Found<'a>, place: Place, value: &'a [u8]) -> Result<Found<'a>, u8>
-    ensures { Gives found_as result (with_reach place (found_as before.entry) value.now) }
+fn take_mp_reach<'a>(found: &mut Found<'a>, place: Place, value: &'a [u8]) -> Result<(), Rule>
+    ensures { Gives (λ x. found_as found.new) result
+        (with_reach place (found_as found.old) value.now) }
 {
-    let reach = match place {
+    found.reach = match place {
         Place::Rib(family) => reach_in_rib(family, value),
-        Place::Update { .. } => {
+        Place::Update { ids, .. } => {
             let (family, rest) = family(value)?;
-            reach_in_update(family, rest)?
+            reach_in_update(ids, family, rest)?
         }
     };
-    Ok(Found {
-        has_reach: true,
-        reach,
-        ..before
-    })
+    found.has_reach = true;
+    Ok(())
 }
 
 /// An MP_UNREACH_NLRI, which a RIB entry doesn't use.
 #[tactic(auto, unfolding(wire_model::specs::Attribute::with_unreach))]
-fn with_mp_unreach<'a>(before: Found<'a>, place: Place, value: &'a [u8]) -> Result<Found<'a>, u8>
-    ensures { Gives found_as result (with_unreach place (found_as before.entry) value.now) }
+fn take_mp_unreach<'a>(found: &mut Found<'a>, place: Place, value: &'a [u8]) -> Result<(), Rule>
+    ensures { Gives (λ x. found_as found.new) result
+        (with_unreach place (found_as found.old) value.now) }
 {
-    match place {
-        Place::Rib(_) => Ok(before),
-        Place::Update { .. } => {
-            let (family, rest) = family(value)?;
-            let unreach = unreach_in_update(family, rest)?;
-            Ok(Found {
-                has_unreach: true,
-                unreach,
-                ..before
-            })
-        }
+    if let Place::Update { ids, .. } = place {
+        let (family, rest) = family(value)?;
+        found.unreach = unreach_in_update(ids, family, rest)?;
+        found.has_unreach = true;
     }
+    Ok(())
 }
 
 /// An attribute of this type.
 #[tactic(auto, unfolding(wire_model::specs::Attribute::with_value))]
-fn with_attribute<'a>(
-    before: Found<'a>,
+fn take_value<'a>(
+    found: &mut Found<'a>,
     place: Place,
     kind: u8,
     value: &'a [u8],
-) -> Result<Found<'a>, u8>
+) -> Result<(), Rule>
     requires { length value.now < 2 ^ 32 }
-    ensures { Gives found_as result (with_value place (found_as before.entry) kind value.now) }
+    ensures { Gives (λ x. found_as found.new) result
+        (with_value place (found_as found.old) kind value.now) }
 {
     match kind {
-        AS_PATH => with_as_path(before, place, value),
-        NEXT_HOP => with_next_hop(before, value),
-        MP_REACH_NLRI => with_mp_reach(before, place, value),
-        MP_UNREACH_NLRI => with_mp_unreach(before, place, value),
-        _ => Ok(before),
+        AS_PATH => take_as_path(found, place, value),
+        NEXT_HOP => take_next_hop(found, place, value),
+        MP_REACH_NLRI => take_mp_reach(found, place, value),
+        MP_UNREACH_NLRI => take_mp_unreach(found, place, value),
+        _ => Ok(()),
     }
 }
 
 /// The length of a value, in two octets where the flags say so.
-fn value_len(flags: u8, bytes: &[u8]) -> Result<(u16, &[u8]), u8>
-    ensures value { Gives (λ x. (x.0, x.1.now)) result (number_at attribute_cut
+fn value_len(flags: u8, bytes: &[u8]) -> Result<(u16, &[u8]), Rule>
+    ensures value { Gives (λ x. (x.0, x.1.now)) result (number_at AttributeCut
         (if bit_and flags 16 == 0 then 1 else 2) bytes.now) }
     ensures shorter { IfOk result (λ x. length x.1.now < length bytes.now) }
 {
     if flags & EXTENDED_LENGTH != 0 {
-        return u16_at(rule::ATTRIBUTE_CUT, bytes);
+        return u16_at(Rule::AttributeCut, bytes);
     }
-    let (len, rest) = octet(rule::ATTRIBUTE_CUT, bytes)?;
+    let (len, rest) = octet(Rule::AttributeCut, bytes)?;
     Ok((u16::from(len), rest))
 }
 
-/// What the list gives up to and with the attribute at the front, and what follows the attribute.
+/// Takes the attribute at the front, and gives what follows it.
 #[tactic(auto, unfolding(wire_model::specs::Attribute::attribute_at))]
-fn attribute<'a>(
-    before: Found<'a>,
+fn take_attribute<'a>(
+    found: &mut Found<'a>,
     place: Place,
     bytes: &'a [u8],
-) -> Result<(Found<'a>, &'a [u8]), u8>
-    ensures value { Gives (λ x. (found_as x.0, x.1.now)) result
-        (attribute_at place (found_as before.entry) bytes.now) }
-    ensures shorter { IfOk result (λ x. length x.1.now < length bytes.now) }
+) -> Result<&'a [u8], Rule>
+    ensures value { Gives (λ x. (found_as found.new, x.now)) result
+        (attribute_at place (found_as found.old) bytes.now) }
+    ensures shorter { IfOk result (λ x. length x.now < length bytes.now) }
 {
-    let (flags, rest) = octet(rule::ATTRIBUTE_CUT, bytes)?;
-    let (kind, rest) = octet(rule::ATTRIBUTE_CUT, rest)?;
+    let (flags, rest) = octet(Rule::AttributeCut, bytes)?;
+    let (kind, rest) = octet(Rule::AttributeCut, rest)?;
     // A second one breaks a rule (RFC 7606, section 3 (g)).
-    if before.has_reach && kind == MP_REACH_NLRI || before.has_unreach && kind == MP_UNREACH_NLRI {
-        return Err(rule::SECOND_MP);
+    if found.has_reach && kind == MP_REACH_NLRI || found.has_unreach && kind == MP_UNREACH_NLRI {
+        return Err(Rule::SecondMp);
     }
     let (len, rest) = value_len(flags, rest)?;
-    let (value, rest) = octets(rule::ATTRIBUTE_CUT, usize::from(len), rest)?;
-    let after = with_attribute(before, place, kind, value)?;
-    Ok((after, rest))
+    let (value, rest) = octets(Rule::AttributeCut, usize::from(len), rest)?;
+    take_value(found, place, kind, value)?;
+    Ok(rest)
+}
+
+/// What the list as a whole gives.
+fn attrs_of(found: Found<'_>) -> Attrs<'_>
+    ensures { listed_as result ≡ listed (found_as found.entry) }
+{
+    let bad = matches!(found.path, Some(None)) || matches!(found.hop, Some(None));
+    Attrs {
+        path: if bad {
+            0
+        } else {
+            found.path.flatten().unwrap_or(0)
+        },
+        hop: if bad { None } else { found.hop.flatten() },
+        reach: found.reach,
+        unreach: found.unreach,
+        bad,
+    }
 }
 
 /// What an attribute list gives at this place, or the rule that its first wrong field breaks.
 #[tactic(auto, unfolding(wire_model::specs::Attribute::attributes))]
-pub fn read_attrs(bytes: &[u8], place: Place) -> Result<Attrs<'_>, u8>
+pub fn read_attrs(bytes: &[u8], place: Place) -> Result<Attrs<'_>, Rule>
     ensures { Gives listed_as result (attributes place bytes.now) }
 {
-    let mut before = Found {
-        path: None,
-        hop: None,
-        has_reach: false,
-        reach: None,
-        has_unreach: false,
-        unreach: None,
-    };
+    let mut found = nothing();
     let mut rest = bytes;
     while !rest.is_empty() {
-        (before, rest) = attribute(before, place, rest)?;
+        rest = take_attribute(&mut found, place, rest)?;
     }
-    Ok(Attrs {
-        path: before.path.unwrap_or(0),
-        hop: before.hop,
-        reach: before.reach,
-        unreach: before.unreach,
-    })
+    Ok(attrs_of(found))
 }

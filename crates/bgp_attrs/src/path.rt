@@ -5,7 +5,7 @@ ghost use Rattle.octet_fields.specs.Gives.{Gives};
 ghost use Rattle.wire_model.specs.Path.{segment_length, segment_at, as_size, path_of};
 
 use octet_fields::{octet, octets};
-use wire_fields::rule;
+use wire_fields::Rule;
 
 /// A segment of AS numbers in no order.
 const AS_SET: u8 = 1;
@@ -29,29 +29,29 @@ fn weight_of(kind: u8, count: u8) -> u32
 
 /// The length with one segment more, and what follows the segment.
 #[tactic(auto, unfolding(wire_model::specs::Path::segment_at))]
-fn segment(so_far: u32, bytes: &[u8], wide: bool) -> Result<(u32, &[u8]), u8>
+fn segment(so_far: u32, bytes: &[u8], wide: bool) -> Result<(u32, &[u8]), Rule>
     requires { so_far + length bytes.now < 2 ^ 32 }
     ensures value { Gives (λ x. (x.0, x.1.now)) result (segment_at
         (as_size wide) so_far bytes.now) }
     ensures shorter { IfOk result (λ x. length x.1.now < length bytes.now) }
     ensures fits { IfOk result (λ x. x.0 + length x.1.now ≤ so_far + length bytes.now) }
 {
-    let (kind, rest) = octet(rule::ATTRIBUTE_VALUE, bytes)?;
+    let (kind, rest) = octet(Rule::AttributeValue, bytes)?;
     if !matches!(kind, AS_SET..=AS_CONFED_SET) {
-        return Err(rule::ATTRIBUTE_VALUE);
+        return Err(Rule::AttributeValue);
     }
-    let (count, rest) = octet(rule::ATTRIBUTE_VALUE, rest)?;
+    let (count, rest) = octet(Rule::AttributeValue, rest)?;
     let size = if wide { 4 } else { 2 };
-    let (_numbers, rest) = octets(rule::ATTRIBUTE_VALUE, usize::from(count) * size, rest)?;
+    let (_numbers, rest) = octets(Rule::AttributeValue, usize::from(count) * size, rest)?;
     Ok((so_far + weight_of(kind, count), rest))
 }
 
 /// The path length of an AS_PATH's value, whose AS numbers have four octets where it is wide and else two: the AS numbers
 /// in its sequences, and 1 for each set that isn't empty; confederation segments count nothing (RFC 4271, section 9.1.2.2 a;
-/// RFC 5065, section 5.3). A wrong segment breaks `ATTRIBUTE_VALUE`.
+/// RFC 5065, section 5.3). A wrong segment breaks `AttributeValue`.
 ///
 /// The octets are fewer than 2^32, so that the length fits.
-pub fn path_length(bytes: &[u8], wide: bool) -> Result<u32, u8>
+pub fn path_length(bytes: &[u8], wide: bool) -> Result<u32, Rule>
     requires { length bytes.now < 2 ^ 32 }
     ensures { Gives (λ x. x) result (path_of (as_size wide) bytes.now) }
 {

@@ -9,10 +9,10 @@ use crate::hops::{next_hop_in_rib, next_hop_of};
 use crate::multiprotocol::{Reach, Unreach};
 use fib_addr::Family;
 use octet_fields::octet;
-use wire_fields::{check_prefixes, rule};
+use wire_fields::{Rule, check_nlri};
 
 /// MP_REACH_NLRI of a RIB entry; one that can't be read gives nothing.
-#[tactic(auto, unfolding(wire_model::specs::Wire::prefixes, octet_fields::specs::Field::steps))]
+#[tactic(auto, unfolding(wire_model::specs::Wire::nlris, octet_fields::specs::Field::steps))]
 pub fn reach_in_rib<'a>(family: Family, value: &'a [u8]) -> Option<Reach<'a>>
     ensures { option_map reached result ≡ reach_of_rib family (rib_hop family value.now) }
 {
@@ -20,6 +20,7 @@ pub fn reach_in_rib<'a>(family: Family, value: &'a [u8]) -> Option<Reach<'a>>
         Ok((hop, _)) => Some(Reach {
             family,
             hop,
+            ids: false,
             nlri: &[],
         }),
         Err(_) => None,
@@ -28,26 +29,39 @@ pub fn reach_in_rib<'a>(family: Family, value: &'a [u8]) -> Option<Reach<'a>>
 
 /// MP_REACH_NLRI of an UPDATE behind its AFI and SAFI; another family gives nothing.
 #[tactic(auto, unfolding(wire_model::specs::Attribute::reach_in))]
-pub fn reach_in_update(family: Option<Family>, bytes: &[u8]) -> Result<Option<Reach<'_>>, u8>
-    ensures { Gives (λ x. option_map reached x) result (reach_in family bytes.now) }
+pub fn reach_in_update(
+    ids: bool,
+    family: Option<Family>,
+    bytes: &[u8],
+) -> Result<Option<Reach<'_>>, Rule>
+    ensures { Gives (λ x. option_map reached x) result (reach_in ids family bytes.now) }
 {
     let Some(family) = family else {
         return Ok(None);
     };
     let (hop, rest) = next_hop_of(family, bytes)?;
-    let (_reserved, nlri) = octet(rule::ATTRIBUTE_VALUE, rest)?;
-    check_prefixes(rule::ATTRIBUTE_VALUE, family, nlri)?;
-    Ok(Some(Reach { family, hop, nlri }))
+    let (_reserved, nlri) = octet(Rule::AttributeValue, rest)?;
+    check_nlri(Rule::AttributeValue, ids, family, nlri)?;
+    Ok(Some(Reach {
+        family,
+        hop,
+        ids,
+        nlri,
+    }))
 }
 
 /// MP_UNREACH_NLRI of an UPDATE behind its AFI and SAFI; another family gives nothing.
 #[tactic(auto, unfolding(wire_model::specs::Attribute::unreach_in))]
-pub fn unreach_in_update(family: Option<Family>, nlri: &[u8]) -> Result<Option<Unreach<'_>>, u8>
-    ensures { Gives (λ x. option_map unreached x) result (unreach_in family nlri.now) }
+pub fn unreach_in_update(
+    ids: bool,
+    family: Option<Family>,
+    nlri: &[u8],
+) -> Result<Option<Unreach<'_>>, Rule>
+    ensures { Gives (λ x. option_map unreached x) result (unreach_in ids family nlri.now) }
 {
     let Some(family) = family else {
         return Ok(None);
     };
-    check_prefixes(rule::ATTRIBUTE_VALUE, family, nlri)?;
-    Ok(Some(Unreach { family, nlri }))
+    check_nlri(Rule::AttributeValue, ids, family, nlri)?;
+    Ok(Some(Unreach { family, ids, nlri }))
 }

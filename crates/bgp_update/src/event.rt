@@ -1,40 +1,92 @@
 //! What is said of prefixes.
 
-ghost use Rattle.std.specs.Prelude.{◌≡◌, ◌++◌, OnErr, OnOk, option_map, map};
+ghost use Rattle.std.specs.Prelude.{◌≡◌, option_map, map};
 ghost use Rattle.reading_model.specs.Rib as model;
-ghost use Rattle.reading_model.specs.Update.{routes};
+ghost use Rattle.address_model.specs.declared.family.Family.TheVariants.{V4};
+ghost use Rattle.wire_model.specs.declared.rule.Rule.TheVariants.{UpdateLengths};
+ghost use Rattle.wire_model.specs.Wire.{nlris};
 ghost use Rattle.fib_addr.specs.Views.{addr_as, prefix_as};
-ghost use Rattle.fib_prefix.specs.Views.{peer_as, event_as};
+ghost use Rattle.fib_prefix.specs.Views.{peer_as, via_as, event_as};
+ghost use Rattle.bgp_update.specs.Adds.{AddsRoutes};
 
-use fib_prefix::{Addr, Event, Peer, Prefix};
-use std::alloc::AllocError;
+use fib_prefix::{Addr, Event, Family, Peer, Prefix, Via};
+use wire_fields::{Refusal, Rule, next_nlri};
 
-/// The event of a prefix that a peer names: Announce with this next hop, Withdraw where there is none.
-pub fn event_of(peer: Peer, path: u32, hop: Option<Addr>, prefix: Prefix) -> Event
-    ensures { event_as result ≡ model.event_of (peer_as peer) path (option_map addr_as hop)
+/// The event of a prefix: Announce with this next hop, Withdraw where there is none.
+pub fn event_of(path: u32, hop: Option<Addr>, via: Via, prefix: Prefix) -> Event
+    ensures { event_as result ≡ model.event_of path (option_map addr_as hop) (via_as via)
         (prefix_as prefix) }
 {
     match hop {
-        Some(hop) => Event::Announce(peer, prefix, path, hop),
-        None => Event::Withdraw(peer, prefix),
+        Some(hop) => Event::Announce(via, prefix, path, hop),
+        None => Event::Withdraw(via, prefix),
     }
 }
 
-/// Adds the events of prefixes that a peer names, in their order. Where memory runs out, none is added.
+/// What a peer says of all prefixes of a list: how long their path is, and their next hop, or none where they are withdrawn.
+#[derive(Clone, Copy, Debug)]
+pub struct Saying {
+    /// The peer.
+    pub peer: Peer,
+    /// The next hop.
+    pub hop: Option<Addr>,
+    /// The path's length.
+    pub path: u32,
+}
+
+/// Where entries of NLRI stand.
+#[derive(Clone, Copy, Debug)]
+pub struct NlriArea<'a> {
+    /// The octets, which they fill.
+    pub octets: &'a [u8],
+    /// The family of their prefixes.
+    pub family: Family,
+    /// Whether each has a path identifier.
+    pub ids: bool,
+    /// The rule that a cut breaks.
+    pub cut: Rule,
+}
+
+/// Adds an event for each entry of NLRI in the area, in their order. Where an entry is wrong or memory runs out, the events of those
+/// before it were added.
 pub fn push_routes(
     events: &mut Vec<Event>,
-    peer: Peer,
-    path: u32,
-    hop: Option<Addr>,
-    prefixes: &[Prefix],
-) -> Result<(), AllocError>
-    ensures ok { OnOk result (map event_as events.new.items ≡ map event_as events.old.items
-        ++ routes (peer_as peer) path (option_map addr_as hop) (map prefix_as prefixes.now)) }
-    ensures err { OnErr result (events.new.items ≡ events.old.items) }
+    area: NlriArea<'_>,
+    saying: Saying,
+) -> Result<(), Refusal>
+    ensures { AddsRoutes (peer_as saying.peer) saying.path (option_map addr_as saying.hop)
+        (map event_as events.old.items) (map event_as events.new.items) result
+        (nlris area.entry.cut area.entry.ids area.entry.family area.entry.octets.now) }
 {
-    events.reserve(prefixes.len())?;
-    for prefix in prefixes {
-        events.push_reserved(event_of(peer, path, hop, *prefix));
+    let mut rest = area.octets;
+    while !rest.is_empty() {
+        let (nlri, after) = next_nlri(area.cut, area.ids, area.family, rest)?;
+        let via = Via {
+            peer: saying.peer,
+            id: nlri.id,
+        };
+        events.push(event_of(saying.path, saying.hop, via, nlri.prefix))?;
+        rest = after;
     }
     Ok(())
+}
+
+/// Adds an event for each entry of the IPv4 NLRI or withdrawn routes in these octets of an UPDATE.
+pub fn push_ipv4(
+    events: &mut Vec<Event>,
+    octets: &[u8],
+    ids: bool,
+    saying: Saying,
+) -> Result<(), Refusal>
+    ensures { AddsRoutes (peer_as saying.peer) saying.path (option_map addr_as saying.hop)
+        (map event_as events.old.items) (map event_as events.new.items) result
+        (nlris UpdateLengths ids V4 octets.now) }
+{
+    let area = NlriArea {
+        octets,
+        family: Family::V4,
+        ids,
+        cut: Rule::UpdateLengths,
+    };
+    push_routes(events, area, saying)
 }

@@ -1,8 +1,9 @@
-//! An UPDATE of both families with each kind of events, and messages that aren't as long as they say.
+//! An UPDATE of both families with each kind of events, also with a malformed path; one with a path identifier; and messages that aren't as long as they say.
 
 use super::*;
-use fib_prefix::{Addr, Event, Family, Peer, Prefix};
+use fib_prefix::{Addr, Event, Family, Peer, Prefix, Via};
 use std::test::Fail;
+use wire_fields::Rule;
 
 /// Withdraws 10.128.0.0/9, whose octets have further bits, and 2001:db8::/32; announces 11.0.0.0/8 and 2001:db9::/32.
 const UPDATE: [u8; 84] = [
@@ -12,6 +13,15 @@ const UPDATE: [u8; 84] = [
     0x20, 0x20, 0x01, 0x0d, 0xb8, 0x80, 0x0e, 0x1a, 0x00, 0x02, 0x01, 0x10, 0x20, 0x01, 0x0d, 0xb8,
     0x00, 0x00, 0x00, 0x00, 0x00, 0x00, 0x00, 0x00, 0x00, 0x00, 0x00, 0x01, 0x00, 0x20, 0x20, 0x01,
     0x0d, 0xb9, 0x08, 0x0b,
+];
+
+/// The place of the type of its AS_PATH's segment.
+const SEGMENT_TYPE: usize = 29;
+
+/// Withdraws 10.0.0.0/8 of path identifier 1.
+const WITH_ID: [u8; 29] = [
+    0xff, 0xff, 0xff, 0xff, 0xff, 0xff, 0xff, 0xff, 0xff, 0xff, 0xff, 0xff, 0xff, 0xff, 0xff, 0xff,
+    0x00, 0x1d, 0x02, 0x00, 0x06, 0x00, 0x00, 0x00, 0x01, 0x08, 0x0a, 0x00, 0x00,
 ];
 
 #[test]
@@ -25,30 +35,50 @@ fn tells_all_that_an_update_says_in_its_order(rt: HostRuntime) -> Result<(), Fai
         addr: v4,
         asn: 64500,
     };
-    let events = read_message(rt.alloc(), &UPDATE, true, peer)?;
+    let via = Via { peer, id: 0 };
+    let (events, treated) = read_message(rt.alloc(), &UPDATE, true, false, peer)?;
+    assert!(rt; !treated);
     let expected = [
-        Event::Withdraw(peer, Prefix::from_front(Family::V4, 9, &[10, 128])),
+        Event::Withdraw(via, Prefix::from_front(Family::V4, 9, &[10, 128])),
         Event::Withdraw(
-            peer,
+            via,
             Prefix::from_front(Family::V6, 32, &[0x20, 0x01, 0x0d, 0xb8]),
         ),
-        Event::Announce(peer, Prefix::from_front(Family::V4, 8, &[11]), 1, v4),
+        Event::Announce(via, Prefix::from_front(Family::V4, 8, &[11]), 1, v4),
         Event::Announce(
-            peer,
+            via,
             Prefix::from_front(Family::V6, 32, &[0x20, 0x01, 0x0d, 0xb9]),
             1,
             v6,
         ),
     ];
     assert_eq!(rt; events.as_slice(), expected.as_slice());
-    for (bytes, rule) in [
-        (&UPDATE[..18], 13),
-        (&UPDATE[..83], 13),
-        (&UPDATE[..19], 13),
-    ] {
-        match read_message(rt.alloc(), bytes, true, peer) {
-            Ok(_) => assert!(rt; false, "rule {rule}"),
-            Err(refusal) => assert_eq!(rt; refusal, Refusal::Rule(rule)),
+    let mut malformed = UPDATE;
+    malformed[SEGMENT_TYPE] = 5;
+    let (events, treated) = read_message(rt.alloc(), &malformed, true, false, peer)?;
+    assert!(rt; treated);
+    let expected = [
+        Event::Withdraw(via, Prefix::from_front(Family::V4, 9, &[10, 128])),
+        Event::Withdraw(
+            via,
+            Prefix::from_front(Family::V6, 32, &[0x20, 0x01, 0x0d, 0xb8]),
+        ),
+        Event::Withdraw(via, Prefix::from_front(Family::V4, 8, &[11])),
+        Event::Withdraw(
+            via,
+            Prefix::from_front(Family::V6, 32, &[0x20, 0x01, 0x0d, 0xb9]),
+        ),
+    ];
+    assert_eq!(rt; events.as_slice(), expected.as_slice());
+    let (events, treated) = read_message(rt.alloc(), &WITH_ID, true, true, peer)?;
+    assert!(rt; !treated);
+    let ten = Prefix::from_front(Family::V4, 8, &[10]);
+    let expected = [Event::Withdraw(Via { peer, id: 1 }, ten)];
+    assert_eq!(rt; events.as_slice(), expected.as_slice());
+    for bytes in [&UPDATE[..18], &UPDATE[..83], &UPDATE[..19]] {
+        match read_message(rt.alloc(), bytes, true, false, peer) {
+            Ok(_) => assert!(rt; false, "a message of {} octets", bytes.len()),
+            Err(refusal) => assert_eq!(rt; refusal, Refusal::Rule(Rule::MessageLength)),
         }
     }
     Ok(())

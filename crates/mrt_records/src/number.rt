@@ -5,9 +5,10 @@ ghost use Rattle.octet_fields.specs.Gives.{Gives};
 ghost use Rattle.wire_model.specs.Path.{as_size};
 
 use octet_fields::{u16_at, u32_at};
+use wire_fields::Rule;
 
 /// An AS number, in four octets where it is wide and else in two.
-pub fn as_number(rule: u8, wide: bool, bytes: &[u8]) -> Result<(u32, &[u8]), u8>
+pub fn as_number(rule: Rule, wide: bool, bytes: &[u8]) -> Result<(u32, &[u8]), Rule>
     ensures { Gives (λ x. (x.0, x.1.now)) result (number_at rule (as_size wide) bytes.now) }
 {
     if wide {

@@ -11,7 +11,7 @@ use crate::number::as_number;
 use fib_prefix::{Family, Peer};
 use octet_fields::{octet, octets, u16_at};
 use std::alloc::Global;
-use wire_fields::{Refusal, address, rule};
+use wire_fields::{Refusal, Rule, address};
 
 /// Set in a Peer Type where the peer's address is IPv6: the bit I of RFC 6396, section 4.3.1.
 const IS_IPV6: u8 = 0b01;
@@ -21,18 +21,18 @@ const HAS_WIDE_AS: u8 = 0b10;
 
 /// The peer at the front, and what follows it.
 #[tactic(auto, unfolding(reading_model::specs::Rib::peer_at))]
-fn peer(bytes: &[u8]) -> Result<(Peer, &[u8]), u8>
+fn peer(bytes: &[u8]) -> Result<(Peer, &[u8]), Rule>
     ensures { Gives (λ x. (peer_as x.0, x.1.now)) result (peer_at bytes.now) }
 {
-    let (kind, rest) = octet(rule::PEER_TABLE, bytes)?;
-    let (_id, rest) = octets(rule::PEER_TABLE, 4, rest)?;
+    let (kind, rest) = octet(Rule::PeerTableForm, bytes)?;
+    let (_id, rest) = octets(Rule::PeerTableForm, 4, rest)?;
     let family = if kind & IS_IPV6 == 0 {
         Family::V4
     } else {
         Family::V6
     };
-    let (addr, rest) = address(rule::PEER_TABLE, family, rest)?;
-    let (asn, rest) = as_number(rule::PEER_TABLE, kind & HAS_WIDE_AS != 0, rest)?;
+    let (addr, rest) = address(Rule::PeerTableForm, family, rest)?;
+    let (asn, rest) = as_number(Rule::PeerTableForm, kind & HAS_WIDE_AS != 0, rest)?;
     Ok((Peer { addr, asn }, rest))
 }
 
@@ -65,13 +65,13 @@ impl PeerTable {
     pub fn read(alloc: Global, body: &[u8]) -> Result<PeerTable, Refusal>
         ensures { GivesInMemory peers_of result (peer_table body.now) }
     {
-        let (_id, rest) = octets(rule::PEER_TABLE, 4, body)?;
-        let (len, rest) = u16_at(rule::PEER_TABLE, rest)?;
-        let (_name, rest) = octets(rule::PEER_TABLE, usize::from(len), rest)?;
-        let (count, rest) = u16_at(rule::PEER_TABLE, rest)?;
+        let (_id, rest) = octets(Rule::PeerTableForm, 4, body)?;
+        let (len, rest) = u16_at(Rule::PeerTableForm, rest)?;
+        let (_name, rest) = octets(Rule::PeerTableForm, usize::from(len), rest)?;
+        let (count, rest) = u16_at(Rule::PeerTableForm, rest)?;
         let (peers, rest) = peers(alloc, count, rest)?;
         if !rest.is_empty() {
-            return Err(Refusal::Rule(rule::PEER_TABLE));
+            return Err(Refusal::Rule(Rule::PeerTableForm));
         }
         Ok(PeerTable { peers })
     }

@@ -1,6 +1,6 @@
 //! Unicast RIB records.
 
-ghost use Rattle.std.specs.Prelude.{map, option_map, ◌≡◌, []};
+ghost use Rattle.std.specs.Prelude.{◌≡◌, [], option_map, map};
 ghost use Rattle.octet_fields.specs.Field.{one_more, times};
 ghost use Rattle.octet_fields.specs.Gives.{Gives};
 ghost use Rattle.fib_addr.specs.Views.{addr_as, prefix_as};
@@ -8,18 +8,20 @@ ghost use Rattle.fib_prefix.specs.Views.{peer_as, event_as};
 ghost use Rattle.reading_model.specs.Rib.{rib_entry_at, entry_hop, rib};
 ghost use Rattle.bgp_attrs.specs.Views.{listed_as};
 ghost use Rattle.wire_fields.specs.Gives.{GivesInMemory};
+ghost use Rattle.bgp_update.specs.Adds.{AddsEvents};
+ghost use Rattle.mrt_records.specs.Adds.{AddsEntries};
 ghost use Rattle.mrt_records.specs.Views.{peers_of};
 
 use crate::peer_table::PeerTable;
 use bgp_attrs::{Attrs, Place, read_attrs};
 use bgp_update::event_of;
-use fib_prefix::{Addr, Event, Family, Peer, Prefix};
+use fib_prefix::{Addr, Event, Family, Peer, Prefix, Via};
 use octet_fields::{octets, u16_at};
 use std::alloc::Global;
-use wire_fields::{Refusal, prefix, rule};
+use wire_fields::{Refusal, Rule, path_id, prefix};
 
 /// The next hop of an entry in a record of this family.
-fn hop_of_entry(family: Family, attrs: &Attrs) -> Option<Addr>
+fn hop_of_entry(family: Family, attrs: &Attrs<'_>) -> Option<Addr>
     ensures { option_map addr_as result ≡ entry_hop family (listed_as attrs.now) }
 {
     let reach = attrs.reach.map(|reach| reach.hop);
@@ -33,65 +35,87 @@ fn hop_of_entry(family: Family, attrs: &Attrs) -> Option<Addr>
 #[tactic(auto, unfolding(reading_model::specs::Rib::rib_entry_at))]
 fn entry<'a>(
     peers: &[Peer],
+    ids: bool,
     family: Family,
     prefix: Prefix,
     bytes: &'a [u8],
-) -> Result<(Event, &'a [u8]), u8>
+) -> Result<(Event, &'a [u8]), Rule>
     ensures { Gives (λ x. (event_as x.0, x.1.now)) result
-        (rib_entry_at (map peer_as peers.now) family (prefix_as prefix) bytes.now) }
+        (rib_entry_at (map peer_as peers.now) ids family (prefix_as prefix) bytes.now) }
 {
-    let (index, rest) = u16_at(rule::RIB, bytes)?;
+    let (index, rest) = u16_at(Rule::RibForm, bytes)?;
     let Some(peer) = peers.get(usize::from(index)) else {
-        return Err(rule::PEER_INDEX);
+        return Err(Rule::PeerIndex);
     };
-    let (_time, rest) = octets(rule::RIB, 4, rest)?;
-    let (len, rest) = u16_at(rule::RIB, rest)?;
-    let (area, rest) = octets(rule::RIB, usize::from(len), rest)?;
+    let (_time, rest) = octets(Rule::RibForm, 4, rest)?;
+    let (id, rest) = path_id(Rule::RibForm, ids, rest)?;
+    let (len, rest) = u16_at(Rule::RibForm, rest)?;
+    let (area, rest) = octets(Rule::RibForm, usize::from(len), rest)?;
     let attrs = read_attrs(area, Place::Rib(family))?;
     let hop = hop_of_entry(family, &attrs);
-    Ok((event_of(*peer, attrs.path, hop, prefix), rest))
+    let via = Via { peer: *peer, id };
+    Ok((event_of(attrs.path, hop, via, prefix), rest))
 }
 
-/// The events of so many entries, and what follows them.
-fn entries<'a>(
-    alloc: Global,
+/// Adds the events of so many entries, in their order, and gives what follows them.
+fn push_entries<'a>(
+    events: &mut Vec<Event>,
     peers: &[Peer],
+    ids: bool,
     family: Family,
     prefix: Prefix,
     count: u16,
     bytes: &'a [u8],
-) -> Result<(Vec<Event>, &'a [u8]), Refusal>
-    ensures { GivesInMemory (λ x. (map event_as x.0.items, x.1.now)) result
-        (times (one_more (rib_entry_at (map peer_as peers.now) family (prefix_as prefix))) count []
-        bytes.now) }
+) -> Result<&'a [u8], Refusal>
+    ensures { AddsEntries (λ rest. rest.now) (map event_as events.old.items)
+        (map event_as events.new.items) result (times (one_more (rib_entry_at (map peer_as peers.now)
+        ids family (prefix_as prefix))) count [] bytes.now) }
 {
-    let mut events = Vec::new(alloc);
     let mut rest = bytes;
     for _ in 0..count {
-        let (event, after) = entry(peers, family, prefix, rest)?;
+        let (event, after) = entry(peers, ids, family, prefix, rest)?;
         events.push(event)?;
         rest = after;
     }
-    Ok((events, rest))
+    Ok(rest)
 }
 
-/// Reads a RIB_IPV4_UNICAST or RIB_IPV6_UNICAST record behind the peer table: one event for each entry, in their order.
+/// Adds an event for each entry of a RIB_IPV4_UNICAST or RIB_IPV6_UNICAST record behind the peer table, in their order; with `ids` of a
+/// RIB_IPV4_UNICAST_ADDPATH or RIB_IPV6_UNICAST_ADDPATH record (RFC 8050, section 4), whose entries have path identifiers. Where the
+/// record is refused, or memory runs out, some may have been added.
 #[tactic(auto, unfolding(reading_model::specs::Rib::rib))]
+pub fn push_rib(
+    events: &mut Vec<Event>,
+    body: &[u8],
+    table: &PeerTable,
+    family: Family,
+    ids: bool,
+) -> Result<(), Refusal>
+    ensures { AddsEvents (map event_as events.old.items) (map event_as events.new.items) result
+        (rib (peers_of table.now) ids family body.now) }
+{
+    let (_sequence, rest) = octets(Rule::RibForm, 4, body)?;
+    let (prefix, rest) = prefix(Rule::RibForm, family, rest)?;
+    let (count, rest) = u16_at(Rule::RibForm, rest)?;
+    let rest = push_entries(events, &table.peers, ids, family, prefix, count, rest)?;
+    if !rest.is_empty() {
+        return Err(Refusal::Rule(Rule::RibForm));
+    }
+    Ok(())
+}
+
+/// The events of a RIB record, as `push_rib` reads it.
 pub fn read_rib(
     alloc: Global,
     body: &[u8],
     table: &PeerTable,
     family: Family,
+    ids: bool,
 ) -> Result<Vec<Event>, Refusal>
     ensures { GivesInMemory (λ events. map event_as events.items) result
-        (rib (peers_of table.now) family body.now) }
+        (rib (peers_of table.now) ids family body.now) }
 {
-    let (_sequence, rest) = octets(rule::RIB, 4, body)?;
-    let (prefix, rest) = prefix(rule::RIB, family, rest)?;
-    let (count, rest) = u16_at(rule::RIB, rest)?;
-    let (events, rest) = entries(alloc, &table.peers, family, prefix, count, rest)?;
-    if !rest.is_empty() {
-        return Err(Refusal::Rule(rule::RIB));
-    }
+    let mut events = Vec::new(alloc);
+    push_rib(&mut events, body, table, family, ids)?;
     Ok(events)
 }

@@ -4,9 +4,10 @@
 use super::*;
 use crate::bgp4mp::read_bgp4mp;
 use crate::rib::read_rib;
-use fib_prefix::{Addr, Event, Family, Peer, Prefix};
+use fib_prefix::{Addr, Event, Family, Peer, Prefix, Via};
 use std::alloc::{AllocError, Global};
 use std::test::Fail;
+use wire_fields::Rule;
 
 /// A table of one peer, 192.0.2.1 of AS 64500.
 const PEERS: &[u8] =
@@ -63,23 +64,21 @@ fn tells_what_the_records_say(rt: HostRuntime) -> Result<(), Fail> {
         addr: v4,
         asn: 64500,
     };
+    let via = Via { peer, id: 0 };
     let ten = Prefix::from_front(Family::V4, 8, &[10]);
     let db8 = Prefix::from_front(Family::V6, 32, &[0x20, 0x01, 0x0d, 0xb8]);
     let table = PeerTable::read(alloc, PEERS)?;
-    let routes = read_rib(alloc, RIB_V4, &table, Family::V4)?;
+    let routes = read_rib(alloc, RIB_V4, &table, Family::V4, false)?;
     assert_eq!(rt;
         routes.as_slice(),
-        [Event::Announce(peer, ten, 1, v4)].as_slice()
+        [Event::Announce(via, ten, 1, v4)].as_slice()
     );
-    let routes = read_rib(alloc, RIB_V6, &table, Family::V6)?;
+    let routes = read_rib(alloc, RIB_V6, &table, Family::V6, false)?;
     assert_eq!(rt;
         routes.as_slice(),
-        [Event::Announce(peer, db8, 0, v6)].as_slice()
+        [Event::Announce(via, db8, 0, v6)].as_slice()
     );
-    let both = [
-        Event::Withdraw(peer, ten),
-        Event::Announce(peer, ten, 1, v4),
-    ];
+    let both = [Event::Withdraw(via, ten), Event::Announce(via, ten, 1, v4)];
     let lost = [Event::Down(peer)];
     let long = longer(alloc, LOST_AS4)?;
     for (body, sub, expected) in [
@@ -89,13 +88,13 @@ fn tells_what_the_records_say(rt: HostRuntime) -> Result<(), Fail> {
         (LOST_AS4, 5, Ok(Some(lost.as_slice()))),
         (MESSAGE, 6, Ok(Some(both.as_slice()))),
         (MESSAGE_AS4, 7, Ok(Some(both.as_slice()))),
-        (MESSAGE_AS4, 8, Ok(None)),
+        (MESSAGE_AS4, 12, Ok(None)),
         (OTHER_AS4, 4, Ok(None)),
-        (&long, 5, Err(Refusal::Rule(12))),
-        (&LOST_AS4[..23], 5, Err(Refusal::Rule(12))),
+        (&long, 5, Err(Refusal::Rule(Rule::SessionForm))),
+        (&LOST_AS4[..23], 5, Err(Refusal::Rule(Rule::SessionForm))),
     ] {
         match read_bgp4mp(alloc, body, sub, false) {
-            Ok(Some(events)) => {
+            Ok(Some((events, _treated))) => {
                 assert_eq!(rt; Ok(Some(events.as_slice())), expected, "subtype {sub}")
             }
             Ok(None) => assert_eq!(rt; Ok(None), expected, "subtype {sub}"),
@@ -105,12 +104,12 @@ fn tells_what_the_records_say(rt: HostRuntime) -> Result<(), Fail> {
     let peers = longer(alloc, PEERS)?;
     assert_eq!(rt;
         PeerTable::read(alloc, &peers).err(),
-        Some(Refusal::Rule(4))
+        Some(Refusal::Rule(Rule::PeerTableForm))
     );
     let rib = longer(alloc, RIB_V4)?;
     assert_eq!(rt;
-        read_rib(alloc, &rib, &table, Family::V4).err(),
-        Some(Refusal::Rule(8))
+        read_rib(alloc, &rib, &table, Family::V4, false).err(),
+        Some(Refusal::Rule(Rule::RibForm))
     );
     Ok(())
 }

@@ -5,9 +5,9 @@ ghost use Rattle.octet_fields.specs.Gives.{Gives};
 ghost use Rattle.wire_model.specs.Wire as model;
 ghost use Rattle.fib_addr.specs.Views.{addr_as};
 
-use crate::rule::ATTRIBUTE_VALUE;
 use fib_addr::{Addr, Family};
 use octet_fields::{octet, octets, u16_at};
+use wire_model::Rule;
 
 /// The SAFI of unicast (RFC 4760, section 6).
 const UNICAST: u8 = 1;
@@ -25,13 +25,13 @@ pub fn family_of(afi: u16) -> Option<Family>
 
 /// The family that AFI and SAFI name, `None` where the AFI is unknown or the SAFI isn't unicast; and what follows them.
 ///
-/// A cut breaks `ATTRIBUTE_VALUE`.
+/// A cut breaks `AttributeValue`.
 #[tactic(auto, unfolding(wire_model::specs::Wire::family_at))]
-pub fn family(bytes: &[u8]) -> Result<(Option<Family>, &[u8]), u8>
+pub fn family(bytes: &[u8]) -> Result<(Option<Family>, &[u8]), Rule>
     ensures { Gives (λ x. (x.0, x.1.now)) result (model.family_at bytes.now) }
 {
-    let (afi, rest) = u16_at(ATTRIBUTE_VALUE, bytes)?;
-    let (safi, rest) = octet(ATTRIBUTE_VALUE, rest)?;
+    let (afi, rest) = u16_at(Rule::AttributeValue, bytes)?;
+    let (safi, rest) = octet(Rule::AttributeValue, rest)?;
     let family = if safi == UNICAST {
         family_of(afi)
     } else {
@@ -42,7 +42,7 @@ pub fn family(bytes: &[u8]) -> Result<(Option<Family>, &[u8]), u8>
 
 /// An address of as many octets as its family has, and what follows it. A cut breaks the rule.
 #[tactic(auto, unfolding(wire_model::specs::Wire::address_at))]
-pub fn address(rule: u8, family: Family, bytes: &[u8]) -> Result<(Addr, &[u8]), u8>
+pub fn address(rule: Rule, family: Family, bytes: &[u8]) -> Result<(Addr, &[u8]), Rule>
     ensures { Gives (λ x. (addr_as x.0, x.1.now)) result (model.address_at rule family bytes.now) }
 {
     let count = match family {

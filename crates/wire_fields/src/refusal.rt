@@ -1,10 +1,11 @@
 //! Why something couldn't be read.
 
 ghost use Rattle.std.specs.Prelude.{◌≡◌};
-ghost use Rattle.wire_fields.specs.declared.refusal.Refusal.TheVariants.{NoMemory, Rule};
+ghost use Rattle.wire_fields.specs.declared.refusal.Refusal.TheVariants.{NoMemory, Rule as Broken};
 
 use std::alloc::{AllocError, AllocFailed};
 use thiserror::Error;
+use wire_model::Rule;
 
 /// What a reader answers that takes memory.
 #[derive(Clone, Copy, Debug, PartialEq, Eq, Error)]
@@ -12,15 +13,15 @@ pub enum Refusal {
     /// Memory ran out.
     #[error("no memory")]
     NoMemory,
-    /// The octets break this rule (`rule`).
-    #[error("rule {0} of reading is broken")]
-    Rule(u8),
+    /// The octets break this rule.
+    #[error("rule {0:?} of reading is broken")]
+    Rule(Rule),
 }
 
-impl From<u8> for Refusal {
-    ghost from_gives = { λ rule e. e ≡ Rule rule };
+impl From<Rule> for Refusal {
+    ghost from_gives = { λ rule e. e ≡ Broken rule };
 
-    fn from(rule: u8) -> Refusal {
+    fn from(rule: Rule) -> Refusal {
         Refusal::Rule(rule)
     }
 }

@@ -5,14 +5,14 @@ use Rattle.octet_fields.proofs.Steps.{left_after, left_at_fault, left_at_end}
 use Rattle.bgp_attrs.proofs.list.read_attrs.Goals as goal
 
 pub loop-rest-preserved : goal.loop-rest-preserved
-loop-rest-preserved c = left_after _ _ _ _ _ _ c.in_ok-before.ensures.value c.in_ok-before.ensures.shorter c.loop-rest.invariant
+loop-rest-preserved c = left_after _ _ _ _ _ _ c.in_ok-rest.ensures.value c.in_ok-rest.ensures.shorter c.loop-rest.invariant
 
-pub returns-in_err-before : goal.returns-in_err-before
+pub returns-in_err-rest : goal.returns-in_err-rest
 unfolding attributes
-returns-in_err-before c =
+returns-in_err-rest c =
     let p = err_from_is_err_and c.from_residual.result c.from_residual.ensures.1 in
-    rw (p.1, p.2, left_at_fault _ _ _ _ _ c.in_err-before.ensures.value c.loop-rest-test.ensures c.loop-rest.invariant) refl
+    rw (p.1, p.2, left_at_fault _ _ _ _ _ c.in_err-rest.ensures.value c.loop-rest-test.ensures c.loop-rest.invariant) refl
 
 pub returns : goal.returns
 unfolding attributes
-returns c = rw (left_at_end _ _ _ _ c.loop-rest-test.ensures c.loop-rest.invariant, c.unwrap_or.ensures) refl
+returns c = rw (left_at_end _ _ _ _ c.loop-rest-test.ensures c.loop-rest.invariant, c.attrs_of.ensures) refl

@@ -6,7 +6,7 @@ use Rattle.octet_fields.proofs.Steps.{Left}
 use Rattle.bgp_attrs.proofs.list.read_attrs.Given as goal
 
 abbrev pub invariant-loop-rest : goal.invariant-loop-rest
-invariant-loop-rest l = Left (attribute_at l.place) (found_as l.before) l.rest (until_end (attribute_at l.place) nothing_found l.bytes)
+invariant-loop-rest l = Left (attribute_at l.place) (found_as l.found) l.rest (until_end (attribute_at l.place) nothing_found l.bytes)
 
 abbrev pub decreases-loop-rest : goal.decreases-loop-rest
 decreases-loop-rest l = length l.rest

@@ -1,11 +1,11 @@
 use Rattle.std.proofs.Common.{[]}
 use Rattle.std.proofs.lemmas.Result.{err_from_is_err_and}
-use Rattle.wire_model.specs.Wire.{prefixes}
+use Rattle.wire_model.specs.Wire.{nlris}
 use Rattle.octet_fields.proofs.Steps.{left_at_start, left_at_end, one_more_left, one_more_fault}
-use Rattle.wire_fields.proofs.list.check_prefixes.Goals as goal
+use Rattle.wire_fields.proofs.list.check_nlri.Goals as goal
 
 pub loop-rest-init : goal.loop-rest-init
-unfolding prefixes
+unfolding nlris
 loop-rest-init c = ([], left_at_start _ [] c.args.bytes.now)
 
 pub loop-rest-preserved : goal.loop-rest-preserved
