@@ -6,4 +6,4 @@ pub mod MemInputs
 pub mod MemSink
 pub mod Files
 pub mod Streams
-pub mod Whole
+pub mod Pieces

@@ -10,3 +10,7 @@ room_left sink = vec_capacity sink.octets - vec_len sink.octets
 -- which writes are to fail
 abbrev pub write_plan : MemSink → Plan
 write_plan sink = sink.plan
+
+-- the most octets of a write
+abbrev pub write_most : MemSink → ℕ
+write_most sink = sink.most

@@ -6,8 +6,8 @@
 //!
 //! `MemInputs` and `MemSink` keep octets in memory and fail at the calls that they are told, `SureInputs` and
 //! `SureSink` never fail, `FileInputs` and `StdSink` stand over files and over standard output and error.
-//! A call of `write_all` makes as many writes as the sink takes pieces, and takes no memory of its own; `read_whole`
-//! reads an input to its end.
+//! A call of `write_all` makes as many writes as the sink takes pieces, and takes no memory of its own; `read_piece` reads
+//! what comes next of an input, and `read_whole` an input to its end.
 #![tactic(auto)]
 
 ghost use Rattle.std.specs.Prelude.{◌≡◌, ℕ, ◌≤◌, ◌<◌, ◌+◌, ◌^◌, ◌-◌, min, Option, List, length, OnOk, OnErr, IfOk, IfSome};
@@ -19,17 +19,17 @@ use thiserror::Error;
 mod files;
 mod memory_inputs;
 mod memory_sinks;
+mod pieces;
 mod plan;
 mod streams;
 #[cfg(test)]
 mod tests;
-mod whole;
 
 pub use files::{ByName, FileInputs, ReadSeek, SystemFiles};
 pub use memory_inputs::{MemInputs, SureInputs};
 pub use memory_sinks::{MemSink, SureSink};
+pub use pieces::{MOST_OCTETS, ReadError, piece_room, read_piece, read_whole};
 pub use streams::{FlushWrite, StdSink};
-pub use whole::{ReadError, read_whole};
 
 /// A read failed. The count of the name that was read rose, unless it stood at the last value of a `u64`.
 #[derive(Clone, Copy, Debug, PartialEq, Eq, Error)]

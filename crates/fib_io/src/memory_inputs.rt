@@ -2,7 +2,7 @@
 //!
 //! A read goes over the pairs up to the first with that name, copies what fits, and takes no memory.
 
-ghost use Rattle.std.specs.Prelude.{◌≡◌, ◌≤◌, ◌-◌, ◌||◌, min, Some, unwrap_or, [], length, option_map, is_err, is_none, IfOk, IfSome};
+ghost use Rattle.std.specs.Prelude.{◌≡◌, ◌≤◌, ◌-◌, ◌^◌, ◌||◌, min, Some, unwrap_or, [], length, option_map, is_err, is_none, IfOk, IfSome};
 ghost use Rattle.fib_io.specs.Causes.{HasReadCause};
 ghost use Rattle.fib_io.specs.Held.{held_under};
 ghost use Rattle.fib_io.specs.Octets.{AreAt};
@@ -22,11 +22,12 @@ fn find_octets<'a>(names: &'a [(String, Vec<u8>)], name: &str) -> Option<&'a Vec
     None
 }
 
-/// Copies the octets from this place on, as many as there are and as fit, and says how many.
-fn copy_from(octets: &[u8], at: u64, buf: &mut [u8]) -> usize
+/// Copies the octets from this place on, as many as there are, as fit, and as `most` allows, and says how many.
+fn copy_from(octets: &[u8], at: u64, most: usize, buf: &mut [u8]) -> usize
+    requires { 1 ≤ most }
     ensures most { result ≤ length buf.new }
     ensures told { AreAt octets.now at buf.new result }
-    ensures fit { result ≡ min (length octets.now - at) (length buf.new) }
+    ensures fit { result ≡ min (length octets.now - at) (min most (length buf.new)) }
 {
     let from = if at < octets.len() as u64 {
         at as usize
@@ -34,7 +35,7 @@ fn copy_from(octets: &[u8], at: u64, buf: &mut [u8]) -> usize
         octets.len()
     };
     let rest = &octets[from..];
-    let n = rest.len().min(buf.len());
+    let n = rest.len().min(most.min(buf.len()));
     let part = &mut buf[..n];
     part.copy_from_slice(&rest[..n]);
     n
@@ -48,11 +49,14 @@ pub struct MemInputs {
     names: Vec<(String, Vec<u8>)>,
     plan: Plan,
     faults: u64,
+    // The most octets of a read.
+    most: usize,
+    ghost some: { 1 ≤ most },
 }
 
 impl MemInputs {
     ghost use Rattle.fib_io.specs.Plan.{IsNewPlan};
-    ghost use Rattle.fib_io.specs.MemInputs.{read_plan};
+    ghost use Rattle.fib_io.specs.MemInputs.{read_most, read_plan};
 
     /// Holds these octets under these names. Of two pairs with one name the first counts. The reads with the
     /// numbers of `failing` fail, where the first read has the number 1. It takes no memory.
@@ -60,24 +64,39 @@ impl MemInputs {
         ensures content { ⟦<MemInputs as Inputs>⟧.content result ≡ held_under names.items }
         ensures faults { ⟦<MemInputs as Inputs>⟧.faults result ≡ (λ _. 0) }
         ensures plan { IsNewPlan (read_plan result) failing.items }
+        ensures most { read_most result ≡ 2 ^ 64 - 1 }
     {
         MemInputs {
             names,
             plan: Plan::new(failing),
             faults: 0,
+            most: usize::MAX,
         }
+    }
+
+    /// From now on a read gives at most `n` octets; before the first such call it gives all that there are.
+    pub fn at_most(&mut self, n: usize)
+        requires { 1 ≤ n }
+        ensures most { read_most self.new ≡ n }
+        ensures same { ⟦<MemInputs as Inputs>⟧.content self.new
+            ≡ ⟦<MemInputs as Inputs>⟧.content self.old }
+        ensures faults { ⟦<MemInputs as Inputs>⟧.faults self.new
+            ≡ ⟦<MemInputs as Inputs>⟧.faults self.old }
+        ensures plan { read_plan self.new ≡ read_plan self.old }
+    {
+        self.most = n;
     }
 }
 
 impl Inputs for MemInputs {
     ghost use Rattle.fib_io.specs.Plan.{IsNext, fails_next};
-    ghost use Rattle.fib_io.specs.MemInputs.{read_plan};
+    ghost use Rattle.fib_io.specs.MemInputs.{read_most, read_plan};
 
     ghost content = { λ s. held_under s.names.items };
 
     ghost faults = { λ s _. s.faults };
 
-    /// Gives all octets from the place on that there are and that fit. It fails exactly where the plan says so or
+    /// Gives all octets from the place on that there are, that fit and that `at_most` allows. It fails exactly where the plan says so or
     /// the name isn't held.
     fn read(&mut self, name: &str, at: u64, buf: &mut [u8]) -> Result<usize, InFault>
         ensures most { IfOk result (λ n. n ≤ length buf.new) }
@@ -88,14 +107,15 @@ impl Inputs for MemInputs {
         ensures cause { HasReadCause (⟦<MemInputs as Inputs>⟧.faults self.old)
             (⟦<MemInputs as Inputs>⟧.faults self.new) name.now result }
         ensures fit { IfOk result (λ n. IfSome (⟦<MemInputs as Inputs>⟧.content self.old name.now)
-            (λ octets. n ≡ min (length octets - at) (length buf.new))) }
+            (λ octets. n ≡ min (length octets - at) (min (read_most self.old) (length buf.new)))) }
+        ensures kept { read_most self.new ≡ read_most self.old }
         ensures planned { is_err result ≡ (fails_next (read_plan self.old)
             || is_none (⟦<MemInputs as Inputs>⟧.content self.old name.now)) }
         ensures next { IsNext (read_plan self.old) (read_plan self.new) }
     {
         let is_failing = self.plan.is_next_failing();
         match find_octets(&self.names, name) {
-            Some(octets) if !is_failing => Ok(copy_from(octets, at, buf)),
+            Some(octets) if !is_failing => Ok(copy_from(octets, at, self.most, buf)),
             _ => {
                 count_fault(&mut self.faults);
                 Err(InFault)
@@ -127,7 +147,7 @@ impl Inputs for SureInputs {
 
     fn read(&mut self, name: &str, at: u64, buf: &mut [u8]) -> Result<usize, InFault> {
         match find_octets(&self.names, name) {
-            Some(octets) => Ok(copy_from(octets, at, buf)),
+            Some(octets) => Ok(copy_from(octets, at, usize::MAX, buf)),
             None => Ok(0),
         }
     }

@@ -3,7 +3,7 @@
 //! The room of a `MemSink` is the capacity of its vector, taken when it is made, so that no write takes memory.
 //! A write costs a step for each octet that it takes.
 
-ghost use Rattle.std.specs.Prelude.{◌≡◌, ◌≤◌, ◌<◌, ◌+◌, ◌==◌, ◌++◌, ◌||◌, ◌&&◌, min, not, Some, None, [], length, is_err, IfOk, OnErr, vec_capacity};
+ghost use Rattle.std.specs.Prelude.{◌≡◌, ◌≤◌, ◌<◌, ◌+◌, ◌-◌, ◌^◌, ◌==◌, ◌++◌, ◌||◌, ◌&&◌, min, not, Some, None, [], length, is_err, IfOk, OnErr, vec_capacity};
 ghost use Rattle.fib_io.specs.Causes.{HasCause};
 ghost use Rattle.fib_io.specs.Octets.{AddsFront};
 
@@ -28,11 +28,14 @@ pub struct MemSink {
     octets: Vec<u8>,
     plan: Plan,
     faults: u64,
+    // The most octets of a write.
+    most: usize,
+    ghost some: { 1 ≤ most },
 }
 
 impl MemSink {
     ghost use Rattle.fib_io.specs.Plan.{IsNewPlan};
-    ghost use Rattle.fib_io.specs.MemSink.{room_left, write_plan};
+    ghost use Rattle.fib_io.specs.MemSink.{room_left, write_most, write_plan};
 
     /// Takes memory for `room` octets. The writes with the numbers of `failing` fail, where the first write has
     /// the number 1.
@@ -41,13 +44,29 @@ impl MemSink {
         ensures faults { IfOk result (λ sink. ⟦<MemSink as Sink>⟧.faults sink ≡ 0) }
         ensures room { IfOk result (λ sink. room_left sink ≡ room) }
         ensures plan { IfOk result (λ sink. IsNewPlan (write_plan sink) failing.items) }
+        ensures most { IfOk result (λ sink. write_most sink ≡ 2 ^ 64 - 1) }
     {
         let octets = Vec::with_capacity(alloc, room)?;
         Ok(MemSink {
             octets,
             plan: Plan::new(failing),
             faults: 0,
+            most: usize::MAX,
         })
+    }
+
+    /// From now on a write takes at most `n` octets; before the first such call it takes all that fit.
+    pub fn at_most(&mut self, n: usize)
+        requires { 1 ≤ n }
+        ensures most { write_most self.new ≡ n }
+        ensures same { ⟦<MemSink as Sink>⟧.written self.new
+            ≡ ⟦<MemSink as Sink>⟧.written self.old }
+        ensures faults { ⟦<MemSink as Sink>⟧.faults self.new
+            ≡ ⟦<MemSink as Sink>⟧.faults self.old }
+        ensures room { room_left self.new ≡ room_left self.old }
+        ensures plan { write_plan self.new ≡ write_plan self.old }
+    {
+        self.most = n;
     }
 
     /// All that was written.
@@ -67,13 +86,13 @@ impl MemSink {
 
 impl Sink for MemSink {
     ghost use Rattle.fib_io.specs.Plan.{IsNext, fails_next};
-    ghost use Rattle.fib_io.specs.MemSink.{room_left, write_plan};
+    ghost use Rattle.fib_io.specs.MemSink.{room_left, write_most, write_plan};
 
     ghost written = { λ s. Some s.octets.items };
 
     ghost faults = { λ s. s.faults };
 
-    /// Takes all octets that fit, and no memory. It fails exactly where the plan says so or where no room is left
+    /// Takes all octets that fit and that `at_most` allows, and no memory. It fails exactly where the plan says so or where no room is left
     /// for a piece that isn't empty.
     fn write(&mut self, piece: &[u8]) -> Result<usize, OutFault>
         ensures most { IfOk result (λ n. n ≤ length piece.now) }
@@ -84,7 +103,9 @@ impl Sink for MemSink {
             ≡ ⟦<MemSink as Sink>⟧.written self.old) }
         ensures cause { HasCause (⟦<MemSink as Sink>⟧.faults self.old)
             (⟦<MemSink as Sink>⟧.faults self.new) result }
-        ensures fit { IfOk result (λ n. n ≡ min (room_left self.old) (length piece.now)) }
+        ensures fit { IfOk result (λ n. n
+            ≡ min (room_left self.old) (min (write_most self.old) (length piece.now))) }
+        ensures kept { write_most self.new ≡ write_most self.old }
         ensures room { IfOk result (λ n. room_left self.new + n ≡ room_left self.old) }
         ensures planned { is_err result ≡ (fails_next (write_plan self.old)
             || (room_left self.old == 0 && not (length piece.now == 0))) }
@@ -96,7 +117,7 @@ impl Sink for MemSink {
             count_fault(&mut self.faults);
             return Err(OutFault);
         }
-        let taken = room.min(piece.len());
+        let taken = room.min(self.most.min(piece.len()));
         append_within(&mut self.octets, &piece[..taken]);
         Ok(taken)
     }

@@ -74,6 +74,10 @@ fn reads_by_name_and_place(rt: HostRuntime) -> Result<(), Fail> {
         "no such name"
     );
 
+    inputs.at_most(3);
+    assert!(rt; inputs.read("dump", 1, &mut buf) == Ok(3));
+    assert!(rt; &buf == b"elll", "three octets and no more");
+
     let mut sure = SureInputs::new(names_of(alloc)?);
     assert!(rt; sure.read("dump", 1, &mut buf) == Ok(4));
     assert!(rt; &buf == b"ello");
@@ -93,6 +97,11 @@ fn writes_what_fits(rt: HostRuntime) -> Result<(), Fail> {
     assert!(rt; sink.written() == b"abcd".as_slice());
 
     let mut sink = MemSink::new(alloc, 4, Vec::new(alloc))?;
+    sink.at_most(1);
+    assert!(rt; sink.write(b"abcdef") == Ok(1));
+
+    let mut sink = MemSink::new(alloc, 4, Vec::new(alloc))?;
+    sink.at_most(3);
     assert!(rt; write_all(&mut sink, b"abcdef") == Err(OutFault));
     assert!(rt; sink.written() == b"abcd".as_slice());
     assert!(rt; write_all(&mut SureSink::new(), b"abcdef") == Ok(()));

@@ -1,10 +1,13 @@
 -- What a framer does with the octets that it is fed.
-use Rattle.std.specs.Prelude.{◌≡◌, ℕ, ◌+◌, ◌<◌, ◌⊎◌, ◌==◌, if◌then◌else◌, List, [], ◌∷◌, ◌++◌, length, drop, Option, Some, None, option_map, IfSome, IfNone, Result, Ok, Err}
+use Rattle.std.specs.Prelude.{◌≡◌, ℕ, ◌+◌, ◌<◌, ◌≤◌, ◌⊎◌, ◌==◌, if◌then◌else◌, List, [], ◌∷◌, ◌++◌, length, drop, Option, Some, None, option_map, IfSome, IfNone, Result, Ok, Err}
 use Rattle.std.specs.Borrow.{MutBor, Fml}
 use Rattle.std.specs.Io.BufRead.{Rests}
+use Rattle.wire_model.specs.declared.rule.Rule.{Rule}
+use Rattle.wire_model.specs.declared.rule.Rule.TheVariants.{HeaderCut, BodyCut, TooLong}
 use Rattle.wire_model.specs.Record.{Record, Fault, record_at, records_in}
 use Rattle.wire_model.specs.Pieces.{TakesRecords, Breaks}
-use Rattle.mrt_frame.specs.Records.{record_of, fault_of}
+use Rattle.std.specs.List.{sum_by}
+use Rattle.mrt_frame.specs.Records.{most_left, record_of, record_octets, fault_of}
 use Rattle.mrt_frame.specs.contracts.Framer.{the_row}
 use Rattle.mrt_frame.specs.declared.Framed.{Framed}
 use Rattle.mrt_frame.specs.declared.Framer.{Framer}
@@ -25,6 +28,7 @@ framer_refusal framer = option_map fault_of framer.refused
 -- Of the octets fed the framer gave these records, and keeps the octets after them or the refusal of what follows.
 pub record FramerStands (fed : List ℕ) (taken : List Record) (framer : Framer) : Type 0 where
   pub counts : framer_count framer ≡ length taken
+  pub octets : length fed ≡ sum_by record_octets taken + length (framer_left framer)
   pub goes_on : IfNone (framer_refusal framer) (TakesRecords fed taken (framer_left framer))
   pub refuses : IfSome (framer_refusal framer) (Breaks fed)
 
@@ -41,9 +45,10 @@ kept_or (Some fault) other = Err fault
 kept_or None other = other
 
 -- the record that stands at the front, or the refusal of its Length; nothing where a header or a body is cut
-abbrev pub framer_next_in : ℕ → Result (Record × List ℕ) ℕ → Result (Option Record) Fault
+abbrev pub framer_next_in : ℕ → Result (Record × List ℕ) Rule → Result (Option Record) Fault
 framer_next_in number (Ok read) = Ok (Some read.0)
-framer_next_in number (Err rule) = if rule == 3 then Err (record { number = number; rule = 3 }) else Ok None
+framer_next_in number (Err TooLong) = Err (record { number = number; rule = TooLong })
+framer_next_in number (Err rule) = Ok None
 
 -- what comes next
 abbrev pub framer_next : Framer → Result (Option Record) Fault
@@ -87,9 +92,22 @@ pub record TakesRecord (old : Framer) (r : Record) (new : Framer) : Type 0 where
   pub before : left_before new ≡ framer_left old
   pub stands : (fed : List ℕ) (taken : List Record) → FramerStands fed taken old → FramerStands fed (taken ++ r ∷ []) new
 
--- a header or a body is cut, and nothing was taken
+-- only what is left is kept
+abbrev pub KeepsLeftAlone : Framer → Type 0
+KeepsLeftAlone framer = framer.kept.items ≡ framer_left framer
+
+-- the records taken were let go
+pub record LetsGo (old new : Framer) : Type 0 where
+  pub leaves : framer_left new ≡ framer_left old
+  pub counts : new.number ≡ old.number
+  pub refuses : new.refused ≡ old.refused
+  pub alone : KeepsLeftAlone new
+
+-- a header or a body is cut, and nothing was taken; only what is left is kept, and it is less than a header and the longest body
 pub record FramerTakesNothing (old new : Framer) : Type 0 where
-  pub is_cut : (record_at (framer_left new) ≡ Err 1) ⊎ (record_at (framer_left new) ≡ Err 2)
+  pub is_cut : (record_at (framer_left new) ≡ Err HeaderCut) ⊎ (record_at (framer_left new) ≡ Err BodyCut)
+  pub few : length (framer_left new) ≤ most_left
+  pub alone : KeepsLeftAlone new
   pub leaves : framer_left new ≡ framer_left old
   pub counts : framer_count new ≡ framer_count old
   pub refuses : framer_refusal new ≡ None
@@ -117,7 +135,7 @@ abbrev pub LendsNext : MutBor Framer → Result (Option Framed) Malformed → Fm
 LendsNext framer result = Rests the_row framer (FramerTook framer.now result)
 
 -- at the end of the input nothing may be left
-abbrev pub end_in : ℕ → List ℕ → Result (Record × List ℕ) ℕ → Result (Unit {0}) Fault
+abbrev pub end_in : ℕ → List ℕ → Result (Record × List ℕ) Rule → Result (Unit {0}) Fault
 end_in number octets (Ok read) = Ok tt
 end_in number octets (Err rule) = if length octets == 0 then Ok tt else Err (record { number = number; rule = rule })
 

@@ -1,5 +1,7 @@
 -- Records, refusals and answers of the code, without where they lie in memory.
-use Rattle.std.specs.Prelude.{ℕ, ◌+◌, List, take, drop, Result, Ok, Err}
+use Rattle.std.specs.Prelude.{ℕ, ◌+◌, List, take, drop, length, Result, Ok, Err, Bool, true, false}
+use Rattle.wire_model.specs.declared.rule.Rule.{Rule}
+use Rattle.wire_model.specs.declared.rule.Rule.TheVariants.{HeaderCut, BodyCut, TooLong}
 use Rattle.wire_model.specs.Record.{Record, Fault}
 use Rattle.mrt_frame.specs.declared.Framed.{Framed}
 use Rattle.mrt_frame.specs.declared.Header.{Header}
@@ -19,3 +21,23 @@ answer_of view (Err malformed) = Err (fault_of malformed)
 -- the record behind this header, and what follows it
 abbrev pub record_behind : List ℕ → Header → Record × List ℕ
 record_behind octets header = (record { kind = header.kind; subtype = header.sub; body = take header.length (drop 12 octets) }, drop (12 + header.length) octets)
+
+-- the octets of a record: its header and its body
+abbrev pub record_octets : Record → ℕ
+record_octets r = 12 + length r.body
+
+-- the most octets of a record that is cut: those of a header and of the longest body, less one
+abbrev pub most_left : ℕ
+most_left = 16777227
+
+-- the rules about headers and about how long bodies are
+abbrev pub IsOfFrames : Rule → Type 0
+IsOfFrames HeaderCut = Unit {0}
+IsOfFrames BodyCut = Unit {0}
+IsOfFrames TooLong = Unit {0}
+IsOfFrames rule = ⊥
+
+-- the rule of a Length over the limit
+abbrev pub is_long : Rule → Bool
+is_long TooLong = true
+is_long rule = false

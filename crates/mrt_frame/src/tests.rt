@@ -78,6 +78,7 @@ fn takes_the_same_records_from_pieces_of_any_size(rt: HostRuntime) -> Result<(),
             "in pieces of {size}"
         );
         assert_eq!(rt; end_of(&mut framer), Ok(()), "in pieces of {size}");
+        assert_eq!(rt; framer.held(), 0, "in pieces of {size}");
     }
     Ok(())
 }
@@ -99,15 +100,37 @@ fn refuses_what_is_cut_or_too_long(rt: HostRuntime) -> Result<(), Fail> {
     let mut long = Vec::from_slice(rt.alloc(), &PEERS)?;
     long.extend_from_slice(&LONG)?;
     let cases = [
-        (&PEERS[..11], Malformed { number: 0, rule: 1 }),
-        (&PEERS[..20], Malformed { number: 0, rule: 2 }),
-        (long.as_slice(), Malformed { number: 1, rule: 3 }),
+        (
+            &PEERS[..11],
+            11,
+            Malformed {
+                number: 0,
+                rule: Rule::HeaderCut,
+            },
+        ),
+        (
+            &PEERS[..20],
+            20,
+            Malformed {
+                number: 0,
+                rule: Rule::BodyCut,
+            },
+        ),
+        (
+            long.as_slice(),
+            12,
+            Malformed {
+                number: 1,
+                rule: Rule::TooLong,
+            },
+        ),
     ];
-    for (input, refused) in cases {
+    for (input, held, refused) in cases {
         let mut framer = Framer::new(rt.alloc());
         assert_eq!(rt; end_of(&mut framer), Ok(()));
         framer.feed(input)?;
         assert_eq!(rt; end_of(&mut framer), Err(refused), "at {refused}");
+        assert_eq!(rt; framer.held(), held, "at {refused}");
         assert_eq!(rt;
             end_of(&mut framer),
             Err(refused),

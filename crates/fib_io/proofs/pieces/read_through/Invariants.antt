@@ -1,11 +1,13 @@
-use Rattle.std.proofs.Common.{◌≡◌, ◌≤◌, ◌+◌, ◌-◌, ◌^◌, length, take}
+use Rattle.std.proofs.Common.{◌≡◌, ◌≤◌, ◌+◌, ◌-◌, ◌^◌, ◌<◌, length}
 use Rattle.std.specs.Prelude.{IfSome}
-use Rattle.fib_io.proofs.whole.read_by.Given as goal
+use Rattle.fib_io.proofs.Coming.{ReadOn}
+use Rattle.fib_io.proofs.pieces.read_through.Given as goal
 
 abbrev pub invariant-loop-octets : goal.invariant-loop-octets
 invariant-loop-octets g l = record {
+  some : 0 < length l.room;
   most : length l.octets.items ≤ 2 ^ 36;
-  front : IfSome (g.I.Inputs.content l.fn.inputs l.name) (λ c. l.octets.items ≡ take (length l.octets.items) c);
+  on : IfSome (g.I.Inputs.content l.fn.inputs l.name) (ReadOn l.octets.items);
   same : g.I.Inputs.content l.inputs ≡ g.I.Inputs.content l.fn.inputs;
   kept : g.I.Inputs.faults l.inputs ≡ g.I.Inputs.faults l.fn.inputs;
 }
