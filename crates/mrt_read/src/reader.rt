@@ -1,6 +1,8 @@
 //! The reader of an input that comes in pieces.
 
-ghost use Rattle.std.specs.Prelude.{◌≡◌, ◌≤◌, None, OnErr, OnOk, []};
+ghost use Rattle.std.specs.Prelude.{◌≡◌, ◌≤◌, None, OnErr, OnOk, [], map};
+ghost use Rattle.fib_prefix.specs.Views.{event_as};
+ghost use Rattle.mrt_read.specs.Views as views;
 ghost use Rattle.std.specs.Option.{ForNone};
 ghost use Rattle.mrt_frame.specs.Framing as framing;
 ghost use Rattle.mrt_frame.specs.Framing.{framer_count};
@@ -8,8 +10,8 @@ ghost use Rattle.mrt_read.specs.Next.{NextGoes};
 ghost use Rattle.reading_model.specs.Input.{start};
 
 use fib_prefix::Event;
-use mrt_frame::{Framer, Malformed};
-use mrt_records::{PeerTable, Refusal, read_record};
+use mrt_frame::{Framed, Framer, Malformed};
+use mrt_records::{PeerTable, RecordTold, Refusal, read_record};
 use std::alloc::{AllocError, Global};
 use thiserror::Error;
 
@@ -24,37 +26,52 @@ pub enum EventsError {
     NoMemory,
 }
 
-/// What the next whole record says.
-#[derive(Drop)]
-enum NextRecord {
-    /// Its events.
-    Events(Vec<Event>),
-    /// It is skipped.
-    Skipped,
+/// How many records are skipped by reading one that told this.
+fn skips(told: RecordTold) -> u64
+    ensures { result ≡ views.skips told }
+{
+    match told {
+        RecordTold::Skipped => 1,
+        RecordTold::Events | RecordTold::Treated => 0,
+    }
 }
 
-/// What the next whole record says, or `None` where there is none.
+/// How many messages are treated as withdrawals by reading a record that told this.
+fn treats(told: RecordTold) -> u64
+    ensures { result ≡ views.treats told }
+{
+    match told {
+        RecordTold::Treated => 1,
+        RecordTold::Events | RecordTold::Skipped => 0,
+    }
+}
+
+/// What the next whole record told, its events in `events`; or `None` where there is none.
 fn read_next(
     alloc: Global,
     framer: &mut Framer,
+    events: &mut Vec<Event>,
     table: &mut Option<PeerTable>,
-) -> Result<Option<NextRecord>, Refusal>
+) -> Result<Option<RecordTold>, Refusal>
     requires { framing.framer_refusal framer.old ≡ None }
-    ensures { NextGoes (record { framer = framer.old; table = table.old }) result
-        (record { framer = framer.new; table = table.new }) }
+    ensures goes { NextGoes (record { framer = framer.old; table = table.old }) result
+        (map event_as events.new.items) (record { framer = framer.new; table = table.new }) }
+    ensures none { OnErr result (events.new.items ≡ []) }
 {
+    events.clear();
     match framer.next() {
         Err(malformed) => Err(Refusal::Rule(malformed.rule)),
         Ok(None) => Ok(None),
-        Ok(Some(framed)) => match read_record(alloc, table, framed.kind, framed.sub, framed.body) {
-            Ok(Some(events)) => Ok(Some(NextRecord::Events(events))),
-            Ok(None) => Ok(Some(NextRecord::Skipped)),
-            Err(Refusal::Rule(rule)) => Err(Refusal::Rule(rule)),
-            Err(Refusal::NoMemory) => {
-                framer.again();
-                Err(Refusal::NoMemory)
+        Ok(Some(Framed { kind, sub, body })) => {
+            match read_record(alloc, events, table, kind, sub, body) {
+                Ok(told) => Ok(Some(told)),
+                Err(Refusal::Rule(rule)) => Err(Refusal::Rule(rule)),
+                Err(Refusal::NoMemory) => {
+                    framer.again();
+                    Err(Refusal::NoMemory)
+                }
             }
-        },
+        }
     }
 }
 
@@ -67,12 +84,13 @@ pub struct Reader {
     refused: Option<Malformed>,
     records: u64,
     skipped: u64,
+    treated: u64,
     ghost going: { ForNone refused ((framing.framer_refusal framer ≡ None) × (framer_count framer ≡ records)) },
-    ghost counted: { skipped ≤ records },
+    ghost counted: { (skipped ≤ records) × (treated ≤ records) },
 }
 
 impl Reader {
-    ghost use Rattle.mrt_read.specs.Standing.{ReaderAnswers, reader_end, ReaderFeeds, ReaderIsUnchanged, ReaderIsUsedUp, reader_left, reader_next, reader_records, reader_refusal, reader_skipped, ReaderStands, ReaderTells, ReaderTook};
+    ghost use Rattle.mrt_read.specs.Standing.{ReaderAnswers, reader_end, ReaderFeeds, ReaderFilled, ReaderFills, ReaderIsUnchanged, ReaderIsUsedUp, reader_left, reader_next, reader_records, reader_refusal, reader_skipped, reader_treated, ReaderStands, ReaderTells, ReaderTook};
     ghost use Rattle.mrt_frame.specs.Records.{answer_of};
 
     /// A reader that was fed nothing.
@@ -88,6 +106,7 @@ impl Reader {
             refused: None,
             records: 0,
             skipped: 0,
+            treated: 0,
         }
     }
 
@@ -99,28 +118,27 @@ impl Reader {
         self.framer.feed(piece)
     }
 
-    /// Takes the next whole record of what was fed, and gives its events, none where it is skipped; `None` where there is
-    /// no whole record.
+    /// Reads the next whole record of what was fed: its events take the place of what stood in `events`, none where it is skipped.
+    /// False where there is no whole record; then `events` is empty.
     ///
     /// The first record that breaks a rule is refused, for good, and none of its events is given. Where memory runs out,
     /// the reader is as it was.
-    pub fn take_events(&mut self) -> Result<Option<Vec<Event>>, EventsError>
-        ensures gives { ReaderAnswers result (reader_next self.old) }
-        ensures after { ReaderTook self.old result self.new }
+    pub fn read_events(&mut self, events: &mut Vec<Event>) -> Result<bool, EventsError>
+        ensures gives { ReaderFills result (map event_as events.new.items) (reader_next self.old) }
+        ensures after { ReaderFilled self.old result (map event_as events.new.items) self.new }
+        ensures none { OnErr result (events.new.items ≡ []) }
     {
         if let Some(refused) = self.refused {
+            events.clear();
             return Err(EventsError::Malformed(refused));
         }
-        match read_next(self.alloc, &mut self.framer, &mut self.table) {
-            Ok(None) => Ok(None),
-            Ok(Some(NextRecord::Events(events))) => {
+        match read_next(self.alloc, &mut self.framer, events, &mut self.table) {
+            Ok(None) => Ok(false),
+            Ok(Some(told)) => {
                 self.records += 1;
-                Ok(Some(events))
-            }
-            Ok(Some(NextRecord::Skipped)) => {
-                self.records += 1;
-                self.skipped += 1;
-                Ok(Some(Vec::new(self.alloc)))
+                self.skipped += skips(told);
+                self.treated += treats(told);
+                Ok(true)
             }
             Err(Refusal::NoMemory) => Err(EventsError::NoMemory),
             Err(Refusal::Rule(rule)) => {
@@ -134,7 +152,20 @@ impl Reader {
         }
     }
 
-    /// Whether the input may end here: the refusal that is kept, or rule 1 or 2 where a header or a body is cut.
+    /// Takes the next whole record, as `read_events` does, and gives its events; `None` where there is no whole record.
+    pub fn take_events(&mut self) -> Result<Option<Vec<Event>>, EventsError>
+        ensures gives { ReaderAnswers result (reader_next self.old) }
+        ensures after { ReaderTook self.old result self.new }
+    {
+        let mut events = Vec::new(self.alloc);
+        match self.read_events(&mut events) {
+            Ok(true) => Ok(Some(events)),
+            Ok(false) => Ok(None),
+            Err(error) => Err(error),
+        }
+    }
+
+    /// Whether the input may end here: the refusal that is kept, or `HeaderCut` or `BodyCut` where a header or a body is cut.
     ///
     /// It may be asked only once `take_events` gives no further events, or a refusal: a whole record that is left would be
     /// passed over.
@@ -161,5 +192,12 @@ impl Reader {
         ensures { result ≡ reader_skipped self.now }
     {
         self.skipped
+    }
+
+    /// How many messages were treated as withdrawals (RFC 7606).
+    pub fn treated(&self) -> u64
+        ensures { result ≡ reader_treated self.now }
+    {
+        self.treated
     }
 }

@@ -3,8 +3,9 @@ ghost use Rattle.std.specs.Prelude.{OnOk};
 ghost use Rattle.mrt_read.specs.Standing.{ReaderIsUsedUp};
 
 use super::*;
-use fib_prefix::{Addr, Event, Family, Peer, Prefix};
+use fib_prefix::{Addr, Event, Family, Peer, Prefix, Via};
 use std::test::Fail;
+use wire_fields::Rule;
 
 /// A table of one peer, 192.0.2.1 of AS 64500.
 const PEERS: &[u8] = b"\x00\x00\x00\x00\x00\x0d\x00\x01\x00\x00\x00\x15\
@@ -57,7 +58,10 @@ fn tells_the_same_from_pieces_of_any_size(rt: HostRuntime) -> Result<(), Fail> {
     let addr = Addr::from_octets(Family::V4, &[192, 0, 2, 1]);
     let peer = Peer { addr, asn: 64500 };
     let ten = Prefix::from_front(Family::V4, 8, &[10]);
-    let expected = [Event::Announce(peer, ten, 1, addr), Event::Down(peer)];
+    let expected = [
+        Event::Announce(Via { peer, id: 0 }, ten, 1, addr),
+        Event::Down(peer),
+    ];
     let mut input = Vec::from_slice(rt.alloc(), PEERS)?;
     for record in [ROUTE, OTHER, LOST, OTHER_FAMILY] {
         input.extend_from_slice(record)?;
@@ -80,11 +84,31 @@ fn tells_the_same_from_pieces_of_any_size(rt: HostRuntime) -> Result<(), Fail> {
         assert_eq!(rt; reader.skipped(), 2, "in pieces of {size}");
     }
     for (name, pieces, number, rule) in [
-        ("a route before the peers", [ROUTE, PEERS], 0, 5),
-        ("a header that is cut", [PEERS, &ROUTE[..11]], 1, 1),
-        ("a body that is cut", [PEERS, &ROUTE[..20]], 1, 2),
-        ("a long body", [PEERS, LONG], 1, 3),
-        ("an attribute that is cut", [PEERS, CUT], 1, 9),
+        (
+            "a route before the peers",
+            [ROUTE, PEERS],
+            0,
+            Rule::NoPeerTable,
+        ),
+        (
+            "a header that is cut",
+            [PEERS, &ROUTE[..11]],
+            1,
+            Rule::HeaderCut,
+        ),
+        (
+            "a body that is cut",
+            [PEERS, &ROUTE[..20]],
+            1,
+            Rule::BodyCut,
+        ),
+        ("a long body", [PEERS, LONG], 1, Rule::TooLong),
+        (
+            "an attribute that is cut",
+            [PEERS, CUT],
+            1,
+            Rule::AttributeCut,
+        ),
     ] {
         let mut reader = Reader::new(rt.alloc());
         for piece in pieces {
