@@ -1,7 +1,7 @@
 -- What a clause sees of printed rows, and of what is kept of them.
 use Rattle.std.specs.Prelude.{◌≡◌, Result, Ok, Err, map, option_map}
 use Rattle.fib_addr.specs.Views.{addr_as, prefix_as, entry_as}
-use Rattle.printed_model.specs.Rows.{Count, Records, Skipped, Events, Routes, Entries, Nodes, Leaves, PrintedRow, route_row, add_row, replace_row, remove_row, answer_row, visits_row, table_row, least_row, cert_leaf_row, cert_join_row, cert_bound_row, report_row}
+use Rattle.printed_model.specs.Rows.{Count, Records, Skipped, Events, Routes, Entries, Nodes, Leaves, Treated, PrintedRow, route_row, add_row, replace_row, remove_row, answer_row, visits_row, table_row, least_row, cert_leaf_row, cert_join_row, cert_bound_row, report_row}
 use Rattle.printed_model.specs.Texts.{BadLine}
 use Rattle.printed_model.specs.Used.{Used}
 use Rattle.cert_rows.specs.Views.{row_as}
@@ -22,6 +22,7 @@ count_as count.Routes = Routes
 count_as count.Entries = Entries
 count_as count.Nodes = Nodes
 count_as count.Leaves = Leaves
+count_as count.Treated = Treated
 
 -- the row, with its addresses' and prefixes' bits
 abbrev pub printed_row_as : code_printed.PrintedRow → PrintedRow

@@ -70,6 +70,8 @@ pub(crate) fn count_field(text: &[u8]) -> Result<Count, u8>
         Ok(Count::Nodes)
     } else if is(text, b"leaves") {
         Ok(Count::Leaves)
+    } else if is(text, b"treated") {
+        Ok(Count::Treated)
     } else {
         Err(why::WORD)
     }

@@ -45,6 +45,8 @@ pub enum Count {
     Nodes,
     /// The leaves that look-ups need.
     Leaves,
+    /// The messages that were treated as withdrawals (RFC 7606, section 2).
+    Treated,
 }
 
 /// A printed row. A hop is an address, or `None` for none.

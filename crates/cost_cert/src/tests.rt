@@ -29,7 +29,7 @@ const TEXTS: [(&str, Option<(u64, u8)>); 48] = [
     ("\n\r\nroute,10.0.0.0/08,::", Some((3, 4))),
     ("cert,bound,5", Some((1, 3))),
     ("report,foo", Some((1, 3))),
-    ("report,treated,1", Some((1, 2))),
+    ("report,invalid,1", Some((1, 2))),
     (",", Some((1, 2))),
     ("route,10.0.0.0/8,192.0.2.1,", Some((1, 3))),
     ("change,1,+,::/0", Some((1, 3))),

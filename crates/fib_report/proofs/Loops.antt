@@ -66,12 +66,13 @@ pub AddsRows-four : {W : Type 0} (contents : W → Option (List ℕ)) (u v w x y
     → AddsRows contents u v (text_of a) → AddsRows contents v w (text_of b) → AddsRows contents w x (text_of c) → AddsRows contents x y (text_of d) → AddsRows contents u y (text_of (a ++ b ++ c ++ d))
 AddsRows-four contents u v w x y a b c d p q r s = two contents u x y (a ++ b ++ c) d (two contents u w x (a ++ b) c (two contents u v w a b p q) r) s
 
--- five rows
-pub AddsRows-five : {W : Type 0} (contents : W → Option (List ℕ)) (u v w x y z : Writer W) (a b c d e : PrintedRow)
-    → AddsRows contents u v (line_of a) → AddsRows contents v w (line_of b) → AddsRows contents w x (line_of c) → AddsRows contents x y (line_of d) → AddsRows contents y z (line_of e)
-    → AddsRows contents u z (text_of (a ∷ b ∷ c ∷ d ∷ e ∷ []))
-AddsRows-five contents u v w x y z a b c d e p q r s t =
-    AddsRows-more contents u v z _ _ p (AddsRows-more contents v w z _ _ q (AddsRows-more contents w x z _ _ r (AddsRows-more contents x y z _ _ s (subst (AddsRows contents y z) (sym (one_row e)) t))))
+-- one row
+pub AddsRows-one : {W : Type 0} (contents : W → Option (List ℕ)) (u v : Writer W) (a : PrintedRow) → AddsRows contents u v (line_of a) → AddsRows contents u v (text_of (a ∷ []))
+AddsRows-one contents u v a p = subst (AddsRows contents u v) (sym (one_row a)) p
+
+-- and one before others
+pub AddsRows-before : {W : Type 0} (contents : W → Option (List ℕ)) (u v w : Writer W) (a : PrintedRow) (more : List PrintedRow) → AddsRows contents u v (line_of a) → AddsRows contents v w (text_of more) → AddsRows contents u w (text_of (a ∷ more))
+AddsRows-before contents u v w a more p q = AddsRows-more contents u v w _ _ p q
 
 -- the text of a writer that began with none
 pub text_written-rows : {W : Type 0} (contents : W → Option (List ℕ)) (u v : Writer W) (rows : List ℕ) → text_written contents u ≡ Some [] → AddsRows contents u v rows → text_written contents v ≡ Some rows

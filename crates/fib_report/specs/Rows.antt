@@ -3,7 +3,7 @@ use Rattle.std.specs.Prelude.{ℕ, List, [], ◌∷◌, ◌++◌, map, flat_map}
 use Rattle.address_model.specs.Address.{Address, Prefix}
 use Rattle.table_model.specs.Changes.{Change, Add, Replace, Remove}
 use Rattle.fib_addr.specs.Hops.{hop_at}
-use Rattle.printed_model.specs.Rows.{Records, Skipped, Events, Routes, Entries, PrintedRow, add_row, replace_row, remove_row, answer_row, table_row, report_row, text_of}
+use Rattle.printed_model.specs.Rows.{Records, Skipped, Events, Routes, Entries, Treated, PrintedRow, add_row, replace_row, remove_row, answer_row, table_row, report_row, text_of}
 use Rattle.printed_model.specs.Numbered.{of_route, of_least, of_cert}
 use Rattle.fib_report.specs.Views.{Told}
 use Rattle.fib_report.specs.declared.run.Report.{Report}
@@ -25,7 +25,7 @@ abbrev pub table_entry_row : List Address → Prefix × ℕ → PrintedRow
 table_entry_row hops e = table_row e.0 (hop_at hops e.1)
 
 abbrev pub report_rows : Report → List PrintedRow
-report_rows r = report_row Records r.records ∷ report_row Skipped r.skipped ∷ report_row Events r.events ∷ report_row Routes r.routes ∷ report_row Entries r.entries ∷ []
+report_rows r = report_row Records r.records ∷ report_row Skipped r.skipped ∷ report_row Events r.events ∷ report_row Routes r.routes ∷ report_row Entries r.entries ∷ report_row Treated r.treated ∷ []
 
 -- ---- a run
 

@@ -2,12 +2,11 @@
 use Rattle.std.specs.Prelude.{ℕ, List, map}
 use Rattle.address_model.specs.Address.{Address}
 use Rattle.table_model.specs.Entries.{Entries}
-use Rattle.table_model.specs.Changes.{Change, Add, Replace, Remove}
+use Rattle.table_model.specs.Changes.{Change}
 use Rattle.cert_model.specs.Rows.{CertRow}
-use Rattle.fib_addr.specs.Views.{addr_as, prefix_as, entry_as}
+use Rattle.fib_addr.specs.Views.{addr_as, entry_as}
 use Rattle.cert_rows.specs.Views.{row_as}
-use Rattle.fib_report.specs.declared.run.Change as code_change
-use Rattle.fib_report.specs.declared.run.Change.TheVariants as code
+use Rattle.fib_delta.specs.Views.{change_as}
 use Rattle.fib_report.specs.declared.run.Report.{Report}
 use Rattle.fib_report.specs.declared.run.Run as code_run
 
@@ -20,12 +19,6 @@ pub record Told : Type 0 where
   pub least : Entries
   pub cert : List CertRow
   pub report : Report
-
--- the change, with its prefix's bits and its hop's number
-abbrev pub change_as : code_change.Change → Change
-change_as (code.Add p h) = Add (prefix_as p) h.0
-change_as (code.Replace p h) = Replace (prefix_as p) h.0
-change_as (code.Remove p) = Remove (prefix_as p)
 
 -- the run, item by item
 abbrev pub run_as : code_run.Run → Told

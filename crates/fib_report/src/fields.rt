@@ -33,6 +33,7 @@ pub(crate) fn count_field(count: Count) -> &'static [u8]
         Count::Entries => b"entries",
         Count::Nodes => b"nodes",
         Count::Leaves => b"leaves",
+        Count::Treated => b"treated",
     }
 }
 

@@ -18,4 +18,4 @@ mod tests;
 
 pub use fields::{family_field, hop_field};
 pub use rows::{row_text, write_run};
-pub use run::{Change, Report, Run};
+pub use run::{Report, Run};

@@ -9,7 +9,7 @@
 //!     cert,leaf,PREFIX,HOP
 //!     cert,join,PREFIX,K
 //!     cert,bound,FAMILY,COUNT      with 4 or 6 for the family
-//!     report,NAME,COUNT            for records, skipped, events, routes and entries
+//!     report,NAME,COUNT            for records, skipped, events, routes, entries and treated
 //!
 //! HOP is the hop's address. Where no hop has the number it is `none` in an answer and a leaf, and `drop` in a change and a
 //! table; a route without a hop has no row. A run costs its rows' length, in one text of its own, which is then put behind the
@@ -23,15 +23,17 @@ ghost use Rattle.cert_rows.specs.Views.{row_as};
 ghost use Rattle.printed_model.specs.Rows.{IsRow, text_of, line};
 ghost use Rattle.fib_report.specs.Rows.{of_answer, of_change, table_entry_row, printed_rows, report_rows, run_text};
 ghost use Rattle.printed_model.specs.Numbered.{of_cert, of_least, of_route};
-ghost use Rattle.fib_report.specs.Views.{change_as, run_as};
+ghost use Rattle.fib_delta.specs.Views.{change_as};
+ghost use Rattle.fib_report.specs.Views.{run_as};
 ghost use Rattle.csv.specs.Writing.{text_written};
 ghost use Rattle.fib_report.specs.Writing.{AddsRows, IsAtRow};
 
 use crate::printed_row::{put_fields, put_row};
-use crate::run::{Change, Report, Run};
+use crate::run::{Report, Run};
 use cost_cert::{Count, PrintedRow, Row};
 use csv::{QuoteStyle, Writer, WriterBuilder};
 use fib_addr::{Addr, Entry, Hop, HopTable};
+use fib_delta::Change;
 use std::alloc::{AllocError, Global};
 use std::io::Write;
 
@@ -195,6 +197,7 @@ fn put_report<W: Write + Drop>(out: &mut Writer<W>, report: &Report) -> Result<(
     put_row(out, PrintedRow::Report(Count::Events, report.events))?;
     put_row(out, PrintedRow::Report(Count::Routes, report.routes))?;
     put_row(out, PrintedRow::Report(Count::Entries, report.entries))?;
+    put_row(out, PrintedRow::Report(Count::Treated, report.treated))?;
     Ok(())
 }
 

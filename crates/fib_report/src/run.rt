@@ -4,18 +4,8 @@
 //! is given beside the run. `specs/Views.antt` says what contracts see of it.
 
 use cost_cert::Row;
-use fib_addr::{Addr, Entry, Hop, Prefix};
-
-/// A change to a table.
-#[derive(Clone, Copy, Debug, PartialEq, Eq)]
-pub enum Change {
-    /// An entry at a prefix that the table has none at.
-    Add(Prefix, Hop),
-    /// Another hop for the entry at the prefix.
-    Replace(Prefix, Hop),
-    /// The entry at the prefix goes.
-    Remove(Prefix),
-}
+use fib_addr::{Addr, Entry, Hop};
+use fib_delta::Change;
 
 /// What a run counted.
 #[derive(Clone, Copy, Debug, PartialEq, Eq)]
@@ -30,6 +20,8 @@ pub struct Report {
     pub routes: u64,
     /// The entries of the table.
     pub entries: u64,
+    /// The messages that were treated as withdrawals (RFC 7606, section 2).
+    pub treated: u64,
 }
 
 /// What a run tells: the routes that it ended with, the changes with their events, the answers, the table, the least table with

@@ -1,8 +1,9 @@
 //! Whole texts, written out by hand.
 
-use crate::{Change, Report, Run, write_run};
+use crate::{Report, Run, write_run};
 use cost_cert::Row;
 use fib_addr::{Addr, Entry, Family, Hop, HopTable, Prefix};
+use fib_delta::Change;
 use std::test::Fail;
 
 #[test]
@@ -35,6 +36,7 @@ fn one_route(rt: HostRuntime) -> Result<(), Fail> {
             events: 1,
             routes: 1,
             entries: 1,
+            treated: 3,
         },
     };
     let mut out = Vec::new(rt.alloc());
@@ -56,6 +58,7 @@ report,skipped,0
 report,events,1
 report,routes,1
 report,entries,1
+report,treated,3
 ";
     assert_eq!(rt; out.as_slice(), want.as_bytes());
     Ok(())

@@ -10,7 +10,7 @@ use Rattle.fib_addr.specs.Text.{address_in, address_text, prefix_text}
 use Rattle.fib_addr.proofs.Texts.{bytes_eq_is, bytes_eq_refl}
 use Rattle.fib_addr.proofs.TextLaws.{written_is_read}
 use Rattle.fib_addr.proofs.PrefixLaws.{prefix_written}
-use Rattle.printed_model.specs.Rows.{Count, Records, Skipped, Events, Routes, Entries, Nodes, Leaves, IsHop, IsNumber, count_name, family_name, hop_text}
+use Rattle.printed_model.specs.Rows.{Count, Records, Skipped, Events, Routes, Entries, Nodes, Leaves, Treated, IsHop, IsNumber, count_name, family_name, hop_text}
 use Rattle.printed_model.specs.Reading.{bad_hop, bad_prefix, bad_number, or_why, address_field, prefix_field, number_field, hop_field, count_field, family_field}
 use Rattle.fib_addr.proofs.Numbers.{number_read}
 
@@ -59,6 +59,7 @@ count_again Routes = refl
 count_again Entries = refl
 count_again Nodes = refl
 count_again Leaves = refl
+count_again Treated = refl
 
 pub family_again : (f : Family) → family_field (family_name f) ≡ Ok f
 unfolding family_field

@@ -15,7 +15,7 @@ use Rattle.fib_addr.specs.Groups.{groups_of}
 use Rattle.fib_addr.specs.Text.{bits_text, address_text, first_address, prefix_text}
 use Rattle.fib_addr.proofs.TextLaws.{octet_lt}
 use Rattle.fib_addr.proofs.GroupLaws.{is_mark, none_of_both, none_in_text}
-use Rattle.printed_model.specs.Rows.{Count, Records, Skipped, Events, Routes, Entries, Nodes, Leaves, PrintedRow, route_row, add_row, replace_row, remove_row, answer_row, visits_row, table_row, least_row, cert_leaf_row, cert_join_row, cert_bound_row, report_row, IsNumber, IsRow, fields_of, count_name, family_name, hop_text}
+use Rattle.printed_model.specs.Rows.{Count, Records, Skipped, Events, Routes, Entries, Nodes, Leaves, Treated, PrintedRow, route_row, add_row, replace_row, remove_row, answer_row, visits_row, table_row, least_row, cert_leaf_row, cert_join_row, cert_bound_row, report_row, IsNumber, IsRow, fields_of, count_name, family_name, hop_text}
 
 -- the mark doesn't stand in the text
 abbrev pub Lacks : ℕ → List ℕ → Type 0
@@ -82,6 +82,7 @@ plain_count Routes = (refl, refl, refl)
 plain_count Entries = (refl, refl, refl)
 plain_count Nodes = (refl, refl, refl)
 plain_count Leaves = (refl, refl, refl)
+plain_count Treated = (refl, refl, refl)
 
 plain_family : (f : Family) → IsPlain (family_name f)
 plain_family V4 = (refl, refl, refl)

@@ -6,7 +6,7 @@ use Rattle.address_model.specs.Address.{Address, Prefix}
 use Rattle.address_model.specs.declared.family.Family.{Family}
 use Rattle.address_model.specs.declared.family.Family.TheVariants.{V4, V6}
 use Rattle.fib_addr.specs.Text.{address_in, prefix_in, number_below}
-use Rattle.printed_model.specs.Rows.{Count, Records, Skipped, Events, Routes, Entries, Nodes, Leaves, PrintedRow, route_row, add_row, replace_row, remove_row, answer_row, visits_row, table_row, least_row, cert_leaf_row, cert_join_row, cert_bound_row, report_row}
+use Rattle.printed_model.specs.Rows.{Count, Records, Skipped, Events, Routes, Entries, Nodes, Leaves, Treated, PrintedRow, route_row, add_row, replace_row, remove_row, answer_row, visits_row, table_row, least_row, cert_leaf_row, cert_join_row, cert_bound_row, report_row}
 
 -- ---- why
 
@@ -63,6 +63,7 @@ count_field text =
     else if bytes_eq text (codes "entries") then Ok Entries
     else if bytes_eq text (codes "nodes") then Ok Nodes
     else if bytes_eq text (codes "leaves") then Ok Leaves
+    else if bytes_eq text (codes "treated") then Ok Treated
     else Err bad_word
 
 unfoldable pub family_field : List ℕ → Result Family ℕ

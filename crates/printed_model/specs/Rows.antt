@@ -6,7 +6,7 @@ use Rattle.address_model.specs.declared.family.Family.{Family}
 use Rattle.address_model.specs.declared.family.Family.TheVariants.{V4, V6}
 use Rattle.fib_addr.specs.Text.{address_text, prefix_text}
 
--- what a run counts
+-- what a run counts; Treated are the messages that were treated as withdrawals (RFC 7606, 2)
 pub data Count : Type 0 where
   Records : Count
   Skipped : Count
@@ -15,6 +15,7 @@ pub data Count : Type 0 where
   Entries : Count
   Nodes : Count
   Leaves : Count
+  Treated : Count
 
 -- A printed row: a chosen route; what the event of a number adds to the table, replaces in it or removes from it; the hop of an
 -- address, and how many nodes its look-up visits; an entry of the kept table, and of a least one; what a certificate says of a region
@@ -43,6 +44,7 @@ count_name Routes = codes "routes"
 count_name Entries = codes "entries"
 count_name Nodes = codes "nodes"
 count_name Leaves = codes "leaves"
+count_name Treated = codes "treated"
 
 abbrev pub family_name : Family → List ℕ
 family_name V4 = codes "4"

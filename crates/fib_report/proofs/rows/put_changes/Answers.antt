@@ -1,4 +1,4 @@
-use Rattle.fib_report.specs.Views.{change_as}
+use Rattle.fib_delta.specs.Views.{change_as}
 use Rattle.fib_report.specs.Rows.{of_change}
 use Rattle.fib_report.proofs.Loops.{AddsRows-item}
 use Rattle.fib_report.proofs.Proper.{one_proper}

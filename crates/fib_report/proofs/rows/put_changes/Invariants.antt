@@ -1,6 +1,6 @@
 use Rattle.std.proofs.Common.{map, take}
 use Rattle.std.specs.List.{AllByRecursion}
-use Rattle.fib_report.specs.Views.{change_as}
+use Rattle.fib_delta.specs.Views.{change_as}
 use Rattle.printed_model.specs.Rows.{IsRow, text_of}
 use Rattle.fib_report.specs.Rows.{of_change}
 use Rattle.fib_report.specs.Writing.{AddsRows}

@@ -3,7 +3,7 @@ use Rattle.fib_addr.specs.Views.{addr_as, entry_as}
 use Rattle.cert_rows.specs.Views.{row_as}
 use Rattle.fib_report.specs.Rows.{of_answer, of_change, table_entry_row, report_rows}
 use Rattle.printed_model.specs.Numbered.{of_cert, of_least, of_route}
-use Rattle.fib_report.specs.Views.{change_as}
+use Rattle.fib_delta.specs.Views.{change_as}
 use Rattle.fib_report.proofs.Loops.{AddsRows-four, text_written-rows, IfOk-passed}
 use Rattle.fib_report.proofs.Proper.{both_proper, on_ok}
 use Rattle.fib_report.proofs.rows.text_of_run.Goals as goal
