@@ -1,18 +1,18 @@
 -- One level of the recursions that keep covers, and of the one that reads them.
-use Rattle.std.proofs.Common.{◌≡◌, ◌≢◌, ℕ, zero, suc, ◌-◌, ◌≤◌, List, [], ◌∷◌, length, Bool, true, false, ◌&&◌, not, cond, nat_eq, refl, sym, ap, ◌∙◌, subst, arith, Option, Some, None, Box}
+use Rattle.std.proofs.Common.{◌≡◌, ◌≢◌, ℕ, zero, suc, ◌-◌, ◌≤◌, List, [], ◌∷◌, length, Bool, true, false, ◌&&◌, not, cond, nat_eq, refl, sym, ap, ◌∙◌, subst, arith, Option, Some, None}
 use Rattle.std.specs.Int.{bit_at}
 use Rattle.std.specs.Option.{unwrap_or}
-use Rattle.std.specs.declared.alloc.Global.{Global}
 use Rattle.std.proofs.lemmas.Bool.{eqb-true, eqb-false}
 use Rattle.address_model.specs.Bits.{bits_of}
 use Rattle.table_model.specs.Table.{Table, lpm, inherit}
 use Rattle.least_model.specs.Regions.{join}
 use Rattle.least_model.proofs.Join.{lpm_join_low, lpm_join_high}
 use Rattle.orig_tree.specs.Views.{Fits}
-use Rattle.orig_tree.specs.Walk.{Walks, behind, walks_of, rows_of, edited, labelled}
+use Rattle.orig_tree.specs.Walk.{Walks, walks_of, rows_of, edited, labelled}
 use Rattle.orig_tree.specs.Cover.{Shows, Allows, Within, SomeGets, ReachedBy, IsCover, only_by, only_of}
 use Rattle.orig_tree.specs.Slots.{AreCovers, Retold}
 use Rattle.orig_tree.specs.Uniform.{EachGets, TwoGet, IsUniform}
+use Rattle.orig_tree.specs.Packed.{cover_in}
 use Rattle.orig_tree.specs.declared.cover.Cover.{Cover}
 use Rattle.orig_tree.specs.declared.cover.Slot.{Slot}
 use Rattle.orig_tree.specs.declared.cover.Hops.{Hops}
@@ -21,17 +21,17 @@ use Rattle.orig_tree.specs.declared.node.Label.{Label}
 use Rattle.orig_tree.specs.declared.node.Label.TheVariants.{Route, Entry}
 use Rattle.orig_tree.proofs.Paths.{no_bits, first_one, first_zero}
 use Rattle.orig_tree.proofs.Covers.{fits_low, fits_high}
-use Rattle.orig_tree.proofs.Steps.{rows_level, given_is, rows_nothing, behind_none, assign_route, assign_entry, assign_high, assign_low}
+use Rattle.orig_tree.proofs.Steps.{rows_level, given_is, assign_route, assign_entry, assign_high, assign_low}
 
 -- a label's cover carried over equal parts
-carry : (c c' : Slot) (low low' high high' : Table) → c' ≡ c → low' ≡ low → high' ≡ high → IsCover (join c.hop low high) c.cover → IsCover (join c'.hop low' high') c'.cover
+carry : (c c' : Slot) (low low' high high' : Table) → c' ≡ c → low' ≡ low → high' ≡ high → IsCover (join c.hop low high) (cover_in c) → IsCover (join c'.hop low' high') (cover_in c')
 carry c c' low low' high high' e l h k =
-    subst (λ (s : Slot). IsCover (join s.hop low' high') s.cover) (sym e)
-    (subst (λ (x : Table). IsCover (join c.hop x high') c.cover) (sym l)
-    (subst (λ (x : Table). IsCover (join c.hop low x) c.cover) (sym h) k))
+    subst (λ (s : Slot). IsCover (join s.hop low' high') (cover_in s)) (sym e)
+    (subst (λ (x : Table). IsCover (join c.hop x high') (cover_in c)) (sym l)
+    (subst (λ (x : Table). IsCover (join c.hop low x) (cover_in c)) (sym h) k))
 
-hop_at : (c : Slot) (h : Option ℕ) (low high : Table) → c.hop ≡ h → IsCover (join h low high) c.cover → IsCover (join c.hop low high) c.cover
-hop_at c h low high e k = subst (λ (x : Option ℕ). IsCover (join x low high) c.cover) (sym e) k
+hop_at : (c : Slot) (h : Option ℕ) (low high : Table) → c.hop ≡ h → IsCover (join h low high) (cover_in c) → IsCover (join c.hop low high) (cover_in c)
+hop_at c h low high e k = subst (λ (x : Option ℕ). IsCover (join x low high) (cover_in c)) (sym e) k
 
 -- what one label's edit leaves of the other's rows
 module _ (p : List Bool) (h : Option ℕ) where
@@ -173,18 +173,6 @@ module _ (label : Label) (route entry : Option ℕ) (low high node : Walks) (lef
       let s = uniform_low n inherited own (rows_of label low) (rows_of label high) (bits_of (left - 1) q) result v' in
       subst (λ (p : List Bool). IsUniform (suc n) (rows_of label node) inherited p result) (sym (first_zero left q e b))
       (subst (λ (r : Table). IsUniform (suc n) r inherited (false ∷ bits_of (left - 1) q) result) (sym (ap (rows_of label) (sym w) ∙ rows_level label route entry low high)) s)
-
-uniform_bare : (label : Label) (link : Option (Box Walks Global)) (hop left q : ℕ) → link ≡ None → (n : ℕ) → left ≤ n → Fits n (rows_of label (behind link)) → IsUniform n (rows_of label (behind link)) hop (bits_of left q) (Some hop)
-uniform_bare label link hop left q e n l f a la b = ap (λ r. lpm r a hop) (ap (rows_of label) (behind_none link e) ∙ rows_nothing label)
-
-module _ (label : Label) (route entry : Option ℕ) (node : Walks) (left q inherited hop : ℕ) where
-  pub uniform_no_high : (low : Walks) (high : Option (Box Walks Global)) → walks_of route entry low (behind high) ≡ node → left ≢ 0 → true ≡ nat_eq (bit_at q (left - 1)) 1 → hop ≡ unwrap_or (labelled label route entry) inherited → high ≡ None →
-      (n : ℕ) → left ≤ n → Fits n (rows_of label node) → IsUniform n (rows_of label node) inherited (bits_of left q) (Some hop)
-  uniform_no_high low high w e b o g = uniform_high_step label route entry low (behind high) node left q inherited hop (Some hop) w e b o (uniform_bare label high hop (left - 1) q g)
-
-  pub uniform_no_low : (low : Option (Box Walks Global)) (high : Walks) → walks_of route entry (behind low) high ≡ node → left ≢ 0 → false ≡ nat_eq (bit_at q (left - 1)) 1 → hop ≡ unwrap_or (labelled label route entry) inherited → low ≡ None →
-      (n : ℕ) → left ≤ n → Fits n (rows_of label node) → IsUniform n (rows_of label node) inherited (bits_of left q) (Some hop)
-  uniform_no_low low high w e b o g = uniform_low_step label route entry (behind low) high node left q inherited hop (Some hop) w e b o (uniform_bare label low hop (left - 1) q g)
 
 pub uniform_here : (label : Label) (node : Walks) (c : Cover) (left q inherited : ℕ) (result : Option ℕ) → IsCover (rows_of label node) c → left ≡ 0 → result ≡ only_of c inherited →
     (n : ℕ) → left ≤ n → Fits n (rows_of label node) → IsUniform n (rows_of label node) inherited (bits_of left q) result

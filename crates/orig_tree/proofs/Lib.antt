@@ -8,3 +8,10 @@ pub mod Telling
 pub mod Above
 pub mod Asked
 pub mod Trimming
+pub mod Arena
+pub mod Told
+pub mod Rooms
+pub mod Roots
+pub mod Settling
+pub mod Dropping
+pub mod Branching

@@ -1,18 +1,17 @@
 -- One level of each walk down the tree.
-use Rattle.std.proofs.Common.{◌≡◌, ◌≢◌, inl, inr, ℕ, ◌-◌, List, [], ◌∷◌, ◌++◌, map, Bool, true, false, ◌||◌, refl, sym, ap, ◌∙◌, Option, Some, None, Box}
+use Rattle.std.proofs.Common.{◌≡◌, ◌≢◌, ℕ, ◌-◌, List, [], ◌∷◌, ◌++◌, map, Bool, true, false, ◌||◌, refl, sym, ap, ◌∙◌, Option, Some, None}
 use Rattle.std.specs.Prelude.{nat_eq}
 use Rattle.std.specs.Int.{bit_at}
 use Rattle.std.specs.Option.{unwrap_or}
-use Rattle.std.specs.declared.alloc.Global.{Global}
-use Rattle.address_model.specs.Bits.{bits_of, same_bits, begins}
-use Rattle.table_model.specs.Table.{Table, lpm, inherit}
-use Rattle.table_model.proofs.Cut.{lpm_nil}
+use Rattle.address_model.specs.Bits.{bits_of, same_bits}
+use Rattle.table_model.specs.Table.{Table, root, half, lpm, inherit}
+use Rattle.table_model.proofs.Cut.{lpm_nil, lpm_cut}
 use Rattle.least_model.specs.Regions.{join}
-use Rattle.least_model.proofs.Join.{root_join, lpm_join_low, lpm_join_high}
-use Rattle.orig_tree.specs.Walk.{Walks, behind, no_walks, walks_of, rows_of, edited, Allowed, AreMadeTo, labelled, has_node}
+use Rattle.least_model.proofs.Join.{root_join, low_join, high_join}
+use Rattle.orig_tree.specs.Walk.{Walks, no_walks, walks_of, rows_of, edited, Allowed, labelled, has_node}
 use Rattle.orig_tree.specs.declared.node.Label.{Label}
 use Rattle.orig_tree.specs.declared.node.Label.TheVariants.{Route, Entry}
-use Rattle.orig_tree.proofs.Paths.{no_bits, first_one, first_zero}
+use Rattle.orig_tree.proofs.Paths.{no_bits, first_bit, first_one, first_zero}
 use Rattle.orig_tree.proofs.Lists.{edit_low, edit_high, edit_own}
 
 pub rows_level : (label : Label) (route entry : Option ℕ) (low high : Walks) → rows_of label (walks_of route entry low high) ≡ join (labelled label route entry) (rows_of label low) (rows_of label high)
@@ -36,27 +35,32 @@ answer_here label route entry low high node left q inherited hop w e h =
     ∙ ap (λ r. lpm r [] inherited) (rows_level label route entry low high)
     ∙ lpm_join_end (labelled label route entry) (rows_of label low) (rows_of label high) inherited)
 
-pub answer_high : (label : Label) (route entry : Option ℕ) (low high node : Walks) (left q inherited hop out : ℕ) →
-    walks_of route entry low high ≡ node → left ≢ 0 → true ≡ nat_eq (bit_at q (left - 1)) 1 → hop ≡ unwrap_or (labelled label route entry) inherited →
-    out ≡ lpm (rows_of label high) (bits_of (left - 1) q) hop →
-    out ≡ lpm (rows_of label node) (bits_of left q) inherited
-answer_high label route entry low high node left q inherited hop out w e b h o =
-    o ∙ ap (lpm (rows_of label high) (bits_of (left - 1) q)) (h ∙ sym (given_is (labelled label route entry) inherited))
-    ∙ sym (ap (λ n. lpm (rows_of label n) (bits_of left q) inherited) (sym w)
-    ∙ ap (λ p. lpm (rows_of label (walks_of route entry low high)) p inherited) (first_one left q e b)
-    ∙ ap (λ r. lpm r (true ∷ bits_of (left - 1) q) inherited) (rows_level label route entry low high)
-    ∙ lpm_join_high (labelled label route entry) (rows_of label low) (rows_of label high) (bits_of (left - 1) q) inherited)
+-- ---- one half, by the law that cuts a table
 
-pub answer_low : (label : Label) (route entry : Option ℕ) (low high node : Walks) (left q inherited hop out : ℕ) →
-    walks_of route entry low high ≡ node → left ≢ 0 → false ≡ nat_eq (bit_at q (left - 1)) 1 → hop ≡ unwrap_or (labelled label route entry) inherited →
-    out ≡ lpm (rows_of label low) (bits_of (left - 1) q) hop →
+-- the half of a bit
+abbrev pub side_of : Bool → Walks → Walks → Walks
+side_of false low high = low
+side_of true low high = high
+
+pub level_half : (b : Bool) (label : Label) (route entry : Option ℕ) (low high : Walks) → half b (rows_of label (walks_of route entry low high)) ≡ rows_of label (side_of b low high)
+level_half false label route entry low high = ap (half false) (rows_level label route entry low high) ∙ low_join (labelled label route entry) (rows_of label low) (rows_of label high)
+level_half true label route entry low high = ap (half true) (rows_level label route entry low high) ∙ high_join (labelled label route entry) (rows_of label low) (rows_of label high)
+
+pub level_root : (label : Label) (route entry : Option ℕ) (low high : Walks) → root (rows_of label (walks_of route entry low high)) ≡ labelled label route entry
+level_root label route entry low high = ap root (rows_level label route entry low high) ∙ root_join (labelled label route entry) (rows_of label low) (rows_of label high)
+
+pub answer_half : (label : Label) (route entry : Option ℕ) (low high node : Walks) (left q inherited hop out : ℕ) (b : Bool) →
+    walks_of route entry low high ≡ node → left ≢ 0 → b ≡ nat_eq (bit_at q (left - 1)) 1 → hop ≡ unwrap_or (labelled label route entry) inherited →
+    out ≡ lpm (rows_of label (side_of b low high)) (bits_of (left - 1) q) hop →
     out ≡ lpm (rows_of label node) (bits_of left q) inherited
-answer_low label route entry low high node left q inherited hop out w e b h o =
-    o ∙ ap (lpm (rows_of label low) (bits_of (left - 1) q)) (h ∙ sym (given_is (labelled label route entry) inherited))
-    ∙ sym (ap (λ n. lpm (rows_of label n) (bits_of left q) inherited) (sym w)
-    ∙ ap (λ p. lpm (rows_of label (walks_of route entry low high)) p inherited) (first_zero left q e b)
-    ∙ ap (λ r. lpm r (false ∷ bits_of (left - 1) q) inherited) (rows_level label route entry low high)
-    ∙ lpm_join_low (labelled label route entry) (rows_of label low) (rows_of label high) (bits_of (left - 1) q) inherited)
+answer_half label route entry low high node left q inherited hop out b w z k h o =
+    let p = bits_of (left - 1) q in
+    let R = rows_of label (walks_of route entry low high) in
+    o ∙ sym (ap (λ n. lpm (rows_of label n) (bits_of left q) inherited) (sym w)
+    ∙ (ap (λ x. lpm R x inherited) (first_bit left q b z k)
+    ∙ (lpm_cut R b p inherited
+    ∙ (ap (λ x. lpm x p (inherit (root R) inherited)) (level_half b label route entry low high)
+    ∙ ap (lpm (rows_of label (side_of b low high)) p) (ap (λ y. inherit y inherited) (level_root label route entry low high) ∙ (given_is (labelled label route entry) inherited ∙ sym h))))))
 
 -- edits
 edited_low : (label : Label) (p : List Bool) (h route entry : Option ℕ) (low high : Walks) → edited label (false ∷ p) h (walks_of route entry low high) ≡ walks_of route entry (edited label p h low) high
@@ -108,24 +112,6 @@ pub rows_nothing : (label : Label) → rows_of label no_walks ≡ []
 rows_nothing Route = refl
 rows_nothing Entry = refl
 
-lpm_nothing : (label : Label) (low : Walks) (p : List Bool) (hop : ℕ) → low ≡ no_walks → hop ≡ lpm (rows_of label low) p hop
-lpm_nothing label low p hop e = sym (ap (λ w. lpm (rows_of label w) p hop) e ∙ ap (λ r. lpm r p hop) (rows_nothing label))
-
-pub behind_none : (link : Option (Box Walks Global)) → link ≡ None → behind link ≡ no_walks
-behind_none link e = ap behind e
-
-pub miss_high : (label : Label) (route entry : Option ℕ) (low : Walks) (high : Option (Box Walks Global)) (node : Walks) (left q inherited hop : ℕ) →
-    walks_of route entry low (behind high) ≡ node → left ≢ 0 → true ≡ nat_eq (bit_at q (left - 1)) 1 → hop ≡ unwrap_or (labelled label route entry) inherited →
-    high ≡ None → hop ≡ lpm (rows_of label node) (bits_of left q) inherited
-miss_high label route entry low high node left q inherited hop w e b h o =
-    answer_high label route entry low (behind high) node left q inherited hop hop w e b h (lpm_nothing label (behind high) _ hop (behind_none high o))
-
-pub miss_low : (label : Label) (route entry : Option ℕ) (low : Option (Box Walks Global)) (high : Walks) (node : Walks) (left q inherited hop : ℕ) →
-    walks_of route entry (behind low) high ≡ node → left ≢ 0 → false ≡ nat_eq (bit_at q (left - 1)) 1 → hop ≡ unwrap_or (labelled label route entry) inherited →
-    low ≡ None → hop ≡ lpm (rows_of label node) (bits_of left q) inherited
-miss_low label route entry low high node left q inherited hop w e b h o =
-    answer_low label route entry (behind low) high node left q inherited hop hop w e b h (lpm_nothing label (behind low) _ hop (behind_none low o))
-
 edited_own_route : (h route entry : Option ℕ) (low high : Walks) → edited Route [] h (walks_of route entry low high) ≡ walks_of h entry low high
 edited_own_route h route entry low high = ap (λ r. record { routes = r; entries = join entry low.entries high.entries; nodes = (walks_of route entry low high).nodes }) (edit_own h route low.routes high.routes)
 
@@ -174,21 +160,18 @@ edited_nothing Route None p a = refl
 edited_nothing Entry None p a = refl
 edited_nothing label (Some h) p a = cc
 
--- a node is seen at its own path
-pub root_is : (route entry : Option ℕ) (low high node : Walks) → walks_of route entry low high ≡ node → true ≡ has_node [] node.nodes
-unfolding same_bits
-root_is route entry low high node w = ap (λ n. has_node [] n.nodes) w
-
 -- rooms
 pub room_here : (node : Walks) (route entry : Option ℕ) (low high : Walks) (left q : ℕ) → left ≡ 0 → walks_of route entry low high ≡ node → has_node (bits_of left q) node.nodes ≡ true
 unfolding same_bits
 room_here node route entry low high left q e w = ap (λ n. has_node (bits_of left q) n.nodes) (sym w) ∙ ap (λ p. has_node p (walks_of route entry low high).nodes) (no_bits left q e)
 
-pub room_high : (route entry : Option ℕ) (low high : Walks) (left q : ℕ) → left ≢ 0 → true ≡ nat_eq (bit_at q (left - 1)) 1 → has_node (bits_of (left - 1) q) high.nodes ≡ has_node (bits_of left q) (walks_of route entry low high).nodes
-room_high route entry low high left q e b = sym (ap (λ p. has_node p (walks_of route entry low high).nodes) (first_one left q e b) ∙ has_high (bits_of (left - 1) q) route entry low high)
+has_half : (b : Bool) (p : List Bool) (route entry : Option ℕ) (low high : Walks) → has_node (b ∷ p) (walks_of route entry low high).nodes ≡ has_node p (side_of b low high).nodes
+has_half false p route entry low high = has_low p route entry low high
+has_half true p route entry low high = has_high p route entry low high
 
-pub room_low : (route entry : Option ℕ) (low high : Walks) (left q : ℕ) → left ≢ 0 → false ≡ nat_eq (bit_at q (left - 1)) 1 → has_node (bits_of (left - 1) q) low.nodes ≡ has_node (bits_of left q) (walks_of route entry low high).nodes
-room_low route entry low high left q e b = sym (ap (λ p. has_node p (walks_of route entry low high).nodes) (first_zero left q e b) ∙ has_low (bits_of (left - 1) q) route entry low high)
+pub room_half : (b : Bool) (route entry : Option ℕ) (low high : Walks) (left q : ℕ) → left ≢ 0 → b ≡ nat_eq (bit_at q (left - 1)) 1
+    → has_node (bits_of (left - 1) q) (side_of b low high).nodes ≡ has_node (bits_of left q) (walks_of route entry low high).nodes
+room_half b route entry low high left q z k = sym (ap (λ p. has_node p (walks_of route entry low high).nodes) (first_bit left q b z k) ∙ has_half b (bits_of (left - 1) q) route entry low high)
 
 pub kept_high : (route entry : Option ℕ) (low high after node : Walks) → walks_of route entry low high ≡ node → ((p : List Bool) → has_node p high.nodes ≡ true → has_node p after.nodes ≡ true) →
     (p : List Bool) → has_node p node.nodes ≡ true → has_node p (walks_of route entry low after).nodes ≡ true
@@ -203,35 +186,3 @@ unfolding same_bits
 kept_low route entry low high after node w k [] h = refl
 kept_low route entry low high after node w k (false ∷ p) h = has_low p route entry after high ∙ k p (sym (has_low p route entry low high) ∙ ap (λ n. has_node (false ∷ p) n.nodes) w ∙ h)
 kept_low route entry low high after node w k (true ∷ p) h = has_high p route entry after high ∙ sym (has_high p route entry low high) ∙ ap (λ n. has_node (true ∷ p) n.nodes) w ∙ h
-
--- new nodes are on the way
-module _ (route entry : Option ℕ) (low high after node : Walks) (left q : ℕ) where
-  pub made_high : left ≢ 0 → true ≡ nat_eq (bit_at q (left - 1)) 1 → walks_of route entry low high ≡ node
-      → AreMadeTo (bits_of (left - 1) q) high.nodes after.nodes → AreMadeTo (bits_of left q) node.nodes (walks_of route entry low after).nodes
-  made_high n b w m [] h = inr refl
-  made_high n b w m (true ∷ p) h = elim (m p (sym (has_high p route entry low after) ∙ h)) [
-    | inl x ↦ inl (ap (λ n. has_node (true ∷ p) n.nodes) (sym w) ∙ (has_high p route entry low high ∙ x))
-    | inr y ↦ inr (ap (begins (true ∷ p)) (first_one left q n b) ∙ y)
-  ]
-  made_high n b w m (false ∷ p) h = inl (ap (λ n. has_node (false ∷ p) n.nodes) (sym w) ∙ (has_low p route entry low high ∙ (sym (has_low p route entry low after) ∙ h)))
-
-  pub made_low : left ≢ 0 → false ≡ nat_eq (bit_at q (left - 1)) 1 → walks_of route entry low high ≡ node
-      → AreMadeTo (bits_of (left - 1) q) low.nodes after.nodes → AreMadeTo (bits_of left q) node.nodes (walks_of route entry after high).nodes
-  made_low n b w m [] h = inr refl
-  made_low n b w m (false ∷ p) h = elim (m p (sym (has_low p route entry after high) ∙ h)) [
-    | inl x ↦ inl (ap (λ n. has_node (false ∷ p) n.nodes) (sym w) ∙ (has_low p route entry low high ∙ x))
-    | inr y ↦ inr (ap (begins (false ∷ p)) (first_zero left q n b) ∙ y)
-  ]
-  made_low n b w m (true ∷ p) h = inl (ap (λ n. has_node (true ∷ p) n.nodes) (sym w) ∙ (has_high p route entry low high ∙ (sym (has_high p route entry after high) ∙ h)))
-
--- a new node has none but itself
-pub made_new : (node link new : Walks) (k : List Bool) → node ≡ walks_of None None no_walks no_walks → AreMadeTo k node.nodes new.nodes → AreMadeTo k link.nodes new.nodes
-unfolding same_bits
-made_new node link new k w m p h = elim (m p h) [
-  | inl x ↦ inr (itself p (ap (λ n. has_node p n.nodes) (sym w) ∙ x))
-  | inr y ↦ inr y
-]
-  where
-    itself : (p : List Bool) → has_node p (walks_of None None no_walks no_walks).nodes ≡ true → begins p k ≡ true
-    itself [] h = refl
-    itself (b ∷ p) h = cc

@@ -75,7 +75,7 @@ used_high q route entry low high =
 -- ---- one level
 
 -- within the empty prefix nothing is beside the way to it
-used : (R E : Table) (nodes : List (List Bool)) (q : List Bool) → NodeIsKept [] R E nodes q → is_used q R E ≡ true
+pub used : (R E : Table) (nodes : List (List Bool)) (q : List Bool) → NodeIsKept [] R E nodes q → is_used q R E ≡ true
 used R E nodes q (inl u) = u
 used R E nodes q (inr b) = cc
 

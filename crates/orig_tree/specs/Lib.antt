@@ -1,8 +1,10 @@
 pub mod Edits
 pub mod Walk
-pub mod Falls
 pub mod Views
 pub mod Cover
 pub mod Slots
 pub mod Uniform
 pub mod Trims
+pub mod Packed
+pub mod Arena
+pub mod Drops

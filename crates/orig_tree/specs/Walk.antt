@@ -1,5 +1,5 @@
 -- What is seen of a node: the tables of its two labels, and where there are nodes.
-use Rattle.std.specs.Prelude.{◌≡◌, ◌⊎◌, ℕ, List, [], ◌∷◌, ◌++◌, map, ◌||◌, Bool, true, false, Option, Some, None, Box}
+use Rattle.std.specs.Prelude.{◌≡◌, ◌⊎◌, ℕ, List, [], ◌∷◌, ◌++◌, map, ◌||◌, Bool, true, false, Option, Some, None}
 use Rattle.address_model.specs.Bits.{begins, same_bits}
 use Rattle.table_model.specs.Table.{Table}
 use Rattle.least_model.specs.Regions.{join}
@@ -17,11 +17,10 @@ pub record Walks : Type 0 where
 abbrev pub no_walks : Walks
 no_walks = record { routes = []; entries = []; nodes = [] }
 
-module _ {Z : Type 0} where
-  -- what is behind a link
-  abbrev pub behind : Option (Box Walks Z) → Walks
-  behind None = no_walks
-  behind (Some b) = b.value
+-- what is seen of a node that may be there
+abbrev pub behind : Option Walks → Walks
+behind None = no_walks
+behind (Some w) = w
 
 -- a node's tables, from its labels and what is behind its links
 abbrev pub walks_of : Option ℕ → Option ℕ → Walks → Walks → Walks

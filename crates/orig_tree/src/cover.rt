@@ -22,13 +22,51 @@ pub(crate) struct Cover {
     pub(crate) hops: Hops,
 }
 
+/// How many hops a kept cover has.
+#[derive(Clone, Copy)]
+pub(crate) enum Kind {
+    /// None.
+    Empty,
+    /// One, which stands beside it.
+    Single,
+    /// Two or more.
+    Mixed,
+}
+
+/// A cover as a node keeps it, in four octets.
+#[derive(Clone, Copy)]
+pub(crate) struct Kept {
+    passes: bool,
+    kind: Kind,
+    hop: u16,
+}
+
 /// A label of a node, and what the addresses of the node's region get from that label's entries there, its own counted in.
 #[derive(Clone, Copy)]
 pub(crate) struct Slot {
     /// The hop of the node's own route or entry.
     pub(crate) hop: Option<u16>,
     /// The cover of the region.
-    pub(crate) cover: Cover,
+    pub(crate) kept: Kept,
+}
+
+impl Kept {
+    ghost use Rattle.std.specs.Prelude.{◌≡◌};
+    ghost use Rattle.orig_tree.specs.Packed.{opened};
+
+    /// The cover.
+    pub(crate) fn open(self) -> Cover
+        ensures { result ≡ opened self }
+    {
+        Cover {
+            passes: self.passes,
+            hops: match self.kind {
+                Kind::Empty => Hops::Zero,
+                Kind::Single => Hops::One(self.hop),
+                Kind::Mixed => Hops::Many,
+            },
+        }
+    }
 }
 
 impl Hops {
@@ -84,20 +122,43 @@ impl Cover {
 }
 
 impl Slot {
-    ghost use Rattle.std.specs.Prelude.{◌≡◌, true};
-    ghost use Rattle.orig_tree.specs.declared.cover.Hops.TheVariants.{Zero};
+    ghost use Rattle.std.specs.Prelude.{◌≡◌, Option};
+    ghost use Rattle.orig_tree.specs.Packed.{slot_of, bare_slot};
+
+    /// A hop with a cover.
+    pub(crate) fn over(hop: Option<u16>, cover: Cover) -> Slot
+        ensures { result ≡ slot_of hop cover }
+    {
+        let kept = match cover.hops {
+            Hops::Zero => Kept {
+                passes: cover.passes,
+                kind: Kind::Empty,
+                hop: 0,
+            },
+            Hops::One(one) => Kept {
+                passes: cover.passes,
+                kind: Kind::Single,
+                hop: one,
+            },
+            Hops::Many => Kept {
+                passes: cover.passes,
+                kind: Kind::Mixed,
+                hop: 0,
+            },
+        };
+        Slot { hop, kept }
+    }
 
     /// No hop, and no entry in the region.
     pub(crate) fn bare() -> Slot
-        ensures hop { result.hop ≡ None }
-        ensures passes { result.cover.passes ≡ true }
-        ensures hops { result.cover.hops ≡ Zero }
+        ensures { result ≡ bare_slot }
     {
         Slot {
             hop: None,
-            cover: Cover {
+            kept: Kept {
                 passes: true,
-                hops: Hops::Zero,
+                kind: Kind::Empty,
+                hop: 0,
             },
         }
     }

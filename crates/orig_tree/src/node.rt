@@ -1,24 +1,22 @@
-//! Nodes of the tree, with a cover beside each label, which each change on a path tells again on its way up.
+//! The nodes of a tree in one array, where the halves of a node lie side by side. A cover stands beside each label, which each
+//! change on a path tells again on its way up.
 
-ghost use Rattle.std.specs.Prelude.{◌≡◌, ◌≤◌, ◌-◌, ℕ, OnOk, OnErr, IsOk, List, Bool, true, false, [], map, ◌++◌, ◌||◌};
+ghost use Rattle.std.specs.Prelude.{◌≡◌, ◌≤◌, ◌<◌, ◌-◌, ℕ, OnOk, OnErr, IsOk, IfOk, ◌∷◌, List, Bool, true, false, [], map, ◌++◌, ◌||◌, slice_set, vec_len, vec_capacity, ◌+◌, ◌*◌, ◌^◌, length, suc, Some, None};
 ghost use Rattle.std.specs.Option.{is_some};
 ghost use Rattle.address_model.specs.Bits.{bits_of};
 ghost use Rattle.address_model.specs.Width.{width};
-ghost use Rattle.table_model.specs.Table.{lpm, root, half};
+ghost use Rattle.table_model.specs.Table.{lpm, root, half, here};
 ghost use Rattle.least_model.specs.Regions.{above, lift};
 ghost use Rattle.fib_addr.specs.Views.{entry_as, prefix_as};
-ghost use Rattle.orig_tree.specs.Walk.{behind, no_walks, walks_of, rows_of, edited, Allowed, AreMadeTo, labelled, has_node};
+ghost use Rattle.orig_tree.specs.Walk.{rows_of, edited, Allowed, labelled, has_node};
 ghost use Rattle.table_model.specs.Entries.{of_table};
 ghost use Rattle.orig_tree.specs.Views.{Fits};
-ghost use Rattle.orig_tree.specs.Cover.{IsCover};
-ghost use Rattle.orig_tree.specs.Slots.{Retold};
 ghost use Rattle.orig_tree.specs.Uniform.{IsUniform};
-ghost use Rattle.orig_tree.specs.Trims.{IsPruned, IsTrimmed, KeepsRoot, bare, has_labels};
+ghost use Rattle.orig_tree.specs.Arena.{cells_of, Place, blank, node_at, half_place, walks_at, IsTree, IsSet, retold, cover_at, cover_of, from_half, IsHeld, OwnsPair, GivesPair, IsSplit, HasRoom, with_half, side_at};
 
 use crate::cover::{Cover, Slot};
 use fib_addr::{Entry, Prefix, bit_at, push_entry};
 use std::alloc::{AllocError, Global};
-use std::marker::Model;
 
 /// Which of a node's labels.
 #[derive(Clone, Copy, Debug, PartialEq, Eq)]
@@ -29,436 +27,444 @@ pub enum Label {
     Entry,
 }
 
-/// A node of the tree. Contracts see the tables of both labels from the node on.
+/// A node: its labels, the place of its half of bit 0, with that of bit 1 behind it, and which of the two are nodes. Where
+/// none is, the place says nothing. It takes 24 octets.
+#[derive(Clone, Copy)]
+pub(crate) struct Node {
+    pub(crate) route: Slot,
+    pub(crate) entry: Slot,
+    pub(crate) kids: u32,
+    pub(crate) low: bool,
+    pub(crate) high: bool,
+}
+
+/// The nodes of a tree by their places. The root's place is 0; it stands apart, so that a tree of the root alone takes no
+/// memory. Behind it are pairs of halves: the node at place i, from 1 on, is that at i - 1 of the pairs.
 #[derive(Drop)]
-pub struct Node {
-    route: Slot,
-    entry: Slot,
-    low: Option<Box<Node>>,
-    high: Option<Box<Node>>,
+pub(crate) struct Nodes {
+    pub(crate) pairs: Vec<Node>,
+    pub(crate) root: Node,
+    /// The place of the first spare pair, or 0. The first node of a spare pair has the place of the next in `kids`.
+    pub(crate) free: u32,
 }
 
-impl Model for Node {
-    ghost use Rattle.std.specs.Prelude.{length};
-    ghost use Rattle.orig_tree.specs.Walk.{Walks};
+impl Node {
+    /// The hop of one of its labels.
+    pub(crate) fn hop(self, label: Label) -> Option<u16>
+        ensures { result ≡ labelled label self.route.hop self.entry.hop }
+    {
+        match label {
+            Label::Route => self.route.hop,
+            Label::Entry => self.entry.hop,
+        }
+    }
 
-    ghost Value = { Walks };
-
-    ghost use Rattle.orig_tree.specs.Walk.{behind, walks_of};
-    ghost use Rattle.orig_tree.specs.Slots.{AreCovers};
-
-    ghost view = { λ a. walks_of a.route.hop a.entry.hop (behind a.low) (behind a.high) };
-
-    ghost invariant = { λ a. AreCovers a.route a.entry (behind a.low) (behind a.high) };
-
-    ghost size = { λ d. length d.nodes };
-
-    ghost use Rattle.orig_tree.specs.Falls.{falls};
-
-    ghost size_decreases = { λ a h. falls a };
+    /// The place of the half of a bit, if it is a node.
+    pub(crate) fn half(self, bit: bool) -> Option<usize>
+        ensures { result ≡ half_place self bit }
+    {
+        if bit {
+            if self.high {
+                return Some(self.kids as usize + 1);
+            }
+        } else if self.low {
+            return Some(self.kids as usize);
+        }
+        None
+    }
 }
 
-/// A node with no labels and nothing below it.
-#[tactic(auto, using(crate::proofs::Covers::bare_cover))]
+/// A node with no labels and no halves.
 pub(crate) fn leaf() -> Node
-    ensures { result ≡ walks_of None None no_walks no_walks }
+    ensures { result ≡ blank }
 {
     Node {
         route: Slot::bare(),
         entry: Slot::bare(),
-        low: None,
-        high: None,
+        kids: 0,
+        low: false,
+        high: false,
     }
 }
 
-fn pick(label: Label, route: Option<u16>, entry: Option<u16>) -> Option<u16>
-    ensures { result ≡ labelled label route entry }
+/// The node at a place.
+pub(crate) fn read(nodes: &Nodes, i: usize) -> Node
+    ensures { result ≡ node_at (cells_of nodes.now) i }
 {
-    match label {
-        Label::Route => route,
-        Label::Entry => entry,
+    if i == 0 {
+        return nodes.root;
+    }
+    match nodes.pairs.get(i - 1) {
+        Some(node) => *node,
+        None => leaf(),
+    }
+}
+
+/// Puts a node at a place.
+pub(crate) fn put(nodes: &mut Nodes, i: usize, node: Node)
+    ensures cells { cells_of nodes.new ≡ slice_set (cells_of nodes.old) i node }
+    ensures free { nodes.new.free ≡ nodes.old.free }
+    ensures len { vec_len nodes.new.pairs ≡ vec_len nodes.old.pairs }
+    ensures capacity { vec_capacity nodes.new.pairs ≡ vec_capacity nodes.old.pairs }
+{
+    if i == 0 {
+        nodes.root = node;
+    } else if i <= nodes.pairs.len() {
+        nodes.pairs[i - 1] = node;
     }
 }
 
 /// Longest match below a node, for an address of which `left` bits are left.
-#[tactic(auto, using(crate::proofs::Steps::answer_here, crate::proofs::Steps::answer_high, crate::proofs::Steps::answer_low, crate::proofs::Steps::miss_high, crate::proofs::Steps::miss_low))]
-pub(crate) fn answer(node: &Node, label: Label, q: u128, left: u8, inherited: u16) -> u16
+pub(crate) fn answer(
+    nodes: &Nodes,
+    i: usize,
+    label: Label,
+    q: u128,
+    left: u8,
+    inherited: u16,
+) -> u16
     requires { left ≤ 128 }
-    ensures { result ≡ lpm (rows_of label node.now) (bits_of left q) inherited }
+    ensures { (d : ℕ) → left < d → result ≡ lpm (rows_of label (walks_at d (cells_of nodes.now) i))
+        (bits_of left q) inherited }
 {
-    let hop = pick(label, node.route.hop, node.entry.hop).unwrap_or(inherited);
+    let node = read(nodes, i);
+    let hop = node.hop(label).unwrap_or(inherited);
     if left == 0 {
         return hop;
     }
     let at = left - 1;
-    if bit_at(q, at) {
-        match &node.high {
-            None => hop,
-            Some(high) => answer(high, label, q, at, hop),
-        }
-    } else {
-        match &node.low {
-            None => hop,
-            Some(low) => answer(low, label, q, at, hop),
-        }
+    match node.half(bit_at(q, at)) {
+        None => hop,
+        Some(j) => answer(nodes, j, label, q, at, hop),
     }
 }
 
 /// What a path inherits from the entries: the hop of the longest one that it is strictly within.
-#[tactic(auto, using(crate::proofs::Above::above_here, crate::proofs::Above::above_high, crate::proofs::Above::above_low, crate::proofs::Above::above_no_high, crate::proofs::Above::above_no_low))]
-pub(crate) fn inherited(node: &Node, q: u128, left: u8, hop: u16) -> u16
+pub(crate) fn inherited(nodes: &Nodes, i: usize, q: u128, left: u8, hop: u16) -> u16
     requires { left ≤ 128 }
-    ensures { result ≡ above (bits_of left q) node.now.entries hop }
+    ensures { (d : ℕ) → left < d → result ≡ above (bits_of left q) (walks_at d (cells_of nodes.now)
+        i).entries hop }
 {
     if left == 0 {
         return hop;
     }
+    let node = read(nodes, i);
     let hop = node.entry.hop.unwrap_or(hop);
     let at = left - 1;
-    if bit_at(q, at) {
-        match &node.high {
-            None => hop,
-            Some(high) => inherited(high, q, at, hop),
-        }
-    } else {
-        match &node.low {
-            None => hop,
-            Some(low) => inherited(low, q, at, hop),
-        }
+    match node.half(bit_at(q, at)) {
+        None => hop,
+        Some(j) => inherited(nodes, j, q, at, hop),
     }
 }
 
-/// Makes nodes down to a path. It changes no table.
-#[cycle(room)]
-pub(crate) fn room(alloc: Global, node: &mut Node, q: u128, left: u8) -> Result<(), AllocError>
-    requires { left ≤ 128 }
-    ensures routes { node.new.routes ≡ node.old.routes }
-    ensures entries { node.new.entries ≡ node.old.entries }
-    ensures kept { (p : List Bool) → has_node p node.old.nodes ≡ true
-        → has_node p node.new.nodes ≡ true }
-    ensures made { AreMadeTo (bits_of left q) node.old.nodes node.new.nodes }
-    ensures ok { OnOk result (has_node (bits_of left q) node.new.nodes ≡ true) }
-    ensures err { OnErr result (node.new ≡ node.old) }
-    ensures held { has_node (bits_of left q) node.old.nodes ≡ true → IsOk result }
+/// What the addresses of a half get from a label's table there.
+fn cover_behind(nodes: &Nodes, label: Label, half: Option<usize>) -> Cover
+    ensures { result ≡ cover_at (cells_of nodes.now) label half }
 {
-    let _route = &node.route;
-    if left == 0 {
-        return Ok(());
-    }
-    let at = left - 1;
-    if bit_at(q, at) {
-        room_behind(alloc, &mut node.high, q, at)?;
-    } else {
-        room_behind(alloc, &mut node.low, q, at)?;
-    }
-    Ok(())
-}
-
-#[cycle(room)]
-fn room_behind(
-    alloc: Global,
-    link: &mut Option<Box<Node>>,
-    q: u128,
-    left: u8,
-) -> Result<(), AllocError>
-    requires { left ≤ 128 }
-    ensures routes { (behind link.new).routes ≡ (behind link.old).routes }
-    ensures entries { (behind link.new).entries ≡ (behind link.old).entries }
-    ensures kept { (p : List Bool) → has_node p (behind link.old).nodes ≡ true
-        → has_node p (behind link.new).nodes ≡ true }
-    ensures made { AreMadeTo (bits_of left q) (behind link.old).nodes (behind link.new).nodes }
-    ensures ok { OnOk result (has_node (bits_of left q) (behind link.new).nodes ≡ true) }
-    ensures err { OnErr result (behind link.new ≡ behind link.old) }
-    ensures held { has_node (bits_of left q) (behind link.old).nodes ≡ true → IsOk result }
-{
-    match link {
-        Some(node) => room(alloc, node, q, left),
-        None => {
-            let mut node = Box::new(alloc, leaf())?;
-            room(alloc, &mut node, q, left)?;
-            *link = Some(node);
-            Ok(())
-        }
-    }
-}
-
-/// What the addresses of the region behind a link get from a label's table there.
-#[tactic(auto, using(crate::proofs::Covers::bare_cover))]
-fn cover_behind(label: Label, link: &Option<Box<Node>>) -> Cover
-    ensures { IsCover (rows_of label (behind link.now)) result }
-{
-    match link {
-        None => Slot::bare().cover,
-        Some(node) => cover_of(node, label),
+    match half {
+        None => Slot::bare().kept.open(),
+        Some(j) => cover(read(nodes, j), label),
     }
 }
 
 /// What the addresses of a node's region get from a label's table there.
-fn cover_of(node: &Node, label: Label) -> Cover
-    ensures { IsCover (rows_of label node.now) result }
+fn cover(node: Node, label: Label) -> Cover
+    ensures { result ≡ cover_of label node }
 {
     match label {
-        Label::Route => node.route.cover,
-        Label::Entry => node.entry.cover,
+        Label::Route => node.route.kept.open(),
+        Label::Entry => node.entry.kept.open(),
     }
 }
 
-/// Sets one of a node's labels, and its cover from those of the halves.
-#[tactic(auto, using(crate::proofs::Covers::cover_level))]
-fn retell(
-    label: Label,
-    hop: Option<u16>,
-    route: &mut Slot,
-    entry: &mut Slot,
-    low: &Option<Box<Node>>,
-    high: &Option<Box<Node>>,
-)
-    ensures { Retold label hop route.old entry.old route.new entry.new (behind low.now)
-        (behind high.now) }
+/// A node with one of its labels set, and its cover told from those of the halves.
+fn retell(nodes: &Nodes, node: Node, label: Label, hop: Option<u16>) -> Node
+    ensures { result ≡ retold label hop (cover_at (cells_of nodes.now) label (half_place node
+        false)) (cover_at (cells_of nodes.now) label (half_place node true)) node }
 {
-    let cover = Cover::over(hop, cover_behind(label, low), cover_behind(label, high));
+    let low = cover_behind(nodes, label, node.half(false));
+    let high = cover_behind(nodes, label, node.half(true));
+    let cover = Cover::over(hop, low, high);
     match label {
-        Label::Route => *route = Slot { hop, cover },
-        Label::Entry => *entry = Slot { hop, cover },
+        Label::Route => Node {
+            route: Slot::over(hop, cover),
+            ..node
+        },
+        Label::Entry => Node {
+            entry: Slot::over(hop, cover),
+            ..node
+        },
     }
 }
 
 /// Sets the hop of a path that has a node, or takes the path's hop away.
-#[cycle(assign)]
-#[tactic(auto, using(crate::proofs::Kept::told_here, crate::proofs::Kept::told_high, crate::proofs::Kept::told_low, crate::proofs::Kept::told_covers, crate::proofs::Kept::told_covers_high, crate::proofs::Kept::told_covers_here, crate::proofs::Steps::allowed_high, crate::proofs::Steps::allowed_low))]
-pub(crate) fn assign(node: &mut Node, label: Label, q: u128, left: u8, hop: Option<u16>)
+pub(crate) fn assign(nodes: &mut Nodes, i: usize, label: Label, q: u128, left: u8, hop: Option<u16>)
     requires few { left ≤ 128 }
-    requires allowed { Allowed (bits_of left q) hop node.old.nodes }
-    ensures { node.new ≡ edited label (bits_of left q) hop node.old }
+    ensures free { nodes.new.free ≡ nodes.old.free }
+    ensures set { (d : ℕ) (name : ℕ → Place) (p : List Bool) → left < d
+        → IsTree d (cells_of nodes.old) name i p → Allowed (bits_of left q) hop (walks_at d
+        (cells_of nodes.old) i).nodes → IsSet d label (bits_of left q) hop (cells_of nodes.old)
+        (cells_of nodes.new) name i p }
 {
+    let node = read(nodes, i);
     if left == 0 {
-        retell(
-            label,
-            hop,
-            &mut node.route,
-            &mut node.entry,
-            &node.low,
-            &node.high,
-        );
+        let new = retell(nodes, node, label, hop);
+        put(nodes, i, new);
         return;
     }
     let at = left - 1;
-    let own = pick(label, node.route.hop, node.entry.hop);
-    if bit_at(q, at) {
-        assign_behind(&mut node.high, label, q, at, hop);
-        retell(
-            label,
-            own,
-            &mut node.route,
-            &mut node.entry,
-            &node.low,
-            &node.high,
-        );
-    } else {
-        assign_behind(&mut node.low, label, q, at, hop);
-        retell(
-            label,
-            own,
-            &mut node.route,
-            &mut node.entry,
-            &node.low,
-            &node.high,
-        );
-    }
-}
-
-#[cycle(assign)]
-#[tactic(auto, using(crate::proofs::Steps::edited_nothing))]
-fn assign_behind(link: &mut Option<Box<Node>>, label: Label, q: u128, left: u8, hop: Option<u16>)
-    requires few { left ≤ 128 }
-    requires allowed { Allowed (bits_of left q) hop (behind link.old).nodes }
-    ensures { behind link.new ≡ edited label (bits_of left q) hop (behind link.old) }
-{
-    if let Some(node) = link {
-        assign(node, label, q, left, hop);
+    let own = node.hop(label);
+    match node.half(bit_at(q, at)) {
+        None => (),
+        Some(j) => {
+            assign(nodes, j, label, q, at, hop);
+            let new = retell(nodes, node, label, own);
+            put(nodes, i, new);
+        }
     }
 }
 
 /// The hop that all of a path's addresses get, or none where two get different ones.
-#[tactic(auto, using(crate::proofs::Kept::uniform_no_high, crate::proofs::Kept::uniform_no_low))]
-pub(crate) fn uniform(node: &Node, label: Label, q: u128, left: u8, inherited: u16) -> Option<u16>
+pub(crate) fn uniform(
+    nodes: &Nodes,
+    i: usize,
+    label: Label,
+    q: u128,
+    left: u8,
+    inherited: u16,
+) -> Option<u16>
     requires { left ≤ 128 }
-    ensures { (n : ℕ) → left ≤ n → Fits n (rows_of label node.now)
-        → IsUniform n (rows_of label node.now) inherited (bits_of left q) result }
+    ensures { (d : ℕ) (name : ℕ → Place) (p : List Bool) (n : ℕ) → left < d
+        → IsTree d (cells_of nodes.now) name i p → left ≤ n → Fits n (rows_of label (walks_at d
+        (cells_of nodes.now) i)) → IsUniform n (rows_of label (walks_at d (cells_of nodes.now) i))
+        inherited (bits_of left q) result }
 {
+    let node = read(nodes, i);
     if left == 0 {
-        return cover_of(node, label).only(inherited);
+        return cover(node, label).only(inherited);
     }
-    let hop = pick(label, node.route.hop, node.entry.hop).unwrap_or(inherited);
+    let hop = node.hop(label).unwrap_or(inherited);
     let at = left - 1;
-    if bit_at(q, at) {
-        match &node.high {
-            None => Some(hop),
-            Some(high) => uniform(high, label, q, at, hop),
-        }
-    } else {
-        match &node.low {
-            None => Some(hop),
-            Some(low) => uniform(low, label, q, at, hop),
-        }
-    }
-}
-
-/// Whether one of a node's labels has a hop.
-fn has_label(route: &Slot, entry: &Slot) -> bool
-    ensures { result ≡ (is_some route.now.hop || is_some entry.now.hop) }
-{
-    route.hop.is_some() || entry.hop.is_some()
-}
-
-/// Drops the nodes below a node that have no label at or below them, and tells whether it has one at or below itself. It
-/// changes no table.
-#[cycle(prune)]
-fn prune(node: &mut Node) -> bool
-    ensures routes { node.new.routes ≡ node.old.routes }
-    ensures entries { node.new.entries ≡ node.old.entries }
-    ensures trimmed { IsTrimmed [] node.old node.new }
-    ensures labels { result ≡ true → has_labels node.new ≡ true }
-    ensures bare { result ≡ false → node.new ≡ bare }
-{
-    let low = prune_behind(&mut node.low);
-    let high = prune_behind(&mut node.high);
-    let below = low || high;
-    below || has_label(&node.route, &node.entry)
-}
-
-#[cycle(prune)]
-fn prune_behind(link: &mut Option<Box<Node>>) -> bool
-    ensures routes { (behind link.new).routes ≡ (behind link.old).routes }
-    ensures entries { (behind link.new).entries ≡ (behind link.old).entries }
-    ensures pruned { IsPruned [] (behind link.old) (behind link.new) }
-    ensures labels { result ≡ true → has_labels (behind link.new) ≡ true }
-    ensures none { result ≡ false → behind link.new ≡ no_walks }
-{
-    match link.take() {
-        None => false,
-        Some(mut node) => {
-            let stays = prune(&mut node);
-            if stays {
-                *link = Some(node);
-            }
-            stays
-        }
-    }
-}
-
-/// Whether there is a node behind a link.
-fn is_node(link: &Option<Box<Node>>) -> bool
-    ensures node { result ≡ has_node [] (behind link.now).nodes }
-    ensures none { result ≡ false → behind link.now ≡ no_walks }
-{
-    match link {
-        None => false,
-        Some(node) => {
-            let _route = &node.route;
-            true
-        }
-    }
-}
-
-/// Drops the nodes of a path and below it that have no label at or below them, and those on the way to it that then have
-/// none and nothing below them, but not the node itself; and tells whether the node has something left. It changes no table.
-#[cycle(trim)]
-pub(crate) fn trim(node: &mut Node, q: u128, left: u8) -> bool
-    requires { left ≤ 128 }
-    ensures routes { node.new.routes ≡ node.old.routes }
-    ensures entries { node.new.entries ≡ node.old.entries }
-    ensures trimmed { IsTrimmed (bits_of left q) node.old node.new }
-    ensures kept { result ≡ true → KeepsRoot (bits_of left q) node.old node.new }
-    ensures bare { result ≡ false → node.new ≡ bare }
-{
-    if left == 0 {
-        return prune(node);
-    }
-    let at = left - 1;
-    if bit_at(q, at) {
-        let stays = trim_behind(&mut node.high, q, at);
-        stays || is_node(&node.low) || has_label(&node.route, &node.entry)
-    } else {
-        let stays = trim_behind(&mut node.low, q, at);
-        stays || is_node(&node.high) || has_label(&node.route, &node.entry)
-    }
-}
-
-#[cycle(trim)]
-fn trim_behind(link: &mut Option<Box<Node>>, q: u128, left: u8) -> bool
-    requires { left ≤ 128 }
-    ensures routes { (behind link.new).routes ≡ (behind link.old).routes }
-    ensures entries { (behind link.new).entries ≡ (behind link.old).entries }
-    ensures pruned { IsPruned (bits_of left q) (behind link.old) (behind link.new) }
-    ensures kept { result ≡ true → KeepsRoot (bits_of left q) (behind link.old) (behind link.new) }
-    ensures none { result ≡ false → behind link.new ≡ no_walks }
-{
-    match link.take() {
-        None => false,
-        Some(mut node) => {
-            let stays = trim(&mut node, q, left);
-            if stays {
-                *link = Some(node);
-            }
-            stays
-        }
+    match node.half(bit_at(q, at)) {
+        None => Some(hop),
+        Some(j) => uniform(nodes, j, label, q, at, hop),
     }
 }
 
 /// Adds the table of one label from a node on, which stands for the prefix, in the order of prefixes.
 #[cycle(tell)]
 pub(crate) fn tell(
-    node: &Node,
+    nodes: &Nodes,
+    i: usize,
     label: Label,
     prefix: Prefix,
     out: &mut Vec<Entry>,
 ) -> Result<(), AllocError>
-    requires { Fits (width prefix.family - prefix.len) (rows_of label node.now) }
-    ensures { OnOk result (map entry_as out.new.items ≡ map entry_as out.old.items
-        ++ of_table prefix.family (lift (prefix_as prefix).bits (rows_of label node.now))) }
+    ensures { (d : ℕ) → width prefix.family - prefix.len < d
+        → Fits (width prefix.family - prefix.len) (rows_of label (walks_at d (cells_of nodes.now)
+        i)) → OnOk result (map entry_as out.new.items ≡ map entry_as out.old.items ++ of_table
+        prefix.family (lift (prefix_as prefix).bits (rows_of label (walks_at d (cells_of nodes.now)
+        i)))) }
 {
-    push_entry(prefix, pick(label, node.route.hop, node.entry.hop), out)?;
+    let node = read(nodes, i);
+    push_entry(prefix, node.hop(label), out)?;
     if prefix.len == prefix.family.width() {
         return Ok(());
     }
-    tell_behind(&node.low, label, prefix.half(false), out)?;
-    tell_behind(&node.high, label, prefix.half(true), out)?;
+    tell_half(nodes, node.half(false), label, prefix.half(false), out)?;
+    tell_half(nodes, node.half(true), label, prefix.half(true), out)?;
     Ok(())
 }
 
 #[cycle(tell)]
-#[tactic(auto, using(crate::proofs::Telling::told_nothing))]
-fn tell_behind(
-    link: &Option<Box<Node>>,
+fn tell_half(
+    nodes: &Nodes,
+    half: Option<usize>,
     label: Label,
     prefix: Prefix,
     out: &mut Vec<Entry>,
 ) -> Result<(), AllocError>
-    requires { Fits (width prefix.family - prefix.len) (rows_of label (behind link.now)) }
-    ensures { OnOk result (map entry_as out.new.items ≡ map entry_as out.old.items
-        ++ of_table prefix.family (lift (prefix_as prefix).bits
-        (rows_of label (behind link.now)))) }
+    ensures { (d : ℕ) → width prefix.family - prefix.len < d
+        → Fits (width prefix.family - prefix.len) (rows_of label (from_half (walks_at d (cells_of
+        nodes.now)) half)) → OnOk result (map entry_as out.new.items
+        ≡ map entry_as out.old.items ++ of_table prefix.family (lift (prefix_as prefix).bits
+        (rows_of label (from_half (walks_at d (cells_of nodes.now)) half)))) }
 {
-    match link {
+    match half {
         None => Ok(()),
-        Some(node) => tell(node, label, prefix, out),
+        Some(j) => tell(nodes, j, label, prefix, out),
     }
 }
 
-impl Node {
-    /// The hop of the node's own route or entry.
-    pub fn hop(&self, label: Label) -> Option<u16>
-        ensures { result ≡ root (rows_of label self.now) }
-    {
-        pick(label, self.route.hop, self.entry.hop)
+/// Whether a path has a node.
+pub(crate) fn is_node(nodes: &Nodes, i: usize, q: u128, left: u8) -> bool
+    requires { left ≤ 128 }
+    ensures { (d : ℕ) → left < d → result ≡ has_node (bits_of left q) (walks_at d (cells_of
+        nodes.now) i).nodes }
+{
+    if left == 0 {
+        return true;
     }
+    let at = left - 1;
+    match read(nodes, i).half(bit_at(q, at)) {
+        None => false,
+        Some(j) => is_node(nodes, j, q, at),
+    }
+}
 
-    /// The node of one half, if there is one.
-    pub fn half(&self, bit: bool) -> &Option<Box<Node>>
-        ensures routes { (behind result.now).routes ≡ half bit self.now.routes }
-        ensures entries { (behind result.now).entries ≡ half bit self.now.entries }
-    {
-        if bit { &self.high } else { &self.low }
+/// The pair of places of a node, a new one where it has none.
+fn pair(nodes: &mut Nodes, node: Node) -> u32
+    requires room { vec_len nodes.old.pairs + 2 ≤ vec_capacity nodes.old.pairs }
+    requires few { vec_len nodes.old.pairs + 2 < 2 ^ 32 }
+    ensures len { vec_len nodes.new.pairs ≤ vec_len nodes.old.pairs + 2 }
+    ensures capacity { vec_capacity nodes.new.pairs ≡ vec_capacity nodes.old.pairs }
+    ensures gives { (name : ℕ → Place) (n : ℕ) (p : List Bool) → ((node.low || node.high) ≡ true
+        → OwnsPair (length (cells_of nodes.old)) name p node.kids)
+        → IsHeld (cells_of nodes.old) nodes.old.free name n → GivesPair p (cells_of nodes.old) node
+        (cells_of nodes.new) nodes.new.free name result }
+{
+    if node.low || node.high {
+        return node.kids;
+    }
+    let spare = nodes.free;
+    if spare != 0 {
+        nodes.free = read(nodes, spare as usize).kids;
+        return spare;
+    }
+    let at = nodes.pairs.len() as u32 + 1;
+    nodes.pairs.push_reserved(leaf());
+    nodes.pairs.push_reserved(leaf());
+    at
+}
+
+/// Makes a half of a node a node, and tells its place.
+fn split(nodes: &mut Nodes, i: usize, node: Node, bit: bool) -> usize
+    requires room { vec_len nodes.old.pairs + 2 ≤ vec_capacity nodes.old.pairs }
+    requires few { vec_len nodes.old.pairs + 2 < 2 ^ 32 }
+    ensures len { vec_len nodes.new.pairs ≤ vec_len nodes.old.pairs + 2 }
+    ensures capacity { vec_capacity nodes.new.pairs ≡ vec_capacity nodes.old.pairs }
+    ensures split { (d : ℕ) (name : ℕ → Place) (n : ℕ) (p : List Bool) → node
+        ≡ node_at (cells_of nodes.old) i → half_place node bit ≡ None → 1 < d
+        → IsTree d (cells_of nodes.old) name i p → IsHeld (cells_of nodes.old) nodes.old.free name n
+        → IsSplit d bit (cells_of nodes.old) (cells_of nodes.new) nodes.new.free name i p result }
+{
+    let kids = pair(nodes, node);
+    let j = side(kids, bit);
+    put(nodes, j, leaf());
+    let new = join_half(node, kids, bit);
+    put(nodes, i, new);
+    j
+}
+
+/// The place of one of a pair.
+fn side(kids: u32, bit: bool) -> usize
+    ensures { result ≡ side_at kids bit }
+{
+    if bit {
+        kids as usize + 1
+    } else {
+        kids as usize
+    }
+}
+
+/// The node with a half that is a node.
+fn join_half(node: Node, kids: u32, bit: bool) -> Node
+    ensures { result ≡ with_half node kids bit }
+{
+    if bit {
+        Node {
+            kids,
+            high: true,
+            ..node
+        }
+    } else {
+        Node {
+            kids,
+            low: true,
+            ..node
+        }
+    }
+}
+
+/// Makes nodes down to a path. It changes no table.
+fn grow(nodes: &mut Nodes, i: usize, q: u128, left: u8)
+    requires bits { left ≤ 128 }
+    requires room { vec_len nodes.old.pairs + 2 * left ≤ vec_capacity nodes.old.pairs }
+    requires few { vec_len nodes.old.pairs + 2 * left < 2 ^ 32 }
+    ensures { (d : ℕ) (name : ℕ → Place) (n : ℕ) (p : List Bool) → left < d
+        → IsTree d (cells_of nodes.old) name i p → IsHeld (cells_of nodes.old) nodes.old.free name n
+        → HasRoom d (bits_of left q) (cells_of nodes.old) (cells_of nodes.new) nodes.new.free name i
+        p }
+{
+    if left == 0 {
+        return;
+    }
+    let at = left - 1;
+    let bit = bit_at(q, at);
+    let node = read(nodes, i);
+    match node.half(bit) {
+        Some(j) => grow(nodes, j, q, at),
+        None => {
+            let j = split(nodes, i, node, bit);
+            grow(nodes, j, q, at);
+        }
+    }
+}
+
+/// The most places of halves there may be; with the root's it is 2^31 - 1.
+const MOST: usize = 0x7fff_fffe;
+
+/// Whether so many more places take no memory.
+fn has_space(nodes: &Nodes, more: usize) -> bool
+    requires { more ≤ 256 }
+    ensures { result ≡ true
+        → (vec_len nodes.now.pairs + more ≤ vec_capacity nodes.now.pairs)
+        × (vec_len nodes.now.pairs + more < 2 ^ 32) }
+{
+    let pairs = &nodes.pairs;
+    pairs.len() <= MOST - more && more <= pairs.capacity() - pairs.len()
+}
+
+/// Makes the path from the root on a node. It changes no table.
+///
+/// # Errors
+///
+/// No memory, which comes too where there would be 2^31 nodes or more; then nothing has changed.
+pub(crate) fn room(nodes: &mut Nodes, q: u128, left: u8) -> Result<(), AllocError>
+    requires { left ≤ 128 }
+    ensures err { OnErr result ((cells_of nodes.new ≡ cells_of nodes.old) × (nodes.new.free
+        ≡ nodes.old.free)) }
+    ensures held { (d : ℕ) → left < d → has_node (bits_of left q) (walks_at d (cells_of nodes.old)
+        0).nodes ≡ true → IsOk result }
+    ensures room { OnOk result ((d : ℕ) (name : ℕ → Place) (n : ℕ) (p : List Bool) → left < d
+        → IsTree d (cells_of nodes.old) name 0 p → IsHeld (cells_of nodes.old) nodes.old.free name n
+        → HasRoom d (bits_of left q) (cells_of nodes.old) (cells_of nodes.new) nodes.new.free name 0
+        p) }
+{
+    let more = 2 * left as usize;
+    if has_space(nodes, more) {
+        grow(nodes, 0, q, left);
+        return Ok(());
+    }
+    if is_node(nodes, 0, q, left) {
+        return Ok(());
+    }
+    if nodes.pairs.len() > MOST - more {
+        return Err(AllocError);
+    }
+    nodes.pairs.reserve(more)?;
+    grow(nodes, 0, q, left);
+    Ok(())
+}
+
+/// The nodes of a tree with no routes and no entries.
+pub(crate) fn root_alone(alloc: Global) -> Nodes
+    ensures cells { cells_of result ≡ blank ∷ [] }
+    ensures free { result.free ≡ 0 }
+{
+    Nodes {
+        pairs: Vec::new(alloc),
+        root: leaf(),
+        free: 0,
     }
 }

@@ -10,10 +10,13 @@ ghost use Rattle.fib_addr.specs.Views.{addr_as, prefix_as, entry_as};
 ghost use Rattle.address_model.specs.Width.{width};
 ghost use Rattle.orig_tree.specs.Walk.{AreMadeTo, has_node, rows_of};
 ghost use Rattle.orig_tree.specs.Views.{InPlace, Fits};
+ghost use Rattle.orig_tree.specs.Arena.{cells_of, whole};
 ghost use Rattle.orig_tree.specs.Trims.{AreTrimmed};
 
-use crate::node::{Label, Node, answer, assign, inherited, leaf, room, tell, trim, uniform};
+use crate::node::{Label, Nodes, answer, inherited, tell, uniform};
+use crate::node_ref::NodeRef;
 use crate::path::path_bits;
+use crate::whole::{change, drop_unused, empty, make_room};
 use fib_addr::{Addr, Entry, Family, Hop, Prefix};
 use std::alloc::{AllocError, Global};
 use std::marker::Model;
@@ -24,7 +27,7 @@ use std::marker::Model;
 pub struct Tree {
     alloc: Global,
     family: Family,
-    root: Node,
+    nodes: Nodes,
 }
 
 impl Model for Tree {
@@ -33,24 +36,26 @@ impl Model for Tree {
 
     ghost Value = { Labels };
 
-    ghost view = { λ t. record { family = t.family; routes = of_table t.family t.root.routes; entries = of_table t.family t.root.entries; nodes = t.root.nodes } };
+    ghost use Rattle.orig_tree.specs.Arena.{cells_of, whole, IsArena};
 
-    ghost invariant = { λ t. InPlace (of_table t.family t.root.routes) × InPlace (of_table t.family t.root.entries) };
+    ghost view = { λ t. record { family = t.family; routes = of_table t.family (whole t.family (cells_of t.nodes)).routes; entries = of_table t.family (whole t.family (cells_of t.nodes)).entries; nodes = (whole t.family (cells_of t.nodes)).nodes } };
+
+    ghost invariant = { λ t. IsArena t.family (cells_of t.nodes) t.nodes.free × InPlace (of_table t.family (whole t.family (cells_of t.nodes)).routes) × InPlace (of_table t.family (whole t.family (cells_of t.nodes)).entries) };
 }
 
 /// The table of one label from the root on, in the order of prefixes.
-#[tactic(auto, using(crate::proofs::Telling::whole_fits, crate::proofs::Telling::told_whole))]
 fn list_label(
     alloc: Global,
     family: Family,
-    root: &Node,
+    nodes: &Nodes,
     label: Label,
 ) -> Result<Vec<Entry>, AllocError>
-    requires { Fits (width family) (rows_of label root.now) }
-    ensures { IfOk result (λ v. map entry_as v.items ≡ of_table family (rows_of label root.now)) }
+    requires { Fits (width family) (rows_of label (whole family (cells_of nodes.now))) }
+    ensures { IfOk result (λ v. map entry_as v.items
+        ≡ of_table family (rows_of label (whole family (cells_of nodes.now)))) }
 {
     let mut list = Vec::new(alloc);
-    tell(root, label, Prefix::whole(family), &mut list)?;
+    tell(nodes, 0, label, Prefix::whole(family), &mut list)?;
     Ok(list)
 }
 
@@ -62,7 +67,7 @@ impl Tree {
         Tree {
             alloc,
             family,
-            root: leaf(),
+            nodes: empty(alloc, family),
         }
     }
 
@@ -71,7 +76,7 @@ impl Tree {
         ensures order { InPlace self.now.routes }
         ensures routes { IfOk result (λ v. map entry_as v.items ≡ self.now.routes) }
     {
-        list_label(self.alloc, self.family, &self.root, Label::Route)
+        list_label(self.alloc, self.family, &self.nodes, Label::Route)
     }
 
     /// The entries.
@@ -79,7 +84,7 @@ impl Tree {
         ensures order { InPlace self.now.entries }
         ensures entries { IfOk result (λ v. map entry_as v.items ≡ self.now.entries) }
     {
-        list_label(self.alloc, self.family, &self.root, Label::Entry)
+        list_label(self.alloc, self.family, &self.nodes, Label::Entry)
     }
 
     /// The tree's family.
@@ -91,13 +96,16 @@ impl Tree {
     }
 
     /// The node of the whole space, to walk down from.
-    #[tactic(auto, using(crate::proofs::Telling::fits_in_place))]
-    pub fn root(&self) -> &Node
-        ensures routes { of_table self.now.family result.now.routes ≡ self.now.routes }
-        ensures entries { of_table self.now.family result.now.entries ≡ self.now.entries }
+    pub fn root(&self) -> NodeRef<'_>
+        ensures routes { of_table self.now.family result.routes ≡ self.now.routes }
+        ensures entries { of_table self.now.family result.entries ≡ self.now.entries }
         ensures order { InPlace self.now.routes × InPlace self.now.entries }
     {
-        &self.root
+        NodeRef {
+            nodes: &self.nodes,
+            place: 0,
+            levels: self.family.width() + 1,
+        }
     }
 
     /// Makes the prefix a node, so that `set_route` and `set_entry` take no memory at it. New nodes are the prefix's and those
@@ -105,8 +113,7 @@ impl Tree {
     ///
     /// # Errors
     ///
-    /// No memory; then nothing has changed.
-    #[tactic(auto, using(crate::proofs::Places::same_rows))]
+    /// No memory, which comes too where there would be 2^31 nodes or more; then nothing has changed.
     pub fn room(&mut self, prefix: &Prefix) -> Result<(), AllocError>
         requires { prefix.now.family ≡ self.old.family }
         ensures family { self.new.family ≡ self.old.family }
@@ -120,7 +127,7 @@ impl Tree {
         ensures held { has_node (prefix_as prefix.now).bits self.old.nodes ≡ true → IsOk result }
     {
         let q = path_bits(prefix);
-        room(self.alloc, &mut self.root, q, prefix.len)
+        make_room(self.family, &mut self.nodes, q, prefix.len)
     }
 
     /// Drops the nodes at the prefix and within it that have no route and no entry at them or within them, and those on the
@@ -136,25 +143,37 @@ impl Tree {
             self.old.nodes self.new.nodes }
     {
         let q = path_bits(prefix);
-        trim(&mut self.root, q, prefix.len);
+        drop_unused(self.family, &mut self.nodes, q, prefix.len);
     }
 
     /// Longest match among the routes: the hop of the longest route whose prefix the address begins with, or none.
-    #[tactic(auto, using(crate::proofs::Places::match_is))]
     pub fn answer_route(&self, addr: &Addr) -> Hop
         requires { addr.now.family ≡ self.now.family }
         ensures { result.0 ≡ match_in self.now.routes (addr_as addr.now) }
     {
-        Hop(answer(&self.root, Label::Route, addr.bits, self.family.width(), 0))
+        Hop(answer(
+            &self.nodes,
+            0,
+            Label::Route,
+            addr.bits,
+            self.family.width(),
+            0,
+        ))
     }
 
     /// Longest match among the entries.
-    #[tactic(auto, using(crate::proofs::Places::match_is))]
     pub fn answer_entry(&self, addr: &Addr) -> Hop
         requires { addr.now.family ≡ self.now.family }
         ensures { result.0 ≡ match_in self.now.entries (addr_as addr.now) }
     {
-        Hop(answer(&self.root, Label::Entry, addr.bits, self.family.width(), 0))
+        Hop(answer(
+            &self.nodes,
+            0,
+            Label::Entry,
+            addr.bits,
+            self.family.width(),
+            0,
+        ))
     }
 
     /// The hop that every address of the prefix gets by longest match among the routes, or `None` where two get different
@@ -166,7 +185,7 @@ impl Tree {
         ensures differ { IfNone result (TwoDiffer self.now.routes (prefix_as prefix.now)) }
     {
         let q = path_bits(prefix);
-        let hop = uniform(&self.root, Label::Route, q, prefix.len, 0)?;
+        let hop = uniform(&self.nodes, 0, Label::Route, q, prefix.len, 0)?;
         Some(Hop(hop))
     }
 
@@ -179,19 +198,18 @@ impl Tree {
         ensures differ { IfNone result (TwoDiffer self.now.entries (prefix_as prefix.now)) }
     {
         let q = path_bits(prefix);
-        let hop = uniform(&self.root, Label::Entry, q, prefix.len, 0)?;
+        let hop = uniform(&self.nodes, 0, Label::Entry, q, prefix.len, 0)?;
         Some(Hop(hop))
     }
 
     /// The hop of the longest entry that the prefix is strictly within, or none.
-    #[tactic(auto, using(crate::proofs::Above::above_is))]
     pub fn inherited(&self, prefix: &Prefix) -> Hop
         requires { prefix.now.family ≡ self.now.family }
         ensures { result.0 ≡ above (prefix_as prefix.now).bits
             (of_family self.now.family self.now.entries) 0 }
     {
         let q = path_bits(prefix);
-        Hop(inherited(&self.root, q, prefix.len, 0))
+        Hop(inherited(&self.nodes, 0, q, prefix.len, 0))
     }
 
     /// Takes the prefix's route away, if it has one.
@@ -207,7 +225,14 @@ impl Tree {
         } }
     {
         let q = path_bits(prefix);
-        assign(&mut self.root, Label::Route, q, prefix.len, None)
+        change(
+            self.family,
+            &mut self.nodes,
+            Label::Route,
+            q,
+            prefix.len,
+            None,
+        )
     }
 
     /// Takes the prefix's entry away, if it has one.
@@ -223,7 +248,14 @@ impl Tree {
         } }
     {
         let q = path_bits(prefix);
-        assign(&mut self.root, Label::Entry, q, prefix.len, None)
+        change(
+            self.family,
+            &mut self.nodes,
+            Label::Entry,
+            q,
+            prefix.len,
+            None,
+        )
     }
 
     /// Sets the hop of the prefix's route.
@@ -245,8 +277,15 @@ impl Tree {
         ensures held { has_node (prefix_as prefix.now).bits self.old.nodes ≡ true → IsOk result }
     {
         let q = path_bits(prefix);
-        room(self.alloc, &mut self.root, q, prefix.len)?;
-        assign(&mut self.root, Label::Route, q, prefix.len, Some(hop.0));
+        make_room(self.family, &mut self.nodes, q, prefix.len)?;
+        change(
+            self.family,
+            &mut self.nodes,
+            Label::Route,
+            q,
+            prefix.len,
+            Some(hop.0),
+        );
         Ok(())
     }
 
@@ -269,8 +308,15 @@ impl Tree {
         ensures held { has_node (prefix_as prefix.now).bits self.old.nodes ≡ true → IsOk result }
     {
         let q = path_bits(prefix);
-        room(self.alloc, &mut self.root, q, prefix.len)?;
-        assign(&mut self.root, Label::Entry, q, prefix.len, Some(hop.0));
+        make_room(self.family, &mut self.nodes, q, prefix.len)?;
+        change(
+            self.family,
+            &mut self.nodes,
+            Label::Entry,
+            q,
+            prefix.len,
+            Some(hop.0),
+        );
         Ok(())
     }
 }

@@ -19,7 +19,7 @@ ghost use Rattle.ortc.specs.Stands.{RegionStands, region_hops, k_in, hop_in};
 
 use crate::hop_set::HopSet;
 use fib_addr::{Prefix, bit_at};
-use orig_tree::{Label, Node, Tree, path_bits};
+use orig_tree::{Label, NodeRef, Tree, path_bits};
 use std::alloc::{AllocError, Global};
 use std::slice;
 
@@ -149,7 +149,7 @@ pub fn below(label: Option<u16>, inherited: u16) -> u16
 
 /// The region of a node, whose prefix is `depth` bits shorter than addresses are.
 #[cycle(rising)]
-fn rise(alloc: Global, node: &Node, inherited: u16, depth: u8) -> Result<Region, AllocError>
+fn rise(alloc: Global, node: &NodeRef<'_>, inherited: u16, depth: u8) -> Result<Region, AllocError>
     ensures { IfOk result (λ r. RegionStands r depth (λ a. lpm node.now.routes a inherited)
         node.now.entries) }
 {
@@ -158,23 +158,24 @@ fn rise(alloc: Global, node: &Node, inherited: u16, depth: u8) -> Result<Region,
     if depth == 0 {
         return Ok(Region::Leaf { old, hop });
     }
-    let low = rise_link(alloc, node.half(false), hop, depth - 1)?;
-    let high = rise_link(alloc, node.half(true), hop, depth - 1)?;
+    let low = rise_half(alloc, node.half(false), hop, depth - 1)?;
+    let high = rise_half(alloc, node.half(true), hop, depth - 1)?;
     join_regions(alloc, old, low, high)
 }
 
+/// The region of the half of a node, where it is a node or not.
 #[cycle(rising)]
-fn rise_link(
+fn rise_half(
     alloc: Global,
-    link: &Option<Box<Node>>,
+    node: Option<NodeRef<'_>>,
     inherited: u16,
     depth: u8,
 ) -> Result<Region, AllocError>
-    ensures { IfOk result (λ r. RegionStands r depth (λ a. lpm (behind link.now).routes a inherited)
-        (behind link.now).entries) }
+    ensures { IfOk result (λ r. RegionStands r depth (λ a. lpm (behind node.entry).routes a inherited)
+        (behind node.entry).entries) }
 {
-    match link {
-        Some(node) => rise(alloc, node, inherited, depth),
+    match node {
+        Some(node) => rise(alloc, &node, inherited, depth),
         None => Ok(Region::Leaf {
             old: None,
             hop: inherited,
@@ -186,7 +187,7 @@ fn rise_link(
 /// than addresses are.
 fn rise_below(
     alloc: Global,
-    node: &Node,
+    node: &NodeRef<'_>,
     q: u128,
     left: u8,
     inherited: u16,
@@ -202,7 +203,7 @@ fn rise_below(
     let hop = below(node.hop(Label::Route), inherited);
     let at = left - 1;
     match node.half(bit_at(q, at)) {
-        Some(half) => rise_below(alloc, half, q, at, hop, depth),
+        Some(half) => rise_below(alloc, &half, q, at, hop, depth),
         None => Ok(Region::Leaf { old: None, hop }),
     }
 }
@@ -216,5 +217,5 @@ pub fn region_of(alloc: Global, tree: &Tree, prefix: &Prefix) -> Result<Region, 
 {
     let depth = prefix.family.width() - prefix.len;
     let path = path_bits(prefix);
-    rise_below(alloc, tree.root(), path, prefix.len, 0, depth)
+    rise_below(alloc, &tree.root(), path, prefix.len, 0, depth)
 }

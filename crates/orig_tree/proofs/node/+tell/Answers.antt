@@ -1,27 +1,21 @@
-use Rattle.std.proofs.Common.{arith, map, ◌∙◌, true, false}
+use Rattle.orig_tree.specs.Arena.{cells_of}
+use Rattle.std.proofs.Common.{arith, map, sym, ◌∙◌, true, false}
 use Rattle.fib_addr.specs.Views.{entry_as}
-use Rattle.orig_tree.specs.Walk.{behind}
-use Rattle.orig_tree.proofs.Telling.{told_end, told_level, fits_low, fits_high, half_longer, half_most}
+use Rattle.orig_tree.proofs.Telling.{half_longer, half_most}
+use Rattle.orig_tree.proofs.Told.{end_told, level_told}
 use Rattle.orig_tree.proofs.node.+tell.Goals as goal
 
 pub tell-returns-then-prefix-width : goal.tell-returns-then-prefix-width
-tell-returns-then-prefix-width t c =
-    let n = c.node.inside in
-    told_end c.args.prefix c.args.label n.route.hop n.entry.hop c.pick.result (behind n.low) (behind n.high) c.args.node.now _ _ c.node.view_is (c.if-prefix-width.true ∙ c.width.ensures) c.requires c.pick.ensures c.in_ok-push_entry.ensures
+tell-returns-then-prefix-width t c = λ d l f. end_told c.args.prefix c.args.label (cells_of c.args.nodes.now) c.read-node.result c.args.i c.hop.result _ _ d c.read-node.ensures (c.if-prefix-width.true ∙ c.width.ensures) c.hop.ensures c.in_ok-push_entry.ensures l f
 
-pub tell-tell_behind-requires : goal.tell-tell_behind-requires
-tell-tell_behind-requires t c =
-    let n = c.node.inside in
-    (omega (arith, half_longer c.args.prefix c.half.result false c.half.ensures, half_most c.half.result), fits_low c.args.prefix c.half.result c.args.label n.route.hop n.entry.hop (behind n.low) (behind n.high) c.args.node.now c.half.ensures c.node.view_is c.requires)
+pub tell-tell_half-requires : goal.tell-tell_half-requires
+tell-tell_half-requires t c = (omega (arith, half_longer c.args.prefix c.half-2.result false c.half-2.ensures, half_most c.half-2.result), tt)
 
-pub tell-tell_behind-requires-2 : goal.tell-tell_behind-requires-2
-tell-tell_behind-requires-2 t c =
-    let n = c.node.inside in
-    (omega (arith, half_longer c.args.prefix c.half-2.result true c.half-2.ensures, half_most c.half-2.result), fits_high c.args.prefix c.half-2.result c.args.label n.route.hop n.entry.hop (behind n.low) (behind n.high) c.args.node.now c.half-2.ensures c.node.view_is c.requires)
+pub tell-tell_half-requires-2 : goal.tell-tell_half-requires-2
+tell-tell_half-requires-2 t c = (omega (arith, half_longer c.args.prefix c.half-4.result true c.half-4.ensures, half_most c.half-4.result), tt)
 
 pub tell-returns : goal.tell-returns
-tell-returns t c =
-    let n = c.node.inside in
-    told_level c.args.prefix c.half.result c.half-2.result c.args.label n.route.hop n.entry.hop c.pick.result (behind n.low) (behind n.high) c.args.node.now
-    (map entry_as c.args.out.now.items) (map entry_as c.push_entry.new.out.items) (map entry_as c.tell_behind.new.out.items) (map entry_as c.tell_behind-2.new.out.items)
-    c.node.view_is c.half.ensures c.half-2.ensures c.pick.ensures c.in_ok-push_entry.ensures c.in_ok-tell_behind.ensures c.in_ok-tell_behind-2.ensures
+tell-returns t c = λ d l f. level_told c.args.prefix c.half-2.result c.half-4.result c.args.label (cells_of c.args.nodes.now) c.read-node.result c.args.i c.hop.result c.half.result c.half-3.result
+    (map entry_as c.args.out.now.items) (map entry_as c.push_entry.new.out.items) (map entry_as c.tell_half.new.out.items) (map entry_as c.tell_half-2.new.out.items) d
+    c.read-node.ensures (λ e. c.if-prefix-width.false (e ∙ sym c.width.ensures)) c.args.prefix.fits c.half-2.ensures c.half-4.ensures c.hop.ensures c.half.ensures c.half-3.ensures
+    c.in_ok-push_entry.ensures c.in_ok-tell_half.ensures c.in_ok-tell_half-2.ensures l f

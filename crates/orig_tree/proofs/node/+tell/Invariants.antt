@@ -4,5 +4,5 @@ use Rattle.orig_tree.proofs.node.+tell.Given as goal
 abbrev pub decreases-tell : goal.decreases-tell
 decreases-tell l = 2 * (129 - l.prefix.len)
 
-abbrev pub decreases-tell_behind : goal.decreases-tell_behind
-decreases-tell_behind l = 2 * (129 - l.prefix.len) + 1
+abbrev pub decreases-tell_half : goal.decreases-tell_half
+decreases-tell_half l = 2 * (129 - l.prefix.len) + 1

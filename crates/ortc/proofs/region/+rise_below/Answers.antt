@@ -2,7 +2,7 @@ use Rattle.std.proofs.Common.{ℕ, ◌-◌, List, Bool, ◌++◌, sym, ap, ◌�
 use Rattle.std.proofs.lemmas.Result.{IfOk-weaker}
 use Rattle.address_model.specs.Bits.{bits_of}
 use Rattle.table_model.specs.Table.{Table, inherit, lpm, cut}
-use Rattle.orig_tree.specs.Walk.{Walks, behind}
+use Rattle.orig_tree.specs.Walk.{behind}
 use Rattle.ortc.specs.declared.region.Region.{Region}
 use Rattle.ortc.specs.Stands.{RegionStands}
 use Rattle.ortc.proofs.Rising.{at_prefix, down_half, no_half}
@@ -27,15 +27,15 @@ returns-in-Some t c =
     let R = c.args.node.now.routes in
     let E = c.args.node.now.entries in
     let p = bits_of (c.args.left - 1) c.args.q in
-    IfOk-weaker c.rise_below.result (λ r. At r c.args.depth c.deref.result.now.routes c.below-hop.result c.deref.result.now.entries p) (λ r. At r c.args.depth R c.args.inherited E (bits_of c.args.left c.args.q))
-    (λ r s. down_half r c.args.depth c.args.left c.args.q c.args.inherited c.below-hop.result c.bit_at.result R E c.deref.result.now.routes c.deref.result.now.entries
+    IfOk-weaker c.rise_below.result (λ r. At r c.args.depth c.in-Some.half.routes c.below-hop.result c.in-Some.half.entries p) (λ r. At r c.args.depth R c.args.inherited E (bits_of c.args.left c.args.q))
+    (λ r s. down_half r c.args.depth c.args.left c.args.q c.args.inherited c.below-hop.result c.bit_at.result R E c.in-Some.half.routes c.in-Some.half.entries
     c.if-left-eq0.false c.bit_at.ensures
-    (ap (λ (z : Walks). z.routes) c.deref.ensures ∙ (ap (λ z. (behind z).routes) (sym c.in-Some.is) ∙ c.half.ensures.routes))
-    (ap (λ (z : Walks). z.entries) c.deref.ensures ∙ (ap (λ z. (behind z).entries) (sym c.in-Some.is) ∙ c.half.ensures.entries))
+    (ap (λ z. (behind z).routes) (sym c.in-Some.is) ∙ c.half.ensures.routes)
+    (ap (λ z. (behind z).entries) (sym c.in-Some.is) ∙ c.half.ensures.entries)
     (c.below-hop.ensures ∙ ap (λ o. inherit o c.args.inherited) c.hop.ensures) s) c.rise_below.ensures
 
 pub returns-in-None : goal.returns-in-None
 returns-in-None t c =
-    no_half c.args.depth c.args.left c.args.q c.args.inherited c.below-hop.result c.bit_at.result c.args.node.now.routes c.args.node.now.entries (behind c.half.result.now).routes (behind c.half.result.now).entries
+    no_half c.args.depth c.args.left c.args.q c.args.inherited c.below-hop.result c.bit_at.result c.args.node.now.routes c.args.node.now.entries (behind c.half.result).routes (behind c.half.result).entries
     c.if-left-eq0.false c.bit_at.ensures c.half.ensures.routes c.half.ensures.entries (c.below-hop.ensures ∙ ap (λ o. inherit o c.args.inherited) c.hop.ensures)
     (ap (λ z. (behind z).routes) c.in-None.is) (ap (λ z. (behind z).entries) c.in-None.is)

@@ -14,6 +14,6 @@ pub rise-returns : goal.rise-returns
 rise-returns t c =
     IfOk-weaker c.join_regions.result (λ r. (e : ℕ) (f : List Bool → ℕ) (L : Table) → root L ≡ c.hop-old.result → RegionStands c.in_ok-low.low e (side false f) (half false L) → RegionStands c.in_ok-high.high e (side true f) (half true L) → RegionStands r (suc e) f L)
     (λ r. RegionStands r c.args.depth (λ a. lpm c.args.node.now.routes a c.args.inherited) c.args.node.now.entries)
-    (λ r s. rise_more c.args.node.now.routes c.args.node.now.entries (behind c.half.result.now).routes (behind c.half-2.result.now).routes (behind c.half.result.now).entries (behind c.half-2.result.now).entries
+    (λ r s. rise_more c.args.node.now.routes c.args.node.now.entries (behind c.half.result).routes (behind c.half-2.result).routes (behind c.half.result).entries (behind c.half-2.result).entries
     c.args.depth c.args.inherited c.below-hop.result c.hop-old.result c.in_ok-low.low c.in_ok-high.high r c.if-depth-eq0.false (c.below-hop.ensures ∙ ap (λ o. inherit o c.args.inherited) c.hop.ensures) c.hop-old.ensures
     c.half.ensures.routes c.half-2.ensures.routes c.half.ensures.entries c.half-2.ensures.entries c.in_ok-low.ensures c.in_ok-high.ensures s) c.join_regions.ensures.stands

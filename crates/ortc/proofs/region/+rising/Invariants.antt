@@ -4,5 +4,5 @@ use Rattle.ortc.proofs.region.+rising.Given as goal
 abbrev pub decreases-rise : goal.decreases-rise
 decreases-rise l = 2 * l.depth
 
-abbrev pub decreases-rise_link : goal.decreases-rise_link
-decreases-rise_link l = 2 * l.depth + 1
+abbrev pub decreases-rise_half : goal.decreases-rise_half
+decreases-rise_half l = 2 * l.depth + 1

@@ -14,8 +14,8 @@ pub returns : goal.returns
 returns c =
     let p = c.args.prefix.now in
     let tree = c.args.tree.now in
-    let R = c.root.result.now.routes in
-    let E = c.root.result.now.entries in
+    let R = c.root.result.routes in
+    let E = c.root.result.entries in
     let q = bits_of p.len c.path_bits-path.result in
     let P = (prefix_as p).bits in
     IfOk-weaker c.rise_below.result (λ r. RegionStands r (c.width.result - p.len) (λ a. lpm R (q ++ a) 0) (cut q E)) (λ r. RegionStands r (width p.family - p.len) (answers (of_family tree.family tree.routes) P) (cut P (of_family tree.family tree.entries)))

@@ -5,17 +5,18 @@ use Rattle.std.specs.Map.{remove_entry}
 use Rattle.orig_tree.specs.Walk.{Walks}
 use Rattle.table_model.specs.Entries.{of_table}
 use Rattle.orig_tree.specs.Views.{Labels}
+use Rattle.orig_tree.specs.Arena.{cells_of, whole}
 use Rattle.orig_tree.proofs.Places.{in_place_without, same_rows, entries_without, labels_are}
 use Rattle.orig_tree.proofs.tree.Tree.clear_route.Goals as goal
 
 pub invariant_of-self : goal.invariant_of-self
-invariant_of-self c = (in_place_without c.self.inside.family (bits_of c.args.prefix.now.len c.path_bits-q.result) c.self.inside.root.routes c.assign.new.node.routes (ap (λ (n : Walks). n.routes) c.assign.ensures) c.self.invariant.0, same_rows c.self.inside.family c.self.inside.root.entries c.assign.new.node.entries (ap (λ (n : Walks). n.entries) c.assign.ensures) c.self.invariant.1)
+invariant_of-self c = (c.change.ensures.arena, in_place_without c.self.inside.family (bits_of c.args.prefix.now.len c.path_bits-q.result) (whole c.self.inside.family (cells_of c.self.inside.nodes)).routes (whole c.self.inside.family (cells_of c.change.new.nodes)).routes (ap (λ (n : Walks). n.routes) c.change.ensures.walks) c.self.invariant.1, same_rows c.self.inside.family (whole c.self.inside.family (cells_of c.self.inside.nodes)).entries (whole c.self.inside.family (cells_of c.change.new.nodes)).entries (ap (λ (n : Walks). n.entries) c.change.ensures.walks) c.self.invariant.2)
 
 pub returns : goal.returns
 returns c =
     let p = c.args.prefix.now in
     labels_are _ _ _ _ _ _ _ _ (ap (λ (s : Labels). s.family) c.self.view_is)
-    (entries_without c.self.inside.family p.family (bits_of p.len c.path_bits-q.result) c.self.inside.root.routes c.assign.new.node.routes c.args.self.now.routes (c.requires ∙ sym (ap (λ (s : Labels). s.family) c.self.view_is)) (ap (λ (n : Walks). n.routes) c.assign.ensures) (ap (λ (s : Labels). s.routes) c.self.view_is)
+    (entries_without c.self.inside.family p.family (bits_of p.len c.path_bits-q.result) (whole c.self.inside.family (cells_of c.self.inside.nodes)).routes (whole c.self.inside.family (cells_of c.change.new.nodes)).routes c.args.self.now.routes (c.requires ∙ sym (ap (λ (s : Labels). s.family) c.self.view_is)) (ap (λ (n : Walks). n.routes) c.change.ensures.walks) (ap (λ (s : Labels). s.routes) c.self.view_is)
     ∙ ap (λ b. remove_entry (same_prefix (let x : Prefix = record { family = p.family; bits = b } in x)) c.args.self.now.routes) c.path_bits-q.ensures)
-    (ap (λ (n : Walks). of_table c.self.inside.family n.entries) c.assign.ensures ∙ ap (λ (s : Labels). s.entries) c.self.view_is)
-    (ap (λ (n : Walks). n.nodes) c.assign.ensures ∙ ap (λ (s : Labels). s.nodes) c.self.view_is)
+    (ap (λ (n : Walks). of_table c.self.inside.family n.entries) c.change.ensures.walks ∙ ap (λ (s : Labels). s.entries) c.self.view_is)
+    (ap (λ (n : Walks). n.nodes) c.change.ensures.walks ∙ ap (λ (s : Labels). s.nodes) c.self.view_is)

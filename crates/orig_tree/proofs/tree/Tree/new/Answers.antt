@@ -1,7 +1,14 @@
 use Rattle.std.proofs.Common.{ap}
 use Rattle.orig_tree.specs.Walk.{Walks}
+use Rattle.orig_tree.specs.Arena.{cells_of, whole}
 use Rattle.orig_tree.proofs.Places.{in_place_nil}
+use Rattle.orig_tree.proofs.Roots.{bare_labels}
 use Rattle.orig_tree.proofs.tree.Tree.new.Goals as goal
 
 pub invariant_of-result : goal.invariant_of-result
-invariant_of-result c = (in_place_nil c.args.family c.leaf.result.routes (ap (λ (n : Walks). n.routes) c.leaf.ensures), in_place_nil c.args.family c.leaf.result.entries (ap (λ (n : Walks). n.entries) c.leaf.ensures))
+invariant_of-result c =
+    let w = whole c.args.family (cells_of c.empty.result) in
+    (c.empty.ensures.arena, in_place_nil c.args.family w.routes (ap (λ (n : Walks). n.routes) c.empty.ensures.bare), in_place_nil c.args.family w.entries (ap (λ (n : Walks). n.entries) c.empty.ensures.bare))
+
+pub returns : goal.returns
+returns c = bare_labels c.args.family (whole c.args.family (cells_of c.empty.result)) c.empty.ensures.bare

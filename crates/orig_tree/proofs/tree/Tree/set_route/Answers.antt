@@ -6,6 +6,7 @@ use Rattle.address_model.proofs.BitLaws.{length-bits_of}
 use Rattle.table_model.specs.Entries.{with_entry}
 use Rattle.orig_tree.specs.Walk.{Walks}
 use Rattle.orig_tree.specs.Views.{Labels}
+use Rattle.orig_tree.specs.Arena.{cells_of, whole}
 use Rattle.orig_tree.proofs.Places.{in_place_put, same_rows, entries_put}
 use Rattle.orig_tree.proofs.tree.Tree.set_route.Goals as goal
 
@@ -14,12 +15,12 @@ invariant_of-self-2 c =
     let p = c.args.prefix.now in
     let fam : p.family ≡ c.self.inside.family = c.requires ∙ sym (ap (λ (s : Labels). s.family) c.self.view_is) in
     let l : length (bits_of p.len c.path_bits-q.result) ≤ width c.self.inside.family = omega (arith, length-bits_of p.len c.path_bits-q.result, p.fits, ap width fam) in
-    (in_place_put c.self.inside.family (bits_of p.len c.path_bits-q.result) c.args.hop.0 c.room.new.node.routes c.assign.new.node.routes l (ap (λ (n : Walks). n.routes) c.assign.ensures) (same_rows c.self.inside.family c.self.inside.root.routes c.room.new.node.routes c.in_ok-room.ensures.routes c.self.invariant.0), same_rows c.self.inside.family c.self.inside.root.entries c.assign.new.node.entries (ap (λ (n : Walks). n.entries) c.assign.ensures ∙ c.in_ok-room.ensures.entries) c.self.invariant.1)
+    (c.change.ensures.arena, in_place_put c.self.inside.family (bits_of p.len c.path_bits-q.result) c.args.hop.0 (whole c.self.inside.family (cells_of c.make_room.new.nodes)).routes (whole c.self.inside.family (cells_of c.change.new.nodes)).routes l (ap (λ (n : Walks). n.routes) c.change.ensures.walks) (same_rows c.self.inside.family (whole c.self.inside.family (cells_of c.self.inside.nodes)).routes (whole c.self.inside.family (cells_of c.make_room.new.nodes)).routes c.in_ok-make_room.ensures.walks.routes c.self.invariant.1), same_rows c.self.inside.family (whole c.self.inside.family (cells_of c.self.inside.nodes)).entries (whole c.self.inside.family (cells_of c.change.new.nodes)).entries (ap (λ (n : Walks). n.entries) c.change.ensures.walks ∙ c.in_ok-make_room.ensures.walks.entries) c.self.invariant.2)
 
 pub returns-clause-routes : goal.returns-clause-routes
 returns-clause-routes c =
     let p = c.args.prefix.now in
     let fam : p.family ≡ c.self.inside.family = c.requires ∙ sym (ap (λ (s : Labels). s.family) c.self.view_is) in
     let l : length (bits_of p.len c.path_bits-q.result) ≤ width c.self.inside.family = omega (arith, length-bits_of p.len c.path_bits-q.result, p.fits, ap width fam) in
-    entries_put c.self.inside.family p.family (bits_of p.len c.path_bits-q.result) c.args.hop.0 c.self.inside.root.routes c.assign.new.node.routes c.room.new.node.routes c.args.self.now.routes l fam c.in_ok-room.ensures.routes (ap (λ (n : Walks). n.routes) c.assign.ensures) (ap (λ (s : Labels). s.routes) c.self.view_is) c.self.invariant.0
+    entries_put c.self.inside.family p.family (bits_of p.len c.path_bits-q.result) c.args.hop.0 (whole c.self.inside.family (cells_of c.self.inside.nodes)).routes (whole c.self.inside.family (cells_of c.change.new.nodes)).routes (whole c.self.inside.family (cells_of c.make_room.new.nodes)).routes c.args.self.now.routes l fam c.in_ok-make_room.ensures.walks.routes (ap (λ (n : Walks). n.routes) c.change.ensures.walks) (ap (λ (s : Labels). s.routes) c.self.view_is) c.self.invariant.1
     ∙ ap (λ b. with_entry c.args.self.now.routes ((let x : Prefix = record { family = p.family; bits = b } in x), c.args.hop.0)) c.path_bits-q.ensures

@@ -1,0 +1,186 @@
+-- What a place in the array of nodes stands for, and which places are whose.
+use Rattle.std.specs.Prelude.{◌≡◌, ◌≢◌, ℕ, zero, suc, ◌+◌, ◌<◌, ◌≤◌, List, [], ◌∷◌, ◌++◌, length, ◌||◌, Bool, true, false, cond, Option, Some, None, slice_index_or}
+use Rattle.address_model.specs.Bits.{begins}
+use Rattle.address_model.specs.Width.{width}
+use Rattle.address_model.specs.declared.family.Family.{Family}
+use Rattle.orig_tree.specs.Walk.{Walks, no_walks, walks_of, edited, AreMadeTo, has_node}
+use Rattle.orig_tree.specs.Cover.{covered}
+use Rattle.orig_tree.specs.Slots.{AreCovers}
+use Rattle.orig_tree.specs.declared.cover.Cover.{Cover}
+use Rattle.orig_tree.specs.Packed.{slot_of, cover_in, bare_slot}
+use Rattle.orig_tree.specs.declared.cover.Hops.TheVariants.{Zero}
+use Rattle.orig_tree.specs.declared.node.Node.{Node}
+use Rattle.orig_tree.specs.declared.node.Nodes.{Nodes}
+use Rattle.orig_tree.specs.declared.node.Label.{Label}
+use Rattle.orig_tree.specs.declared.node.Label.TheVariants.{Route, Entry}
+
+-- ---- reading
+
+-- the nodes by their places
+abbrev pub cells_of : Nodes → List Node
+cells_of n = n.root ∷ n.pairs.items
+
+abbrev pub bare_cover_is : Cover
+bare_cover_is = record { passes = true; hops = Zero }
+
+-- a node with no labels and no halves
+abbrev pub blank : Node
+blank = record { kids = 0; low = false; high = false; route = bare_slot; entry = bare_slot }
+
+abbrev pub node_at : List Node → ℕ → Node
+node_at cells i = slice_index_or cells i blank
+
+-- the place of a half that is a node
+abbrev pub half_place : Node → Bool → Option ℕ
+half_place n false = cond n.low (Some n.kids) None
+half_place n true = cond n.high (Some (n.kids + 1)) None
+
+abbrev pub from_half : (ℕ → Walks) → Option ℕ → Walks
+from_half f None = no_walks
+from_half f (Some j) = f j
+
+-- a node's tables, where f tells what places stand for
+abbrev pub walks_by : (ℕ → Walks) → Node → Walks
+walks_by f n = walks_of n.route.hop n.entry.hop (from_half f (half_place n false)) (from_half f (half_place n true))
+
+-- what place i stands for, read over at most d levels
+unfoldable pub walks_at : ℕ → List Node → ℕ → Walks
+walks_at zero cells i = no_walks
+walks_at (suc d) cells i = walks_by (walks_at d cells) (node_at cells i)
+
+-- ---- writing
+
+-- whose a place is: the node's at a path, or a spare one, with so many spare pairs behind it
+pub data Place : Type 0 where
+  At : List Bool → Place
+  Spare : ℕ → Place
+  Nowhere : Place
+
+abbrev pub IfHalf : (ℕ → Type 0) → Option ℕ → Type 0
+IfHalf P None = Unit {0}
+IfHalf P (Some j) = P j
+
+-- the pair of places at kids is the node's own
+pub record OwnsPair (long : ℕ) (name : ℕ → Place) (p : List Bool) (kids : ℕ) : Type 0 where
+  pub low : name kids ≡ At (p ++ (false ∷ []))
+  pub high : name (kids + 1) ≡ At (p ++ (true ∷ []))
+  pub inside : kids + 1 < long
+
+-- a node at path p whose covers are right and whose halves are in order
+pub record IsNode (walks : ℕ → Walks) (InTree : Bool → ℕ → Type 0) (long : ℕ) (name : ℕ → Place) (p : List Bool) (n : Node) : Type 0 where
+  pub covers : AreCovers n.route n.entry (from_half walks (half_place n false)) (from_half walks (half_place n true))
+  pub pair : n.low || n.high ≡ true → OwnsPair long name p n.kids
+  pub halves : (b : Bool) → IfHalf (InTree b) (half_place n b)
+
+-- place i is the node at path p, of at most d levels, and each place below it has its own path
+unfoldable pub IsTree : ℕ → List Node → (ℕ → Place) → ℕ → List Bool → Type 0
+IsTree zero cells name i p = ⊥
+IsTree (suc d) cells name i p =
+    (name i ≡ At p) × (i < length cells) × IsNode (walks_at d cells) (λ b j. IsTree d cells name j (p ++ (b ∷ []))) (length cells) name p (node_at cells i)
+
+abbrev pub is_in : List Bool → Place → Bool
+is_in p (At q) = begins p q
+is_in p (Spare n) = false
+is_in p Nowhere = false
+
+-- no place changed but those of path p and below it
+pub record Keeps (p : List Bool) (old new : List Node) (name : ℕ → Place) : Type 0 where
+  pub long : length new ≡ length old
+  pub same : (j : ℕ) → is_in p (name j) ≡ false → node_at new j ≡ node_at old j
+
+-- one label of a node, with the cover that it gets from those of the halves
+abbrev pub retold : Label → Option ℕ → Cover → Cover → Node → Node
+retold Route hop low high n = record { kids = n.kids; low = n.low; high = n.high; route = slot_of hop (covered hop low high); entry = n.entry }
+retold Entry hop low high n = record { kids = n.kids; low = n.low; high = n.high; route = n.route; entry = slot_of hop (covered hop low high) }
+
+abbrev pub cover_of : Label → Node → Cover
+cover_of Route n = cover_in n.route
+cover_of Entry n = cover_in n.entry
+
+abbrev pub cover_at : List Node → Label → Option ℕ → Cover
+cover_at cells label None = bare_cover_is
+cover_at cells label (Some j) = cover_of label (node_at cells j)
+
+-- the array after a label's hop is set at a path, or taken away
+pub record IsSet (d : ℕ) (label : Label) (q : List Bool) (hop : Option ℕ) (old new : List Node) (name : ℕ → Place) (i : ℕ) (p : List Bool) : Type 0 where
+  pub walks : walks_at d new i ≡ edited label q hop (walks_at d old i)
+  pub tree : IsTree d new name i p
+  pub keeps : Keeps p old new name
+
+-- ---- making room
+
+-- the spare pairs from f on, each telling the next by its first node; 0 is none
+unfoldable pub SpareFrom : ℕ → List Node → (ℕ → Place) → ℕ → Type 0
+SpareFrom zero cells name f = f ≡ 0
+SpareFrom (suc n) cells name f =
+    (f ≢ 0) × (name f ≡ Spare n) × (name (f + 1) ≡ Spare n) × (f + 1 < length cells) × SpareFrom n cells name (node_at cells f).kids
+
+-- the spare pairs are in order, and nothing past the array is anyone's
+pub record IsHeld (cells : List Node) (free : ℕ) (name : ℕ → Place) (n : ℕ) : Type 0 where
+  pub past : (j : ℕ) → length cells ≤ j → name j ≡ Nowhere
+  pub spare : SpareFrom n cells name free
+
+-- places of paths outside p hold what they held, and are whose they were
+pub record KeepsOthers (p : List Bool) (old new : List Node) (name name' : ℕ → Place) : Type 0 where
+  pub long : length old ≤ length new
+  pub same : (j : ℕ) (q : List Bool) → name j ≡ At q → begins p q ≡ false → (node_at new j ≡ node_at old j) × (name' j ≡ At q)
+
+-- the same tables, and all the nodes there were, with none more than those on the way to q
+pub record IsRoomier (q : List Bool) (old new : Walks) : Type 0 where
+  pub routes : new.routes ≡ old.routes
+  pub entries : new.entries ≡ old.entries
+  pub kept : (p : List Bool) → has_node p old.nodes ≡ true → has_node p new.nodes ≡ true
+  pub made : AreMadeTo q old.nodes new.nodes
+
+-- a node's pair of places, which it had or was given
+pub record GivesPair (p : List Bool) (old : List Node) (n : Node) (new : List Node) (free : ℕ) (name : ℕ → Place) (kids : ℕ) : Type 0 where
+  pub name' : ℕ → Place
+  pub spares : ℕ
+  pub pair : OwnsPair (length new) name' p kids
+  pub held : IsHeld new free name' spares
+  pub long : length old ≤ length new
+  pub same : (j : ℕ) (q : List Bool) → name j ≡ At q → (node_at new j ≡ node_at old j) × (name' j ≡ At q)
+  pub had : n.low || n.high ≡ true → kids ≡ n.kids
+
+-- the place of one of a pair
+abbrev pub side_at : ℕ → Bool → ℕ
+side_at kids false = kids
+side_at kids true = kids + 1
+
+-- a node with one more half
+abbrev pub with_half : Node → ℕ → Bool → Node
+with_half n kids false = record { kids = kids; low = true; high = n.high; route = n.route; entry = n.entry }
+with_half n kids true = record { kids = kids; low = n.low; high = true; route = n.route; entry = n.entry }
+
+-- the array after a half of a node became a node, at place j
+pub record IsSplit (d : ℕ) (b : Bool) (old new : List Node) (free : ℕ) (name : ℕ → Place) (i : ℕ) (p : List Bool) (j : ℕ) : Type 0 where
+  pub name' : ℕ → Place
+  pub spares : ℕ
+  pub tree : IsTree d new name' i p
+  pub held : IsHeld new free name' spares
+  pub keeps : KeepsOthers p old new name name'
+  pub walks : (r : List Bool) → IsRoomier (b ∷ r) (walks_at d old i) (walks_at d new i)
+  pub half : half_place (node_at new i) b ≡ Some j
+
+-- the array after the path q from place i on got nodes
+pub record HasRoom (d : ℕ) (q : List Bool) (old new : List Node) (free : ℕ) (name : ℕ → Place) (i : ℕ) (p : List Bool) : Type 0 where
+  pub name' : ℕ → Place
+  pub spares : ℕ
+  pub tree : IsTree d new name' i p
+  pub held : IsHeld new free name' spares
+  pub keeps : KeepsOthers p old new name name'
+  pub walks : IsRoomier q (walks_at d old i) (walks_at d new i)
+  pub there : has_node q (walks_at d new i).nodes ≡ true
+
+-- ---- the whole tree
+
+-- what the root stands for
+abbrev pub whole : Family → List Node → Walks
+whole f cells = walks_at (suc (width f)) cells 0
+
+-- the root is at place 0, and all places are in order
+pub record IsArena (f : Family) (cells : List Node) (free : ℕ) : Type 0 where
+  pub name : ℕ → Place
+  pub spares : ℕ
+  pub tree : IsTree (suc (width f)) cells name 0 []
+  pub held : IsHeld cells free name spares
