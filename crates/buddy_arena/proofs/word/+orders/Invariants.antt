@@ -1,0 +1,4 @@
+use Rattle.buddy_arena.proofs.word.+orders.Given as goal
+
+abbrev pub decreases-orders : goal.decreases-orders
+decreases-orders l = l.k

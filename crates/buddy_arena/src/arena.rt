@@ -1,0 +1,253 @@
+//! The arena: which places are free, and the cells.
+
+ghost use Rattle.std.specs.Prelude.{◌≡◌, ℕ, ◌+◌, ◌-◌, ◌*◌, ◌/◌, ◌^◌, ◌<◌, ◌≤◌, true, length, drop, OnErr, IfOk, IfErr, Option, slice_index_or, slice_set};
+ghost use Rattle.std.proofs.Common.{replicate};
+ghost use Rattle.buddy_arena.specs.Space.{blocks, marked, NoneFrom, IsGreatest, Space, IsOut, IsSized, Takes, empty, total, OneEach, Apart};
+ghost use Rattle.buddy_arena.specs.Masks.{ord, free_of, IsRight};
+
+use crate::merges::give_to;
+use crate::region::{all_places, bare_masks, free_all, largest_in, make_all, whole_mask};
+use crate::splits::take_from;
+use std::alloc::{AllocError, Global};
+use std::marker::Model;
+
+/// A block: 2 ^ order places side by side, the first of which is a multiple of as many.
+#[derive(Clone, Copy, Debug, PartialEq, Eq)]
+pub struct Block {
+    /// Its first place.
+    pub place: u32,
+    /// Its order.
+    pub order: u8,
+}
+
+/// No free block has the order that was asked for, or a greater one.
+#[derive(Clone, Copy, Debug, PartialEq, Eq)]
+pub struct Full {
+    /// The order that was asked for.
+    pub order: u8,
+    /// The greatest order of a free block, `None` where nothing is free.
+    pub largest: Option<u8>,
+}
+
+/// Makes each cell the value.
+fn fill_cells<T: Copy>(cells: &mut [T], value: T)
+    ensures { cells.new ≡ replicate (length cells.old) value }
+{
+    for cell in cells.iter_mut() {
+        *cell = value;
+    }
+}
+
+/// Makes each cell what it was at first, where those from `high` on are.
+fn clear_cells<T: Copy>(cells: &mut [T], high: usize, value: T)
+    requires few { high ≤ length cells.old }
+    requires rest { drop high cells.old ≡ replicate (length cells.old - high) value }
+    ensures { cells.new ≡ replicate (length cells.old) value }
+{
+    let (used, rest) = cells.split_at_mut(high);
+    fill_cells(used, value);
+}
+
+/// The order of a word of places in an arena of this order.
+fn word_order(order: u8) -> u8
+    ensures few { result ≤ 6 }
+    ensures within { result ≤ order }
+{
+    if order < 6 {
+        return order;
+    }
+    6
+}
+
+/// An arena of 2 ^ order places, each with a cell. A place is free, or out: in a block that was taken and not given back.
+///
+/// It takes all its memory when it is made: its cells, and two bits a place.
+#[derive(Drop)]
+pub struct Arena<T: Copy> {
+    /// The order of a word of places, at most 6.
+    base: u8,
+    /// How many levels stand above the words.
+    height: u8,
+    masks: Vec<u64>,
+    cells: Vec<T>,
+    fill: T,
+    /// How many places are free.
+    left: u64,
+    /// The cells from here on are as at first.
+    high: usize,
+}
+
+impl<T: Copy> Model for Arena<T> {
+    ghost use Rattle.std.specs.Prelude.{◌≡◌, ◌+◌, ◌-◌, ◌^◌, ◌<◌, ◌≤◌, length, drop};
+    ghost use Rattle.std.proofs.Common.{replicate};
+    ghost use Rattle.buddy_arena.specs.Space.{Space, total};
+    ghost use Rattle.buddy_arena.specs.Masks.{ord, free_of, IsRight};
+
+    ghost Value = { Space T };
+
+    ghost view = { λ a. record {
+      order = ord a.base a.height;
+      free = free_of a.base a.height a.masks.items;
+      cells = a.cells.items;
+      fill = a.fill;
+    } };
+
+    ghost invariant = { λ a. (a.base ≤ 6) × (a.base + a.height < 31)
+        × IsRight a.base a.height a.masks.items
+        × (length a.cells.items ≡ 2 ^ ord a.base a.height)
+        × (a.left ≡ total (free_of a.base a.height a.masks.items))
+        × (a.high ≤ 2 ^ ord a.base a.height)
+        × (drop a.high a.cells.items ≡ replicate (2 ^ ord a.base a.height - a.high) a.fill) };
+}
+
+impl<T: Copy> Arena<T> {
+    /// An arena all of whose places are free, its cells filled with the value.
+    ///
+    /// # Errors
+    ///
+    /// No memory.
+    pub fn new(alloc: Global, order: u8, fill: T) -> Result<Self, AllocError>
+        requires { order ≤ 26 }
+        ensures made { IfOk result (λ a. a ≡ empty order fill) }
+        ensures fresh { IfOk result (λ a. OneEach (blocks a.order a.free)) }
+    {
+        let base = word_order(order);
+        Arena::with_words(alloc, order - base, base, fill)
+    }
+
+    /// An arena `height` levels above words of 2 ^ base places.
+    fn with_words(alloc: Global, height: u8, base: u8, fill: T) -> Result<Self, AllocError>
+        requires few { (base ≤ 6) × (base + height ≤ 26) }
+        ensures made { IfOk result (λ a. a ≡ empty (ord base height) fill) }
+        ensures fresh { IfOk result (λ a. OneEach (blocks a.order a.free)) }
+    {
+        let mut masks = bare_masks(alloc, height, base)?;
+        make_all(&mut masks, height, base);
+        let mut cells = Vec::new(alloc);
+        let left = all_places(height, base);
+        let len = left as usize;
+        cells.reserve(len)?;
+        for i in 0..len {
+            cells.push_reserved(fill);
+        }
+        Ok(Arena {
+            base,
+            height,
+            masks,
+            cells,
+            fill,
+            left,
+            high: 0,
+        })
+    }
+
+    /// Takes a block of the order: from the free blocks of the least order that is large enough the lowest one, of which the
+    /// lower half is split on, and the upper halves stay free. It takes the time of the arena's order.
+    ///
+    /// In an arena to which nothing was given back since it was made or cleared no order has two free blocks; then it is
+    /// refused only where fewer than 2 ^ order places are free.
+    ///
+    /// # Errors
+    ///
+    /// No free block is large enough. The arena is unchanged.
+    pub fn take(&mut self, order: u8) -> Result<Block, Full>
+        ensures ok { IfOk result (λ b. (b.order ≡ order)
+            × Takes self.old.order self.old.free self.new.free b.place order) }
+        ensures out { IfOk result (λ b. IsOut self.new.order self.new.free b.place order) }
+        ensures full { IfErr result (λ e. (e.order ≡ order)
+            × NoneFrom order (blocks self.old.order self.old.free)
+            × IsGreatest e.largest (blocks self.old.order self.old.free)) }
+        ensures err { OnErr result (self.new ≡ self.old) }
+        ensures kept { (self.new.order ≡ self.old.order)
+            × (self.new.cells ≡ self.old.cells) × (self.new.fill ≡ self.old.fill) }
+        ensures fresh { OneEach (blocks self.old.order self.old.free)
+            → OneEach (blocks self.new.order self.new.free) }
+        ensures few { OnErr result (OneEach (blocks self.old.order self.old.free)
+            → total self.old.free < 2 ^ order) }
+        ensures left { IfOk result (λ b. total self.new.free + 2 ^ order ≡ total self.old.free) }
+        ensures apart { IfOk result (λ b. (p k : ℕ) → IsOut self.old.order self.old.free p k
+            → Apart p k b.place order) }
+        ensures still { (p k : ℕ) → IsOut self.old.order self.old.free p k
+            → IsOut self.new.order self.new.free p k }
+        ensures sized { IsSized self.new }
+    {
+        match take_from(&mut self.masks, self.height, self.base, order) {
+            Ok(block) => {
+                self.left -= whole_mask(order);
+                Ok(block)
+            }
+            Err(full) => Err(full),
+        }
+    }
+
+    /// How many places there are.
+    pub fn places(&self) -> u64
+        ensures { result ≡ 2 ^ self.now.order }
+    {
+        all_places(self.height, self.base)
+    }
+
+    /// How many places are free.
+    pub fn free_total(&self) -> u64
+        ensures { result ≡ total self.now.free }
+    {
+        self.left
+    }
+
+    /// Gives a block that is out back. It merges with its buddy, the block of its order whose place differs in the bit of that
+    /// order alone, as long as that is free. It takes the time of the arena's order.
+    pub fn give(&mut self, block: Block)
+        requires { IsOut self.old.order self.old.free block.place block.order }
+        ensures free { self.new.free ≡ marked block.place (2 ^ block.order) true self.old.free }
+        ensures kept { (self.new.order ≡ self.old.order)
+            × (self.new.cells ≡ self.old.cells) × (self.new.fill ≡ self.old.fill) }
+        ensures still { (p k : ℕ) → IsOut self.old.order self.old.free p k
+            → Apart p k block.place block.order → IsOut self.new.order self.new.free p k }
+    {
+        give_to(&mut self.masks, self.height, self.base, block);
+        self.left += whole_mask(block.order);
+    }
+
+    /// The greatest order of a free block, `None` where nothing is free.
+    pub fn largest(&self) -> Option<u8>
+        ensures { IsGreatest result (blocks self.now.order self.now.free) }
+    {
+        largest_in(&self.masks, self.height, self.base)
+    }
+
+    /// Takes all back, and makes each cell what it was at first, in the time of what was taken and written since.
+    pub fn clear(&mut self)
+        ensures { self.new ≡ empty self.old.order self.old.fill }
+    {
+        free_all(&mut self.masks, self.height, self.base);
+        clear_cells(&mut self.cells, self.high, self.fill);
+        self.high = 0;
+        self.left = all_places(self.height, self.base);
+    }
+
+    /// Writes the cell `at` places from the first of a block that is out.
+    pub fn write(&mut self, block: &Block, at: u32, value: T)
+        requires out { IsOut self.old.order self.old.free block.now.place block.now.order }
+        requires within { at < 2 ^ block.now.order }
+        ensures cells { self.new.cells
+            ≡ slice_set self.old.cells (block.now.place + at) value }
+        ensures kept { (self.new.order ≡ self.old.order)
+            × (self.new.free ≡ self.old.free) × (self.new.fill ≡ self.old.fill) }
+    {
+        let high = self.high;
+        let index = (block.place + at) as usize;
+        self.cells[index] = value;
+        if high <= index {
+            self.high = index + 1;
+        }
+    }
+
+    /// The cell of a place: what was last written there since the arena was made or cleared, else the value that it was filled
+    /// with.
+    pub fn read(&self, index: u32) -> T
+        requires { index < length self.now.cells }
+        ensures { result ≡ slice_index_or self.now.cells index self.now.fill }
+    {
+        self.cells[index as usize]
+    }
+}

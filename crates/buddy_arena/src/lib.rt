@@ -1,0 +1,19 @@
+//! A buddy system (Knowlton, 'A fast storage allocator', 1965; Knuth, 'The Art of Computer Programming', volume 1, section 2.5)
+//! over an array of cells.
+//!
+//! An arena of order n has 2 ^ n places, at first one free block. `take` and `give` cost the order. Beside the cells the
+//! arena keeps two bits a place: a word of 64 places a bit each, and above the words a mask of orders for each region.
+#![tactic(auto)]
+
+mod arena;
+mod laws;
+mod merges;
+mod region;
+mod splits;
+mod word;
+
+pub use arena::{Arena, Block, Full};
+pub use laws::blocks_law;
+
+#[cfg(test)]
+mod tests;

@@ -1,0 +1,10 @@
+pub mod Bits
+pub mod Strides
+pub mod Slots
+pub mod Need
+pub mod Stands
+pub mod Making
+pub mod Places
+pub mod Build
+pub mod Tries
+pub mod Arrays

@@ -1,0 +1,49 @@
+-- How many places the nodes and the leaves of a trie need.
+use Rattle.std.specs.Prelude.{ℕ, zero, suc, ◌+◌, ◌-◌, ◌*◌, List, Bool, true, false, cond, Option, Some, None, nat_le, min}
+use Rattle.fib_regions.specs.Answers.{side, one_answer}
+use Rattle.poptrie_build.specs.Strides.{slots, slot, mixed, run_start, total}
+
+-- the first of p, 2 p, 4 p, .. that is at least n, of at most k doublings
+unfoldable pub up_from : ℕ → ℕ → ℕ → ℕ
+up_from zero p n = p
+up_from (suc k) p n = cond (nat_le n p) p (up_from k (2 * p) n)
+
+-- the least power of two that is at least n, 0 for 0
+unfoldable pub up : ℕ → ℕ
+up zero = 0
+up (suc n) = up_from (suc n) 1 (suc n)
+
+-- the places that one node needs: c nodes and r leaves
+abbrev pub children : (ℕ → Option ℕ) → ℕ
+children g = total (λ v. mixed (g v)) 64
+
+abbrev pub runs : (ℕ → Option ℕ) → ℕ
+runs g = total (run_start g) 64
+
+-- nothing for a uniform region
+abbrev pub if_mixed : Option ℕ → ℕ → ℕ
+if_mixed None n = n
+if_mixed (Some h) n = 0
+
+-- below a chunk region, over k strides
+unfoldable pub need_nodes : ℕ → ℕ → (List Bool → ℕ) → ℕ
+need_nodes zero d f = 0
+need_nodes (suc k) d f = if_mixed (one_answer d f) (up (children (slots d f)) + total (λ v. need_nodes k (d - 6) (slot d f v)) 64)
+
+unfoldable pub need_leaves : ℕ → ℕ → (List Bool → ℕ) → ℕ
+need_leaves zero d f = 0
+need_leaves (suc k) d f = if_mixed (one_answer d f) (up (runs (slots d f)) + total (λ v. need_leaves k (d - 6) (slot d f v)) 64)
+
+-- of a whole trie of s direct bits over addresses of s + d bits, k strides below the direct slots: by halves down to the slots,
+-- each of which that has a node has that node's place too
+unfoldable pub trie_nodes : ℕ → ℕ → ℕ → (List Bool → ℕ) → ℕ
+trie_nodes zero k d f = mixed (one_answer d f) + need_nodes k d f
+trie_nodes (suc s) k d f = trie_nodes s k d (side false f) + trie_nodes s k d (side true f)
+
+unfoldable pub trie_leaves : ℕ → ℕ → ℕ → (List Bool → ℕ) → ℕ
+trie_leaves zero k d f = need_leaves k d f
+trie_leaves (suc s) k d f = trie_leaves s k d (side false f) + trie_leaves s k d (side true f)
+
+-- a need told in a u64
+abbrev pub told : ℕ → ℕ
+told n = min n 18446744073709551615

@@ -1,0 +1,82 @@
+//! A node and all below it, top down: a node's blocks are taken before those of its children.
+
+ghost use Rattle.std.specs.Prelude.{◌≡◌, ℕ, ◌+◌, ◌*◌, ◌≤◌, None, IfSome, IsSome};
+ghost use Rattle.buddy_arena.specs.Space.{IsSized};
+ghost use Rattle.fib_regions.specs.Answers.{one_answer};
+ghost use Rattle.poptrie_build.specs.Stands.{blank};
+ghost use Rattle.poptrie_build.specs.Need.{need_nodes, need_leaves};
+ghost use Rattle.poptrie_build.specs.Places.{Keeps, is_out, count_free, IsFresh};
+ghost use Rattle.poptrie_build.specs.Build.{StandsIn, since};
+ghost use Rattle.poptrie_build.specs.Arrays.{node_arrays, leaf_arrays, AreApart};
+
+use crate::making::make_vectors;
+use crate::node::{Node, rank};
+use crate::places::{put, take_places};
+use crate::slots::{ask, descend};
+use buddy_arena::Arena;
+use fib_regions::Region;
+
+/// The node that stands for the region, by places that come out; nothing where a block is refused. What was out keeps what
+/// it holds.
+pub(crate) fn build_node<R: Region>(
+    region: &R,
+    nodes: &mut Arena<Node>,
+    leaves: &mut Arena<u16>,
+) -> Option<Node>
+    requires mixed { one_answer (R.bits region.now) (R.answers region.now) ≡ None }
+    requires nodes_sized { IsSized nodes.old }
+    requires leaves_sized { IsSized leaves.old }
+    ensures nodes_sized { IsSized nodes.new }
+    ensures leaves_sized { IsSized leaves.new }
+    ensures orders { (nodes.new.order ≡ nodes.old.order) × (leaves.new.order ≡ leaves.old.order) }
+    ensures fills { (nodes.new.fill ≡ nodes.old.fill) × (leaves.new.fill ≡ leaves.old.fill) }
+    ensures nodes { Keeps blank nodes.old.cells (is_out nodes.old.free) nodes.new.cells
+        (is_out nodes.new.free) }
+    ensures leaves { Keeps 0 leaves.old.cells (is_out leaves.old.free) leaves.new.cells
+        (is_out leaves.new.free) }
+    ensures stands { IfSome result (λ node. (k : ℕ) → R.bits region.now ≤ 6 * k →
+        StandsIn k nodes.new.cells (since (is_out nodes.old.free)
+        (is_out nodes.new.free)) leaves.new.cells
+        (since (is_out leaves.old.free) (is_out leaves.new.free)) node (R.bits region.now)
+        (R.answers region.now)) }
+    ensures nodes_apart { IfSome result (λ node. (k : ℕ)
+        → AreApart (since (is_out nodes.old.free) (is_out nodes.new.free))
+        (node_arrays k nodes.new.cells node)) }
+    ensures leaves_apart { IfSome result (λ node. (k : ℕ)
+        → AreApart (since (is_out leaves.old.free) (is_out leaves.new.free))
+        (leaf_arrays k nodes.new.cells node)) }
+    ensures nodes_left { IfSome result (λ node. (k : ℕ) → R.bits region.now ≤ 6 * k
+        → count_free nodes.new + need_nodes k (R.bits region.now) (R.answers region.now)
+        ≡ count_free nodes.old) }
+    ensures leaves_left { IfSome result (λ node. (k : ℕ) → R.bits region.now ≤ 6 * k
+        → count_free leaves.new + need_leaves k (R.bits region.now) (R.answers region.now)
+        ≡ count_free leaves.old) }
+    ensures nodes_fresh { IsFresh nodes.old → IsFresh nodes.new }
+    ensures leaves_fresh { IsFresh leaves.old → IsFresh leaves.new }
+    ensures fits { (k : ℕ) → R.bits region.now ≤ 6 * k → IsFresh nodes.old → IsFresh leaves.old
+        → need_nodes k (R.bits region.now) (R.answers region.now) ≤ count_free nodes.old
+        → need_leaves k (R.bits region.now) (R.answers region.now) ≤ count_free leaves.old
+        → IsSome result }
+{
+    let mut kinds = [None; 64];
+    ask(region, 6, &mut kinds);
+    let made = make_vectors(&kinds);
+    let base1 = take_places(nodes, made.nodes)?;
+    let base0 = take_places(leaves, made.leaves)?;
+    for slot in 0..64u8 {
+        match kinds[usize::from(slot)] {
+            Some(hop) => put(leaves, base0 + rank(made.leafvec, slot) - 1, hop),
+            None => {
+                let child = descend(region, slot, 6);
+                let node = build_node(&child, nodes, leaves)?;
+                put(nodes, base1 + rank(made.vector, slot) - 1, node);
+            }
+        }
+    }
+    Some(Node {
+        vector: made.vector,
+        leafvec: made.leafvec,
+        base0,
+        base1,
+    })
+}

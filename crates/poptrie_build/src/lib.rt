@@ -1,0 +1,32 @@
+//! A Poptrie (Asai and Ohara, 'Poptrie', SIGCOMM 2015, section 3): longest match by one array of direct words and a node of
+//! 64 slots for each further six bits of an address.
+//!
+//! The first s bits of an address choose a direct word: a hop, or the place of a node (direct pointing). Each node has two vectors
+//! of 64 bits, one a slot: `vector` marks the slots that have nodes, which lie side by side in the order of slots; `leafvec`
+//! marks where a run of equal leaves begins, of which each is one leaf. So a slot's node or leaf is found by counting bits.
+//! Arrays of nodes and of leaves lie in buddy arenas, each block with one parent.
+//!
+//! The trie is canonical: a region has a node exactly where two of its addresses get different hops. A node takes 24 octets, a
+//! leaf 2.
+#![tactic(auto)]
+
+mod building;
+mod counts;
+mod direct;
+mod filling;
+mod laws;
+mod lookup;
+mod making;
+mod node;
+mod places;
+mod slots;
+mod trie;
+
+pub use filling::TrieFull;
+pub use laws::up_law;
+pub use lookup::Found;
+pub use node::{Node, rank};
+pub use trie::Trie;
+
+#[cfg(test)]
+mod tests;

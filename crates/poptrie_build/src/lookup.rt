@@ -1,0 +1,129 @@
+//! The way from a direct word to the leaf of an address.
+
+ghost use Rattle.std.specs.Prelude.{◌≡◌, ◌+◌, ◌*◌, ◌≤◌, ◌<◌};
+ghost use Rattle.address_model.specs.Width.{width};
+ghost use Rattle.fib_addr.specs.Views.{addr_as};
+ghost use Rattle.buddy_arena.specs.Space.{IsSized};
+ghost use Rattle.fib_regions.specs.Answers.{part};
+ghost use Rattle.poptrie_build.specs.Strides.{Region, address, trie_visits};
+ghost use Rattle.poptrie_build.specs.Stands.{Stands, TrieStands};
+
+use crate::direct::HOP;
+use crate::node::{Node, rank};
+use buddy_arena::Arena;
+use fib_addr::{Addr, Hop};
+use std::sync::ledger::Ledger;
+use step_count::Steps;
+
+/// An answer, and how many nodes were visited for it.
+#[derive(Clone, Copy, Debug, PartialEq, Eq)]
+pub struct Found {
+    /// The hop, `Hop::NONE` where there is none.
+    pub hop: Hop,
+    /// The nodes.
+    pub visits: u8,
+}
+
+/// The answer at the address that the key's bits begin with, from the node that stands for what the key's first `start` bits
+/// leave of the answers.
+fn find_below<L: Ledger>(
+    nodes: &Arena<Node>,
+    leaves: &Arena<u16>,
+    root: u32,
+    key: u128,
+    start: u8,
+    steps: &mut Steps<L>,
+) -> Found
+    ghost region: { Region }
+    requires start { start < 128 }
+    requires bits { start + region.bits ≤ 128 }
+    requires stands { Stands region.strides nodes.now.cells leaves.now.cells root region.bits
+        (part (address start key) region.answers) }
+    requires nodes_sized { IsSized nodes.now }
+    requires leaves_sized { IsSized leaves.now }
+    ensures hop { result.hop.0 ≡ region.answers (address (start + region.bits) key) }
+    ensures visits { result.visits ≡ trie_visits start region.strides region.bits region.answers
+        (address (start + region.bits) key) }
+    ensures few { 6 * result.visits ≤ region.bits + 5 }
+    ensures steps { steps.new ≡ steps.old + result.visits }
+{
+    let mut index = root;
+    let mut left = key << start;
+    let mut visits = 0;
+    'walk: loop {
+        let node = nodes.read(index);
+        steps.tick();
+        visits += 1;
+        let slot = (left >> 122) as u8;
+        if (node.vector >> slot) & 1 == 0 {
+            let hop = leaves.read(node.base0 + rank(node.leafvec, slot) - 1);
+            return Found {
+                hop: Hop(hop),
+                visits,
+            };
+        }
+        index = node.base1 + rank(node.vector, slot) - 1;
+        left <<= 6;
+    }
+}
+
+/// The answer at the address that the key's bits begin with, by the direct words.
+fn find<L: Ledger>(
+    words: &[u32],
+    nodes: &Arena<Node>,
+    leaves: &Arena<u16>,
+    direct_bits: u8,
+    key: u128,
+    steps: &mut Steps<L>,
+) -> Found
+    ghost region: { Region }
+    requires most { direct_bits < 32 }
+    requires bits { direct_bits + region.bits ≤ 128 }
+    requires stands { TrieStands direct_bits words.now region.strides nodes.now.cells leaves.now.cells region.bits region.answers }
+    requires nodes_sized { IsSized nodes.now }
+    requires leaves_sized { IsSized leaves.now }
+    ensures hop { result.hop.0 ≡ region.answers (address (direct_bits + region.bits) key) }
+    ensures visits { result.visits ≡ trie_visits direct_bits region.strides region.bits region.answers (address (direct_bits + region.bits) key) }
+    ensures few { 6 * result.visits ≤ region.bits + 5 }
+    ensures steps { steps.new ≡ steps.old + result.visits }
+{
+    let word = words[(key >> 1 >> (127 - direct_bits)) as usize];
+    if word >= HOP {
+        return Found {
+            hop: Hop((word - HOP) as u16),
+            visits: 0,
+        };
+    }
+    find_below(nodes, leaves, word, key, direct_bits, steps)
+}
+
+/// The bits of an address as the first of 128.
+#[tactic(auto, using(crate::proofs::Filled::key_is, crate::proofs::Filled::at_most_128))]
+fn key_of(addr: &Addr) -> u128
+    ensures { address (width addr.now.family) result ≡ (addr_as addr.now).bits }
+{
+    addr.bits << (128 - addr.family.width())
+}
+
+/// The answer at an address.
+pub(crate) fn find_addr<L: Ledger>(
+    words: &[u32],
+    nodes: &Arena<Node>,
+    leaves: &Arena<u16>,
+    direct_bits: u8,
+    addr: &Addr,
+    steps: &mut Steps<L>,
+) -> Found
+    ghost region: { Region }
+    requires most { direct_bits < 32 }
+    requires bits { direct_bits + region.bits ≡ width addr.now.family }
+    requires stands { TrieStands direct_bits words.now region.strides nodes.now.cells leaves.now.cells region.bits region.answers }
+    requires nodes_sized { IsSized nodes.now }
+    requires leaves_sized { IsSized leaves.now }
+    ensures hop { result.hop.0 ≡ region.answers (addr_as addr.now).bits }
+    ensures visits { result.visits ≡ trie_visits direct_bits region.strides region.bits region.answers (addr_as addr.now).bits }
+    ensures few { 6 * result.visits ≤ region.bits + 5 }
+    ensures steps { steps.new ≡ steps.old + result.visits }
+{
+    find(words, nodes, leaves, direct_bits, key_of(addr), steps)
+}
