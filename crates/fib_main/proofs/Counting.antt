@@ -96,14 +96,14 @@ counting_start octets held reader s = record { read = start; stands = s; taken =
 
 pub counting_next : (octets : List ℕ) (held mid now : Candidates) (old new : Reader) (events n : ℕ) (more : List Event) → Counting octets held old mid events → reading.TakesEvents old more new → CountsOn mid more events n now → Counting octets held new now n
 counting_next octets held mid now old new events n more g t c = record {
-  read = record { peers = reading.peers new; events = g.read.events ++ more; records = new.records; skipped = new.skipped };
+  read = record { peers = reading.peers new; events = g.read.events ++ more; records = new.records; skipped = new.skipped; treated = new.treated };
   stands = t.stands octets g.read g.stands;
   taken = counts_more held mid now g.read.events more 0 events n g.taken c;
 }
 
 pub counting_fits : (octets : List ℕ) (held mid : Candidates) (old new : Reader) (events : ℕ) (more : List Event) → length held + 2 * length octets < 2 ^ 64 → Counting octets held old mid events → reading.TakesEvents old more new → CountsFit mid more events
 counting_fits octets held mid old new events more room g t =
-    let next : Progress = record { peers = reading.peers new; events = g.read.events ++ more; records = new.records; skipped = new.skipped } in
+    let next : Progress = record { peers = reading.peers new; events = g.read.events ++ more; records = new.records; skipped = new.skipped; treated = new.treated } in
     let few : length (g.read.events ++ more) ≤ length octets = few_read octets (reading.reader_left new) next (reads_on octets next new t.refuses (t.stands octets g.read g.stands)) in
     let first : List Elem = elems_after held g.read.events in
     let later : List Elem = elems_after (after_elems held first) more in
@@ -111,15 +111,21 @@ counting_fits octets held mid old new events more room g t =
     let all : elems_after held (g.read.events ++ more) ≡ first ++ later = elems_more held g.read.events more in
     omega (arith, room, few, g.taken.count, ap length at, ap length all, length-append first later, events_few held (g.read.events ++ more))
 
+pub counting_still : (octets : List ℕ) (held now : Candidates) (old new : Reader) (events : ℕ) → Counting octets held old now events → reading.ReaderTakesNothing old new → Counting octets held new now events
+counting_still octets held now old new events g nothing = record { read = g.read; stands = nothing.stands octets g.read g.stands; taken = g.taken }
+
+pub counting_feeds : (octets piece : List ℕ) (held now : Candidates) (old new : Reader) (events : ℕ) → Counting octets held old now events → reading.ReaderFeeds old piece new → Counting (octets ++ piece) held new now events
+counting_feeds octets piece held now old new events g feeds = record { read = g.read; stands = feeds.stands octets g.read g.stands; taken = g.taken }
+
 -- ---- the end
 
-pub counting_end : (octets : List ℕ) (held now : Candidates) (old reader : Reader) (events records skipped : ℕ) → Counting octets held old now events → reading.ReaderTakesNothing old reader → reading.ReaderTells reader (Ok tt) → records ≡ reader.records → skipped ≡ reader.skipped
-    → AreFew (length octets) held (record { records = records; skipped = skipped; events = events }) now
-counting_end octets held now old reader events records skipped g nothing t r k =
-    let s = nothing.stands octets g.read g.stands in
-    let room : HasRoom (length octets) g.read [] = whole_room octets g.read (t octets g.read s) in
+pub counting_end : (octets : List ℕ) (held now : Candidates) (reader : Reader) (events records skipped treated : ℕ) → length octets ≤ 2 ^ 36 → Counting octets held reader now events → reading.ReaderTells reader (Ok tt) → records ≡ reader.records → skipped ≡ reader.skipped → treated ≡ reader.treated
+    → AreFew (2 ^ 36) held (record { records = records; skipped = skipped; events = events; treated = treated }) now
+counting_end octets held now reader events records skipped treated most g t r k w =
+    let room : HasRoom (length octets) g.read [] = whole_room octets g.read (t octets g.read g.stands) in
     record {
-      records = omega (arith, room.records, r, s.records);
-      skipped = omega (arith, room.skipped, k, s.skipped);
-      events = omega (arith, room.events, g.taken.count, ap length g.taken.candidates, events_few held g.read.events);
+      records = omega (arith, most, room.records, r, g.stands.records);
+      skipped = omega (arith, most, room.skipped, k, g.stands.skipped);
+      treated = omega (arith, most, room.treated, w, g.stands.treated);
+      events = omega (arith, most, room.events, g.taken.count, ap length g.taken.candidates, events_few held g.read.events);
     }

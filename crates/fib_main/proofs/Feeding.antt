@@ -5,25 +5,29 @@ use Rattle.route_model.specs.Events.{Elem, Event, Peer}
 use Rattle.route_model.specs.Choice.{Candidates, after_elem, after_elems, elems_after}
 use Rattle.route_model.proofs.Elems.{elems_more}
 use Rattle.octet_fields.specs.Field.{◌>>=◌, steps, until_end}
+use Rattle.wire_model.specs.declared.rule.Rule.{Rule}
+use Rattle.wire_model.specs.Rules.{rule_number}
+use Rattle.reading_model.specs.Update.{Said}
 use Rattle.wire_model.specs.Record.{Record, record_at}
 use Rattle.reading_model.specs.Input.{Progress, Stopped, start, record_in, counted, or_stop, read_record, input}
 use Rattle.reading_model.specs.Reading.{ReadsEvents}
 use Rattle.feed_model.specs.Feed.{hops_after, full_at}
 use Rattle.feed_model.proofs.Numbers.{full_in_front}
-use Rattle.mrt_frame.specs.Records.{fault_of}
 use Rattle.mrt_frame.specs.declared.Malformed as code_malformed
 use Rattle.mrt_read.specs.Standing as reading
 use Rattle.mrt_read.specs.declared.reader.Reader.{Reader}
-use Rattle.mrt_read.specs.declared.reader.EventsError.{EventsError}
-use Rattle.mrt_read.specs.declared.reader.EventsError.TheVariants as read
 use Rattle.fib_main.specs.declared.outcome.Which.{Which}
 use Rattle.fib_main.specs.declared.outcome.Outcome.TheVariants as outcome
 use Rattle.fib_main.specs.declared.state.State.{State}
 use Rattle.fib_main.specs.declared.state.FeedError.{FeedError}
-use Rattle.fib_main.specs.declared.state.FeedError.TheVariants.{Malformed, HopsFull, NoMemory}
-use Rattle.fib_main.specs.Stops.{Refused, event_in}
-use Rattle.fib_main.specs.Due.{read_part, elems_in, feed_in, feed_of}
-use Rattle.fib_main.specs.Standing.{StateStands, IsFull, StateBrings, StateTakesAll, next_elems, of_read}
+use Rattle.fib_main.specs.declared.state.FeedError.TheVariants.{Malformed, HopsFull, NoMemory, Fault, TooLarge}
+use Rattle.std.specs.Prelude.{IfSome, Bool, true, false, not, ◌&&◌}
+use Rattle.fib_io.specs.Pieces.{octets_read, octets_from}
+use Rattle.reading_model.proofs.Reading.{reading_feeds}
+use Rattle.fib_main.specs.declared.outcome.Outcome.{Outcome}
+use Rattle.fib_main.specs.Stops.{Stop, Untold, Refused, IsDueIfTold, FailsDue, told_content, is_small, is_cut, all_records, bad_record, whole_records, few_hops, event_in}
+use Rattle.fib_main.specs.Due.{Feed, read_part, elems_in, feed_in, feed_of}
+use Rattle.fib_main.specs.Standing.{StateStands, IsFull, StateTakesAll, next_elems, refusal_of}
 
 -- this much of the input was read, and the state has what it brings
 pub record Going (which : Which) (before : List Elem) (octets : List ℕ) (reader : Reader) (state : State) (events : ℕ) : Type 0 where
@@ -49,23 +53,23 @@ going_start which before octets reader state r s = record { read = start; stands
 pub going_next : (which : Which) (before : List Elem) (octets : List ℕ) (old new : Reader) (mid state : State) (events n : ℕ) (more : List Event) → Going which before octets old mid events → reading.TakesEvents old more new
     → ((done : List Elem) → events ≡ length done → StateStands which before done mid → (n ≡ length (done ++ next_elems before done more)) × StateStands which before (done ++ next_elems before done more) state) → Going which before octets new state n
 going_next which before octets old new mid state events n more g t taken =
-    let next : Progress = record { peers = reading.peers new; events = g.read.events ++ more; records = new.records; skipped = new.skipped } in
+    let next : Progress = record { peers = reading.peers new; events = g.read.events ++ more; records = new.records; skipped = new.skipped; treated = new.treated } in
     let now = taken (elems_in before g.read) g.counted g.held in
     let same = in_more before g.read next more refl in
     record { read = next; stands = t.stands octets g.read g.stands; counted = now.0 ∙ ap length same; held = subst (λ es. StateStands which before es state) same now.1 }
 
 -- ---- what is read grows
 
-from_told : (p : Progress) (after : List ℕ) (told : Result (Option (List Peer) × Option (List Event)) ℕ) (x : Progress × List ℕ) → or_stop p (told >>= λ t. Ok (counted p t, after)) ≡ Ok x → (new : List Event) × (x.0.events ≡ p.events ++ new)
+from_told : (p : Progress) (after : List ℕ) (told : Result (Option (List Peer) × Option Said) Rule) (x : Progress × List ℕ) → or_stop p (told >>= λ t. Ok (counted p t, after)) ≡ Ok x → (new : List Event) × (x.0.events ≡ p.events ++ new)
 from_told p after (Err rule) x e = absurd cc
-from_told p after (Ok (peers, Some events)) x e = let same : (counted p (peers, Some events), after) ≡ x = cc in (events, sym (ap (λ (y : Progress × List ℕ). y.0.events) same))
+from_told p after (Ok (peers, Some words)) x e = let same : (counted p (peers, Some words), after) ≡ x = cc in (words.events, sym (ap (λ (y : Progress × List ℕ). y.0.events) same))
 from_told p after (Ok (peers, None)) x e = let same : (counted p (peers, None), after) ≡ x = cc in ([], sym (ap (λ (y : Progress × List ℕ). y.0.events) same) ∙ sym (append-nil p.events))
 
-from_record : (p : Progress) (a : Result (Record × List ℕ) ℕ) (x : Progress × List ℕ) → or_stop p (a >>= λ r. record_in p.peers r.0 >>= λ told. Ok (counted p told, r.1)) ≡ Ok x → (new : List Event) × (x.0.events ≡ p.events ++ new)
+from_record : (p : Progress) (a : Result (Record × List ℕ) Rule) (x : Progress × List ℕ) → or_stop p (a >>= λ r. record_in p.peers r.0 >>= λ told. Ok (counted p told, r.1)) ≡ Ok x → (new : List Event) × (x.0.events ≡ p.events ++ new)
 from_record p (Err rule) x e = absurd cc
 from_record p (Ok r) x e = from_told p r.1 (record_in p.peers r.0) x e
 
-stopped_at : {A : Type 0} (p : Progress) (a : Result A ℕ) (stopped : Stopped) → or_stop p a ≡ Err stopped → stopped.read ≡ p
+stopped_at : {A : Type 0} (p : Progress) (a : Result A Rule) (stopped : Stopped) → or_stop p a ≡ Err stopped → stopped.read ≡ p
 stopped_at p (Ok x) stopped e = absurd cc
 stopped_at p (Err rule) stopped e = let same : record { read = p; rule = rule } ≡ stopped = cc in sym (ap (λ (s : Stopped). s.read) same)
 
@@ -104,51 +108,103 @@ input_grows octets left read r =
 pub reads_on : (octets : List ℕ) (read : Progress) (reader : Reader) → reading.reader_refusal reader ≡ None → reading.ReaderStands octets read reader → ReadsEvents octets read (reading.reader_left reader)
 reads_on octets read reader none s = rw none at s.goes_on
 
-full_due : (which : Which) (before : List Elem) (octets left : List ℕ) (read : Progress) (n : ℕ) → ReadsEvents octets read left → IsFull before (elems_in before read) n → feed_of which before octets ≡ Err (Refused (outcome.HopsFull (event_in which n)))
+-- ---- what is due, where it is told
+
+-- what an input brings, where it is told
+abbrev pub due_of : Which → List Elem → Option (List ℕ) → Result Feed Stop
+due_of which before o = told_content o >>= feed_of which before
+
+-- what was fed, and what comes of the input
+abbrev pub Comes : List ℕ → ℕ → List ℕ → Type 0
+Comes fed at c = octets_read c ≡ fed ++ octets_from at c
+
+pub refused_is : (d : Result Feed Stop) (o : Outcome) → d ≡ Err (Refused o) → IsDueIfTold d (Err (Refused o))
+refused_is d o e = rw e refl
+
+pub brought_is : (d : Result Feed Stop) (feed : Feed) → d ≡ Ok feed → IsDueIfTold d (Ok feed)
+brought_is d feed e = rw e refl
+
+reads_all : (c fed rest left : List ℕ) (read : Progress) → octets_read c ≡ fed ++ rest → ReadsEvents fed read left → ReadsEvents (octets_read c) read (left ++ rest)
+reads_all c fed rest left read e r = subst (λ xs. ReadsEvents xs read (left ++ rest)) (sym e) (reading_feeds fed rest left read r)
+
+full_due : (which : Which) (before : List Elem) (c left : List ℕ) (read : Progress) (n : ℕ) → ReadsEvents (octets_read c) read left → IsFull before (elems_in before read) n → feed_of which before c ≡ Err (Refused (outcome.HopsFull (event_in which n)))
 unfolding feed_of
-full_due which before octets left read n r full =
+full_due which before c left read n r full =
+    let octets : List ℕ = octets_read c in
     let grown = input_grows octets left read r in
     let all : elems_in before (read_part (input octets)) ≡ elems_in before read ++ next_elems before (elems_in before read) grown.0 = sym (in_more before read (read_part (input octets)) grown.0 grown.1) in
     let at : full_at (hops_after [] before) (elems_in before (read_part (input octets))) ≡ Some n = ap (full_at (hops_after [] before)) all ∙ full_in_front (hops_after [] before) (elems_in before read) (next_elems before (elems_in before read) grown.0) n full in
     rw at refl
 
-pub refused_hops : (which : Which) (before : List Elem) (octets : List ℕ) (old new : Reader) (mid state : State) (events : ℕ) (more : List Event) (error : FeedError) → Going which before octets old mid events → reading.TakesEvents old more new → StateTakesAll which events more mid (Err error) state
-    → StateBrings which before (Err error) state (feed_of which before octets)
-refused_hops which before octets old new mid state events more (HopsFull n) g t taken =
-    let next : Progress = record { peers = reading.peers new; events = g.read.events ++ more; records = new.records; skipped = new.skipped } in
+-- ---- refusals
+
+pub refused_hops : (which : Which) (before : List Elem) (o : Option (List ℕ)) (fed : List ℕ) (at : ℕ) (old new : Reader) (mid state : State) (events : ℕ) (more : List Event) (error : FeedError) → IfSome o (Comes fed at) → Going which before fed old mid events → reading.TakesEvents old more new → StateTakesAll which events more mid (Err error) state
+    → FailsDue (refusal_of which error) (due_of which before o)
+refused_hops which before None fed at old new mid state events more (HopsFull n) comes g t taken = tt
+refused_hops which before (Some c) fed at old new mid state events more (HopsFull n) comes g t taken =
+    let next : Progress = record { peers = reading.peers new; events = g.read.events ++ more; records = new.records; skipped = new.skipped; treated = new.treated } in
     let full = subst (λ es. IsFull before es n) (in_more before g.read next more refl) (taken before (elems_in before g.read) g.counted g.held) in
-    full_due which before octets (reading.reader_left new) next n (reads_on octets next new t.refuses (t.stands octets g.read g.stands)) full
-refused_hops which before octets old new mid state events more (Malformed malformed) g t taken = absurd taken
-refused_hops which before octets old new mid state events more NoMemory g t taken = tt
+    let reads = reads_all c fed (octets_from at c) (reading.reader_left new) next comes (reads_on fed next new t.refuses (t.stands fed g.read g.stands)) in
+    refused_is (feed_of which before c) (outcome.HopsFull (event_in which n)) (full_due which before c (reading.reader_left new ++ octets_from at c) next n reads full)
+refused_hops which before o fed at old new mid state events more (Malformed malformed) comes g t taken = absurd taken
+refused_hops which before o fed at old new mid state events more Fault comes g t taken = absurd taken
+refused_hops which before o fed at old new mid state events more TooLarge comes g t taken = absurd taken
+refused_hops which before o fed at old new mid state events more NoMemory comes g t taken = tt
 
-fault_due : (which : Which) (before : List Elem) (octets : List ℕ) (read : Progress) (malformed : code_malformed.Malformed) (state : State) → StateStands which before (elems_in before read) state → reading.IsFault octets read (fault_of malformed) → feed_of which before octets ≡ Err (Refused (outcome.Malformed which malformed.number malformed.rule))
+feeds_bad : (which : Which) (o : Option ℕ) (b : Bool) (stopped : Stopped) (f : Progress → Result Feed Stop) → o ≡ None → b ≡ false → few_hops which o (bad_record which b stopped >>= f) ≡ Err (Refused (outcome.Malformed which stopped.read.records (rule_number stopped.rule)))
+feeds_bad which None false stopped f o b = refl
+feeds_bad which None true stopped f o b = absurd cc
+feeds_bad which (Some n) b stopped f o e = absurd cc
+
+feeds_large : (which : Which) (o : Option ℕ) (b : Bool) (stopped : Stopped) (f : Progress → Result Feed Stop) → o ≡ None → b ≡ true → few_hops which o (bad_record which b stopped >>= f) ≡ Err (Refused (outcome.TooLarge which))
+feeds_large which None true stopped f o b = refl
+feeds_large which None false stopped f o b = absurd cc
+feeds_large which (Some n) b stopped f o e = absurd cc
+
+feeds_all : (which : Which) (o : Option ℕ) (b : Bool) (read : Progress) (f : Progress → Result Feed Stop) → o ≡ None → b ≡ true → few_hops which o (all_records which b read >>= f) ≡ f read
+feeds_all which None true read f o b = refl
+feeds_all which None false read f o b = absurd cc
+feeds_all which (Some n) b read f o e = absurd cc
+
+feeds_past : (which : Which) (o : Option ℕ) (b : Bool) (read : Progress) (f : Progress → Result Feed Stop) → o ≡ None → b ≡ false → few_hops which o (all_records which b read >>= f) ≡ Err (Refused (outcome.TooLarge which))
+feeds_past which None false read f o b = refl
+feeds_past which None true read f o b = absurd cc
+feeds_past which (Some n) b read f o e = absurd cc
+
+-- what is due of what was read
+abbrev due_in : Which → List Elem → List ℕ → Result Progress Stopped → Result Feed Stop
+due_in which before c r = few_hops which (full_at (hops_after [] before) (elems_in before (read_part r))) (whole_records which (is_small c) (is_cut (octets_read c)) r >>= λ read. Ok (feed_in before read))
+
+due_is : (which : Which) (before : List Elem) (c : List ℕ) (r : Result Progress Stopped) → input (octets_read c) ≡ r → feed_of which before c ≡ due_in which before c r
 unfolding feed_of
-fault_due which before octets read malformed state s f = rw (f.1, s.fits, f.0) refl
+due_is which before c r e = ap (due_in which before c) e
 
-pub refused_read : (which : Which) (before : List Elem) (octets : List ℕ) (old new : Reader) (state : State) (events : ℕ) (error : EventsError) → Going which before octets old state events → reading.Failed old error new → StateBrings which before (Err (of_read error)) state (feed_of which before octets)
-refused_read which before octets old new state events (read.Malformed malformed) g t = fault_due which before octets g.read malformed state g.held (t.tells octets g.read g.stands)
-refused_read which before octets old new state events read.NoMemory g t = tt
+pub fault_due : (which : Which) (before : List Elem) (c : List ℕ) (read : Progress) (malformed : code_malformed.Malformed) (state : State) → StateStands which before (elems_in before read) state → malformed.number ≡ read.records → input (octets_read c) ≡ Err (record { read = read; rule = malformed.rule }) → (not (is_small c) && is_cut (octets_read c) read.records) ≡ false
+    → feed_of which before c ≡ Err (Refused (outcome.Malformed which malformed.number (rule_number malformed.rule)))
+fault_due which before c read malformed state s n e cut =
+    due_is which before c (Err (record { read = read; rule = malformed.rule })) e
+    ∙ feeds_bad which (full_at (hops_after [] before) (elems_in before read)) (not (is_small c) && is_cut (octets_read c) read.records) (record { read = read; rule = malformed.rule }) (λ read. Ok (feed_in before read)) s.fits cut
+    ∙ ap (λ k. Err (Refused (outcome.Malformed which k (rule_number malformed.rule)))) (sym n)
 
 pub going_still : (which : Which) (before : List Elem) (octets : List ℕ) (old new : Reader) (state : State) (events : ℕ) → Going which before octets old state events → reading.ReaderTakesNothing old new → Going which before octets new state events
 going_still which before octets old new state events g nothing = record { read = g.read; stands = nothing.stands octets g.read g.stands; counted = g.counted; held = g.held }
 
-pub refused_end : (which : Which) (before : List Elem) (octets : List ℕ) (reader : Reader) (state : State) (events : ℕ) (malformed : code_malformed.Malformed) → Going which before octets reader state events → reading.ReaderTells reader (Err malformed) → StateBrings which before (Err (Malformed malformed)) state (feed_of which before octets)
-refused_end which before octets reader state events malformed g t = fault_due which before octets g.read malformed state g.held (t octets g.read g.stands)
+pub going_feeds : (which : Which) (before : List Elem) (octets piece : List ℕ) (old new : Reader) (state : State) (events : ℕ) → Going which before octets old state events → reading.ReaderFeeds old piece new → Going which before (octets ++ piece) new state events
+going_feeds which before octets piece old new state events g feeds = record { read = g.read; stands = feeds.stands octets g.read g.stands; counted = g.counted; held = g.held }
 
 -- ---- the end
 
-whole_due : (which : Which) (before : List Elem) (octets : List ℕ) (read : Progress) (state : State) → StateStands which before (elems_in before read) state → input octets ≡ Ok read → feed_of which before octets ≡ Ok (feed_in before read)
-unfolding feed_of
-whole_due which before octets read state s e = rw (e, s.fits) refl
+pub whole_due : (which : Which) (before : List Elem) (c : List ℕ) (read : Progress) (state : State) → StateStands which before (elems_in before read) state → input (octets_read c) ≡ Ok read → is_small c ≡ true → feed_of which before c ≡ Ok (feed_in before read)
+whole_due which before c read state s e small =
+    due_is which before c (Ok read) e
+    ∙ feeds_all which (full_at (hops_after [] before) (elems_in before read)) (is_small c) read (λ read. Ok (feed_in before read)) s.fits small
 
-pub brings_all : (which : Which) (before : List Elem) (octets : List ℕ) (old reader : Reader) (state : State) (events records skipped : ℕ) → Going which before octets old state events → reading.ReaderTakesNothing old reader → reading.ReaderTells reader (Ok tt) → records ≡ reader.records → skipped ≡ reader.skipped
-    → StateBrings which before (Ok (record { records = records; skipped = skipped; events = events })) state (feed_of which before octets)
-brings_all which before octets old reader state events records skipped g nothing t r k =
-    let s = nothing.stands octets g.read g.stands in (
-      feed_in before g.read,
-      whole_due which before octets g.read state g.held (t octets g.read s),
-      record {
-        counted = record { records = r ∙ sym s.records; skipped = k ∙ sym s.skipped; events = g.counted };
-        stands = g.held;
-      },
-    )
+pub past_due : (which : Which) (before : List Elem) (c : List ℕ) (read : Progress) (state : State) → StateStands which before (elems_in before read) state → input (octets_read c) ≡ Ok read → is_small c ≡ false → feed_of which before c ≡ Err (Refused (outcome.TooLarge which))
+past_due which before c read state s e large =
+    due_is which before c (Ok read) e
+    ∙ feeds_past which (full_at (hops_after [] before) (elems_in before read)) (is_small c) read (λ read. Ok (feed_in before read)) s.fits large
+
+pub cut_due : (which : Which) (before : List Elem) (c : List ℕ) (read : Progress) (rule : Rule) (state : State) → StateStands which before (elems_in before read) state → input (octets_read c) ≡ Err (record { read = read; rule = rule }) → (not (is_small c) && is_cut (octets_read c) read.records) ≡ true → feed_of which before c ≡ Err (Refused (outcome.TooLarge which))
+cut_due which before c read rule state s e cut =
+    due_is which before c (Err (record { read = read; rule = rule })) e
+    ∙ feeds_large which (full_at (hops_after [] before) (elems_in before read)) (not (is_small c) && is_cut (octets_read c) read.records) (record { read = read; rule = rule }) (λ read. Ok (feed_in before read)) s.fits cut

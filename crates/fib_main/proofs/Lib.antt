@@ -16,3 +16,4 @@ pub mod Running
 pub mod Steps
 pub mod Telling
 pub mod Untold
+pub mod Streaming

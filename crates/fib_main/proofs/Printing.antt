@@ -87,11 +87,11 @@ checks_yes load updates fed state asks run text f r proper e =
     subst (AllByRecursion IsRow) same (subst (λ h. AllByRecursion IsRow (printed_rows h told)) s.hops (subst (λ x. AllByRecursion IsRow (printed_rows state.hops.list x)) r proper))
     in
     let right : Proves (used_of (rows_with hops R T C between after)) =
-    printed_proves hops R T C between after (hops_distinct elems) (entries_have elems) others (tt, (tt, (tt, (tt, (tt, tt))))) cert
+    printed_proves hops R T C between after (hops_distinct elems) (entries_have elems) others (tt, (tt, (tt, (tt, (tt, (tt, tt)))))) cert
     in
     record {
       used = used_of (rows_with hops R T C between after);
-      read = ap printed_in (e ∙ ap rows_text same) ∙ printed_read hops R T C between after few others (tt, (tt, (tt, (tt, (tt, tt))))) all;
+      read = ap printed_in (e ∙ ap rows_text same) ∙ printed_read hops R T C between after few others (tt, (tt, (tt, (tt, (tt, (tt, tt)))))) all;
       certified = right;
       yes = verdict_from _ _ _ right;
     }

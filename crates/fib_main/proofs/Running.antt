@@ -18,8 +18,10 @@ use Rattle.fib_words.specs.Commands.{Named, Asked, Run, Check, command_of}
 use Rattle.printed_model.specs.Used.{Used}
 use Rattle.fib_main.specs.declared.outcome.Which.{Which}
 use Rattle.fib_main.specs.declared.outcome.Which.TheVariants.{Dump, Updates}
-use Rattle.fib_main.specs.Stops.{Stop, few_hops, whole_records}
-use Rattle.fib_main.specs.Due.{Feed, Printed, printed, input_at, asks_at, feed_at, feed_of, feed_in, elems_in, read_part, told_at, run_at, used_at, output_at, ran, checked, due, usage, answers_to}
+use Rattle.std.specs.Prelude.{Bool, true, false, not, ◌&&◌}
+use Rattle.fib_io.specs.Pieces.{octets_read}
+use Rattle.fib_main.specs.Stops.{Stop, bad_record, few_hops, is_cut, is_small, records_due, told_content, whole_records}
+use Rattle.fib_main.specs.Due.{Feed, Printed, printed, asks_at, feed_at, feed_of, feed_in, elems_in, read_part, told_at, run_at, used_at, output_at, ran, checked, due, usage, answers_to}
 use Rattle.fib_main.specs.Proves.{IfRan}
 use Rattle.fib_main.specs.Runs.{IfDue, SumsUp, Forwards, Answers, HasLeast, HasAggregate, Certified, IsInOrder, HasHops}
 use Rattle.fib_main.proofs.Addressed.{has_hops}
@@ -41,16 +43,20 @@ same_feed f g e = cc
 
 feed_proper : (which : Which) (before : List Elem) (octets : List ℕ) (feed : Feed) → AllByRecursion IsElem before → feed_of which before octets ≡ Ok feed → AllByRecursion IsElem feed.elems
 unfolding feed_of
-feed_proper which before octets feed p e = by_input (input octets) refl (few_ok which (full_at (hops_after [] before) (elems_in before (read_part (input octets)))) (whole_records which (input octets) >>= λ read. Ok (feed_in before read)) feed e)
+feed_proper which before octets feed p e = by_input (is_small octets) (input (octets_read octets)) refl (few_ok which (full_at (hops_after [] before) (elems_in before (read_part (input (octets_read octets))))) (records_due which octets >>= λ read. Ok (feed_in before read)) feed e)
   where
-    by_input : (r : Result Progress Stopped) → input octets ≡ r → (whole_records which r >>= λ read. Ok (feed_in before read)) ≡ Ok feed → AllByRecursion IsElem feed.elems
-    by_input (Ok read) is e = subst (λ (f : Feed). AllByRecursion IsElem f.elems) (same_feed (feed_in before read) feed e) (elems_of_events (after_elems [] before) read.events (candidates_stay [] before none_yet p) (read_events octets read is))
-    by_input (Err stopped) is e = absurd cc
+    by_input : (ends : Bool) (r : Result Progress Stopped) → input (octets_read octets) ≡ r → (whole_records which ends (is_cut (octets_read octets)) r >>= λ read. Ok (feed_in before read)) ≡ Ok feed → AllByRecursion IsElem feed.elems
+    by_input true (Ok read) is e = subst (λ (f : Feed). AllByRecursion IsElem f.elems) (same_feed (feed_in before read) feed e) (elems_of_events (after_elems [] before) read.events (candidates_stay [] before none_yet p) (read_events (octets_read octets) read is))
+    by_input false (Ok read) is e = absurd cc
+    by_input ends (Err stopped) is e = absurd (bad (not ends && is_cut (octets_read octets) stopped.read.records) e) where
+      bad : (b : Bool) → (bad_record which b stopped >>= λ read. Ok (feed_in before read)) ≡ Ok feed → ⊥
+      bad true e = cc
+      bad false e = cc
 
 named_proper : (content : List ℕ → Option (List ℕ)) (which : Which) (before : List Elem) (name : Option (List ℕ)) (feed : Feed) → AllByRecursion IsElem before → feed_at content which before name ≡ Ok feed → AllByRecursion IsElem feed.elems
 unfolding feed_at
 named_proper content which before None feed p e = let none = same_feed _ feed e in subst (λ (f : Feed). AllByRecursion IsElem f.elems) none tt
-named_proper content which before (Some name) feed p e = by_octets (input_at content which name) e
+named_proper content which before (Some name) feed p e = by_octets (told_content (content name)) e
   where
     by_octets : (r : Result (List ℕ) Stop) → (r >>= feed_of which before) ≡ Ok feed → AllByRecursion IsElem feed.elems
     by_octets (Ok octets) e = feed_proper which before octets feed p e

@@ -5,7 +5,7 @@ use Rattle.std.proofs.Math.Seq.{drop-cons}
 use Rattle.std.proofs.lemmas.List.{take_all, take_more, take-append-drop, map-append}
 use Rattle.fib_addr.specs.declared.hops.HopError.{HopError}
 use Rattle.fib_main.specs.declared.state.FeedError.{FeedError}
-use Rattle.fib_main.specs.declared.state.FeedError.TheVariants.{Malformed, HopsFull, NoMemory}
+use Rattle.fib_main.specs.declared.state.FeedError.TheVariants.{Malformed, HopsFull, NoMemory, Fault, TooLarge}
 use Rattle.std.proofs.lemmas.Bool.{lt-ltb, le-ltb}
 use Rattle.std.proofs.lemmas.List.{map_push}
 use Rattle.std.specs.List.{AllByRecursion}
@@ -25,13 +25,13 @@ use Rattle.fib_addr.specs.Hops.{number_of, with_hop, most_hops}
 use Rattle.fib_addr.specs.Views.{addr_as}
 use Rattle.fib_addr.specs.declared.addr.Addr.{Addr}
 use Rattle.fib_addr.proofs.HopLemmas.{new_is_not}
-use Rattle.fib_report.specs.declared.run.Change as code_change
-use Rattle.fib_report.specs.Views.{change_as}
+use Rattle.fib_delta.specs.declared.change.Change as code_change
+use Rattle.fib_delta.specs.Views.{change_as}
 use Rattle.route_choice.specs.Held.{IsChoice}
 use Rattle.route_choice.specs.declared.choice.Choice.{Choice}
 use Rattle.fib_addr.specs.Views.{prefix_as}
 use Rattle.fib_prefix.specs.Views.{elem_as}
-use Rattle.fib_prefix.specs.declared.event.Peer as code_peer
+use Rattle.fib_prefix.specs.declared.event.Via as code_via
 use Rattle.fib_addr.specs.declared.prefix.Prefix as code_prefix
 use Rattle.fib_prefix.specs.declared.event.Elem as code_elem
 use Rattle.fib_prefix.specs.declared.event.Elem.TheVariants as code_variant
@@ -60,8 +60,8 @@ full_hop hops a len none =
     omega (arith, len, ap length grown, length-append hops (a ∷ []))
 
 -- of an elementary event that puts this hop
-pub full_put : (hops : List Address) (elem : code_elem.Elem) (q : code_peer.Peer) (p : code_prefix.Prefix) (path : ℕ) (hop : Addr) → elem ≡ code_variant.Put q p path hop → (length hops ≡ most_hops) × (number_of hops (addr_as hop) ≡ None) → most_hops < length (hops_after hops (elem_as elem ∷ []))
-full_put hops elem q p path hop is full = rw is (full_hop hops (addr_as hop) full.0 full.1)
+pub full_put : (hops : List Address) (elem : code_elem.Elem) (v : code_via.Via) (p : code_prefix.Prefix) (path : ℕ) (hop : Addr) → elem ≡ code_variant.Put v p path hop → (length hops ≡ most_hops) × (number_of hops (addr_as hop) ≡ None) → most_hops < length (hops_after hops (elem_as elem ∷ []))
+full_put hops elem v p path hop is full = rw is (full_hop hops (addr_as hop) full.0 full.1)
 
 abbrev refused : HopError → Result (Unit {0}) HopError
 refused e = Err e
@@ -146,8 +146,8 @@ is_address : (a : Addr) → IsAddress (addr_as a)
 is_address a = length-bits_of (width a.family) a.bits
 
 pub is_elem : (elem : code_elem.Elem) → IsElem (elem_as elem)
-is_elem (code_variant.Put q p path hop) = (is_prefix p, is_address q.addr)
-is_elem (code_variant.Cut q p) = (is_prefix p, is_address q.addr)
+is_elem (code_variant.Put v p path hop) = (is_prefix p, is_address v.peer.addr)
+is_elem (code_variant.Cut v p) = (is_prefix p, is_address v.peer.addr)
 
 all_push : (P : Elem → Type 0) (xs : List Elem) (x : Elem) → AllByRecursion P xs → P x → AllByRecursion P (xs ++ x ∷ [])
 all_push P [] x a p = (p, tt)
@@ -249,6 +249,8 @@ refused_step which count n events elem old mid new after (HopsFull m) taken at =
     let a = at before done counted s in
     subst (λ xs. IsFull before xs m) a.same (full_more before (a.front ++ elem ∷ []) a.rest m (taken before a.front a.counted a.stands))
 refused_step which count n events elem old mid new after (Malformed malformed) taken at = taken
+refused_step which count n events elem old mid new after Fault taken at = taken
+refused_step which count n events elem old mid new after TooLarge taken at = taken
 refused_step which count n events elem old mid new after NoMemory taken at = tt
 
 -- the same of events
@@ -265,6 +267,8 @@ refused_event which count n events event old mid new after (HopsFull m) taken at
     let a = at before done counted s in
     subst (λ xs. IsFull before xs m) a.same (full_more before (a.front ++ next_elems before a.front (event ∷ [])) a.rest m (taken before a.front a.counted a.stands))
 refused_event which count n events event old mid new after (Malformed malformed) taken at = taken
+refused_event which count n events event old mid new after Fault taken at = taken
+refused_event which count n events event old mid new after TooLarge taken at = taken
 refused_event which count n events event old mid new after NoMemory taken at = tt
 
 -- the elementary events of a list are those of its front, and then those of what follows

@@ -20,7 +20,7 @@ use Rattle.fib_addr.specs.declared.addr.Addr.{Addr}
 use Rattle.fib_addr.specs.declared.prefix.Prefix.{Prefix}
 use Rattle.fib_addr.specs.declared.entry.Entry.{Entry}
 use Rattle.fib_addr.specs.Views.{addr_as, entry_as, route_as}
-use Rattle.fib_report.specs.declared.run.Change.{Change}
+use Rattle.fib_delta.specs.declared.change.Change.{Change}
 use Rattle.fib_report.specs.declared.run.Report.{Report}
 use Rattle.fib_report.specs.Views.{Told}
 use Rattle.fib_report.specs.Rows.{run_text}
@@ -51,7 +51,7 @@ entries_sorted hops held are = subst (IsStrictlySortedBy prefix_cmp) (sym (keys_
 counted : (load updates : Feed) (fed : Fed) (routes : Entries) (entries : List Entry) (n : ℕ) → IsCounted load fed.load → IsCounted updates fed.updates → map entry_as entries ≡ routes → n ≡ length entries → totals fed.load fed.updates n ≡ counts load updates routes
 counted load updates fed routes entries n l u e len =
     let long : n ≡ length routes = len ∙ (sym (length-map entries entry_as) ∙ ap length e) in
-    rw (l.records, l.skipped, l.events, u.records, u.skipped, u.events, long) refl
+    rw (l.records, l.skipped, l.treated, l.events, u.records, u.skipped, u.treated, u.events, long) refl
 
 pub told_is : (load updates : Feed) (fed : Fed) (state : State) (asks : List Addr) (routes loaded table : List Entry) (chosen : List (Prefix × Addr)) (looked : Looked) (changes : List (ℕ × Change)) (report : Report) (n : ℕ)
     → map route_as chosen ≡ routes_of state.candidates.candidates → map entry_as routes ≡ map (numbered state.hops.list) chosen → map entry_as loaded ≡ map (numbered state.hops.list) fed.loaded.now → (IsStrictlySortedBy prefix_cmp (keys_of (map entry_as routes)) → IsLooked (map entry_as routes) (map addr_as asks) looked)

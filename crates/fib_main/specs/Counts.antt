@@ -13,14 +13,16 @@ pub record CountsOn (held : Candidates) (events : List Event) (before after : �
   pub count : after ≡ before + length (elems_after held events)
   pub candidates : now ≡ after_elems held (elems_after held events)
 
--- The counts of an input of at most so many octets, taken behind these candidates: no more records and no more skipped ones than octets, and no more elementary events and candidates after them than the candidates before and two for each octet.
+-- The counts of an input of at most so many octets, taken behind these candidates: no more records, no more skipped ones and no more treated messages than octets, and no more elementary events and candidates after them than the candidates before and two for each octet.
 pub record AreFew (octets : ℕ) (held : Candidates) (counts : Counts) (now : Candidates) : Type 0 where
   pub records : counts.records ≤ octets
   pub skipped : counts.skipped ≤ octets
+  pub treated : counts.treated ≤ octets
   pub events : counts.events + length now ≤ length held + 2 * octets
 
 -- the sums of the counts of two inputs have 64 bits
 pub record AddUp (load updates : Counts) : Type 0 where
   pub records : load.records + updates.records < 2 ^ 64
   pub skipped : load.skipped + updates.skipped < 2 ^ 64
+  pub treated : load.treated + updates.treated < 2 ^ 64
   pub events : load.events + updates.events < 2 ^ 64

@@ -20,7 +20,8 @@ use Rattle.fib_main.specs.declared.outcome.Outcome.TheVariants.{Usage}
 use Rattle.fib_main.specs.declared.outcome.Which.{Which}
 use Rattle.fib_main.specs.declared.outcome.Which.TheVariants.{Asks, Dump, Updates}
 use Rattle.fib_main.specs.declared.outcome.Which.TheVariants as which
-use Rattle.fib_main.specs.Stops.{Stop, Refused, told_content, sized, lined, rowed, whole_records, few_hops}
+use Rattle.fib_main.specs.Stops.{Stop, Refused, told_content, sized, lined, rowed, records_due, few_hops}
+use Rattle.fib_io.specs.Pieces.{octets_read}
 use Rattle.fib_main.specs.Asks.{asks_in}
 use Rattle.fib_main.specs.Checks.{verdict_of, verdict_text}
 
@@ -43,14 +44,15 @@ asks_at content (Some name) = do
 
 -- ---- what an input of records brings
 
--- its elementary events, how many records it has, and how many of them were skipped
+-- its elementary events, how many records it has, how many of them were skipped, and how many messages were treated as withdrawals
 pub record Feed : Type 0 where
   pub elems : List Elem
   pub records : ℕ
   pub skipped : ℕ
+  pub treated : ℕ
 
 abbrev pub no_feed : Feed
-no_feed = record { elems = []; records = 0; skipped = 0 }
+no_feed = record { elems = []; records = 0; skipped = 0; treated = 0 }
 
 -- what was read before the end or before the record that breaks a rule
 abbrev pub read_part : Result Progress Stopped → Progress
@@ -62,19 +64,19 @@ abbrev pub elems_in : List Elem → Progress → List Elem
 elems_in before read = elems_after (after_elems [] before) read.events
 
 abbrev pub feed_in : List Elem → Progress → Feed
-feed_in before read = record { elems = elems_in before read; records = read.records; skipped = read.skipped }
+feed_in before read = record { elems = elems_in before read; records = read.records; skipped = read.skipped; treated = read.treated }
 
--- What the octets of an input bring after earlier elementary events. Records are taken one by one: a hop too many comes before a record after it that breaks a rule.
+-- What the octets of an input bring after earlier elementary events. Records are taken one by one: a hop too many comes before a record after it that breaks a rule, and before the end of what is read.
 unfoldable pub feed_of : Which → List Elem → List ℕ → Result Feed Stop
 feed_of which before octets =
-    few_hops which (full_at (hops_after [] before) (elems_in before (read_part (input octets))))
-    (whole_records which (input octets) >>= λ read. Ok (feed_in before read))
+    few_hops which (full_at (hops_after [] before) (elems_in before (read_part (input (octets_read octets)))))
+    (records_due which octets >>= λ read. Ok (feed_in before read))
 
 -- nothing comes of an input that isn't named
 unfoldable pub feed_at : (List ℕ → Option (List ℕ)) → Which → List Elem → Option (List ℕ) → Result Feed Stop
 feed_at content which before None = Ok no_feed
 feed_at content which before (Some name) = do
-  octets ← input_at content which name
+  octets ← told_content (content name)
   feed_of which before octets
 
 -- ---- what is told
@@ -90,6 +92,7 @@ counts load updates routes = record {
   events = length load.elems + length updates.elems;
   routes = length routes;
   entries = length routes;
+  treated = load.treated + updates.treated;
 }
 
 -- of these routes: themselves, the changes that led to them, each address with its answer, the table, the aggregate with the routes as the old table, the certificate that it is least, and the counts

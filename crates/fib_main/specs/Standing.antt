@@ -6,6 +6,7 @@ use Rattle.table_model.specs.Changes.{Change}
 use Rattle.route_model.specs.Events.{Elem, Event}
 use Rattle.route_model.specs.Choice.{Candidates, IsElem, after_elems, elems_after, routes_of}
 use Rattle.feed_model.specs.Feed.{hops_after, full_at, changes_from}
+use Rattle.wire_model.specs.Rules.{rule_number}
 use Rattle.fib_addr.specs.Hops.{most_hops}
 use Rattle.fib_main.specs.declared.outcome.Which.{Which}
 use Rattle.fib_main.specs.declared.outcome.Which.TheVariants.{Asks, Dump, Updates, Printed}
@@ -14,7 +15,10 @@ use Rattle.fib_main.specs.declared.outcome.Outcome.TheVariants as outcome
 use Rattle.fib_main.specs.declared.feed.Counts.{Counts}
 use Rattle.fib_main.specs.declared.state.State.{State}
 use Rattle.fib_main.specs.declared.state.FeedError.{FeedError}
-use Rattle.fib_main.specs.declared.state.FeedError.TheVariants.{Malformed, HopsFull, NoMemory}
+use Rattle.fib_main.specs.declared.state.FeedError.TheVariants.{Malformed, HopsFull, NoMemory, Fault, TooLarge}
+use Rattle.fib_io.specs.Causes.{Rose}
+use Rattle.fib_io.specs.declared.pieces.ReadError.{ReadError}
+use Rattle.fib_io.specs.declared.pieces.ReadError.TheVariants as pieces
 use Rattle.fib_main.specs.declared.report.Fed.{Fed}
 use Rattle.mrt_read.specs.declared.reader.EventsError.{EventsError}
 use Rattle.mrt_read.specs.declared.reader.EventsError.TheVariants as read
@@ -48,6 +52,8 @@ abbrev pub StateTakes : {T : Type 0} → Which → ℕ → List Elem → State �
 StateTakes which event elems old (Ok x) new = (before done : List Elem) → event ≡ length (done ++ elems) → StateStands which before done old → StateStands which before (done ++ elems) new
 StateTakes which event elems old (Err (HopsFull n)) new = (before done : List Elem) → event ≡ length (done ++ elems) → StateStands which before done old → IsFull before (done ++ elems) n
 StateTakes which event elems old (Err (Malformed malformed)) new = ⊥
+StateTakes which event elems old (Err Fault) new = ⊥
+StateTakes which event elems old (Err TooLarge) new = ⊥
 StateTakes which event elems old (Err NoMemory) new = Unit {0}
 
 -- the elementary events of events that come after others
@@ -59,12 +65,15 @@ abbrev pub StateTakesAll : Which → ℕ → List Event → State → Result ℕ
 StateTakesAll which count events old (Ok n) new = (before done : List Elem) → count ≡ length done → StateStands which before done old → (n ≡ length (done ++ next_elems before done events)) × StateStands which before (done ++ next_elems before done events) new
 StateTakesAll which count events old (Err (HopsFull n)) new = (before done : List Elem) → count ≡ length done → StateStands which before done old → IsFull before (done ++ next_elems before done events) n
 StateTakesAll which count events old (Err (Malformed malformed)) new = ⊥
+StateTakesAll which count events old (Err Fault) new = ⊥
+StateTakesAll which count events old (Err TooLarge) new = ⊥
 StateTakesAll which count events old (Err NoMemory) new = Unit {0}
 
 -- the counts are those of what an input brings
 pub record IsCounted (feed : Feed) (counts : Counts) : Type 0 where
   pub records : counts.records ≡ feed.records
   pub skipped : counts.skipped ≡ feed.skipped
+  pub treated : counts.treated ≡ feed.treated
   pub events : counts.events ≡ length feed.elems
 
 -- the state has what the input brings, and it was counted
@@ -80,16 +89,28 @@ of_read read.NoMemory = NoMemory
 -- the outcome where an input brings nothing
 abbrev pub refusal_of : Which → FeedError → Outcome
 refusal_of which (HopsFull n) = outcome.HopsFull (event_in which n)
-refusal_of which (Malformed malformed) = outcome.Malformed which malformed.number malformed.rule
+refusal_of which (Malformed malformed) = outcome.Malformed which malformed.number (rule_number malformed.rule)
 refusal_of which NoMemory = outcome.NoMemory
+refusal_of which Fault = outcome.ReadFault
+refusal_of which TooLarge = outcome.TooLarge which
 
--- what was brought is what the definition gives, unless memory ran out
+-- a refusal of what is read, as one of an input
+abbrev pub of_input : ReadError → FeedError
+of_input pieces.Fault = Fault
+of_input pieces.TooLarge = TooLarge
+of_input pieces.NoMemory = NoMemory
+
+-- what was brought is what the definition gives, but for a fault of reading or want of memory
 abbrev pub StateBrings : Which → List Elem → Result Counts FeedError → State → Result Feed Stop → Type 0
-StateBrings which before (Ok counts) new due = (feed : Feed) × (due ≡ Ok feed) × StateHas which before feed counts new
-StateBrings which before (Err NoMemory) new due = Unit {0}
-StateBrings which before (Err error) new due = due ≡ Err (Refused (refusal_of which error))
+StateBrings which before (Ok counts) new due = (feed : Feed) × StateHas which before feed counts new × IsDueIfTold due (Ok feed)
+StateBrings which before (Err error) new due = FailsDue (refusal_of which error) due
 
--- the same of a call that reads the input too
+-- a fault comes only where the count of the name rose, and every other answer leaves all counts
+abbrev pub FeedsFrom : {T : Type 0} → (List ℕ → ℕ) → (List ℕ → ℕ) → List ℕ → Result T FeedError → Type 0
+FeedsFrom before now name (Err Fault) = Rose (before name) (now name)
+FeedsFrom before now name result = now ≡ before
+
+-- the same of a call that answers an outcome
 abbrev pub StateFeeds : Which → List Elem → Result Counts Outcome → State → Result Feed Stop → Type 0
 StateFeeds which before (Ok counts) new due = (feed : Feed) × StateHas which before feed counts new × IsDueIfTold due (Ok feed)
 StateFeeds which before (Err o) new due = FailsDue o due

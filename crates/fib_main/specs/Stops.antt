@@ -1,6 +1,11 @@
 -- Where a run stops, and what a call gives of it.
-use Rattle.std.specs.Prelude.{◌≡◌, ℕ, ◌^◌, List, length, Option, Some, None, Result, Ok, Err, nat_le, if◌then◌else◌}
-use Rattle.reading_model.specs.Input.{Progress, Stopped}
+use Rattle.std.specs.Prelude.{◌≡◌, ℕ, ◌^◌, List, length, Option, Some, None, Result, Ok, Err, Bool, true, false, not, ◌&&◌, ◌||◌, ◌==◌, nat_le, if◌then◌else◌}
+use Rattle.wire_model.specs.declared.rule.Rule.{Rule}
+use Rattle.wire_model.specs.declared.rule.Rule.TheVariants.{HeaderCut, BodyCut}
+use Rattle.wire_model.specs.Rules.{rule_number}
+use Rattle.wire_model.specs.Record.{Record, Fault, records_in}
+use Rattle.reading_model.specs.Input.{Progress, Stopped, input}
+use Rattle.fib_io.specs.Pieces.{octets_read}
 use Rattle.printed_model.specs.Texts.{BadLine as BadRow}
 use Rattle.printed_model.specs.Used.{Used}
 use Rattle.fib_main.specs.declared.outcome.Outcome.{Outcome}
@@ -18,9 +23,12 @@ abbrev pub told_content : Option (List ℕ) → Result (List ℕ) Stop
 told_content None = Err Untold
 told_content (Some octets) = Ok octets
 
--- octets that are few enough for an input: 2^36 at most
+-- the octets are few enough for an input: 2^36 at most
+abbrev pub is_small : List ℕ → Bool
+is_small octets = nat_le (length octets) (2 ^ 36)
+
 unfoldable pub sized : Which → List ℕ → Result (List ℕ) Stop
-sized which octets = if nat_le (length octets) (2 ^ 36) then Ok octets else Err (Refused (TooLarge which))
+sized which octets = if is_small octets then Ok octets else Err (Refused (TooLarge which))
 
 -- lines that are all of their form, or the number of the first that isn't; a line that should be an address is wrong for reason 1
 abbrev pub lined : {A : Type 0} → Which → Result A ℕ → Result A Stop
@@ -32,10 +40,38 @@ abbrev pub rowed : Result Used BadRow → Result Used Stop
 rowed (Ok used) = Ok used
 rowed (Err bad) = Err (Refused (BadLine Printed bad.line bad.why))
 
--- records that break no rule, or the first that does
-abbrev pub whole_records : Which → Result Progress Stopped → Result Progress Stop
-whole_records which (Ok read) = Ok read
-whole_records which (Err stopped) = Err (Refused (Malformed which stopped.read.records stopped.rule))
+-- a record that breaks this rule is cut, in its header or in its body
+abbrev pub is_cut_by : Rule → Bool
+is_cut_by HeaderCut = true
+is_cut_by BodyCut = true
+is_cut_by rule = false
+
+-- the record of this number is cut by the end of the octets (RFC 6396, 2)
+abbrev pub cut_at : ℕ → Result (List Record) Fault → Bool
+cut_at n (Ok records) = false
+cut_at n (Err fault) = fault.number == n && is_cut_by fault.rule
+
+abbrev pub is_cut : List ℕ → ℕ → Bool
+is_cut octets n = cut_at n (records_in octets)
+
+-- records that break no rule, if they are all of the input
+abbrev pub all_records : Which → Bool → Progress → Result Progress Stop
+all_records which true read = Ok read
+all_records which false read = Err (Refused (TooLarge which))
+
+-- the first record that breaks a rule, if it isn't cut where the input goes on
+abbrev pub bad_record : Which → Bool → Stopped → Result Progress Stop
+bad_record which true stopped = Err (Refused (TooLarge which))
+bad_record which false stopped = Err (Refused (Malformed which stopped.read.records (rule_number stopped.rule)))
+
+-- what was read of an input which ends there or not, and whose records are cut or not
+abbrev pub whole_records : Which → Bool → (ℕ → Bool) → Result Progress Stopped → Result Progress Stop
+whole_records which ends cut (Ok read) = all_records which ends read
+whole_records which ends cut (Err stopped) = bad_record which (not ends && cut stopped.read.records) stopped
+
+-- The records of an input, or the first that breaks a rule. Of an input of more than 2^36 octets only the first 2^36 are read: it is too large, unless a record that they have whole, or a header that they have whole, breaks a rule.
+abbrev pub records_due : Which → List ℕ → Result Progress Stop
+records_due which octets = whole_records which (is_small octets) (is_cut (octets_read octets)) (input (octets_read octets))
 
 -- the event that a refusal names: those of a dump are the load, event 0
 abbrev pub event_in : Which → ℕ → ℕ

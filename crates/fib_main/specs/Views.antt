@@ -7,9 +7,9 @@ use Rattle.fib_addr.specs.declared.addr.Addr as code_addr
 use Rattle.fib_addr.specs.declared.prefix.Prefix as code_prefix
 use Rattle.fib_addr.specs.declared.entry.Hop as code_hop
 use Rattle.fib_addr.specs.Views.{addr_as, prefix_as}
-use Rattle.fib_report.specs.declared.run.Change as code_change
+use Rattle.fib_delta.specs.declared.change.Change as code_change
 use Rattle.fib_report.specs.declared.run.Report.{Report}
-use Rattle.fib_report.specs.Views.{change_as}
+use Rattle.fib_delta.specs.Views.{change_as}
 use Rattle.cert_check.specs.Views.{no_as}
 use Rattle.fib_main.specs.declared.feed.Counts.{Counts}
 use Rattle.fib_main.specs.declared.check.Reply as code_reply
@@ -39,4 +39,5 @@ totals load updates routes = record {
   events = load.events + updates.events;
   routes = routes;
   entries = routes;
+  treated = load.treated + updates.treated;
 }

@@ -1,17 +1,19 @@
 //! What an input of records brings.
 
-ghost use Rattle.std.specs.Prelude.{List, [], ◌+◌, ◌*◌, ◌^◌, ◌<◌, length, IfOk};
+ghost use Rattle.std.specs.Prelude.{◌≡◌, List, [], ◌^◌, ◌<◌, ◌≤◌, length, IfOk, Some};
 ghost use Rattle.route_model.specs.Events.{Elem};
 ghost use Rattle.fib_main.specs.Counts.{AreFew};
-ghost use Rattle.fib_main.specs.Due.{feed_of};
-ghost use Rattle.fib_main.specs.Standing.{StateBrings, StateStands};
+ghost use Rattle.fib_main.specs.Due.{feed_at};
+ghost use Rattle.fib_main.specs.Standing.{FeedsFrom, StateBrings, StateStands};
 
 use crate::outcome::Which;
 use crate::state::{FeedError, State, take_events};
+use fib_io::{Inputs, piece_room, read_piece};
 use mrt_read::Reader;
 use std::alloc::Global;
 
-/// What was counted of an input: its records, those of them that were skipped, and its elementary events.
+/// What was counted of an input: its records, those of them that were skipped, its elementary events, and the messages that were treated
+/// as withdrawals.
 #[derive(Clone, Copy, Debug, PartialEq, Eq)]
 pub struct Counts {
     /// The records.
@@ -20,31 +22,70 @@ pub struct Counts {
     pub skipped: u64,
     /// The elementary events.
     pub events: u64,
+    /// The messages treated as withdrawals (RFC 7606).
+    pub treated: u64,
 }
 
-/// Takes all that an input brings, record by record. Its counts have 64 bits where the candidates and two for each octet do.
-pub fn feed(
+/// Takes all that an input brings, through this room: each record, and a header that is refused, before the next read.
+fn feed_through<I: Inputs>(
     alloc: Global,
+    inputs: &mut I,
     state: &mut State,
     which: Which,
-    octets: &[u8],
+    name: &str,
+    room: &mut [u8],
 ) -> Result<Counts, FeedError>
-    requires { length state.old.candidates.candidates + 2 * length octets.now < 2 ^ 64 }
-    ensures brings { (before : List Elem) → StateStands which before [] state.old
-        → StateBrings which before result state.new (feed_of which before octets.now) }
-    ensures few { IfOk result (λ counts. AreFew (length octets.now)
-        state.old.candidates.candidates counts state.new.candidates.candidates) }
+    requires some { 0 < length room.old }
+    requires few { length state.old.candidates.candidates ≤ 2 ^ 40 }
+    ensures brings { (before : List Elem) → StateStands which before [] state.old → StateBrings
+        which before result state.new
+        (feed_at (I.content inputs.old) which before (Some name.now)) }
+    ensures few { IfOk result (λ counts. AreFew (2 ^ 36) state.old.candidates.candidates
+        counts state.new.candidates.candidates) }
+    ensures same { I.content inputs.new ≡ I.content inputs.old }
+    ensures cause { FeedsFrom (I.faults inputs.old) (I.faults inputs.new) name.now result }
 {
     let mut reader = Reader::new(alloc);
-    reader.feed(octets)?;
+    let mut more = Vec::new(alloc);
+    let mut at = 0;
     let mut events = 0;
-    while let Some(more) = reader.take_events()? {
-        events = take_events(state, which, events, &more)?;
+    loop {
+        let n = read_piece(inputs, name, at, room)?;
+        if n == 0 {
+            reader.finish()?;
+            return Ok(Counts {
+                records: reader.records(),
+                skipped: reader.skipped(),
+                events,
+                treated: reader.treated(),
+            });
+        }
+        reader.feed(&room[..n])?;
+        at += n as u64;
+        while reader.read_events(&mut more)? {
+            events = take_events(state, which, events, &more)?;
+        }
     }
-    reader.finish()?;
-    Ok(Counts {
-        records: reader.records(),
-        skipped: reader.skipped(),
-        events,
-    })
+}
+
+/// Takes all that an input brings: it is read in pieces, and each record is taken before the next read. The candidates of
+/// the inputs before it are few enough: 2^40 at most.
+pub fn feed<I: Inputs>(
+    alloc: Global,
+    inputs: &mut I,
+    state: &mut State,
+    which: Which,
+    name: &str,
+) -> Result<Counts, FeedError>
+    requires { length state.old.candidates.candidates ≤ 2 ^ 40 }
+    ensures brings { (before : List Elem) → StateStands which before [] state.old → StateBrings
+        which before result state.new
+        (feed_at (I.content inputs.old) which before (Some name.now)) }
+    ensures few { IfOk result (λ counts. AreFew (2 ^ 36) state.old.candidates.candidates
+        counts state.new.candidates.candidates) }
+    ensures same { I.content inputs.new ≡ I.content inputs.old }
+    ensures cause { FeedsFrom (I.faults inputs.old) (I.faults inputs.new) name.now result }
+{
+    let mut room = piece_room(alloc)?;
+    feed_through(alloc, inputs, state, which, name, &mut room)
 }

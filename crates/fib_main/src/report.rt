@@ -23,8 +23,9 @@ use crate::feed::Counts;
 use crate::state::{State, number};
 use crate::trees::Trees;
 use cost_cert::Row;
+use fib_delta::Change;
 use fib_prefix::{Addr, Entry, Hop, HopTable, Prefix};
-use fib_report::{Change, Report, Run, write_run};
+use fib_report::{Report, Run, write_run};
 use std::alloc::{AllocError, Global};
 
 /// The event of the load.
@@ -95,6 +96,7 @@ fn totals(load: &Counts, updates: &Counts, routes: usize) -> Report
         events: load.events + updates.events,
         routes: routes as u64,
         entries: routes as u64,
+        treated: load.treated + updates.treated,
     }
 }
 

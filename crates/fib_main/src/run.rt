@@ -99,17 +99,18 @@ fn outcome_of_refusal(which: Which, error: FeedError) -> Outcome
         FeedError::Malformed(malformed) => Outcome::Malformed {
             input: which,
             number: malformed.number,
-            rule: malformed.rule,
+            rule: malformed.rule.number(),
         },
         FeedError::HopsFull(event) => Outcome::HopsFull {
             event: event_in(which, event),
         },
         FeedError::NoMemory => Outcome::NoMemory,
+        FeedError::Fault => Outcome::ReadFault,
+        FeedError::TooLarge => Outcome::TooLarge { input: which },
     }
 }
 
 /// Takes what an input brings. The candidates of the inputs before it are few enough: 2^40 at most.
-#[tactic(auto, unfolding(crate::specs::Due::feed_at))]
 fn feed_of<I: Inputs>(
     alloc: Global,
     inputs: &mut I,
@@ -125,8 +126,7 @@ fn feed_of<I: Inputs>(
     ensures same { I.content inputs.new ≡ I.content inputs.old }
     ensures cause { ReadsFor (Rose (I.faults inputs.old name.now) (I.faults inputs.new name.now)) (I.faults inputs.old) (I.faults inputs.new) result }
 {
-    let octets = octets_of(alloc, inputs, name, which)?;
-    feed(alloc, state, which, &octets).map_err(|error| outcome_of_refusal(which, error))
+    feed(alloc, inputs, state, which, name).map_err(|error| outcome_of_refusal(which, error))
 }
 
 /// Takes what the updates bring, if any are named.
@@ -152,6 +152,7 @@ fn updates_of<I: Inputs>(
             records: 0,
             skipped: 0,
             events: 0,
+            treated: 0,
         }),
     }
 }

@@ -7,14 +7,15 @@ ghost use Rattle.route_model.specs.Choice.{after_elem};
 ghost use Rattle.route_choice.specs.Held.{IsChoice};
 ghost use Rattle.feed_model.specs.Feed.{change_of, hops_after, number_in};
 ghost use Rattle.fib_addr.specs.Hops.{most_hops};
-ghost use Rattle.fib_report.specs.Views.{change_as};
+ghost use Rattle.fib_delta.specs.Views.{change_as};
 ghost use Rattle.fib_main.specs.Counts.{CountsFit, CountsOn};
-ghost use Rattle.fib_main.specs.Standing.{of_read, StateTakes, StateTakesAll};
+ghost use Rattle.fib_main.specs.Standing.{of_input, of_read, StateTakes, StateTakesAll};
 ghost use Rattle.fib_main.specs.declared.state.FeedError.TheVariants.{Malformed as IsMalformed, NoMemory as IsNoMemory};
 
 use crate::outcome::Which;
+use fib_delta::Change;
+use fib_io::ReadError;
 use fib_prefix::{Addr, Elem, Event, Hop, HopError, HopTable};
-use fib_report::Change;
 use mrt_read::{EventsError, Malformed};
 use route_choice::{Candidates, Choice};
 use std::alloc::{AllocError, AllocFailed, Global};
@@ -32,6 +33,24 @@ pub enum FeedError {
     /// Memory ran out.
     #[error("no memory")]
     NoMemory,
+    /// A read failed.
+    #[error("a read failed")]
+    Fault,
+    /// The input has more than 2^36 octets.
+    #[error("too large")]
+    TooLarge,
+}
+
+impl From<ReadError> for FeedError {
+    ghost from_gives = { λ error e. e ≡ of_input error };
+
+    fn from(error: ReadError) -> FeedError {
+        match error {
+            ReadError::Fault => FeedError::Fault,
+            ReadError::TooLarge => FeedError::TooLarge,
+            ReadError::NoMemory => FeedError::NoMemory,
+        }
+    }
 }
 
 impl From<Malformed> for FeedError {

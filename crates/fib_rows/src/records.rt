@@ -315,3 +315,84 @@ pub const UPPER_HALF: &[&str] = &[
 
 /// A record of another type.
 pub const OTHER: &[&str] = &["00000000 000c 0001 00000000"];
+
+/// 10.0.0.0/8 of the first peer twice: path identifier 1 by 192.0.2.1, 2 by 192.0.2.2.
+pub const TWO_PATHS: &[&str] = &[
+    "00000000 000d 0008 00000048",
+    "00000000 08 0a 0002",
+    "0000 00000000 00000001 0014",
+    ORIGIN,
+    PATH,
+    HOP_A,
+    "0000 00000000 00000002 0014",
+    ORIGIN,
+    PATH,
+    HOP_B,
+];
+
+/// The first peer withdraws path 1 of 10.0.0.0/8.
+pub const PATH_WITHDRAWN: &[&str] = &[
+    "00000000 0010 0009 00000031",
+    SESSION,
+    "ffffffffffffffffffffffffffffffff 001d 02",
+    "0006 00000001 08 0a",
+    "0000",
+];
+
+/// The same, with an octet of the withdrawn routes too few.
+pub const PATH_CUT: &[&str] = &[
+    "00000000 0010 0009 00000031",
+    SESSION,
+    "ffffffffffffffffffffffffffffffff 001d 02",
+    "0005 00000001 08 0a",
+    "0000",
+];
+
+/// 10.0.0.0/8 withdrawn and announced, with a NEXT_HOP of three octets.
+pub const SHORT_HOP: &[&str] = &[
+    "00000000 0010 0004 00000042",
+    SESSION,
+    "ffffffffffffffffffffffffffffffff 002e 02",
+    "0002 08 0a",
+    "0013",
+    ORIGIN,
+    PATH,
+    "400303 c00002",
+    "08 0a",
+];
+
+/// The same with a segment of type 5.
+pub const WRONG_SEGMENT: &[&str] = &[
+    "00000000 0010 0004 00000043",
+    SESSION,
+    "ffffffffffffffffffffffffffffffff 002f 02",
+    "0002 08 0a",
+    "0014",
+    ORIGIN,
+    "400206 0501 0000fbf4",
+    HOP_A,
+    "08 0a",
+];
+
+/// The same with the flags of ORIGIN wrong too.
+pub const WRONG_SEGMENT_AND_FLAGS: &[&str] = &[
+    "00000000 0010 0004 00000043",
+    SESSION,
+    "ffffffffffffffffffffffffffffffff 002f 02",
+    "0002 08 0a",
+    "0014",
+    "500101 00",
+    "400206 0501 0000fbf4",
+    HOP_A,
+    "08 0a",
+];
+
+/// A RIB entry with a segment of type 5.
+pub const TEN_WRONG_SEGMENT: &[&str] = &[
+    RIB,
+    "00000000 08 0a 0001",
+    FIRST_ENTRY,
+    ORIGIN,
+    "400206 0501 0000fbf4",
+    HOP_A,
+];

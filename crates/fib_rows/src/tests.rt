@@ -1,15 +1,17 @@
 //! Rows over inputs and sinks in memory: what goes in, and the outcome, the status and all that comes out.
 
 use crate::records::{
-    ALL_TWICE, GONE_AND_BACK, HALVES, LONG_HEADER, LONGER, LOST, OTHER, PEERS, PREFIX_OF_33,
-    QUARTERS, SET_OF_THREE, SEVEN_EIGHTHS, SIX, TEN, TEN_ONE, TEN_TWICE, TOO_WIDE, TWO_PEERS,
-    UPPER_HALF, WIDE_WITHDRAWN, WITH_A_GAP, WRONG_LENGTH,
+    ALL_TWICE, GONE_AND_BACK, HALVES, LONG_HEADER, LONGER, LOST, OTHER, PATH_CUT, PATH_WITHDRAWN,
+    PEERS, PREFIX_OF_33, QUARTERS, SET_OF_THREE, SEVEN_EIGHTHS, SHORT_HOP, SIX, TEN, TEN_ONE,
+    TEN_TWICE, TEN_WRONG_SEGMENT, TOO_WIDE, TWO_PATHS, TWO_PEERS, UPPER_HALF, WIDE_WITHDRAWN,
+    WITH_A_GAP, WRONG_LENGTH, WRONG_SEGMENT, WRONG_SEGMENT_AND_FLAGS,
 };
 use crate::texts::{
     CERTIFICATE_OF_NONE, PRINTED_TIE, ROWS_OF_BOTH, ROWS_OF_DROP, ROWS_OF_DROP_BEFORE_HOP,
-    ROWS_OF_GONE_AND_BACK, ROWS_OF_KEPT_HOP, ROWS_OF_LONGER, ROWS_OF_LOST, ROWS_OF_MEET,
-    ROWS_OF_SET, ROWS_OF_SIX, ROWS_OF_TEN, ROWS_OF_TIE, TIE_BOUNDS, TIE_LEAST, TIE_LEAVES,
-    TIE_ROUTES, WRONG_JOIN, WRONG_LEAST,
+    ROWS_OF_GONE_AND_BACK, ROWS_OF_KEPT_HOP, ROWS_OF_LONGER, ROWS_OF_LOST, ROWS_OF_LOST_PATHS,
+    ROWS_OF_MEET, ROWS_OF_NO_SUCH_PATH, ROWS_OF_OTHER_PATH, ROWS_OF_SET, ROWS_OF_SIX, ROWS_OF_TEN,
+    ROWS_OF_TIE, ROWS_OF_TREATED, TIE_BOUNDS, TIE_LEAST, TIE_LEAVES, TIE_ROUTES, WRONG_JOIN,
+    WRONG_LEAST,
 };
 use fib_addr::{Addr, Family, Hop, Prefix};
 use fib_io::{MemInputs, MemSink};
@@ -39,6 +41,8 @@ struct Given<'a> {
     failing_read: u64,
     failing_write: u64,
     room: usize,
+    // the most octets that a read gives and a write takes
+    at_most: usize,
 }
 
 /// What it is to come to.
@@ -73,6 +77,7 @@ const FIRST: Given<'static> = Given {
     failing_read: 0,
     failing_write: 0,
     room: 10_000,
+    at_most: 100_000,
 };
 
 /// The check of a printed text that is proved.
@@ -181,7 +186,9 @@ fn inputs_of(alloc: Global, given: &Given) -> Result<MemInputs, Fail> {
         names.push((String::from_str(alloc, "dump")?, dump))?;
     }
     let failing = Vec::from_slice(alloc, &[given.failing_read])?;
-    Ok(MemInputs::new(names, failing))
+    let mut inputs = MemInputs::new(names, failing);
+    inputs.at_most(given.at_most.max(1));
+    Ok(inputs)
 }
 
 /// Runs and compares all that comes out.
@@ -196,6 +203,7 @@ fn compare<R: Abort + Alloc<A = Global>>(
     let mut inputs = inputs_of(alloc, given)?;
     let failing = Vec::from_slice(alloc, &[given.failing_write])?;
     let mut out = MemSink::new(alloc, given.room, failing)?;
+    out.at_most(given.at_most.max(1));
     let mut err = MemSink::new(alloc, 100, Vec::new(alloc))?;
     let outcome = run_fib(alloc, &words, &mut inputs, &mut out, &mut err);
     assert_eq!(rt; outcome, expected.outcome, "{name}");
@@ -215,6 +223,14 @@ fn rows_of_routes_and_updates(rt: HostRuntime) -> Result<(), Fail> {
     };
     let cases = [
         ("first run", FIRST, ROWS_OF_TEN),
+        (
+            "an octet at a time",
+            Given {
+                at_most: 1,
+                ..FIRST
+            },
+            ROWS_OF_TEN,
+        ),
         (
             "nested prefixes, out of order",
             Given {
@@ -358,6 +374,38 @@ fn words_that_are_no_command(rt: HostRuntime) -> Result<(), Fail> {
     Ok(())
 }
 
+/// The peer table of 33 octets, and a header of 12 whose Length is over the limit: no read is made once it is there.
+#[test]
+fn no_read_after_a_refusal(rt: HostRuntime) -> Result<(), Fail> {
+    let given = Given {
+        words: &["fib", "run", "dump"],
+        dump: &[PEERS, &["00000000 000d 0002 01000001"]],
+        at_most: 1,
+        ..FIRST
+    };
+    let refused = Given {
+        failing_read: 46,
+        ..given
+    };
+    let malformed = Expected {
+        outcome: Outcome::Malformed {
+            input: Which::Dump,
+            number: 1,
+            rule: 3,
+        },
+        status: 5,
+        out: &[],
+        out_len: 0,
+        err: b"fib: malformed dump record 1 rule 3\n",
+    };
+    compare(&rt, "45 octets were read", &refused, &malformed)?;
+    let unread = Given {
+        failing_read: 45,
+        ..given
+    };
+    compare(&rt, "the 45th read fails", &unread, &READ_FAULT)
+}
+
 #[test]
 fn faults(rt: HostRuntime) -> Result<(), Fail> {
     for failing_read in [1, 2, 3, 4] {
@@ -401,7 +449,7 @@ const fn malformed(input: Which, number: u64, rule: u8) -> Outcome {
 
 #[test]
 fn malformed_records(rt: HostRuntime) -> Result<(), Fail> {
-    let cases: [(&str, &[Record], usize, &[Record], Outcome, &[u8]); 8] = [
+    let cases: [(&str, &[Record], usize, &[Record], Outcome, &[u8]); 11] = [
         (
             "a peer index that isn't there",
             &[PEERS, TOO_WIDE],
@@ -465,6 +513,30 @@ fn malformed_records(rt: HostRuntime) -> Result<(), Fail> {
             &[WIDE_WITHDRAWN],
             malformed(Which::Updates, 0, 14),
             b"fib: malformed updates record 0 rule 14\n",
+        ),
+        (
+            "a cut path withdrawn",
+            &[PEERS, TWO_PATHS],
+            ALL,
+            &[PATH_CUT],
+            malformed(Which::Updates, 0, 14),
+            b"fib: malformed updates record 0 rule 14\n",
+        ),
+        (
+            "wrong flags after all that is treated",
+            &[PEERS, TEN],
+            ALL,
+            &[WRONG_SEGMENT_AND_FLAGS],
+            malformed(Which::Updates, 0, 9),
+            b"fib: malformed updates record 0 rule 9\n",
+        ),
+        (
+            "a wrong segment in a RIB",
+            &[PEERS, TEN_WRONG_SEGMENT],
+            ALL,
+            &[],
+            malformed(Which::Dump, 1, 10),
+            b"fib: malformed dump record 1 rule 10\n",
         ),
     ];
     for (name, dump, dump_len, updates, outcome, err) in cases {
@@ -685,6 +757,41 @@ fn faults_of_a_check(rt: HostRuntime) -> Result<(), Fail> {
             err: b"fib: write fault\n",
         };
         compare(&rt, "a write fails", &unwritten, &expected)?;
+    }
+    Ok(())
+}
+
+#[test]
+fn rows_of_paths_and_treated_messages(rt: HostRuntime) -> Result<(), Fail> {
+    let paths: &[Record] = &[PEERS, TWO_PATHS];
+    let ten: &[Record] = &[PEERS, TEN];
+    let cases = [
+        (
+            "a path is withdrawn",
+            paths,
+            PATH_WITHDRAWN,
+            ROWS_OF_OTHER_PATH,
+        ),
+        ("all paths are lost", paths, LOST, ROWS_OF_LOST_PATHS),
+        ("no such path", ten, PATH_WITHDRAWN, ROWS_OF_NO_SUCH_PATH),
+        ("a short next hop", ten, SHORT_HOP, ROWS_OF_TREATED),
+        ("a wrong segment", ten, WRONG_SEGMENT, ROWS_OF_TREATED),
+    ];
+    for (name, dump, update, out) in cases {
+        let given = Given {
+            words: WITH_UPDATES,
+            dump,
+            updates: &[update],
+            ..FIRST
+        };
+        let done = Expected {
+            outcome: Outcome::Done,
+            status: 0,
+            out,
+            out_len: ALL,
+            err: b"",
+        };
+        compare(&rt, name, &given, &done)?;
     }
     Ok(())
 }

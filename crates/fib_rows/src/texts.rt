@@ -41,6 +41,7 @@ pub const ROWS_OF_TEN: &[&[&str]] = &[
         "report,events,1",
         "report,routes,1",
         "report,entries,1",
+        "report,treated,0",
     ],
 ];
 
@@ -97,6 +98,7 @@ pub const ROWS_OF_BOTH: &[&[&str]] = &[&[
     "report,events,2",
     "report,routes,2",
     "report,entries,2",
+    "report,treated,0",
 ]];
 
 /// 2001:db8::/32 by 2001:db8::1.
@@ -180,6 +182,7 @@ pub const ROWS_OF_SIX: &[&[&str]] = &[&[
     "report,events,1",
     "report,routes,1",
     "report,entries,1",
+    "report,treated,0",
 ]];
 
 /// 10.0.0.0/8 goes over to 192.0.2.2, since the first peer's path has become longer.
@@ -214,6 +217,7 @@ pub const ROWS_OF_LONGER: &[&[&str]] = &[&[
     "report,events,3",
     "report,routes,1",
     "report,entries,1",
+    "report,treated,0",
 ]];
 
 /// 10.0.0.0/8 is withdrawn and announced again.
@@ -233,6 +237,7 @@ pub const ROWS_OF_GONE_AND_BACK: &[&[&str]] = &[
         "report,events,3",
         "report,routes,1",
         "report,entries,1",
+        "report,treated,0",
     ],
 ];
 
@@ -251,6 +256,7 @@ pub const ROWS_OF_LOST: &[&[&str]] = &[&[
     "report,events,4",
     "report,routes,0",
     "report,entries,0",
+    "report,treated,0",
 ]];
 
 /// 10.0.0.0/8 by the lesser peer, since a set counts as one.
@@ -268,6 +274,7 @@ pub const ROWS_OF_SET: &[&[&str]] = &[
         "report,events,2",
         "report,routes,1",
         "report,entries,1",
+        "report,treated,0",
     ],
 ];
 
@@ -303,6 +310,7 @@ pub const ROWS_OF_TIE: &[&[&str]] = &[&[
     "report,events,4",
     "report,routes,4",
     "report,entries,4",
+    "report,treated,0",
 ]];
 
 /// Seven eighths by one next hop: a drop entry for the last is cheaper than seven.
@@ -345,6 +353,7 @@ pub const ROWS_OF_DROP: &[&[&str]] = &[&[
     "report,events,7",
     "report,routes,7",
     "report,entries,7",
+    "report,treated,0",
 ]];
 
 /// Two halves by one next hop.
@@ -365,6 +374,7 @@ pub const ROWS_OF_MEET: &[&[&str]] = &[&[
     "report,events,2",
     "report,routes,2",
     "report,entries,2",
+    "report,treated,0",
 ]];
 
 /// The old entry's hop is best, and stays, though the other was seen first.
@@ -388,6 +398,7 @@ pub const ROWS_OF_KEPT_HOP: &[&[&str]] = &[&[
     "report,events,3",
     "report,routes,2",
     "report,entries,2",
+    "report,treated,0",
 ]];
 
 /// None and a next hop are both best: none comes first.
@@ -419,6 +430,7 @@ pub const ROWS_OF_DROP_BEFORE_HOP: &[&[&str]] = &[&[
     "report,events,3",
     "report,routes,3",
     "report,entries,3",
+    "report,treated,0",
 ]];
 
 /// The routes of a whole printed text.
@@ -467,6 +479,7 @@ pub const TIE_BOUNDS: &[&str] = &[
     "report,events,4",
     "report,routes,4",
     "report,entries,3",
+    "report,treated,0",
     "report,nodes,0",
     "report,leaves,0",
 ];
@@ -496,3 +509,105 @@ pub const CERTIFICATE_OF_NONE: &[&str] = &[
 
 /// A whole printed text: routes, their changes, a table, a least table, its certificate and counts.
 pub const PRINTED_TIE: &[&[&str]] = &[TIE_ROUTES, TIE_CHANGES, TIE_LEAST, TIE_LEAVES, TIE_BOUNDS];
+
+/// The second path of 10.0.0.0/8 when the first is withdrawn.
+pub const ROWS_OF_OTHER_PATH: &[&[&str]] = &[&[
+    "route,10.0.0.0/8,192.0.2.2",
+    "change,0,+,10.0.0.0/8,192.0.2.1",
+    "change,1,=,10.0.0.0/8,192.0.2.2",
+    "table,10.0.0.0/8,192.0.2.2",
+    "least,10.0.0.0/8,192.0.2.2",
+    "cert,leaf,0.0.0.0/5,none",
+    "cert,leaf,8.0.0.0/7,none",
+    "cert,leaf,10.0.0.0/8,192.0.2.2",
+    "cert,leaf,11.0.0.0/8,none",
+    "cert,join,10.0.0.0/7,1",
+    "cert,join,8.0.0.0/6,1",
+    "cert,leaf,12.0.0.0/6,none",
+    "cert,join,8.0.0.0/5,1",
+    "cert,join,0.0.0.0/4,1",
+    "cert,leaf,16.0.0.0/4,none",
+    "cert,join,0.0.0.0/3,1",
+    "cert,leaf,32.0.0.0/3,none",
+    "cert,join,0.0.0.0/2,1",
+    "cert,leaf,64.0.0.0/2,none",
+    "cert,join,0.0.0.0/1,1",
+    "cert,leaf,128.0.0.0/1,none",
+    "cert,join,0.0.0.0/0,1",
+    "cert,bound,4,1",
+    "cert,leaf,::/0,none",
+    "cert,bound,6,0",
+    "report,records,3",
+    "report,skipped,0",
+    "report,events,3",
+    "report,routes,1",
+    "report,entries,1",
+    "report,treated,0",
+]];
+
+/// Both paths are lost with the session.
+pub const ROWS_OF_LOST_PATHS: &[&[&str]] = &[&[
+    "change,0,+,10.0.0.0/8,192.0.2.1",
+    "change,1,=,10.0.0.0/8,192.0.2.2",
+    "change,2,-,10.0.0.0/8",
+    "cert,leaf,0.0.0.0/0,none",
+    "cert,bound,4,0",
+    "cert,leaf,::/0,none",
+    "cert,bound,6,0",
+    "report,records,3",
+    "report,skipped,0",
+    "report,events,4",
+    "report,routes,0",
+    "report,entries,0",
+    "report,treated,0",
+]];
+
+/// A path that isn't there is withdrawn.
+pub const ROWS_OF_NO_SUCH_PATH: &[&[&str]] = &[&[
+    "route,10.0.0.0/8,192.0.2.1",
+    "change,0,+,10.0.0.0/8,192.0.2.1",
+    "table,10.0.0.0/8,192.0.2.1",
+    "least,10.0.0.0/8,192.0.2.1",
+    "cert,leaf,0.0.0.0/5,none",
+    "cert,leaf,8.0.0.0/7,none",
+    "cert,leaf,10.0.0.0/8,192.0.2.1",
+    "cert,leaf,11.0.0.0/8,none",
+    "cert,join,10.0.0.0/7,1",
+    "cert,join,8.0.0.0/6,1",
+    "cert,leaf,12.0.0.0/6,none",
+    "cert,join,8.0.0.0/5,1",
+    "cert,join,0.0.0.0/4,1",
+    "cert,leaf,16.0.0.0/4,none",
+    "cert,join,0.0.0.0/3,1",
+    "cert,leaf,32.0.0.0/3,none",
+    "cert,join,0.0.0.0/2,1",
+    "cert,leaf,64.0.0.0/2,none",
+    "cert,join,0.0.0.0/1,1",
+    "cert,leaf,128.0.0.0/1,none",
+    "cert,join,0.0.0.0/0,1",
+    "cert,bound,4,1",
+    "cert,leaf,::/0,none",
+    "cert,bound,6,0",
+    "report,records,3",
+    "report,skipped,0",
+    "report,events,2",
+    "report,routes,1",
+    "report,entries,1",
+    "report,treated,0",
+]];
+
+/// A message treated as a withdrawal.
+pub const ROWS_OF_TREATED: &[&[&str]] = &[&[
+    "change,0,+,10.0.0.0/8,192.0.2.1",
+    "change,1,-,10.0.0.0/8",
+    "cert,leaf,0.0.0.0/0,none",
+    "cert,bound,4,0",
+    "cert,leaf,::/0,none",
+    "cert,bound,6,0",
+    "report,records,3",
+    "report,skipped,0",
+    "report,events,3",
+    "report,routes,0",
+    "report,entries,0",
+    "report,treated,1",
+]];

@@ -1,0 +1,280 @@
+-- An input that is taken piece by piece.
+use Rattle.std.proofs.Common.{◌≡◌, ◌≢◌, ℕ, zero, suc, ◌+◌, ◌*◌, ◌^◌, ◌<◌, ◌≤◌, Bool, true, false, cond, List, [], ◌∷◌, ◌++◌, length, take, drop, Option, Some, None, Result, Ok, Err, refl, sym, ap, subst, ◌∙◌, inl, inr, arith, append_assoc, append-nil, length-append, length-take}
+use Rattle.std.specs.Prelude.{IfSome, IfNone, IsErrOf, min, not, ◌&&◌, ◌==◌, ◌⊎◌}
+use Rattle.std.proofs.lemmas.Bool.{and_right, eq-eqb, eqb-true, ne_eqb, le-leb, lt-leb}
+use Rattle.route_model.specs.Events.{Elem, Event, Peer}
+use Rattle.route_model.specs.Choice.{Candidates}
+use Rattle.octet_fields.specs.Field.{◌>>=◌, steps, until_end}
+use Rattle.wire_model.specs.declared.rule.Rule.{Rule}
+use Rattle.wire_model.specs.declared.rule.Rule.TheVariants.{HeaderCut, BodyCut, TooLong, PeerTableForm, NoPeerTable, PrefixLength, PeerIndex, RibForm, AttributeCut, AttributeValue, SecondMp, SessionForm, MessageLength, UpdateLengths}
+use Rattle.wire_model.specs.Rules.{rule_number}
+use Rattle.wire_model.specs.Record.{Record, Fault, at_record, record_at, next_record, records_in}
+use Rattle.wire_model.specs.Pieces.{TakesRecords, Breaks}
+use Rattle.wire_model.proofs.More.{starts_so, feeds_on, takes_on, stays_too_long, ends_cut}
+use Rattle.reading_model.specs.Input.{Progress, Stopped, start, input}
+use Rattle.reading_model.proofs.Reading.{reading_ends, reading_ends_cut}
+use Rattle.fib_io.specs.Pieces.{octets_read, octets_from, ComeNext, IsEnd, IsLarge}
+use Rattle.fib_io.specs.declared.pieces.ReadError.{ReadError}
+use Rattle.fib_io.specs.declared.pieces.ReadError.TheVariants as pieces
+use Rattle.mrt_frame.specs.Framing as framing
+use Rattle.mrt_frame.specs.Records.{fault_of}
+use Rattle.mrt_frame.specs.declared.Malformed as code_malformed
+use Rattle.mrt_read.specs.Standing as reading
+use Rattle.mrt_read.specs.declared.reader.Reader.{Reader}
+use Rattle.mrt_read.specs.declared.reader.EventsError.{EventsError}
+use Rattle.mrt_read.specs.declared.reader.EventsError.TheVariants as read
+use Rattle.fib_main.specs.declared.outcome.Which.{Which}
+use Rattle.fib_main.specs.declared.outcome.Outcome.TheVariants as outcome
+use Rattle.fib_main.specs.declared.state.State.{State}
+use Rattle.fib_main.specs.declared.state.FeedError.{FeedError}
+use Rattle.fib_main.specs.declared.state.FeedError.TheVariants.{Malformed, TooLarge}
+use Rattle.fib_main.specs.Counts.{AreFew, CountsFit, CountsOn}
+use Rattle.fib_main.specs.Stops.{Stop, Refused, FailsDue, IsDueIfTold, cut_at, is_cut, is_small}
+use Rattle.fib_main.specs.Due.{Feed, elems_in, feed_in, feed_of}
+use Rattle.fib_main.specs.Standing.{StateStands, StateHas, StateBrings, StateTakesAll, next_elems, of_input, of_read, refusal_of}
+use Rattle.fib_main.proofs.Counting.{Counting, counting_end, counting_feeds, counting_fits, counting_next, counting_start, counting_still}
+use Rattle.fib_main.proofs.Feeding.{Going, Comes, due_of, going_start, going_next, going_still, going_feeds, refused_hops, refused_is, brought_is, reads_on, fault_due, whole_due, past_due, cut_due}
+
+-- So many octets of the input were fed: its records were counted behind these candidates, the state has what they bring, and the reader isn't refused.
+pub record Streaming (which : Which) (content : Option (List ℕ)) (first : State) (reader : Reader) (state : State) (at events : ℕ) : Type 0 where
+  pub fed : List ℕ
+  pub octets : length fed ≡ at
+  pub comes : IfSome content (Comes fed at)
+  pub taken : List Record
+  pub frames : TakesRecords fed taken (reading.reader_left reader)
+  pub numbered : length taken ≡ reader.records
+  pub none : reading.reader_refusal reader ≡ None
+  pub counting : Counting fed first.candidates.candidates reader state.candidates.candidates events
+  pub going : (before : List Elem) → StateStands which before [] first → Going which before fed reader state events
+
+-- no whole record is left, and no bad header
+abbrev pub IsCutNow : Reader → Type 0
+IsCutNow reader = (record_at (reading.reader_left reader) ≡ Err HeaderCut) ⊎ (record_at (reading.reader_left reader) ≡ Err BodyCut)
+
+-- ---- the start
+
+comes_first : (o : Option (List ℕ)) → IfSome o (Comes [] 0)
+comes_first None = tt
+comes_first (Some c) = refl
+
+pub streaming_start : (which : Which) (content : Option (List ℕ)) (first : State) (reader : Reader) → reading.reader_left reader ≡ [] → reading.reader_refusal reader ≡ None → reading.ReaderStands [] start reader → Streaming which content first reader first 0 0
+streaming_start which content first reader empty none s = record {
+  fed = [];
+  octets = refl;
+  comes = comes_first content;
+  taken = [];
+  frames = rw empty starts_so;
+  numbered = s.records;
+  none = none;
+  counting = counting_start [] first.candidates.candidates reader s;
+  going = λ before stands. going_start which before [] reader first s stands;
+}
+
+pub cut_at_start : (reader : Reader) → reading.reader_left reader ≡ [] → IsCutNow reader
+unfolding record_at
+cut_at_start reader empty = rw empty (inl refl)
+
+used_up_by : (reader : Reader) (front : Result (Record × List ℕ) Rule) → record_at (reading.reader_left reader) ≡ front → reading.reader_next_in reader.records (reading.peers reader) front ≡ Ok None → (refused : Option Fault) → IfNone refused (framing.kept_or refused (reading.reader_next_in reader.records (reading.peers reader) (record_at (reading.reader_left reader))) ≡ Ok None)
+used_up_by reader front e nothing None = rw e nothing
+used_up_by reader front e nothing (Some fault) = tt
+
+pub used_up : (reader : Reader) → IsCutNow reader → reading.ReaderIsUsedUp reader
+used_up reader (inl e) = used_up_by reader (Err HeaderCut) e refl (reading.reader_refusal reader)
+used_up reader (inr e) = used_up_by reader (Err BodyCut) e refl (reading.reader_refusal reader)
+
+-- ---- a piece more
+
+comes_next : (o : Option (List ℕ)) (fed room : List ℕ) (at n : ℕ) → IfSome o (Comes fed at) → IfSome o (λ c. ComeNext c at room n) → IfSome o (Comes (fed ++ take n room) (at + n))
+comes_next None fed room at n s t = tt
+comes_next (Some c) fed room at n s t = s ∙ ap (λ z. fed ++ z) t ∙ sym (append_assoc fed (take n room) (octets_from (at + n) c))
+
+pub streaming_feeds : (which : Which) (content : Option (List ℕ)) (first : State) (old new : Reader) (state : State) (room : List ℕ) (at n events : ℕ) → n ≤ length room → IfSome content (λ c. ComeNext c at room n) → Streaming which content first old state at events → reading.ReaderFeeds old (take n room) new → Streaming which content first new state (at + n) events
+streaming_feeds which content first old new state room at n events h next s feeds = record {
+  fed = s.fed ++ take n room;
+  octets = omega (arith, s.octets, h, length-append s.fed (take n room), length-take n room);
+  comes = comes_next content s.fed room at n s.comes next;
+  taken = s.taken;
+  frames = rw feeds.leaves (feeds_on s.fed (take n room) (reading.reader_left old) s.taken s.frames);
+  numbered = s.numbered ∙ sym feeds.records;
+  none = feeds.refuses ∙ s.none;
+  counting = counting_feeds s.fed (take n room) first.candidates.candidates state.candidates.candidates old new events s.counting feeds;
+  going = λ before stands. going_feeds which before s.fed (take n room) old new state events (s.going before stands) feeds;
+}
+
+-- ---- a record more
+
+pub streaming_takes : (which : Which) (content : Option (List ℕ)) (first : State) (old new : Reader) (mid state : State) (at events n : ℕ) (more : List Event) → Streaming which content first old mid at events → reading.TakesEvents old more new → CountsOn mid.candidates.candidates more events n state.candidates.candidates
+    → ((before done : List Elem) → events ≡ length done → StateStands which before done mid → (n ≡ length (done ++ next_elems before done more)) × StateStands which before (done ++ next_elems before done more) state)
+    → Streaming which content first new state at n
+streaming_takes which content first old new mid state at events n more s t c took = record {
+  fed = s.fed;
+  octets = s.octets;
+  comes = s.comes;
+  taken = s.taken ++ t.front.0 ∷ [];
+  frames = takes_on s.fed (reading.reader_left old) (reading.reader_left new) s.taken t.front.0 s.frames t.front.1;
+  numbered = omega (arith, s.numbered, t.counts, length-append s.taken (t.front.0 ∷ []));
+  none = t.refuses;
+  counting = counting_next s.fed first.candidates.candidates mid.candidates.candidates state.candidates.candidates old new events n more s.counting t c;
+  going = λ before stands. going_next which before s.fed old new mid state events n more (s.going before stands) t (λ done counted held. took before done counted held);
+}
+
+pub streaming_still : (which : Which) (content : Option (List ℕ)) (first : State) (old new : Reader) (state : State) (at events : ℕ) → Streaming which content first old state at events → reading.ReaderTakesNothing old new → Streaming which content first new state at events
+streaming_still which content first old new state at events s nothing = record {
+  fed = s.fed;
+  octets = s.octets;
+  comes = s.comes;
+  taken = s.taken;
+  frames = rw nothing.leaves s.frames;
+  numbered = s.numbered ∙ sym nothing.records;
+  none = nothing.refuses;
+  counting = counting_still s.fed first.candidates.candidates state.candidates.candidates old new events s.counting nothing;
+  going = λ before stands. going_still which before s.fed old new state events (s.going before stands) nothing;
+}
+
+pub streaming_fits : (which : Which) (content : Option (List ℕ)) (first : State) (old new : Reader) (mid : State) (at events : ℕ) (more : List Event) → length first.candidates.candidates ≤ 2 ^ 40 → at ≤ 2 ^ 36 → Streaming which content first old mid at events → reading.TakesEvents old more new → CountsFit mid.candidates.candidates more events
+streaming_fits which content first old new mid at events more few within s t =
+    counting_fits s.fed first.candidates.candidates mid.candidates.candidates old new events more (omega (arith, few, within, s.octets)) s.counting t
+
+-- ---- a record that is cut, and one that isn't
+
+abbrev after_record : List Record → Result (Record × List ℕ) Rule → Result (List Record × List ℕ) Fault
+after_record taken r = at_record (length taken) r >>= λ x. Ok (taken ++ x.0 ∷ [], x.1)
+
+number_past : (n : ℕ) (taken : List Record) (octets : List ℕ) (k : ℕ) → k < length taken → cut_at k (steps next_record n taken octets) ≡ false
+unfolding steps next_record
+number_past n taken [] k h = refl
+number_past zero taken (o ∷ os) k h = refl
+number_past (suc n) taken (o ∷ os) k h = by_record (record_at (o ∷ os)) (number_past n)
+  where
+    by_record : (r : Result (Record × List ℕ) Rule) → ((taken : List Record) (octets : List ℕ) (k : ℕ) → k < length taken → cut_at k (steps next_record n taken octets) ≡ false)
+        → cut_at k (after_record taken r >>= λ x. steps next_record n x.0 x.1) ≡ false
+    by_record (Ok r) ih = ih (taken ++ r.0 ∷ []) r.1 k (omega (arith, length-append taken (r.0 ∷ [])))
+    by_record (Err rule) ih = rw (ne_eqb (length taken) k (λ e. omega arith)) refl
+
+long_rule : (number : ℕ) (table : Option (List Peer)) (rule : Rule) (fault : Fault) → reading.reader_next_in number table (Err rule) ≡ Err fault → rule ≡ TooLong
+long_rule number table HeaderCut fault e = absurd cc
+long_rule number table BodyCut fault e = absurd cc
+long_rule number table TooLong fault e = refl
+long_rule number table PeerTableForm fault e = absurd cc
+long_rule number table NoPeerTable fault e = absurd cc
+long_rule number table PrefixLength fault e = absurd cc
+long_rule number table PeerIndex fault e = absurd cc
+long_rule number table RibForm fault e = absurd cc
+long_rule number table AttributeCut fault e = absurd cc
+long_rule number table AttributeValue fault e = absurd cc
+long_rule number table SecondMp fault e = absurd cc
+long_rule number table SessionForm fault e = absurd cc
+long_rule number table MessageLength fault e = absurd cc
+long_rule number table UpdateLengths fault e = absurd cc
+
+-- what is refused before the end isn't cut
+uncut : (fed rest : List ℕ) (old : Reader) (taken : List Record) (fault : Fault) → TakesRecords fed taken (reading.reader_left old) → length taken ≡ old.records → reading.reader_refusal old ≡ None → reading.reader_next old ≡ Err fault → cut_at old.records (records_in (fed ++ rest)) ≡ false
+uncut fed rest old taken fault t n none next = by_front (record_at (reading.reader_left old)) refl (rw none at next)
+  where
+    by_front : (front : Result (Record × List ℕ) Rule) → record_at (reading.reader_left old) ≡ front → reading.reader_next_in old.records (reading.peers old) front ≡ Err fault → cut_at old.records (records_in (fed ++ rest)) ≡ false
+    by_front (Ok r) is e =
+        let on = takes_on fed (reading.reader_left old) r.1 taken r.0 t is in
+        ap (cut_at old.records) (on.whatever rest) ∙ number_past (length (r.1 ++ rest)) (taken ++ r.0 ∷ []) (r.1 ++ rest) old.records (omega (arith, n, length-append taken (r.0 ∷ [])))
+    by_front (Err rule) is e =
+        let over = long_rule old.records (reading.peers old) rule fault e in
+        let b = stays_too_long fed (reading.reader_left old) taken t (is ∙ ap Err over) in
+        ap (cut_at old.records) (b.whatever rest) ∙ and_right (length taken == old.records) false refl
+
+same_eqb : (a b : ℕ) → a ≡ b → (a == b) ≡ true
+same_eqb a b h = eq-eqb a b h
+
+cut_rules : (n k : ℕ) (rule : Rule) → n ≡ k → (rule ≡ HeaderCut) ⊎ (rule ≡ BodyCut) → cut_at k (Err (record { number = n; rule = rule })) ≡ true
+cut_rules n k rule e (inl h) = rw (h, same_eqb n k e) refl
+cut_rules n k rule e (inr h) = rw (h, same_eqb n k e) refl
+
+not_cut : (ends b : Bool) → b ≡ false → (not ends && b) ≡ false
+not_cut true b e = refl
+not_cut false b e = e
+
+ends_here : (ends b : Bool) → ends ≡ true → (not ends && b) ≡ false
+ends_here true b e = refl
+ends_here false b e = absurd cc
+
+goes_past : (ends b : Bool) → ends ≡ false → b ≡ true → (not ends && b) ≡ true
+goes_past true b e h = absurd cc
+goes_past false b e h = h
+
+-- ---- refusals
+
+read_fault : (which : Which) (before : List Elem) (c fed rest : List ℕ) (old new : Reader) (state : State) (events : ℕ) (taken : List Record) (malformed : code_malformed.Malformed) → octets_read c ≡ fed ++ rest → Going which before fed old state events → TakesRecords fed taken (reading.reader_left old) → length taken ≡ old.records
+    → reading.reader_refusal old ≡ None → reading.reader_next old ≡ Err (fault_of malformed) → reading.ReaderRefuses old (fault_of malformed) new → feed_of which before c ≡ Err (Refused (outcome.Malformed which malformed.number (rule_number malformed.rule)))
+read_fault which before c fed rest old new state events taken malformed e g t n none next r =
+    let s = r.stands fed g.read g.stands in
+    let no = rw r.refuses at s.refuses in
+    let cut : is_cut (octets_read c) g.read.records ≡ false = rw (e, g.stands.records) (uncut fed rest old taken (fault_of malformed) t n none next) in
+    fault_due which before c g.read malformed state g.held no.0 (ap input e ∙ no.1.whatever rest) (not_cut (is_small c) (is_cut (octets_read c) g.read.records) cut)
+
+pub refused_read : (which : Which) (before : List Elem) (content : Option (List ℕ)) (first : State) (old new : Reader) (state : State) (at events : ℕ) (more : List Event) (error : EventsError) → StateStands which before [] first → Streaming which content first old state at events → reading.ReaderFills (Err error) more (reading.reader_next old) → reading.ReaderFilled old (Err error) more new → FailsDue (refusal_of which (of_read error)) (due_of which before content)
+refused_read which before None first old new state at events more (read.Malformed malformed) stands s next t = tt
+refused_read which before (Some c) first old new state at events more (read.Malformed malformed) stands s next t =
+    refused_is (feed_of which before c) (outcome.Malformed which malformed.number (rule_number malformed.rule)) (read_fault which before c s.fed (octets_from at c) old new state events s.taken malformed s.comes (s.going before stands) s.frames s.numbered s.none next t)
+refused_read which before content first old new state at events more read.NoMemory stands s next t = tt
+
+pub refused_event : (which : Which) (before : List Elem) (content : Option (List ℕ)) (first : State) (old new : Reader) (mid state : State) (at events : ℕ) (more : List Event) (error : FeedError) → StateStands which before [] first → Streaming which content first old mid at events → reading.TakesEvents old more new → StateTakesAll which events more mid (Err error) state → FailsDue (refusal_of which error) (due_of which before content)
+refused_event which before content first old new mid state at events more error stands s t taken = refused_hops which before content s.fed at old new mid state events more error s.comes (s.going before stands) t taken
+
+-- ---- the end
+
+all_fed : (c fed : List ℕ) (at : ℕ) → octets_from at c ≡ [] → Comes fed at c → octets_read c ≡ fed
+all_fed c fed at nothing comes = comes ∙ ap (λ z. fed ++ z) nothing ∙ append-nil fed
+
+pub refused_end : (which : Which) (before : List Elem) (content : Option (List ℕ)) (first : State) (reader : Reader) (state : State) (at events : ℕ) (malformed : code_malformed.Malformed) → IfSome content (λ c. IsEnd c at) → StateStands which before [] first → Streaming which content first reader state at events → reading.ReaderTells reader (Err malformed) → FailsDue (refusal_of which (Malformed malformed)) (due_of which before content)
+refused_end which before None first reader state at events malformed end stands s t = tt
+refused_end which before (Some c) first reader state at events malformed end stands s t =
+    let g = s.going before stands in
+    let f = t s.fed g.read g.stands in
+    let same = all_fed c s.fed at end.0 s.comes in
+    refused_is (feed_of which before c) (outcome.Malformed which malformed.number (rule_number malformed.rule)) (fault_due which before c g.read malformed state g.held f.0 (ap input same ∙ f.1) (ends_here (is_small c) (is_cut (octets_read c) g.read.records) (le-leb (length c) (2 ^ 36) end.1)))
+
+pub brings_all : (which : Which) (before : List Elem) (content : Option (List ℕ)) (first : State) (reader : Reader) (state : State) (at events records skipped treated : ℕ) → IfSome content (λ c. IsEnd c at) → StateStands which before [] first → Streaming which content first reader state at events → reading.ReaderTells reader (Ok tt) → records ≡ reader.records → skipped ≡ reader.skipped → treated ≡ reader.treated
+    → StateBrings which before (Ok (record { records = records; skipped = skipped; events = events; treated = treated })) state (due_of which before content)
+brings_all which before content first reader state at events records skipped treated end stands s t r k w =
+    let g = s.going before stands in
+    let has : StateHas which before (feed_in before g.read) (record { records = records; skipped = skipped; events = events; treated = treated }) state = record {
+      counted = record { records = r ∙ sym g.stands.records; skipped = k ∙ sym g.stands.skipped; treated = w ∙ sym g.stands.treated; events = g.counted };
+      stands = g.held;
+    } in
+    (feed_in before g.read, has, is_due content end s.comes)
+  where
+    is_due : (o : Option (List ℕ)) → IfSome o (λ c. IsEnd c at) → IfSome o (Comes s.fed at) → IsDueIfTold (due_of which before o) (Ok (feed_in before (s.going before stands).read))
+    is_due None end comes = tt
+    is_due (Some c) end comes = brought_is (feed_of which before c) _ (whole_due which before c (s.going before stands).read state (s.going before stands).held (ap input (all_fed c s.fed at end.0 comes) ∙ t s.fed (s.going before stands).read (s.going before stands).stands) (le-leb (length c) (2 ^ 36) end.1))
+
+pub few_all : (which : Which) (content : Option (List ℕ)) (first : State) (reader : Reader) (state : State) (at events records skipped treated : ℕ) → at ≤ 2 ^ 36 → Streaming which content first reader state at events → reading.ReaderTells reader (Ok tt) → records ≡ reader.records → skipped ≡ reader.skipped → treated ≡ reader.treated → AreFew (2 ^ 36) first.candidates.candidates (record { records = records; skipped = skipped; events = events; treated = treated }) state.candidates.candidates
+few_all which content first reader state at events records skipped treated within s t r k w = counting_end s.fed first.candidates.candidates state.candidates.candidates reader events records skipped treated (omega (arith, within, s.octets)) s.counting t r k w
+
+-- ---- more octets than are read
+
+large_in : (which : Which) (before : List Elem) (c fed : List ℕ) (reader : Reader) (state : State) (events : ℕ) (taken : List Record) (left : List ℕ) (rule : Rule) → reading.reader_left reader ≡ left → octets_read c ≡ fed → is_small c ≡ false → Going which before fed reader state events → TakesRecords fed taken left → length taken ≡ reader.records → reading.reader_refusal reader ≡ None
+    → record_at left ≡ Err rule → (rule ≡ HeaderCut) ⊎ (rule ≡ BodyCut) → feed_of which before c ≡ Err (Refused (outcome.TooLarge which))
+large_in which before c fed reader state events taken [] rule is same large g t n none e cut =
+    past_due which before c g.read state g.held (ap input same ∙ reading_ends fed g.read (rw is at (reads_on fed g.read reader none g.stands))) large
+large_in which before c fed reader state events taken (b ∷ left) rule is same large g t n none e cut =
+    let some : 0 < length (b ∷ left) = omega arith in
+    let is_cut_now : cut_at g.read.records (records_in (octets_read c)) ≡ true = rw same (ap (cut_at g.read.records) (ends_cut fed (b ∷ left) taken rule t some e) ∙ cut_rules (length taken) g.read.records rule (n ∙ sym g.stands.records) cut) in
+    cut_due which before c g.read rule state g.held (ap input same ∙ reading_ends_cut fed (b ∷ left) g.read rule (rw is at (reads_on fed g.read reader none g.stands)) some e) (goes_past (is_small c) (is_cut (octets_read c) g.read.records) large is_cut_now)
+
+large_due : (which : Which) (before : List Elem) (c fed : List ℕ) (reader : Reader) (state : State) (events : ℕ) (taken : List Record) → octets_read c ≡ fed → is_small c ≡ false → Going which before fed reader state events → TakesRecords fed taken (reading.reader_left reader) → length taken ≡ reader.records → reading.reader_refusal reader ≡ None → IsCutNow reader → feed_of which before c ≡ Err (Refused (outcome.TooLarge which))
+large_due which before c fed reader state events taken same large g t n none (inl e) = large_in which before c fed reader state events taken (reading.reader_left reader) HeaderCut refl same large g t n none e (inl refl)
+large_due which before c fed reader state events taken same large g t n none (inr e) = large_in which before c fed reader state events taken (reading.reader_left reader) BodyCut refl same large g t n none e (inr refl)
+
+pub refused_large : (which : Which) (before : List Elem) (content : Option (List ℕ)) (first : State) (reader : Reader) (state : State) (at events : ℕ) → IfSome content (λ c. IsLarge c at) → StateStands which before [] first → Streaming which content first reader state at events → IsCutNow reader → FailsDue (refusal_of which TooLarge) (due_of which before content)
+refused_large which before None first reader state at events large stands s cut = tt
+refused_large which before (Some c) first reader state at events large stands s cut =
+    refused_is (feed_of which before c) (outcome.TooLarge which) (large_due which before c s.fed reader state events s.taken (all_fed c s.fed at large.0 s.comes) (lt-leb (length c) (2 ^ 36) large.1) (s.going before stands) s.frames s.numbered s.none cut)
+
+pub refused_piece : (which : Which) (before : List Elem) (content : Option (List ℕ)) (first : State) (reader : Reader) (state : State) (at events : ℕ) (error : ReadError) → (IsErrOf {T = ℕ} (Err error) pieces.TooLarge → IfSome content (λ c. IsLarge c at)) → StateStands which before [] first → Streaming which content first reader state at events → IsCutNow reader
+    → FailsDue (refusal_of which (of_input error)) (due_of which before content)
+refused_piece which before content first reader state at events pieces.Fault large stands s cut = tt
+refused_piece which before content first reader state at events pieces.NoMemory large stands s cut = tt
+refused_piece which before content first reader state at events pieces.TooLarge large stands s cut = refused_large which before content first reader state at events (large refl) stands s cut
+
+-- ---- an input as it was before
+
+pub told_before : (old now : List ℕ → Option (List ℕ)) (name : List ℕ) (P : List ℕ → Type 0) → now ≡ old → IfSome (now name) P → IfSome (old name) P
+told_before old now name P e h = let Q : (List ℕ → Option (List ℕ)) → Type 0 = λ k. IfSome (k name) P in subst Q e h
