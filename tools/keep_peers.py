@@ -14,11 +14,11 @@ import ipaddress
 import struct
 import sys
 
-from mrt import (BGP4MP, BGP4MP_ET, MESSAGES, PEER_INDEX_TABLE, RIB_FAMILY, TABLE_DUMP_V2, address, header_fields, opened, peers,
-                 records)
+from mrt import (BGP4MP, BGP4MP_ET, MESSAGES, PEER_INDEX_TABLE, RIB_FAMILY, RIBS_WITH_IDS, TABLE_DUMP_V2, address, header_fields,
+                 opened, peers, records)
 
 
-def entries(body):
+def entries(body, subtype):
     """The front of a RIB record's body, up to Entry Count, and each entry with its peer's index.
 
     IndexError where the record is cut or has octets left over.
@@ -26,9 +26,10 @@ def entries(body):
     at = 5 + (body[4] + 7) // 8
     front, count = body[:at], int.from_bytes(body[at:at + 2], "big")
     at += 2
+    fields = 12 if subtype in RIBS_WITH_IDS else 8
     found = []
     for _ in range(count):
-        end = at + 8 + int.from_bytes(body[at + 6:at + 8], "big")
+        end = at + fields + int.from_bytes(body[at + fields - 2:at + fields], "big")
         found.append((int.from_bytes(body[at:at + 2], "big"), body[at:end]))
         at = end
     if at != len(body):
@@ -63,7 +64,7 @@ def list_peers(name):
                 for peer in table:
                     count(peer, None)
             elif kind == TABLE_DUMP_V2 and subtype in RIB_FAMILY:
-                for index, _ in entries(body)[1]:
+                for index, _ in entries(body, subtype)[1]:
                     count(table[index], RIB_FAMILY[subtype])
             elif peer := session(kind, subtype, body):
                 count(peer, "records")
@@ -90,7 +91,7 @@ def keep(name, wanted, out):
                 chosen = {index for index, peer in enumerate(table) if is_wanted(peer, wanted)}
                 missing = {word for word in wanted if not any(is_wanted(peer, [word]) for peer in table)}
             elif kind == TABLE_DUMP_V2 and subtype in RIB_FAMILY:
-                front, found = entries(body)
+                front, found = entries(body, subtype)
                 kept = [entry for index, entry in found if index in chosen]
                 if not kept:
                     continue

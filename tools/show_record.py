@@ -11,8 +11,8 @@ breaks a rule or isn't there.
 
 import sys
 
-from mrt import (BGP4MP_ET, HEADER, MESSAGES, MOST_BODY, PEER_INDEX_TABLE, RIB_FAMILY, TABLE_DUMP_V2, address,
-                 header_fields, kind_name, peers)
+from mrt import (BGP4MP_ET, HEADER, MESSAGES, MESSAGES_WITH_IDS, MOST_BODY, PEER_INDEX_TABLE, RIB_FAMILY, RIBS_WITH_IDS,
+                 TABLE_DUMP_V2, address, header_fields, kind_name, peers)
 
 RULES = {
     1: "the input ends within a header",
@@ -22,13 +22,13 @@ RULES = {
     5: "a RIB record comes before any peer table of its input",
     6: "a prefix has more bits than its family's addresses",
     7: "a RIB entry's peer isn't in the table",
-    8: "a RIB record is cut or has octets left over",
+    8: "a RIB record is cut, a path identifier too, or has octets left over",
     9: "an attribute is cut by the end of its list",
     10: "the value of a used attribute isn't of its form",
     11: "a second MP_REACH_NLRI or MP_UNREACH_NLRI stands in a list that uses it",
     12: "a BGP4MP record is cut outside its message, or a state change has octets left over",
     13: "a message is shorter than 19 octets, or its Length isn't that of what is left",
-    14: "an UPDATE's lengths don't fit, or a prefix of its withdrawn routes or of its NLRI is cut",
+    14: "an UPDATE's lengths don't fit, or a prefix of its withdrawn routes or of its NLRI is cut, or its path identifier",
 }
 WIDTH = {4: 32, 6: 128}
 FAMILY = {1: 4, 2: 6}
@@ -39,9 +39,9 @@ ATTRIBUTES = {1: "ORIGIN", AS_PATH: "AS_PATH", NEXT_HOP: "NEXT_HOP", 4: "MULTI_E
               MP_UNREACH_NLRI: "MP_UNREACH_NLRI", 17: "AS4_PATH", 18: "AS4_AGGREGATOR", 32: "LARGE_COMMUNITY"}
 SEGMENTS = {1: "AS_SET", 2: "AS_SEQUENCE", 3: "AS_CONFED_SEQUENCE", 4: "AS_CONFED_SET"}
 MESSAGE_TYPES = {1: "OPEN", 2: "UPDATE", 3: "NOTIFICATION", 4: "KEEPALIVE", 5: "ROUTE-REFRESH"}
-USED_MESSAGES = (0, 1, 4, 5, 6, 7)
+USED_MESSAGES = (0, 1, 4, 5, 6, 7) + MESSAGES_WITH_IDS
 STATE_CHANGES = (0, 5)
-WITH_AS4 = (4, 5, 7)
+WITH_AS4 = (4, 5, 7, 9, 11)
 SHOWN = 16
 
 
@@ -101,8 +101,10 @@ class Octets:
         cleared = bits >> WIDTH[family] - length << WIDTH[family] - length
         self.tell(start, f"{name} {address(cleared.to_bytes(WIDTH[family] // 8, 'big'))}/{length}")
 
-    def prefixes(self, family, rule, name):
+    def prefixes(self, family, rule, name, ids):
         while self.left():
+            if ids:
+                self.field(4, rule, f"{name}'s path identifier")
             self.prefix(family, rule, name)
 
     def nothing_left(self, rule):
@@ -142,7 +144,7 @@ def read_rib_reach(value, family):
         value.lines.append(f"{start:6}  no next hop is read from it: {broken.why}")
 
 
-def read_mp(kind, value):
+def read_mp(kind, value, ids):
     """MP_REACH_NLRI or MP_UNREACH_NLRI of an UPDATE (RFC 4760, sections 3 and 4)."""
     family, safi = FAMILY.get(value.field(2, 10, "address family")), value.field(1, 10, "SAFI")
     if family is None or safi != 1:
@@ -150,24 +152,32 @@ def read_mp(kind, value):
     if kind == MP_REACH_NLRI:
         read_hop(value, family, 10)
         value.field(1, 10, "reserved")
-    value.prefixes(family, 10, "prefix" if kind == MP_REACH_NLRI else "withdrawn prefix")
+    value.prefixes(family, 10, "prefix" if kind == MP_REACH_NLRI else "withdrawn prefix", ids)
 
 
-def read_value(kind, value, wide, rib):
+def read_path_or_hop(kind, value, wide):
     if kind == AS_PATH:
         read_path(value, wide)
-    elif kind == NEXT_HOP:
-        if value.left() != 4:
-            raise Broken(10, value.at, f"NEXT_HOP: {value.left()} octets")
-        value.address(4, 10, "next hop")
-    elif rib:
-        read_rib_reach(value, rib)
+    elif value.left() != 4:
+        raise Broken(10, value.at, f"NEXT_HOP: {value.left()} octets")
     else:
-        read_mp(kind, value)
+        value.address(4, 10, "next hop")
 
 
-def read_attributes(part, wide, rib=None):
-    """A list of path attributes; rib is the family of the RIB record whose entry has it."""
+def read_value(kind, value, wide, rib, ids):
+    if kind in (MP_REACH_NLRI, MP_UNREACH_NLRI):
+        return read_rib_reach(value, rib) if rib else read_mp(kind, value, ids)
+    start = value.at
+    try:
+        read_path_or_hop(kind, value, wide)
+    except Broken as broken:
+        if rib:
+            raise
+        value.lines.append(f"{start:6}  the message is treated as a withdrawal: {broken.why}")
+
+
+def read_attributes(part, wide, rib=None, ids=False):
+    """A list of path attributes; rib is the family of the RIB record whose entry has it, ids whether prefixes have path identifiers."""
     used = (AS_PATH, NEXT_HOP, MP_REACH_NLRI) + (() if rib else (MP_UNREACH_NLRI,))
     seen = set()
     while part.left():
@@ -182,7 +192,7 @@ def read_attributes(part, wide, rib=None):
         value = part.part(length, 9, f"{name}'s value")
         if kind in used and kind not in seen:
             seen.add(kind)
-            read_value(kind, value, wide, rib)
+            read_value(kind, value, wide, rib, ids)
         elif length:
             part.tell(value.at, "passed over")
 
@@ -199,7 +209,7 @@ def read_peer_table(body):
     body.nothing_left(4)
 
 
-def read_rib(body, family, table):
+def read_rib(body, family, ids, table):
     if table is None:
         raise Broken(5, body.at, "no peer table stands before it")
     body.field(4, 8, "sequence")
@@ -211,20 +221,22 @@ def read_rib(body, family, table):
             raise Broken(7, start, f"peer {index} of a table of {len(table)}")
         body.lines[-1] += f", {table[index][0]} of AS {table[index][1]}"
         body.field(4, 8, f"entry {number}: time")
+        if ids:
+            body.field(4, 8, f"entry {number}: path identifier")
         length = body.field(2, 8, f"entry {number}: attributes, octets")
         read_attributes(body.part(length, 8, f"entry {number}: attributes"), 4, family)
     body.nothing_left(8)
 
 
-def read_update(message, wide):
+def read_update(message, wide, ids):
     length = message.field(2, 14, "withdrawn routes, octets")
-    message.part(length, 14, "withdrawn routes").prefixes(4, 14, "withdrawn prefix")
+    message.part(length, 14, "withdrawn routes").prefixes(4, 14, "withdrawn prefix", ids)
     length = message.field(2, 14, "attributes, octets")
-    read_attributes(message.part(length, 14, "attributes"), wide)
-    message.prefixes(4, 14, "prefix")
+    read_attributes(message.part(length, 14, "attributes"), wide, ids=ids)
+    message.prefixes(4, 14, "prefix", ids)
 
 
-def read_message(message, wide):
+def read_message(message, wide, ids):
     whole = message.left()
     if whole < 19:
         raise Broken(13, message.at, f"a message of {whole} octets")
@@ -235,7 +247,7 @@ def read_message(message, wide):
         raise Broken(13, start, f"a message length of {length} where {whole} octets are left")
     kind = message.field(1, 13, "message type", lambda number: MESSAGE_TYPES.get(number, number))
     if kind == 2:
-        read_update(message, wide)
+        read_update(message, wide, ids)
 
 
 def read_bgp4mp(body, kind, subtype):
@@ -256,7 +268,7 @@ def read_bgp4mp(body, kind, subtype):
         body.field(2, 12, "new state")
         body.nothing_left(12)
     else:
-        read_message(body, wide)
+        read_message(body, wide, subtype in MESSAGES_WITH_IDS)
     return True
 
 
@@ -275,7 +287,7 @@ def read_record(data, table):
         if (kind, subtype) == (TABLE_DUMP_V2, PEER_INDEX_TABLE):
             read_peer_table(body)
         elif kind == TABLE_DUMP_V2 and subtype in RIB_FAMILY:
-            read_rib(body, RIB_FAMILY[subtype], table)
+            read_rib(body, RIB_FAMILY[subtype], subtype in RIBS_WITH_IDS, table)
         elif kind not in (16, 17) or subtype not in USED_MESSAGES or not read_bgp4mp(body, kind, subtype):
             return lines, None, True
     except Broken as broken:
