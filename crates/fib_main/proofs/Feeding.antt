@@ -16,6 +16,7 @@ use Rattle.feed_model.proofs.Numbers.{full_in_front}
 use Rattle.mrt_frame.specs.declared.Malformed as code_malformed
 use Rattle.mrt_read.specs.Standing as reading
 use Rattle.mrt_read.specs.declared.reader.Reader.{Reader}
+use Rattle.fib_main.proofs.Arriving.{Comes}
 use Rattle.fib_main.specs.declared.outcome.Which.{Which}
 use Rattle.fib_main.specs.declared.outcome.Outcome.TheVariants as outcome
 use Rattle.fib_main.specs.declared.state.State.{State}
@@ -113,10 +114,6 @@ reads_on octets read reader none s = rw none at s.goes_on
 -- what an input brings, where it is told
 abbrev pub due_of : Which → List Elem → Option (List ℕ) → Result Feed Stop
 due_of which before o = told_content o >>= feed_of which before
-
--- what was fed, and what comes of the input
-abbrev pub Comes : List ℕ → ℕ → List ℕ → Type 0
-Comes fed at c = octets_read c ≡ fed ++ octets_from at c
 
 pub refused_is : (d : Result Feed Stop) (o : Outcome) → d ≡ Err (Refused o) → IsDueIfTold d (Err (Refused o))
 refused_is d o e = rw e refl

@@ -1,5 +1,8 @@
 pub mod Addressed
+pub mod Arriving
 pub mod AskLemmas
+pub mod AskLines
+pub mod AskReading
 pub mod Certifying
 pub mod Completing
 pub mod Counting

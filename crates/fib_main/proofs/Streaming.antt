@@ -33,7 +33,8 @@ use Rattle.fib_main.specs.Stops.{Stop, Refused, FailsDue, IsDueIfTold, cut_at, i
 use Rattle.fib_main.specs.Due.{Feed, elems_in, feed_in, feed_of}
 use Rattle.fib_main.specs.Standing.{StateStands, StateHas, StateBrings, StateTakesAll, next_elems, of_input, of_read, refusal_of}
 use Rattle.fib_main.proofs.Counting.{Counting, counting_end, counting_feeds, counting_fits, counting_next, counting_start, counting_still}
-use Rattle.fib_main.proofs.Feeding.{Going, Comes, due_of, going_start, going_next, going_still, going_feeds, refused_hops, refused_is, brought_is, reads_on, fault_due, whole_due, past_due, cut_due}
+use Rattle.fib_main.proofs.Arriving.{Comes, all_fed, comes_first, comes_next}
+use Rattle.fib_main.proofs.Feeding.{Going, due_of, going_start, going_next, going_still, going_feeds, refused_hops, refused_is, brought_is, reads_on, fault_due, whole_due, past_due, cut_due}
 
 -- So many octets of the input were fed: its records were counted behind these candidates, the state has what they bring, and the reader isn't refused.
 pub record Streaming (which : Which) (content : Option (List ℕ)) (first : State) (reader : Reader) (state : State) (at events : ℕ) : Type 0 where
@@ -52,10 +53,6 @@ abbrev pub IsCutNow : Reader → Type 0
 IsCutNow reader = (record_at (reading.reader_left reader) ≡ Err HeaderCut) ⊎ (record_at (reading.reader_left reader) ≡ Err BodyCut)
 
 -- ---- the start
-
-comes_first : (o : Option (List ℕ)) → IfSome o (Comes [] 0)
-comes_first None = tt
-comes_first (Some c) = refl
 
 pub streaming_start : (which : Which) (content : Option (List ℕ)) (first : State) (reader : Reader) → reading.reader_left reader ≡ [] → reading.reader_refusal reader ≡ None → reading.ReaderStands [] start reader → Streaming which content first reader first 0 0
 streaming_start which content first reader empty none s = record {
@@ -83,10 +80,6 @@ used_up reader (inl e) = used_up_by reader (Err HeaderCut) e refl (reading.reade
 used_up reader (inr e) = used_up_by reader (Err BodyCut) e refl (reading.reader_refusal reader)
 
 -- ---- a piece more
-
-comes_next : (o : Option (List ℕ)) (fed room : List ℕ) (at n : ℕ) → IfSome o (Comes fed at) → IfSome o (λ c. ComeNext c at room n) → IfSome o (Comes (fed ++ take n room) (at + n))
-comes_next None fed room at n s t = tt
-comes_next (Some c) fed room at n s t = s ∙ ap (λ z. fed ++ z) t ∙ sym (append_assoc fed (take n room) (octets_from (at + n) c))
 
 pub streaming_feeds : (which : Which) (content : Option (List ℕ)) (first : State) (old new : Reader) (state : State) (room : List ℕ) (at n events : ℕ) → n ≤ length room → IfSome content (λ c. ComeNext c at room n) → Streaming which content first old state at events → reading.ReaderFeeds old (take n room) new → Streaming which content first new state (at + n) events
 streaming_feeds which content first old new state room at n events h next s feeds = record {
@@ -220,9 +213,6 @@ refused_event which before content first old new mid state at events more error 
 
 -- ---- the end
 
-all_fed : (c fed : List ℕ) (at : ℕ) → octets_from at c ≡ [] → Comes fed at c → octets_read c ≡ fed
-all_fed c fed at nothing comes = comes ∙ ap (λ z. fed ++ z) nothing ∙ append-nil fed
-
 pub refused_end : (which : Which) (before : List Elem) (content : Option (List ℕ)) (first : State) (reader : Reader) (state : State) (at events : ℕ) (malformed : code_malformed.Malformed) → IfSome content (λ c. IsEnd c at) → StateStands which before [] first → Streaming which content first reader state at events → reading.ReaderTells reader (Err malformed) → FailsDue (refusal_of which (Malformed malformed)) (due_of which before content)
 refused_end which before None first reader state at events malformed end stands s t = tt
 refused_end which before (Some c) first reader state at events malformed end stands s t =
@@ -273,8 +263,3 @@ pub refused_piece : (which : Which) (before : List Elem) (content : Option (List
 refused_piece which before content first reader state at events pieces.Fault large stands s cut = tt
 refused_piece which before content first reader state at events pieces.NoMemory large stands s cut = tt
 refused_piece which before content first reader state at events pieces.TooLarge large stands s cut = refused_large which before content first reader state at events (large refl) stands s cut
-
--- ---- an input as it was before
-
-pub told_before : (old now : List ℕ → Option (List ℕ)) (name : List ℕ) (P : List ℕ → Type 0) → now ≡ old → IfSome (now name) P → IfSome (old name) P
-told_before old now name P e h = let Q : (List ℕ → Option (List ℕ)) → Type 0 = λ k. IfSome (k name) P in subst Q e h

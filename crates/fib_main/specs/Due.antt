@@ -1,5 +1,5 @@
 -- What a run and a check are to come to.
-use Rattle.std.specs.Prelude.{ℕ, ◌+◌, List, [], ◌++◌, length, Option, Some, None, Result, Ok, Err, map}
+use Rattle.std.specs.Prelude.{ℕ, ◌+◌, List, [], ◌++◌, length, Option, Some, None, Result, Ok, Err, map, if◌then◌else◌}
 use Rattle.octet_fields.specs.Field.{◌>>=◌}
 use Rattle.address_model.specs.Address.{Address}
 use Rattle.table_model.specs.Entries.{Entries, match_in}
@@ -20,9 +20,9 @@ use Rattle.fib_main.specs.declared.outcome.Outcome.TheVariants.{Usage}
 use Rattle.fib_main.specs.declared.outcome.Which.{Which}
 use Rattle.fib_main.specs.declared.outcome.Which.TheVariants.{Asks, Dump, Updates}
 use Rattle.fib_main.specs.declared.outcome.Which.TheVariants as which
-use Rattle.fib_main.specs.Stops.{Stop, Refused, told_content, sized, lined, rowed, records_due, few_hops}
+use Rattle.fib_main.specs.Stops.{Stop, Refused, told_content, is_small, sized, lined, lined_past, rowed, records_due, few_hops}
 use Rattle.fib_io.specs.Pieces.{octets_read}
-use Rattle.fib_main.specs.Asks.{asks_in}
+use Rattle.fib_main.specs.Asks.{asks_in, ended_asks_in}
 use Rattle.fib_main.specs.Checks.{verdict_of, verdict_text}
 
 abbrev pub usage : Option Asked → Result Asked Stop
@@ -35,12 +35,18 @@ input_at content which name = do
   octets ← told_content (content name)
   sized which octets
 
+-- The asks that an input's octets have, or the first line that is neither empty nor an address. Of an input of more than 2^36 octets only the first 2^36 are read: it is too large, unless a line that they have with its line feed is bad.
+unfoldable pub asks_of : List ℕ → Result (List Address) Stop
+asks_of octets = if is_small octets then lined Asks (asks_in octets) else lined_past Asks (ended_asks_in (octets_read octets))
+
+-- the same of an input, where it is told
+abbrev pub told_asks : Option (List ℕ) → Result (List Address) Stop
+told_asks content = told_content content >>= asks_of
+
 -- the addresses that are asked for, none where no asks are named
 unfoldable pub asks_at : (List ℕ → Option (List ℕ)) → Option (List ℕ) → Result (List Address) Stop
 asks_at content None = Ok []
-asks_at content (Some name) = do
-  octets ← input_at content Asks name
-  lined Asks (asks_in octets)
+asks_at content (Some name) = told_asks (content name)
 
 -- ---- what an input of records brings
 

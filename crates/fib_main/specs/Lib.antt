@@ -1,4 +1,5 @@
 pub mod Asks
+pub mod Asking
 pub mod Stops
 pub mod Checks
 pub mod Counts

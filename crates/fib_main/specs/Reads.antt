@@ -16,6 +16,8 @@ abbrev pub IsList : {X Y : Type 0} → (X → Y) → Result X AskError → Resul
 IsList view (Ok x) due = due ≡ Ok (view x)
 IsList view (Err (ask.BadLine line)) due = due ≡ Err line
 IsList view (Err ask.NoMemory) due = Unit {0}
+IsList view (Err ask.Fault) due = ⊥
+IsList view (Err ask.TooLarge) due = ⊥
 
 -- what a check of a text returned is the reply to what is read of it, or the text's first bad line, unless memory ran out
 abbrev pub IsReply : Result code_reply.Reply PrintedError → Result Used BadLine → Type 0

@@ -35,6 +35,11 @@ abbrev pub lined : {A : Type 0} → Which → Result A ℕ → Result A Stop
 lined which (Ok x) = Ok x
 lined which (Err line) = Err (Refused (BadLine which line 1))
 
+-- the same of lines of an input that goes on: it is too large, unless one of them isn't of its form
+abbrev pub lined_past : {A : Type 0} → Which → Result A ℕ → Result A Stop
+lined_past which (Ok x) = Err (Refused (TooLarge which))
+lined_past which (Err line) = Err (Refused (BadLine which line 1))
+
 -- what is used of a printed text, or the first of its lines that is no row
 abbrev pub rowed : Result Used BadRow → Result Used Stop
 rowed (Ok used) = Ok used

@@ -3,6 +3,7 @@
 ghost use Rattle.std.specs.Prelude.{◌≡◌, ◌≤◌, ◌^◌, List, [], Some, None, length, map, IfErr, IfOk, IsSome, OnErr, OnOk, option_to_list};
 ghost use Rattle.fib_io.specs.Causes.{Rose};
 ghost use Rattle.fib_addr.specs.Views.{addr_as};
+ghost use Rattle.fib_main.specs.Asking.{ask_refusal};
 ghost use Rattle.fib_main.specs.Counts.{AreFew};
 ghost use Rattle.fib_main.specs.Due.{asks_at, checked, feed_at, input_at, output_at, reply_at, run_at, told_at, used_at, with_reply, with_text};
 ghost use Rattle.fib_main.specs.Ends.{feeds_named, OneRose, reads_asked, reads_named, ReadsFor};
@@ -53,6 +54,22 @@ fn octets_of<I: Inputs>(
     }
 }
 
+/// The outcome where asks aren't read.
+fn outcome_of_asks(error: AskError) -> Outcome
+    ensures { result ≡ ask_refusal error }
+{
+    match error {
+        AskError::BadLine(line) => Outcome::BadLine {
+            input: Which::Asks,
+            line,
+            why: NO_ADDRESS,
+        },
+        AskError::NoMemory => Outcome::NoMemory,
+        AskError::Fault => Outcome::ReadFault,
+        AskError::TooLarge => Outcome::TooLarge { input: Which::Asks },
+    }
+}
+
 /// The addresses that are asked for, none where no asks are named.
 #[tactic(auto, unfolding(crate::specs::Due::asks_at))]
 fn asks_of<I: Inputs>(
@@ -69,16 +86,7 @@ fn asks_of<I: Inputs>(
     let Some(name) = command.asks else {
         return Ok(Vec::new(alloc));
     };
-    let octets = octets_of(alloc, inputs, name, Which::Asks)?;
-    match read_asks(alloc, &octets) {
-        Ok(asks) => Ok(asks),
-        Err(AskError::BadLine(line)) => Err(Outcome::BadLine {
-            input: Which::Asks,
-            line,
-            why: NO_ADDRESS,
-        }),
-        Err(AskError::NoMemory) => Err(Outcome::NoMemory),
-    }
+    read_asks(alloc, inputs, name).map_err(outcome_of_asks)
 }
 
 /// The event that a refusal names: those of a dump are the load, event 0.

@@ -241,6 +241,16 @@ fn rows_of_routes_and_updates(rt: HostRuntime) -> Result<(), Fail> {
             ROWS_OF_BOTH,
         ),
         (
+            "lines that reads cut, before a line feed and before a carriage return",
+            Given {
+                dump: &[PEERS, TEN_ONE, OTHER, TEN],
+                asks: b"10.1.2.3\r\n\n10.2.0.1",
+                at_most: 8,
+                ..FIRST
+            },
+            ROWS_OF_BOTH,
+        ),
+        (
             "IPv6",
             Given {
                 dump: &[PEERS, SIX],
@@ -404,6 +414,63 @@ fn no_read_after_a_refusal(rt: HostRuntime) -> Result<(), Fail> {
         ..given
     };
     compare(&rt, "the 45th read fails", &unread, &READ_FAULT)
+}
+
+/// A line of asks is judged once it has its line feed, and the last at the input's end: no read is made after it. The dump
+/// isn't held, and isn't read.
+#[test]
+fn no_read_after_a_bad_line(rt: HostRuntime) -> Result<(), Fail> {
+    // The asks, the read that makes the line whole, and the line.
+    let cases: [(&str, &[u8], u64, u64, &[u8]); 3] = [
+        (
+            "a line before others",
+            b"10.1.2\n10.1.2.3\n",
+            7,
+            1,
+            b"fib: bad line asks 1 why 1\n",
+        ),
+        (
+            "a line behind empty ones",
+            b"\n\r\n::1 \n::\n",
+            8,
+            3,
+            b"fib: bad line asks 3 why 1\n",
+        ),
+        (
+            "a last line with a carriage return",
+            b"::\n::1\r",
+            8,
+            2,
+            b"fib: bad line asks 2 why 1\n",
+        ),
+    ];
+    for (name, asks, whole, line, err) in cases {
+        let given = Given {
+            dump: &[],
+            asks,
+            failing_read: whole + 1,
+            at_most: 1,
+            ..FIRST
+        };
+        let refused = Expected {
+            outcome: Outcome::BadLine {
+                input: Which::Asks,
+                line,
+                why: 1,
+            },
+            status: 8,
+            out: &[],
+            out_len: 0,
+            err,
+        };
+        compare(&rt, name, &given, &refused)?;
+        let unread = Given {
+            failing_read: whole,
+            ..given
+        };
+        compare(&rt, name, &unread, &READ_FAULT)?;
+    }
+    Ok(())
 }
 
 #[test]

@@ -1,0 +1,15 @@
+use Rattle.std.proofs.Common.{◌≡◌, ◌+◌, ◌-◌, ◌^◌, ◌<◌, ◌≤◌, length}
+use Rattle.fib_main.proofs.AskReading.{Asking}
+use Rattle.fib_main.proofs.asks.read_through.Given as goal
+
+abbrev pub invariant-loop-reader : goal.invariant-loop-reader
+invariant-loop-reader g l = record {
+  some : 0 < length l.room;
+  within : l.at ≤ 2 ^ 36;
+  stands : Asking (g.I.Inputs.content l.fn.inputs l.name) l.reader l.at;
+  same : g.I.Inputs.content l.inputs ≡ g.I.Inputs.content l.fn.inputs;
+  kept : g.I.Inputs.faults l.inputs ≡ g.I.Inputs.faults l.fn.inputs;
+}
+
+abbrev pub decreases-loop-reader : goal.decreases-loop-reader
+decreases-loop-reader g l = (2 ^ 36 + 1) - l.at
