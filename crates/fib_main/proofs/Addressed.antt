@@ -1,6 +1,6 @@
 -- Every number that is told is 0 or that of a hop.
 use Rattle.std.proofs.Common.{◌≡◌, ℕ, zero, suc, ◌+◌, ◌-◌, ◌≤◌, List, [], ◌∷◌, ◌++◌, Bool, true, false, cond, Option, Some, None, length, map, nat_eq, refl, subst, arith}
-use Rattle.std.specs.Prelude.{◌||◌, IfSome, nat_lt, option_map, unwrap_or, flat_map}
+use Rattle.std.specs.Prelude.{◌||◌, IfSome, nat_lt, option_map, unwrap_or}
 use Rattle.std.specs.List.{AllByRecursion, position_or_len}
 use Rattle.std.proofs.lemmas.Bool.{eqb-true, ltb-true}
 use Rattle.address_model.specs.Width.{width}
@@ -19,7 +19,7 @@ use Rattle.least_model.proofs.Laws.{lpm_candidate}
 use Rattle.cert_model.specs.Rows.{CertRow, same_hop, one_answer, leaf_or, region_rows, family_rows, certificate_of}
 use Rattle.route_model.specs.Events.{Elem, elem_prefix}
 use Rattle.route_model.specs.Choice.{Candidates, after_elem, after_elems, chosen_for, routes_of}
-use Rattle.feed_model.specs.Feed.{at_event, brought, change_by, change_of, changes_from, entries_of, hops_after, load_changes, number_in}
+use Rattle.feed_model.specs.Feed.{at_event, change_by, change_of, changes_from, entries_of, hops_after, load_changes, number_in}
 use Rattle.feed_model.proofs.Numbers.{hops_distinct, entries_have}
 use Rattle.printed_model.specs.Numbered.{HaveHops}
 use Rattle.fib_main.specs.Due.{Feed, answers_to, printed}

@@ -1,8 +1,8 @@
 -- What a run prints is a text that a check says yes to.
 use Rattle.std.proofs.Common.{◌≡◌, ℕ, ◌≤◌, List, [], ◌∷◌, ◌++◌, Option, Result, Ok, Err, length, map, sym, ap, subst, ◌∙◌, append_assoc}
-use Rattle.std.specs.Prelude.{flat_map, unwrap_or}
-use Rattle.std.specs.List.{AllByRecursion, IsDistinct}
-use Rattle.address_model.specs.Address.{Address, Prefix, same_address}
+use Rattle.std.specs.Prelude.{flat_map}
+use Rattle.std.specs.List.{AllByRecursion}
+use Rattle.address_model.specs.Address.{Address}
 use Rattle.table_model.specs.Changes.{Change, Add, Replace, Remove}
 use Rattle.table_model.specs.Entries.{Entries}
 use Rattle.least_model.specs.Both.{aggregate_in_both}
@@ -10,7 +10,7 @@ use Rattle.cert_model.specs.Rows.{CertRow, certificate_of}
 use Rattle.cert_model.specs.Right.{IsCertificate}
 use Rattle.cert_model.proofs.Verdicts.{verdict_from}
 use Rattle.route_model.specs.Events.{Elem}
-use Rattle.route_model.specs.Choice.{Candidates, after_elems, routes_of}
+use Rattle.route_model.specs.Choice.{Candidates, after_elems}
 use Rattle.route_model.proofs.Elems.{candidates_stay}
 use Rattle.route_model.proofs.Said.{none_yet}
 use Rattle.feed_model.specs.Feed.{entries_of, hops_after}

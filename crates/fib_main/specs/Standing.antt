@@ -24,7 +24,7 @@ use Rattle.mrt_read.specs.declared.reader.EventsError.{EventsError}
 use Rattle.mrt_read.specs.declared.reader.EventsError.TheVariants as read
 use Rattle.fib_addr.specs.Views.{route_as}
 use Rattle.fib_main.specs.Views.{changes_as}
-use Rattle.fib_main.specs.Stops.{Stop, Refused, IsDueIfTold, FailsDue, event_in, input_of}
+use Rattle.fib_main.specs.Stops.{Stop, IsDueIfTold, FailsDue, event_in, input_of}
 use Rattle.fib_main.specs.Due.{Feed}
 
 -- the changes that are kept of an input's elementary events: those of updates

@@ -37,7 +37,8 @@ fn entries(
     hops: &HopTable,
     routes: &[(Prefix, Addr)],
 ) -> Result<Vec<Entry>, AllocError>
-    ensures { IfOk result (λ entries. map entry_as entries.items ≡ map (numbered hops.now.list) routes.now) }
+    ensures { IfOk result (λ entries. map entry_as entries.items
+        ≡ map (numbered hops.now.list) routes.now) }
 {
     let mut entries = Vec::with_capacity(alloc, routes.len())?;
     for (prefix, hop) in routes {
@@ -51,7 +52,8 @@ fn entries(
 
 /// The changes that build these entries from nothing.
 fn additions(alloc: Global, entries: &[Entry]) -> Result<Vec<(u64, Change)>, AllocError>
-    ensures { IfOk result (λ changes. changes_as changes.items ≡ at_event 0 (additions (map entry_as entries.now))) }
+    ensures { IfOk result (λ changes. changes_as changes.items
+        ≡ at_event 0 (additions (map entry_as entries.now))) }
 {
     let mut changes = Vec::with_capacity(alloc, entries.len())?;
     for entry in entries {
@@ -63,7 +65,9 @@ fn additions(alloc: Global, entries: &[Entry]) -> Result<Vec<(u64, Change)>, All
 /// Each address with its answer.
 fn answers(alloc: Global, trees: &Trees, asks: &[Addr]) -> Result<Vec<(Addr, Hop)>, AllocError>
     requires { AreBoth trees.now }
-    ensures { (routes : Entries) → Hold routes trees.now → IfOk result (λ answers. answers_as answers.items ≡ answers_to routes (map addr_as asks.now)) }
+    ensures { (routes : Entries) → Hold routes trees.now
+        → IfOk result (λ answers. answers_as answers.items
+        ≡ answers_to routes (map addr_as asks.now)) }
 {
     let mut answers = Vec::with_capacity(alloc, asks.len())?;
     for ask in asks {
@@ -78,7 +82,8 @@ fn changes(
     loaded: &[Entry],
     updates: &[(u64, Change)],
 ) -> Result<Vec<(u64, Change)>, AllocError>
-    ensures { IfOk result (λ changes. changes_as changes.items ≡ at_event 0 (additions (map entry_as loaded.now)) ++ changes_as updates.now) }
+    ensures { IfOk result (λ changes. changes_as changes.items
+        ≡ at_event 0 (additions (map entry_as loaded.now)) ++ changes_as updates.now) }
 {
     let mut changes = additions(alloc, loaded)?;
     changes.extend_from_slice(updates)?;
@@ -113,7 +118,8 @@ struct Looked {
 
 /// The answers, the least table and the certificate of these routes; their trees take memory no longer than this.
 fn look_up(alloc: Global, routes: &[Entry], asks: &[Addr]) -> Result<Looked, AllocError>
-    ensures { IsStrictlySortedBy prefix_cmp (keys_of (map entry_as routes.now)) → IfOk result (IsLooked (map entry_as routes.now) (map addr_as asks.now)) }
+    ensures { IsStrictlySortedBy prefix_cmp (keys_of (map entry_as routes.now))
+        → IfOk result (IsLooked (map entry_as routes.now) (map addr_as asks.now)) }
 {
     let trees = Trees::new(alloc, routes)?;
     let answers = answers(alloc, &trees, asks)?;
@@ -139,7 +145,8 @@ pub struct Fed<'a> {
 /// All that is told.
 fn report_of(alloc: Global, state: &State, fed: &Fed<'_>, asks: &[Addr]) -> Result<Run, AllocError>
     requires { AddUp fed.now.load fed.now.updates }
-    ensures { (load updates : Feed) → IsFed load updates fed.now state.now → IfOk result (λ run. run_as run ≡ (printed load updates (map addr_as asks.now)).told) }
+    ensures { (load updates : Feed) → IsFed load updates fed.now state.now
+        → IfOk result (λ run. run_as run ≡ (printed load updates (map addr_as asks.now)).told) }
 {
     let routes = entries(alloc, &state.hops, &state.candidates.routes()?)?;
     let looked = look_up(alloc, &routes, asks)?;
@@ -163,8 +170,11 @@ pub fn write_text(
     asks: &[Addr],
 ) -> Result<Vec<u8>, AllocError>
     requires { AddUp fed.now.load fed.now.updates }
-    ensures text { (load updates : Feed) → IsFed load updates fed.now state.now → IfOk result (λ text. text.items ≡ printed_text (printed load updates (map addr_as asks.now))) }
-    ensures yes { (load updates : Feed) → IsFed load updates fed.now state.now → IfOk result (λ text. ChecksYes text.items) }
+    ensures text { (load updates : Feed) → IsFed load updates fed.now state.now
+        → IfOk result (λ text. text.items
+        ≡ printed_text (printed load updates (map addr_as asks.now))) }
+    ensures yes { (load updates : Feed) → IsFed load updates fed.now state.now
+        → IfOk result (λ text. ChecksYes text.items) }
 {
     let mut text = Vec::new(alloc);
     write_run(

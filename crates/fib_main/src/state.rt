@@ -123,7 +123,9 @@ pub fn number(hops: &HopTable, hop: &Addr) -> Hop
 
 /// The change that a choice makes, if it makes one.
 fn change_of(hops: &HopTable, choice: Choice) -> Option<Change>
-    ensures { option_to_list (option_map change_as result) ≡ change_of hops.now.list (prefix_as choice.prefix) (option_map addr_as choice.before) (option_map addr_as choice.after) }
+    ensures { option_to_list (option_map change_as result) ≡ change_of hops.now.list
+        (prefix_as choice.prefix) (option_map addr_as choice.before)
+        (option_map addr_as choice.after) }
 {
     match (choice.before, choice.after) {
         (None, None) => None,
@@ -142,9 +144,12 @@ fn change_of(hops: &HopTable, choice: Choice) -> Option<Change>
 /// Gives the next hop of an elementary event a number.
 fn number_hop(hops: &mut HopTable, elem: &Elem) -> Result<(), HopError>
     ensures hops { OnOk result (hops.new.list ≡ hops_after hops.old.list (elem_as elem.now ∷ [])) }
-    ensures few { OnOk result (length hops.old.list ≤ most_hops → length hops.new.list ≤ most_hops) }
-    ensures full { IsErrOf result HopError.HopsFull → most_hops < length (hops_after hops.old.list (elem_as elem.now ∷ [])) }
-    ensures room { most_hops < length (hops_after hops.old.list (elem_as elem.now ∷ [])) → length hops.old.list ≤ most_hops → IsErrOf result HopError.HopsFull }
+    ensures few { OnOk result (length hops.old.list ≤ most_hops
+        → length hops.new.list ≤ most_hops) }
+    ensures full { IsErrOf result HopError.HopsFull
+        → most_hops < length (hops_after hops.old.list (elem_as elem.now ∷ [])) }
+    ensures room { most_hops < length (hops_after hops.old.list (elem_as elem.now ∷ []))
+        → length hops.old.list ≤ most_hops → IsErrOf result HopError.HopsFull }
 {
     if let Elem::Put(_, _, _, hop) = elem {
         hops.number(hop)?;
