@@ -29,7 +29,7 @@ length-peers : (a n : ℕ) → length (flat_map peer_entry (range_with_len a n))
 length-peers a zero = refl
 length-peers a (suc n) = omega (arith, length-append (peer_entry a) (flat_map peer_entry (range_with_len (a + 1) n)), length-peer a, length-peers (a + 1) n)
 
-length-table : length peer_table_body ≡ 112
+pub length-table : length peer_table_body ≡ 112
 unfolding peer_table_body
 length-table =
     let id = number_octets 4 0 in
