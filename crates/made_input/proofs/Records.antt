@@ -10,7 +10,7 @@ use Rattle.address_model.proofs.BitLaws.{length-bits_of}
 use Rattle.made_model.proofs.Prefixes.{length-prefix}
 use Rattle.made_model.specs.Drawn.{Route, Offer, peer_octets, peer_as}
 use Rattle.made_model.specs.Octets.{number_octets, prefix_octets}
-use Rattle.made_model.specs.Files.{measured, offer_attributes, peer_entry, peer_table_body, rib_body, message_octets, session_body, update_body}
+use Rattle.made_model.specs.Files.{behind_length, offer_attributes, peer_entry, peer_table_body, rib_body, message_octets, session_body, update_body}
 use Rattle.made_model.proofs.Attributes.{length-attributes}
 
 -- the piece of one more number
@@ -38,7 +38,7 @@ alone cleared part xs e h = h ∙ ap (λ (ys : List ℕ). ys ++ xs) e
 pub attributes_few : (part : List ℕ) (peer : ℕ) (o : Offer) → o.path ≤ 4 → part ≡ offer_attributes peer o → length part ≤ 32
 attributes_few part peer o short e = omega (arith, ap length e, length-attributes peer o)
 
-pub rib_put : (before a b c d f part : List ℕ) (i : ℕ) (r : Route) (o : Offer) → a ≡ before ++ number_octets 4 i → b ≡ a ++ prefix_octets r.prefix → c ≡ b ++ number_octets 2 1 → d ≡ c ++ number_octets 2 r.peer → f ≡ d ++ number_octets 4 0 → part ≡ offer_attributes r.peer o → f ++ measured part ≡ before ++ rib_body i r o
+pub rib_put : (before a b c d f part : List ℕ) (i : ℕ) (r : Route) (o : Offer) → a ≡ before ++ number_octets 4 i → b ≡ a ++ prefix_octets r.prefix → c ≡ b ++ number_octets 2 1 → d ≡ c ++ number_octets 2 r.peer → f ≡ d ++ number_octets 4 0 → part ≡ offer_attributes r.peer o → f ++ behind_length part ≡ before ++ rib_body i r o
 unfolding rib_body
 rib_put before a b c d f part i r o e1 e2 e3 e4 e5 e6 = rw (e6, e5, e4, e3, e2, e1) (simp append_assoc refl)
 
@@ -50,11 +50,11 @@ prefix_few part address len few e =
     let long : length p.bits ≡ len = length-take-le len (bits_of 32 address) (omega (arith, length-bits_of 32 address)) in
     omega (arith, ap length e, length-prefix p refl (omega arith))
 
-pub withdrawal_put : (before a part : List ℕ) (r : Route) (o : Offer) → part ≡ prefix_octets r.prefix → a ≡ before ++ measured part → a ++ number_octets 2 0 ≡ before ++ update_body true r o
+pub withdrawal_put : (before a part : List ℕ) (r : Route) (o : Offer) → part ≡ prefix_octets r.prefix → a ≡ before ++ behind_length part → a ++ number_octets 2 0 ≡ before ++ update_body true r o
 unfolding update_body
-withdrawal_put before a part r o e h = rw (h, e) (append_assoc before (measured (prefix_octets r.prefix)) (number_octets 2 0))
+withdrawal_put before a part r o e h = rw (h, e) (append_assoc before (behind_length (prefix_octets r.prefix)) (number_octets 2 0))
 
-pub announcement_put : (before a b part : List ℕ) (r : Route) (o : Offer) → part ≡ offer_attributes r.peer o → a ≡ before ++ number_octets 2 0 → b ≡ a ++ measured part → b ++ prefix_octets r.prefix ≡ before ++ update_body false r o
+pub announcement_put : (before a b part : List ℕ) (r : Route) (o : Offer) → part ≡ offer_attributes r.peer o → a ≡ before ++ number_octets 2 0 → b ≡ a ++ behind_length part → b ++ prefix_octets r.prefix ≡ before ++ update_body false r o
 unfolding update_body
 announcement_put before a b part r o e f g = rw (g, f, e) (simp append_assoc refl)
 

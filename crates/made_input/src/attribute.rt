@@ -58,7 +58,8 @@ fn put_attribute(kind: u8, value: &[u8], out: &mut Vec<u8>) -> Result<(), AllocE
 /// Puts an AS_PATH that has one AS so many times.
 fn put_as_path(asn: u32, count: u8, out: &mut Vec<u8>) -> Result<(), AllocError>
     requires { count ≤ 63 }
-    ensures { OnOk result (out.new.items ≡ out.old.items ++ attribute_octets 2 (as_path_octets asn count)) }
+    ensures { OnOk result (out.new.items ≡ out.old.items
+        ++ attribute_octets 2 (as_path_octets asn count)) }
 {
     out.extend_from_slice(&[WELL_KNOWN, AS_PATH, 2 + 4 * count, AS_SEQUENCE, count])?;
     for _ in 0..count {
@@ -69,7 +70,8 @@ fn put_as_path(asn: u32, count: u8, out: &mut Vec<u8>) -> Result<(), AllocError>
 
 /// Puts the attributes of an offer by a peer: ORIGIN, which is IGP, AS_PATH, NEXT_HOP.
 pub fn put_attributes(peer: u8, offer: &Offer, out: &mut Vec<u8>) -> Result<(), AllocError>
-    ensures { OnOk result (out.new.items ≡ out.old.items ++ offer_attributes peer (offer_as offer.now)) }
+    ensures { OnOk result (out.new.items ≡ out.old.items
+        ++ offer_attributes peer (offer_as offer.now)) }
 {
     put_attribute(ORIGIN, &[0], out)?;
     put_as_path(peer_as(peer), offer.path, out)?;

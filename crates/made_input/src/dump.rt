@@ -8,7 +8,7 @@ ghost use Rattle.made_model.specs.Files.{peer_entry, peer_table_body, rib_body, 
 ghost use Rattle.made_input.specs.Views.{route_as, offer_as, entry_record};
 
 use crate::attribute::{peer_as, peer_octets, put_attributes};
-use crate::field::{put_measured, put_prefix, put_record, put_u16, put_u32};
+use crate::field::{put_behind_length, put_prefix, put_record, put_u16, put_u32};
 use crate::generator::Generator;
 use crate::route::{Offer, Route};
 use crate::scratch::Scratch;
@@ -73,7 +73,7 @@ fn put_rib(
     put_u16(1, out)?;
     put_u16(u16::from(route.peer), out)?;
     put_u32(0, out)?;
-    put_measured(part, out)
+    put_behind_length(part, out)
 }
 
 /// Draws the next entry and puts its record; the route.
@@ -84,11 +84,12 @@ fn put_entry(
     out: &mut Vec<u8>,
 ) -> Result<Route, AllocError>
     ensures route { IfOk result (λ r. route_as r ≡ route from.old.state) }
-    ensures put { OnOk result (out.new.items ≡ out.old.items ++ entry_record number from.old.state) }
+    ensures put { OnOk result (out.new.items ≡ out.old.items
+        ++ entry_record number from.old.state) }
     ensures state { OnOk result (from.new.state ≡ state_after from.old.state 5) }
 {
-    let route = Route::drawn(from);
-    let offer = Offer::drawn(from);
+    let route = Route::draw(from);
+    let offer = Offer::draw(from);
     scratch.body.clear();
     put_rib(number, &route, &offer, &mut scratch.part, &mut scratch.body)?;
     put_record(TABLE_DUMP_V2, RIB_IPV4_UNICAST, &scratch.body, out)?;

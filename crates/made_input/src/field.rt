@@ -2,7 +2,7 @@
 
 ghost use Rattle.std.specs.Prelude.{◌≡◌, ◌<◌, ◌≤◌, ◌++◌, ◌∷◌, [], ◌^◌, length, OnOk};
 ghost use Rattle.made_model.specs.Octets.{number_octets, prefix_octets, record_octets};
-ghost use Rattle.made_model.specs.Files.{measured};
+ghost use Rattle.made_model.specs.Files.{behind_length};
 ghost use Rattle.made_input.specs.Views.{route_as};
 
 use crate::route::Route;
@@ -23,9 +23,9 @@ pub fn put_u32(number: u32, out: &mut Vec<u8>) -> Result<(), AllocError>
 }
 
 /// Puts octets behind their number in two octets.
-pub fn put_measured(part: &[u8], out: &mut Vec<u8>) -> Result<(), AllocError>
+pub fn put_behind_length(part: &[u8], out: &mut Vec<u8>) -> Result<(), AllocError>
     requires { length part.now < 2 ^ 16 }
-    ensures { OnOk result (out.new.items ≡ out.old.items ++ measured part.now) }
+    ensures { OnOk result (out.new.items ≡ out.old.items ++ behind_length part.now) }
 {
     put_u16(part.len() as u16, out)?;
     out.extend_from_slice(part)
@@ -33,7 +33,8 @@ pub fn put_measured(part: &[u8], out: &mut Vec<u8>) -> Result<(), AllocError>
 
 /// Puts the route's prefix: its length in bits and the octets that hold them (RFC 4271, section 4.3).
 pub fn put_prefix(route: &Route, out: &mut Vec<u8>) -> Result<(), AllocError>
-    ensures { OnOk result (out.new.items ≡ out.old.items ++ prefix_octets (route_as route.now).prefix) }
+    ensures { OnOk result (out.new.items ≡ out.old.items
+        ++ prefix_octets (route_as route.now).prefix) }
 {
     let octets = usize::from(route.len.div_ceil(8));
     out.push(route.len)?;

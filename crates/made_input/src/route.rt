@@ -36,7 +36,7 @@ impl Route {
     ghost use Rattle.made_input.specs.Views.{route_as};
 
     /// The route of the next three draws: the prefix's length, its address, the peer.
-    pub fn drawn(from: &mut Generator) -> Route
+    pub fn draw(from: &mut Generator) -> Route
         ensures value { route_as result ≡ drawn.route from.old.state }
         ensures state { from.new.state ≡ state_after from.old.state 3 }
     {
@@ -58,7 +58,7 @@ impl Offer {
     ghost use Rattle.made_input.specs.Views.{offer_as};
 
     /// The offer of the next two draws: the path's length, the next hop.
-    pub fn drawn(from: &mut Generator) -> Offer
+    pub fn draw(from: &mut Generator) -> Offer
         ensures value { offer_as result ≡ drawn.offer from.old.state }
         ensures state { from.new.state ≡ state_after from.old.state 2 }
     {

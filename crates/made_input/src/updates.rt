@@ -8,7 +8,7 @@ ghost use Rattle.made_model.specs.Files.{message_octets, session_body, update_bo
 ghost use Rattle.made_input.specs.Views.{route_as, offer_as, next_update};
 
 use crate::attribute::{peer_as, peer_octets, put_attributes};
-use crate::field::{put_measured, put_prefix, put_record, put_u16, put_u32};
+use crate::field::{put_behind_length, put_prefix, put_record, put_u16, put_u32};
 use crate::generator::Generator;
 use crate::route::{Offer, Route};
 use crate::scratch::Scratch;
@@ -50,12 +50,12 @@ fn put_update_body(
     part.clear();
     if gone {
         put_prefix(route, part)?;
-        put_measured(part, out)?;
+        put_behind_length(part, out)?;
         return put_u16(0, out);
     }
     put_attributes(route.peer, offer, part)?;
     put_u16(0, out)?;
-    put_measured(part, out)?;
+    put_behind_length(part, out)?;
     put_prefix(route, out)
 }
 
@@ -98,9 +98,10 @@ fn put_update(
         ++ next_update (map route_as routes.now) from.old.state) }
     ensures state { OnOk result (from.new.state ≡ state_after from.old.state 4) }
 {
-    let route = routes[from.draw() as usize % routes.len()];
+    let pick = from.draw() as usize % routes.len();
+    let route = routes[pick];
     let gone = from.draw() % 4 == 0;
-    let offer = Offer::drawn(from);
+    let offer = Offer::draw(from);
     scratch.update.clear();
     scratch.body.clear();
     put_update_body(gone, &route, &offer, &mut scratch.part, &mut scratch.update)?;

@@ -10,7 +10,7 @@ use Rattle.wire_model.specs.declared.rule.Rule.TheVariants.{PeerTableForm, RibFo
 use Rattle.wire_model.specs.declared.place.Place.TheVariants.{Rib}
 use Rattle.wire_model.specs.Wire.{address_at}
 use Rattle.reading_model.specs.Rib.{peer_at, peer_table, rib_entry_at, rib}
-use Rattle.made_model.specs.Drawn.{ipv4, peer_octets, peer_as, made_peer, made_peers, Route, Offer, announced}
+use Rattle.made_model.specs.Drawn.{ipv4, peer_octets, peer_as, made_peer, made_peers, Route, Offer, announcement}
 use Rattle.made_model.specs.Octets.{number_octets, prefix_octets}
 use Rattle.made_model.specs.Files.{peer_entry, peer_table_body, offer_attributes, rib_body}
 use Rattle.made_model.proofs.Fields.{length-number_octets, octets_read, octets_all, number_read, nothing_read, no_octets_read}
@@ -64,7 +64,7 @@ peer_found (suc (suc (suc (suc (suc (suc (suc (suc i)))))))) h = absurd (omega a
 abbrev entry_octets : Route → Offer → List ℕ
 entry_octets r o = number_octets 2 r.peer ++ (number_octets 4 0 ++ (number_octets 2 (length (offer_attributes r.peer o)) ++ offer_attributes r.peer o))
 
-entry_read : (r : Route) (o : Offer) → IsRoute r → IsOffer o → rib_entry_at made_peers false V4 r.prefix (entry_octets r o) ≡ Ok (announced r o, [])
+entry_read : (r : Route) (o : Offer) → IsRoute r → IsOffer o → rib_entry_at made_peers false V4 r.prefix (entry_octets r o) ≡ Ok (announcement r o, [])
 unfolding rib_entry_at
 entry_read r o route offer =
     let time = number_octets 4 0 in
@@ -74,7 +74,7 @@ entry_read r o route offer =
     let path : o.path ≤ 4 = offer.path in
     rw (number_read RibForm 2 r.peer (time ++ area) (omega arith), peer_found r.peer peer, octets_read RibForm 4 time area (length-number_octets 4 0), nothing_read RibForm area, number_read RibForm 2 (length list) list (omega (arith, length-attributes r.peer o)), octets_all RibForm (length list) list refl, attributes_read (Rib V4) refl r.peer o) refl
 
-pub rib_read : (i : ℕ) (r : Route) (o : Offer) → IsRoute r → IsOffer o → rib made_peers false V4 (rib_body i r o) ≡ Ok (announced r o ∷ [])
+pub rib_read : (i : ℕ) (r : Route) (o : Offer) → IsRoute r → IsOffer o → rib made_peers false V4 (rib_body i r o) ≡ Ok (announcement r o ∷ [])
 unfolding rib rib_body times
 rib_read i r o route offer =
     let sequence = number_octets 4 i in

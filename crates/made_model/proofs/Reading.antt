@@ -7,7 +7,7 @@ use Rattle.wire_model.proofs.More.{until_end_next}
 use Rattle.reading_model.specs.Update.{said}
 use Rattle.reading_model.specs.Input.{start, record_in, counted, read_record, input}
 use Rattle.reading_model.proofs.Reading.{shortens}
-use Rattle.made_model.specs.Drawn.{peer_as, made_peers, Route, Offer, announced, entry_route, entry_offer, entry_state, update_route, update_offer, is_withdrawal, dump_events, update_events}
+use Rattle.made_model.specs.Drawn.{peer_as, made_peers, Route, Offer, announcement, entry_route, entry_offer, entry_state, update_route, update_offer, is_withdrawal, dump_events, update_events}
 use Rattle.made_model.specs.Draws.{state_after}
 use Rattle.made_model.specs.Octets.{number_octets, prefix_octets, record_octets}
 use Rattle.made_model.specs.Files.{peer_entry, peer_table_body, offer_attributes, rib_body, dump_octets, session_body, message_octets, update_body, update_record, updates_octets}
@@ -58,20 +58,20 @@ table_told : (rest : List ℕ) → read_record start (record_octets 13 1 peer_ta
 unfolding record_in
 table_told rest = record_read start (Some made_peers, Some (said [])) 13 1 peer_table_body rest (omega arith) (omega arith) (omega (arith, length-table)) (rw table_read refl)
 
-entry_told : (seed i records : ℕ) (events : List Event) (rest : List ℕ) → read_record (read_so (Some made_peers) events records) (record_octets 13 2 (rib_body i (entry_route seed i) (entry_offer seed i)) ++ rest) ≡ Ok (counted (read_so (Some made_peers) events records) (Some made_peers, Some (said (announced (entry_route seed i) (entry_offer seed i) ∷ []))), rest)
+entry_told : (seed i records : ℕ) (events : List Event) (rest : List ℕ) → read_record (read_so (Some made_peers) events records) (record_octets 13 2 (rib_body i (entry_route seed i) (entry_offer seed i)) ++ rest) ≡ Ok (counted (read_so (Some made_peers) events records) (Some made_peers, Some (said (announcement (entry_route seed i) (entry_offer seed i) ∷ []))), rest)
 unfolding record_in
 entry_told seed i records events rest =
     let route = route_is (entry_state seed i) in
     let offer = offer_is (state_after (entry_state seed i) 3) in
     let few : length (rib_body i (entry_route seed i) (entry_offer seed i)) ≤ 50 = length-rib i (entry_route seed i) (entry_offer seed i) route offer in
-    record_read (read_so (Some made_peers) events records) (Some made_peers, Some (said (announced (entry_route seed i) (entry_offer seed i) ∷ []))) 13 2 (rib_body i (entry_route seed i) (entry_offer seed i)) rest (omega arith) (omega arith) (omega arith) (rw (rib_read i (entry_route seed i) (entry_offer seed i) route offer) refl)
+    record_read (read_so (Some made_peers) events records) (Some made_peers, Some (said (announcement (entry_route seed i) (entry_offer seed i) ∷ []))) 13 2 (rib_body i (entry_route seed i) (entry_offer seed i)) rest (omega arith) (omega arith) (omega arith) (rw (rib_read i (entry_route seed i) (entry_offer seed i) route offer) refl)
 
 pub dump_read : (seed n : ℕ) → input (dump_octets seed n) ≡ Ok (record { peers = Some made_peers; events = dump_events seed n; records = 1 + n; skipped = 0; treated = 0 })
 unfolding input
 dump_read seed n =
     let rest = flat_map (λ i. record_octets 13 2 (rib_body i (entry_route seed i) (entry_offer seed i))) (range_with_len 0 n) in
     until_end_next read_record shortens start (read_so (Some made_peers) [] 1) (record_octets 13 1 peer_table_body ++ rest) rest (table_told rest)
-    ∙ records_read (Some made_peers) (λ i. record_octets 13 2 (rib_body i (entry_route seed i) (entry_offer seed i))) (λ i. announced (entry_route seed i) (entry_offer seed i)) (entry_told seed) 0 n 1 []
+    ∙ records_read (Some made_peers) (λ i. record_octets 13 2 (rib_body i (entry_route seed i) (entry_offer seed i))) (λ i. announcement (entry_route seed i) (entry_offer seed i)) (entry_told seed) 0 n 1 []
 
 -- ---- the updates
 

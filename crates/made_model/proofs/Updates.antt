@@ -14,7 +14,7 @@ use Rattle.wire_model.specs.declared.place.Place.TheVariants.{Update}
 use Rattle.wire_model.specs.Wire.{nlris}
 use Rattle.wire_model.specs.Attribute.{nothing_found, listed, attributes}
 use Rattle.reading_model.specs.Update.{Said, said, update, message, session_behind, session_in, bgp4mp}
-use Rattle.made_model.specs.Drawn.{peer_octets, peer_as, made_peer, Route, Offer, announced, withdrawn}
+use Rattle.made_model.specs.Drawn.{peer_octets, peer_as, made_peer, Route, Offer, announcement, withdrawal}
 use Rattle.made_model.specs.Octets.{number_octets, prefix_octets}
 use Rattle.made_model.specs.Files.{offer_attributes, update_body, message_octets, session_body}
 use Rattle.made_model.proofs.Fields.{length-number_octets, octets_read, number_read, no_octets_read}
@@ -25,7 +25,7 @@ use Rattle.made_model.proofs.Dump.{address_read}
 
 -- what an update says
 abbrev pub told_of : Bool → Route → Offer → Event
-told_of gone r o = if gone then withdrawn r else announced r o
+told_of gone r o = if gone then withdrawal r else announcement r o
 
 -- lists that are empty
 no_nlri : (cut : Rule) → nlris cut false V4 [] ≡ Ok []

@@ -88,16 +88,16 @@ update_offer seed n j = offer (state_after (update_state seed n j) 2)
 abbrev pub via_of : ℕ → Via
 via_of i = record { peer = made_peer i; id = 0 }
 
-abbrev pub announced : Route → Offer → Event
-announced r o = Announce (via_of r.peer) r.prefix o.path (ipv4 (hop_octets o.hop))
+abbrev pub announcement : Route → Offer → Event
+announcement r o = Announce (via_of r.peer) r.prefix o.path (ipv4 (hop_octets o.hop))
 
-abbrev pub withdrawn : Route → Event
-withdrawn r = Withdraw (via_of r.peer) r.prefix
+abbrev pub withdrawal : Route → Event
+withdrawal r = Withdraw (via_of r.peer) r.prefix
 
 -- n routes are announced
 abbrev pub dump_events : ℕ → ℕ → List Event
-dump_events seed n = map (λ i. announced (entry_route seed i) (entry_offer seed i)) (range_with_len 0 n)
+dump_events seed n = map (λ i. announcement (entry_route seed i) (entry_offer seed i)) (range_with_len 0 n)
 
 -- half as many are withdrawn or announced again
 abbrev pub update_events : ℕ → ℕ → List Event
-update_events seed n = map (λ j. if is_withdrawal seed n j then withdrawn (update_route seed n j) else announced (update_route seed n j) (update_offer seed n j)) (range_with_len 0 (n / 2))
+update_events seed n = map (λ j. if is_withdrawal seed n j then withdrawal (update_route seed n j) else announcement (update_route seed n j) (update_offer seed n j)) (range_with_len 0 (n / 2))

@@ -19,12 +19,12 @@ unfoldable pub offer_attributes : ℕ → Offer → List ℕ
 offer_attributes peer o = attribute_octets 1 (0 ∷ []) ++ attribute_octets 2 (as_path_octets (peer_as peer) o.path) ++ attribute_octets 3 (hop_octets o.hop)
 
 -- attributes behind their length in two octets
-abbrev pub measured : List ℕ → List ℕ
-measured octets = number_octets 2 (length octets) ++ octets
+abbrev pub behind_length : List ℕ → List ℕ
+behind_length octets = number_octets 2 (length octets) ++ octets
 
 -- Sequence, prefix, one entry: Peer Index, Originated Time 0, attributes
 unfoldable pub rib_body : ℕ → Route → Offer → List ℕ
-rib_body i r o = number_octets 4 i ++ prefix_octets r.prefix ++ number_octets 2 1 ++ number_octets 2 r.peer ++ number_octets 4 0 ++ measured (offer_attributes r.peer o)
+rib_body i r o = number_octets 4 i ++ prefix_octets r.prefix ++ number_octets 2 1 ++ number_octets 2 r.peer ++ number_octets 4 0 ++ behind_length (offer_attributes r.peer o)
 
 -- TABLE_DUMP_V2 (13): a PEER_INDEX_TABLE (1), then a RIB_IPV4_UNICAST record (2) for each entry
 abbrev pub dump_octets : ℕ → ℕ → List ℕ
@@ -34,8 +34,8 @@ dump_octets seed n = record_octets 13 1 peer_table_body ++ flat_map (λ i. recor
 
 -- An UPDATE that withdraws the prefix, without attributes, or one that announces it (RFC 4271, 4.3)
 unfoldable pub update_body : Bool → Route → Offer → List ℕ
-update_body true r o = measured (prefix_octets r.prefix) ++ number_octets 2 0
-update_body false r o = number_octets 2 0 ++ measured (offer_attributes r.peer o) ++ prefix_octets r.prefix
+update_body true r o = behind_length (prefix_octets r.prefix) ++ number_octets 2 0
+update_body false r o = number_octets 2 0 ++ behind_length (offer_attributes r.peer o) ++ prefix_octets r.prefix
 
 -- Marker, Length, Type, which is 2 for an UPDATE (RFC 4271, 4.1)
 unfoldable pub message_octets : List ℕ → List ℕ

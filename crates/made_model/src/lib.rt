@@ -29,8 +29,11 @@ pub fn reading_law()
     }) }
 {}
 
-/// Each address that is drawn has as many bits as its family, each prefix at most as many.
+/// There are n events of the dump and half as many of the updates, rounded down; each address of them has as many bits as its
+/// family, each prefix at most as many.
 pub fn events_law()
+    ensures dump_many { (seed n : ℕ) → length (dump_events seed n) ≡ n }
+    ensures updates_many { (seed n : ℕ) → length (update_events seed n) ≡ n / 2 }
     ensures dump { (seed n : ℕ) → AllByRecursion IsEvent (dump_events seed n) }
     ensures updates { (seed n : ℕ) → AllByRecursion IsEvent (update_events seed n) }
 {}

@@ -1,7 +1,7 @@
 use Rattle.std.proofs.Common.{ap, ◌∙◌}
 use Rattle.made_input.proofs.Drawing.{state-add, offer_drawn}
 use Rattle.made_model.specs.Draws.{state_after}
-use Rattle.made_input.proofs.route.Offer.drawn.Goals as goal
+use Rattle.made_input.proofs.route.Offer.draw.Goals as goal
 
 pub returns-clause-value : goal.returns-clause-value
 returns-clause-value c = offer_drawn c.args.from.now.state c.draw.new.self.state c.draw.result c.draw-2.result c.draw.ensures.state c.draw.ensures.value c.draw-2.ensures.value
