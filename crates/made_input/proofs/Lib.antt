@@ -1,0 +1,4 @@
+pub mod Drawing
+pub mod Written
+pub mod Records
+pub mod Following

@@ -1,0 +1,79 @@
+//! The path attributes of an offer.
+
+ghost use Rattle.std.specs.Prelude.{◌≡◌, ◌<◌, ◌≤◌, ◌+◌, ◌++◌, ◌∷◌, [], length, OnOk};
+ghost use Rattle.made_model.specs.Drawn as drawn;
+ghost use Rattle.made_model.specs.Octets.{attribute_octets, as_path_octets};
+ghost use Rattle.made_model.specs.Files.{offer_attributes};
+ghost use Rattle.made_input.specs.Views.{offer_as};
+
+use crate::field::put_u32;
+use crate::route::Offer;
+use std::alloc::AllocError;
+
+/// The flags of a well-known attribute: it is transitive (RFC 4271, section 4.3).
+const WELL_KNOWN: u8 = 0x40;
+
+/// The types of ORIGIN, AS_PATH and NEXT_HOP (RFC 4271, section 5.1).
+const ORIGIN: u8 = 1;
+
+const AS_PATH: u8 = 2;
+
+const NEXT_HOP: u8 = 3;
+
+/// The segment type of an AS_SEQUENCE (RFC 4271, section 4.3).
+const AS_SEQUENCE: u8 = 2;
+
+/// The AS of a peer, one of those for documentation (RFC 5398, section 4).
+pub fn peer_as(peer: u8) -> u32
+    ensures { result ≡ drawn.peer_as peer }
+{
+    64_500 + u32::from(peer)
+}
+
+/// The address of a peer, one of those for documentation (RFC 5737, section 3).
+pub fn peer_octets(peer: u8) -> [u8; 4]
+    requires { peer < 8 }
+    ensures { result ≡ drawn.peer_octets peer }
+{
+    [192, 0, 2, 1 + peer]
+}
+
+/// A next hop, one of those for documentation (RFC 5737, section 3).
+fn hop_octets(hop: u8) -> [u8; 4]
+    requires { hop < 16 }
+    ensures { result ≡ drawn.hop_octets hop }
+{
+    [198, 51, 100, 1 + hop]
+}
+
+/// Puts an attribute.
+fn put_attribute(kind: u8, value: &[u8], out: &mut Vec<u8>) -> Result<(), AllocError>
+    requires { length value.now < 256 }
+    ensures { OnOk result (out.new.items ≡ out.old.items ++ attribute_octets kind value.now) }
+{
+    out.extend_from_slice(&[WELL_KNOWN, kind, value.len() as u8])?;
+    out.extend_from_slice(value)
+}
+
+/// Puts an AS_PATH that has one AS so many times.
+fn put_as_path(asn: u32, count: u8, out: &mut Vec<u8>) -> Result<(), AllocError>
+    requires { count ≤ 63 }
+    ensures { OnOk result (out.new.items ≡ out.old.items
+        ++ attribute_octets 2 (as_path_octets asn count)) }
+{
+    out.extend_from_slice(&[WELL_KNOWN, AS_PATH, 2 + 4 * count, AS_SEQUENCE, count])?;
+    for _ in 0..count {
+        put_u32(asn, out)?;
+    }
+    Ok(())
+}
+
+/// Puts the attributes of an offer by a peer: ORIGIN, which is IGP, AS_PATH, NEXT_HOP.
+pub fn put_attributes(peer: u8, offer: &Offer, out: &mut Vec<u8>) -> Result<(), AllocError>
+    ensures { OnOk result (out.new.items ≡ out.old.items
+        ++ offer_attributes peer (offer_as offer.now)) }
+{
+    put_attribute(ORIGIN, &[0], out)?;
+    put_as_path(peer_as(peer), offer.path, out)?;
+    put_attribute(NEXT_HOP, &hop_octets(offer.hop), out)
+}

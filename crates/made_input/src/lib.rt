@@ -1,0 +1,19 @@
+//! A made input: a dump of routes and updates of them, drawn from a number, as the octets of two files.
+//!
+//! The same number gives the same octets, which any reader of MRT dumps takes. `made_model` says which routes and updates they
+//! are, how they are written, and proves that they are read as these.
+#![tactic(auto)]
+
+mod attribute;
+mod dump;
+mod field;
+mod generator;
+mod make;
+mod route;
+mod scratch;
+mod updates;
+
+pub use make::generate;
+
+#[cfg(test)]
+mod tests;
