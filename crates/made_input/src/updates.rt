@@ -59,7 +59,7 @@ fn put_update_body(
     put_prefix(route, out)
 }
 
-/// Puts the message of an UPDATE.
+/// Puts the message of an UPDATE, which has at most 4,096 octets (RFC 4271, section 4.1).
 fn put_message(update: &[u8], out: &mut Vec<u8>) -> Result<(), AllocError>
     requires { length update.now ≤ 4077 }
     ensures { OnOk result (out.new.items ≡ out.old.items ++ message_octets update.now) }

@@ -9,6 +9,7 @@ use Rattle.made_model.specs.Draws.{state_after, draw}
 
 -- ---- addresses
 
+-- the IPv4 address of four octets
 abbrev pub ipv4 : List ℕ → Address
 ipv4 octets = record { family = V4; bits = octet_bits octets }
 
@@ -16,6 +17,7 @@ ipv4 octets = record { family = V4; bits = octet_bits octets }
 abbrev pub peer_octets : ℕ → List ℕ
 peer_octets i = 192 ∷ 0 ∷ 2 ∷ (1 + i) ∷ []
 
+-- AS 64500 to 64507, the peers' AS numbers
 abbrev pub peer_as : ℕ → ℕ
 peer_as i = 64500 + i
 
@@ -56,41 +58,47 @@ offer x = record { path = 1 + draw x 0 % 4; hop = draw x 1 % 16 }
 
 -- ---- the entries of the dump, five draws each
 
+-- where entry i begins, from 0
 abbrev pub entry_state : ℕ → ℕ → ℕ
 entry_state seed i = state_after seed (5 * i)
 
--- the route of entry i, from 0, and what it offers
+-- its route
 abbrev pub entry_route : ℕ → ℕ → Route
 entry_route seed i = route (entry_state seed i)
 
+-- what it offers, of the two draws behind the route's
 abbrev pub entry_offer : ℕ → ℕ → Offer
 entry_offer seed i = offer (state_after (entry_state seed i) 3)
 
 -- ---- the updates behind n entries, four draws each
 
+-- where update j begins, from 0: behind the draws of the entries and of the updates before it
 abbrev pub update_state : ℕ → ℕ → ℕ → ℕ
 update_state seed n j = state_after seed (5 * n + 4 * j)
 
--- update j, from 0, is of the route of an entry drawn among the n
+-- it is of the route of an entry drawn among the n
 abbrev pub update_route : ℕ → ℕ → ℕ → Route
 update_route seed n j = entry_route seed (draw (update_state seed n j) 0 % n)
 
--- one kind of four withdraws it
+-- one of four kinds withdraws it
 abbrev pub is_withdrawal : ℕ → ℕ → ℕ → Bool
 is_withdrawal seed n j = draw (update_state seed n j) 1 % 4 == 0
 
--- the others announce it with this
+-- the others announce it with this offer
 abbrev pub update_offer : ℕ → ℕ → ℕ → Offer
 update_offer seed n j = offer (state_after (update_state seed n j) 2)
 
 -- ---- the events
 
+-- routes come without path identifiers
 abbrev pub via_of : ℕ → Via
 via_of i = record { peer = made_peer i; id = 0 }
 
+-- the peer announces the route with this path and next hop
 abbrev pub announcement : Route → Offer → Event
 announcement r o = Announce (via_of r.peer) r.prefix o.path (ipv4 (hop_octets o.hop))
 
+-- the peer withdraws the route
 abbrev pub withdrawal : Route → Event
 withdrawal r = Withdraw (via_of r.peer) r.prefix
 

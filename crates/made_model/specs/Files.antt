@@ -18,7 +18,7 @@ peer_table_body = number_octets 4 0 ++ number_octets 2 0 ++ number_octets 2 8 ++
 unfoldable pub offer_attributes : ℕ → Offer → List ℕ
 offer_attributes peer o = attribute_octets 1 (0 ∷ []) ++ attribute_octets 2 (as_path_octets (peer_as peer) o.path) ++ attribute_octets 3 (hop_octets o.hop)
 
--- attributes behind their length in two octets
+-- octets behind their number in two octets
 abbrev pub behind_length : List ℕ → List ℕ
 behind_length octets = number_octets 2 (length octets) ++ octets
 
