@@ -4,7 +4,9 @@
 //! between them, of which one run of zeros may be `::`. Both are read by std's parsers, and written digit by digit into the
 //! caller's buffer. No call takes memory; each costs the length of the text.
 
-ghost use Rattle.std.specs.Prelude.{◌≡◌, ◌+◌, ◌≤◌, ◌++◌, codes, decimal, length, take, option_map, position, IfSome};
+ghost use Rattle.std.specs.Prelude.{◌≡◌, ◌+◌, ◌*◌, ◌^◌, ◌<◌, ◌≤◌, ◌++◌, codes, decimal, length, take, option_map, position, IfNone, IfSome};
+ghost use Rattle.std.specs.Char.{digit_value};
+ghost use Rattle.std.specs.Str.Parse.{AllDigits, digits_value};
 ghost use Rattle.std.specs.Net.Text.{ipv4_text};
 ghost use Rattle.fib_addr.specs.Views.{addr_as, prefix_as};
 ghost use Rattle.fib_addr.specs.Text.{address_in, ipv4_in, is_slash, number_below, prefix_in, address_text, prefix_text};
@@ -15,7 +17,6 @@ use crate::prefix::Prefix;
 use address_model::Family;
 use itoa::Buffer;
 use std::net::Ipv4Addr;
-use std::str;
 
 /// The octets of a buffer that holds the text of any address or prefix: the longest takes 39 of an IPv6 address and `/128`.
 pub const MOST_TEXT: usize = 43;
@@ -44,17 +45,45 @@ pub fn read_addr(text: &[u8]) -> Option<Addr>
     }
 }
 
+/// The number with one more decimal digit at its end. `None` exactly where the octet is no digit, or the number isn't below
+/// 2^64.
+fn with_digit(number: u64, octet: u8) -> Option<u64>
+    ensures more { IfSome result (λ n. (digit_value octet < 10)
+        × (n ≡ number * 10 + digit_value octet)) }
+    ensures none { IfNone result (digit_value octet < 10
+        → 2 ^ 64 ≤ number * 10 + digit_value octet) }
+{
+    match octet {
+        b'0'..=b'9' => number.checked_mul(10)?.checked_add(u64::from(octet - b'0')),
+        _ => None,
+    }
+}
+
+/// The number of decimal digits, 0 of none. `None` exactly where an octet is no digit, or the number isn't below 2^64.
+fn read_digits(text: &[u8]) -> Option<u64>
+    ensures some { IfSome result (λ n. AllDigits 10 text.now × (n ≡ digits_value 10 text.now)) }
+    ensures none { IfNone result (AllDigits 10 text.now → 2 ^ 64 ≤ digits_value 10 text.now) }
+{
+    let mut number = 0;
+    for octet in text {
+        number = with_digit(number, *octet)?;
+    }
+    Some(number)
+}
+
 /// Reads a decimal number of at most `most`, from the text's first octet to its last, without a sign or leading zeros. `None`
 /// exactly where the text is anything else.
 pub fn read_number(text: &[u8], most: u64) -> Option<u64>
     ensures value { result ≡ number_below (most + 1) text.now }
     ensures fits { IfSome result (λ number. number ≤ most) }
 {
-    let number = str::from_utf8(text).ok()?.parse::<u64>().ok()?;
-    let mut digits = Buffer::new();
-    if digits.format(number).as_bytes() != text {
+    let [first, rest @ ..] = text else {
         return None;
+    };
+    if *first == b'0' {
+        return rest.is_empty().then_some(0);
     }
+    let number = read_digits(text)?;
     (number <= most).then_some(number)
 }
 
