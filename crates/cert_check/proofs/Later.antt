@@ -1,14 +1,14 @@
 -- Prefixes that stand again later.
-use Rattle.std.proofs.Common.{◌≡◌, ℕ, suc, ◌+◌, ◌-◌, ◌<◌, ◌≤◌, List, [], ◌∷◌, Bool, true, false, cond, Option, Some, None, length, map, drop, get_or, refl, sym, ap, ◌∙◌, arith, subst}
+use Rattle.std.proofs.Common.{◌≡◌, ℕ, suc, ◌+◌, ◌-◌, ◌<◌, ◌≤◌, List, [], ◌∷◌, Bool, true, false, cond, Option, Some, None, inl, inr, length, map, drop, get_or, refl, sym, ap, ◌∙◌, arith, subst}
 use Rattle.std.specs.Prelude.{◌||◌}
-use Rattle.std.specs.Ordering.{is_eq}
+use Rattle.std.specs.Ordering.{is_eq, is_ge}
 use Rattle.std.specs.declared.cmp.Ordering.{Ordering}
 use Rattle.std.specs.declared.cmp.Ordering.TheVariants.{Less, Equal, Greater}
 use Rattle.std.specs.List.{list_any, AllByRecursion, IsDistinct}
 use Rattle.std.specs.List.Sorted.{IsStrictlySortedBy}
 use Rattle.std.specs.Map.{keys_of}
-use Rattle.std.proofs.lemmas.Bool.{cond-true, cond-false}
-use Rattle.std.proofs.lemmas.List.{length-map}
+use Rattle.std.proofs.lemmas.Bool.{cond-true, cond-false, cases_lt}
+use Rattle.std.proofs.lemmas.List.{length-map, get_or_default}
 use Rattle.std.proofs.lemmas.Map.Keys.{sorted_from_all_adjacent}
 use Rattle.std.proofs.Math.ListN.{get_or-map}
 use Rattle.table_model.specs.Entries.{Entries}
@@ -127,3 +127,21 @@ distinct (p ∷ ps) h = (apart_from p ps h.0, distinct ps h.1)
 -- in the order of prefixes none stands twice
 pub none_twice : (L : Entries) → IsStrictlySortedBy prefix_cmp (keys_of L) → None ≡ twice L
 none_twice L h = sym (once_from L (distinct (keys_of L) h))
+
+is_less : (o : Ordering) → is_ge o ≡ false → o ≡ Less
+is_less Less e = refl
+is_less Equal e = cc
+is_less Greater e = cc
+
+pub one_more_in_order : (entries : List Entry) (i : ℕ) (a b : Entry) (o : Ordering) → 1 ≤ i → i < length entries
+    → o ≡ code_cmp (prefix_at entries (i - 1) a) (prefix_at entries i b) → is_ge o ≡ false → InOrderTo entries i → InOrderTo entries (i + 1)
+one_more_in_order entries i a b o some there is less so_far = λ z k lt. elim (cases_lt (k + 1) i) [
+  | inl before ↦ so_far z k before
+  | inr past ↦
+      let last : k + 1 ≡ i = omega arith in
+      let front : k ≡ i - 1 = omega arith in
+      ap (λ (j : ℕ). code_cmp (prefix_at entries j z) (prefix_at entries (k + 1) z)) front
+      ∙ (ap (λ (j : ℕ). code_cmp (prefix_at entries (i - 1) z) (prefix_at entries j z)) last
+      ∙ (ap (λ (e : Entry). code_cmp e.prefix (prefix_at entries i z)) (get_or_default entries (i - 1) z a (omega arith))
+      ∙ (ap (λ (e : Entry). code_cmp (prefix_at entries (i - 1) a) e.prefix) (get_or_default entries i z b there) ∙ (sym is ∙ is_less o less))))
+]
