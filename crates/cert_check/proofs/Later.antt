@@ -1,12 +1,18 @@
 -- Prefixes that stand again later.
-use Rattle.std.proofs.Common.{◌≡◌, ℕ, suc, ◌-◌, ◌<◌, ◌≤◌, List, ◌∷◌, Bool, true, false, cond, Option, Some, length, map, drop, get_or, refl, sym, ap, ◌∙◌, arith}
+use Rattle.std.proofs.Common.{◌≡◌, ℕ, suc, ◌+◌, ◌-◌, ◌<◌, ◌≤◌, List, [], ◌∷◌, Bool, true, false, cond, Option, Some, None, inl, inr, length, map, drop, get_or, refl, sym, ap, ◌∙◌, arith, subst}
 use Rattle.std.specs.Prelude.{◌||◌}
-use Rattle.std.specs.Ordering.{is_eq}
+use Rattle.std.specs.Ordering.{is_eq, is_ge}
 use Rattle.std.specs.declared.cmp.Ordering.{Ordering}
 use Rattle.std.specs.declared.cmp.Ordering.TheVariants.{Less, Equal, Greater}
-use Rattle.std.specs.List.{list_any}
+use Rattle.std.specs.List.{list_any, AllByRecursion, IsDistinct}
+use Rattle.std.specs.List.Sorted.{IsStrictlySortedBy}
 use Rattle.std.specs.Map.{keys_of}
-use Rattle.std.proofs.lemmas.Bool.{cond-true, cond-false}
+use Rattle.std.proofs.lemmas.Bool.{cond-true, cond-false, cases_lt}
+use Rattle.std.proofs.lemmas.List.{length-map, get_or_default}
+use Rattle.std.proofs.lemmas.Map.Keys.{sorted_from_all_adjacent}
+use Rattle.std.proofs.Math.ListN.{get_or-map}
+use Rattle.table_model.specs.Entries.{Entries}
+use Rattle.cert_model.proofs.Verdicts.{once_from}
 use Rattle.address_model.specs.Address.{Prefix, same_prefix}
 use Rattle.address_model.specs.Order.{prefix_cmp}
 use Rattle.address_model.proofs.Same.{same_prefix_is, same_prefix_itself}
@@ -74,3 +80,68 @@ pub stands_once : (entries : List Entry) (i : ℕ) (e z : Entry) (held : Bool) (
     → held ≡ list_any (same_prefix (prefix_as e.prefix)) (keys_from entries i) → held ≡ false → first ≡ twice (map entry_as (drop i entries)) → first ≡ twice (map entry_as (drop (i - 1) entries))
 stands_once entries i e z held first some le is h f so_far =
     so_far ∙ sym (ap (λ xs. twice (map entry_as xs)) (one_back entries i e z some le is) ∙ cond-false _ _ _ (sym h ∙ f))
+
+-- ---- lists in the order of prefixes
+
+abbrev prefix_at : List Entry → ℕ → Entry → code.Prefix
+prefix_at entries i z = (get_or entries i z).prefix
+
+-- each prefix stands before the next one, up to the place
+abbrev pub InOrderTo : List Entry → ℕ → Type 0
+InOrderTo entries n = (z : Entry) (k : ℕ) → k + 1 < n → code_cmp (prefix_at entries k z) (prefix_at entries (k + 1) z) ≡ Less
+
+abbrev key : Entry → Prefix
+key e = prefix_as e.prefix
+
+keys_are : (entries : List Entry) → map key entries ≡ keys_of (map entry_as entries)
+keys_are [] = refl
+keys_are (e ∷ entries) = ap (λ ks. key e ∷ ks) (keys_are entries)
+
+sorted_keys : (entries : List Entry) (z : Entry) → InOrderTo entries (length entries) → IsStrictlySortedBy prefix_cmp (map key entries)
+sorted_keys entries z h = sorted_from_all_adjacent prefix_total (map key entries) (key z) (λ k lt.
+    ap (λ x. prefix_cmp x (get_or (map key entries) (k + 1) (key z))) (get_or-map key entries k z)
+    ∙ (ap (prefix_cmp (key (get_or entries k z))) (get_or-map key entries (k + 1) z)
+    ∙ (sym (cmp_is (prefix_at entries k z) (prefix_at entries (k + 1) z)) ∙ h z k (omega (arith, length-map entries key, lt)))))
+
+pub in_order : (entries : List Entry) → InOrderTo entries (length entries) → IsStrictlySortedBy prefix_cmp (keys_of (map entry_as entries))
+unfolding IsStrictlySortedBy
+in_order [] h = tt
+in_order (e ∷ entries) h = subst (IsStrictlySortedBy prefix_cmp) (keys_are (e ∷ entries)) (sorted_keys (e ∷ entries) e h)
+
+not_same : (p q : Prefix) → prefix_cmp p q ≡ Less → same_prefix p q ≡ false
+not_same p q e = by_test (same_prefix p q) refl
+  where
+    by_test : (t : Bool) → same_prefix p q ≡ t → same_prefix p q ≡ false
+    by_test false t = t
+    by_test true t = let s : is_eq (prefix_cmp p q) ≡ true = ap (λ x. is_eq (prefix_cmp p x)) (sym (same_prefix_is p q t)) ∙ itself p in absurd (let l : is_eq (prefix_cmp p q) ≡ false = ap is_eq e in cc)
+
+apart_from : (p : Prefix) (ps : List Prefix) → AllByRecursion (λ q. prefix_cmp p q ≡ Less) ps → AllByRecursion (λ q. same_prefix p q ≡ false) ps
+apart_from p [] h = tt
+apart_from p (q ∷ ps) h = (not_same p q h.0, apart_from p ps h.1)
+
+distinct : (ps : List Prefix) → IsStrictlySortedBy prefix_cmp ps → IsDistinct same_prefix ps
+unfolding IsDistinct IsStrictlySortedBy
+distinct [] h = tt
+distinct (p ∷ ps) h = (apart_from p ps h.0, distinct ps h.1)
+
+-- in the order of prefixes none stands twice
+pub none_twice : (L : Entries) → IsStrictlySortedBy prefix_cmp (keys_of L) → None ≡ twice L
+none_twice L h = sym (once_from L (distinct (keys_of L) h))
+
+is_less : (o : Ordering) → is_ge o ≡ false → o ≡ Less
+is_less Less e = refl
+is_less Equal e = cc
+is_less Greater e = cc
+
+pub one_more_in_order : (entries : List Entry) (i : ℕ) (a b : Entry) (o : Ordering) → 1 ≤ i → i < length entries
+    → o ≡ code_cmp (prefix_at entries (i - 1) a) (prefix_at entries i b) → is_ge o ≡ false → InOrderTo entries i → InOrderTo entries (i + 1)
+one_more_in_order entries i a b o some there is less so_far = λ z k lt. elim (cases_lt (k + 1) i) [
+  | inl before ↦ so_far z k before
+  | inr past ↦
+      let last : k + 1 ≡ i = omega arith in
+      let front : k ≡ i - 1 = omega arith in
+      ap (λ (j : ℕ). code_cmp (prefix_at entries j z) (prefix_at entries (k + 1) z)) front
+      ∙ (ap (λ (j : ℕ). code_cmp (prefix_at entries (i - 1) z) (prefix_at entries j z)) last
+      ∙ (ap (λ (e : Entry). code_cmp e.prefix (prefix_at entries i z)) (get_or_default entries (i - 1) z a (omega arith))
+      ∙ (ap (λ (e : Entry). code_cmp (prefix_at entries (i - 1) a) e.prefix) (get_or_default entries i z b there) ∙ (sym is ∙ is_less o less))))
+]

@@ -1,6 +1,12 @@
 //! Prefixes that stand twice.
+//!
+//! Printed lists stand in the order of prefixes, where one look at neighbours shows that no prefix stands twice. Only a list
+//! that doesn't is put into a set.
 
-ghost use Rattle.std.specs.Prelude.{◌≡◌, map, option_map, IfOk};
+ghost use Rattle.std.specs.Prelude.{◌≡◌, map, option_map, true, IfOk};
+ghost use Rattle.std.specs.List.Sorted.{IsStrictlySortedBy};
+ghost use Rattle.std.specs.Map.{keys_of};
+ghost use Rattle.address_model.specs.Order.{prefix_cmp};
 ghost use Rattle.cert_model.specs.Verdict.{twice};
 ghost use Rattle.fib_addr.specs.Views.{entry_as, prefix_as};
 
@@ -8,8 +14,20 @@ use fib_addr::{Entry, Prefix};
 use std::alloc::{AllocError, Global};
 use std::collections::BTreeSet;
 
-/// The first prefix that stands again later in the list.
-pub(crate) fn first_twice(alloc: Global, entries: &[Entry]) -> Result<Option<Prefix>, AllocError>
+/// Whether each prefix stands before those after it.
+fn are_in_order(entries: &[Entry]) -> bool
+    ensures { result ≡ true → IsStrictlySortedBy prefix_cmp (keys_of (map entry_as entries.now)) }
+{
+    for i in 1..entries.len() {
+        if entries[i - 1].prefix.cmp(&entries[i].prefix).is_ge() {
+            return false;
+        }
+    }
+    true
+}
+
+/// The first prefix of a list in any order that stands again later.
+fn first_again(alloc: Global, entries: &[Entry]) -> Result<Option<Prefix>, AllocError>
     ensures { IfOk result (λ p. option_map prefix_as p ≡ twice (map entry_as entries.now)) }
 {
     let mut later = BTreeSet::new(alloc);
@@ -23,4 +41,14 @@ pub(crate) fn first_twice(alloc: Global, entries: &[Entry]) -> Result<Option<Pre
         }
     }
     Ok(first)
+}
+
+/// The first prefix that stands again later in the list.
+pub(crate) fn first_twice(alloc: Global, entries: &[Entry]) -> Result<Option<Prefix>, AllocError>
+    ensures { IfOk result (λ p. option_map prefix_as p ≡ twice (map entry_as entries.now)) }
+{
+    if are_in_order(entries) {
+        return Ok(None);
+    }
+    first_again(alloc, entries)
 }

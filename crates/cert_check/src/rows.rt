@@ -20,9 +20,10 @@ ghost use Rattle.cert_check.specs.Stack.{item_as, stack_as, leaf_weight, TellsBo
 
 use crate::refusal::No;
 use crate::runs::{Run, holds};
-use crate::sets::{common_hops, one_if_none, or_all};
+use crate::sets::{Hops, common_hops, one_if_none, or_all};
 use cert_rows::Row;
 use fib_addr::{Family, Hop, Prefix};
+use smallvec::SmallVec;
 use std::alloc::{AllocError, Global};
 
 /// What the addresses of both families get from the routes.
@@ -38,7 +39,7 @@ pub struct Runs {
 #[derive(Drop)]
 pub struct Item {
     prefix: Prefix,
-    hops: Vec<u16>,
+    hops: Hops,
     k: u64,
 }
 
@@ -84,7 +85,7 @@ fn read_leaf(
     if !holds(runs_in(runs, prefix.family), prefix, hop.0) {
         return Ok(Some(No::LeafWrong { row }));
     }
-    let mut hops = Vec::new(alloc);
+    let mut hops = SmallVec::new(alloc);
     hops.push(hop.0)?;
     stack.push(Item {
         prefix: *prefix,

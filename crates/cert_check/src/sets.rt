@@ -1,13 +1,17 @@
 //! Sets of hops.
 //!
 //! Two sets are compared by marks: each hop of the one is marked with a number that no mark had before, and the other is
-//! gone through. That takes one step for each hop.
+//! gone through. That takes one step for each hop. Most sets hold one to three hops: up to eight are kept in place.
 
 ghost use Rattle.std.specs.Prelude.{◌≡◌, ◌+◌, ◌^◌, ◌++◌, ◌<◌, ℕ, get_or, replicate, nat_eq, IfOk};
 ghost use Rattle.least_model.specs.Sets.{is_in, common, one_if_empty, or_else};
 ghost use Rattle.cert_check.specs.Marks.{AreMarks};
 
+use smallvec::SmallVec;
 use std::alloc::{AllocError, Global};
+
+/// Hops in a row, of which eight take no allocation.
+pub(crate) type Hops = SmallVec<u16, 8>;
 
 /// How many hops there are at most.
 const HOPS: usize = 65_536;
@@ -46,14 +50,14 @@ pub(crate) fn common_hops(
     high: &[u16],
     stamp: u64,
     marks: &mut Vec<u64>,
-) -> Result<Vec<u16>, AllocError>
+) -> Result<Hops, AllocError>
     requires marks { AreMarks stamp marks.old.items }
     requires more { stamp + 1 < 2 ^ 64 }
     ensures marks { AreMarks (stamp + 1) marks.new.items }
     ensures common { IfOk result (λ v. v.items ≡ common low.now high.now) }
 {
     mark(high, stamp, marks);
-    let mut both = Vec::new(alloc);
+    let mut both = SmallVec::new(alloc);
     for hop in low {
         if marks[usize::from(*hop)] == stamp {
             both.push(*hop)?;
@@ -70,11 +74,7 @@ pub(crate) fn one_if_none(hops: &[u16]) -> u64
 }
 
 /// The common hops, or where there are none all hops.
-pub(crate) fn or_all(
-    common: Vec<u16>,
-    mut low: Vec<u16>,
-    high: &[u16],
-) -> Result<Vec<u16>, AllocError>
+pub(crate) fn or_all(common: Hops, mut low: Hops, high: &[u16]) -> Result<Hops, AllocError>
     ensures { IfOk result (λ v. v.items ≡ or_else common.items (low.items ++ high.now)) }
 {
     if common.is_empty() {

@@ -1,15 +1,63 @@
 //! The fields of a line: each is a slice of the line, and none takes memory.
 
-ghost use Rattle.std.specs.Prelude.{◌≡◌, bytes_eq, option_map};
+ghost use Rattle.std.specs.Prelude.{◌≡◌, List, ℕ, bytes_eq, option_map, position};
+ghost use Rattle.std.specs.List.{slice_split};
 ghost use Rattle.octet_fields.specs.Gives.{Gives};
 ghost use Rattle.fib_addr.specs.Views.{addr_as, prefix_as};
-ghost use Rattle.printed_model.specs.Reading.{address_field, count_field, family_field, hop_field, next_field, number_field, one_field, prefix_field, two_fields};
+ghost use Rattle.printed_model.specs.Reading.{address_field, count_field, family_field, hop_field, is_comma, next_field, number_field, one_field, prefix_field, two_fields};
+ghost use Rattle.cost_cert.specs.Fields.{TakesField, fields_left};
 ghost use Rattle.cost_cert.specs.Printed.{count_as};
 
 use crate::printed_row::Count;
 use crate::why;
-use bstr::Split;
 use fib_addr::{Addr, Family, Prefix, read_addr, read_number, read_prefix};
+use std::marker::Model;
+
+/// The fields of a line that are left. Contracts see them as a list.
+#[derive(Drop)]
+pub struct Fields<'a> {
+    /// Their text; none where no field is left.
+    left: Option<&'a [u8]>,
+}
+
+impl<'a> Model for Fields<'a> {
+    ghost Value = { List (List ℕ) };
+
+    ghost view = { λ fields. fields_left fields.left };
+}
+
+/// The place of the first comma.
+fn comma_at(text: &[u8]) -> Option<usize>
+    ensures { result ≡ position is_comma text.now }
+{
+    text.iter().position(|b| *b == b',')
+}
+
+impl<'a> Fields<'a> {
+    /// The fields of a line: what stands between its commas.
+    pub(crate) fn of(line: &'a [u8]) -> Fields<'a>
+        ensures { result ≡ slice_split is_comma line.now }
+    {
+        Fields { left: Some(line) }
+    }
+
+    /// Takes the next field.
+    fn next(&mut self) -> Option<&'a [u8]>
+        ensures { TakesField self.old self.new result }
+    {
+        let text = self.left?;
+        match comma_at(text) {
+            Some(place) => {
+                self.left = Some(&text[place + 1..]);
+                Some(&text[..place])
+            }
+            None => {
+                self.left = None;
+                Some(text)
+            }
+        }
+    }
+}
 
 /// A number below 2^64.
 pub(crate) fn number_field(text: &[u8]) -> Result<u64, u8>
@@ -92,7 +140,7 @@ pub(crate) fn family_field(text: &[u8]) -> Result<Family, u8>
 }
 
 /// The one field that is left.
-pub(crate) fn one_field<'a>(mut fields: Split<'a, '_>) -> Result<&'a [u8], u8>
+pub(crate) fn one_field<'a>(mut fields: Fields<'a>) -> Result<&'a [u8], u8>
     ensures { Gives (λ f. f.now) result (one_field fields.entry) }
 {
     match (fields.next(), fields.next()) {
@@ -102,7 +150,7 @@ pub(crate) fn one_field<'a>(mut fields: Split<'a, '_>) -> Result<&'a [u8], u8>
 }
 
 /// The two fields that are left.
-pub(crate) fn two_fields<'a>(mut fields: Split<'a, '_>) -> Result<(&'a [u8], &'a [u8]), u8>
+pub(crate) fn two_fields<'a>(mut fields: Fields<'a>) -> Result<(&'a [u8], &'a [u8]), u8>
     ensures { Gives (λ f. (f.0.now, f.1.now)) result (two_fields fields.entry) }
 {
     match (fields.next(), fields.next(), fields.next()) {
@@ -112,7 +160,7 @@ pub(crate) fn two_fields<'a>(mut fields: Split<'a, '_>) -> Result<(&'a [u8], &'a
 }
 
 /// The next field, and those after it.
-pub(crate) fn next_field<'a, 's>(mut fields: Split<'a, 's>) -> Result<(&'a [u8], Split<'a, 's>), u8>
+pub(crate) fn next_field<'a>(mut fields: Fields<'a>) -> Result<(&'a [u8], Fields<'a>), u8>
     ensures { Gives (λ f. (f.0.now, f.1)) result (next_field fields.entry) }
 {
     match fields.next() {

@@ -21,11 +21,10 @@ ghost use Rattle.printed_model.specs.Reading.{answer_in, bound_in, cert_in, chan
 ghost use Rattle.cost_cert.specs.Printed.{printed_row_as};
 
 use crate::fields::{
-    address_field, count_field, family_field, hop_field, is, next_field, number_field, one_field,
-    prefix_field, two_fields,
+    Fields, address_field, count_field, family_field, hop_field, is, next_field, number_field,
+    one_field, prefix_field, two_fields,
 };
 use crate::why;
-use bstr::{ByteSlice, Split};
 use fib_addr::{Addr, Family, Prefix};
 
 /// What a run counts.
@@ -80,7 +79,7 @@ pub enum PrintedRow {
 
 /// A prefix and a hop, with the word that stands for none.
 #[tactic(auto, unfolding(printed_model::specs::Reading::entry_in))]
-fn entry_in(word: &[u8], fields: Split<'_, '_>) -> Result<(Prefix, Option<Addr>), u8>
+fn entry_in(word: &[u8], fields: Fields<'_>) -> Result<(Prefix, Option<Addr>), u8>
     ensures { Gives (λ e. (prefix_as e.0, option_map addr_as e.1)) result
         (entry_in word.now fields.entry) }
 {
@@ -92,7 +91,7 @@ fn entry_in(word: &[u8], fields: Split<'_, '_>) -> Result<(Prefix, Option<Addr>)
 
 /// A chosen route.
 #[tactic(auto, unfolding(printed_model::specs::Reading::route_in))]
-fn route_in(fields: Split<'_, '_>) -> Result<PrintedRow, u8>
+fn route_in(fields: Fields<'_>) -> Result<PrintedRow, u8>
     ensures { Gives printed_row_as result (route_in fields.entry) }
 {
     let (prefix, addr) = two_fields(fields)?;
@@ -103,7 +102,7 @@ fn route_in(fields: Split<'_, '_>) -> Result<PrintedRow, u8>
 
 /// An answer.
 #[tactic(auto, unfolding(printed_model::specs::Reading::answer_in))]
-fn answer_in(fields: Split<'_, '_>) -> Result<PrintedRow, u8>
+fn answer_in(fields: Fields<'_>) -> Result<PrintedRow, u8>
     ensures { Gives printed_row_as result (answer_in fields.entry) }
 {
     let (addr, hop) = two_fields(fields)?;
@@ -114,7 +113,7 @@ fn answer_in(fields: Split<'_, '_>) -> Result<PrintedRow, u8>
 
 /// The visits of a look-up.
 #[tactic(auto, unfolding(printed_model::specs::Reading::visits_in))]
-fn visits_in(fields: Split<'_, '_>) -> Result<PrintedRow, u8>
+fn visits_in(fields: Fields<'_>) -> Result<PrintedRow, u8>
     ensures { Gives printed_row_as result (visits_in fields.entry) }
 {
     let (addr, number) = two_fields(fields)?;
@@ -125,7 +124,7 @@ fn visits_in(fields: Split<'_, '_>) -> Result<PrintedRow, u8>
 
 /// A change, by its sign.
 #[tactic(auto, unfolding(printed_model::specs::Reading::signed_in))]
-fn signed_in(event: u64, sign: &[u8], fields: Split<'_, '_>) -> Result<PrintedRow, u8>
+fn signed_in(event: u64, sign: &[u8], fields: Fields<'_>) -> Result<PrintedRow, u8>
     ensures { Gives printed_row_as result (signed_in event sign.now fields.entry) }
 {
     if is(sign, b"+") {
@@ -145,7 +144,7 @@ fn signed_in(event: u64, sign: &[u8], fields: Split<'_, '_>) -> Result<PrintedRo
 
 /// A change.
 #[tactic(auto, unfolding(printed_model::specs::Reading::change_in))]
-fn change_in(fields: Split<'_, '_>) -> Result<PrintedRow, u8>
+fn change_in(fields: Fields<'_>) -> Result<PrintedRow, u8>
     ensures { Gives printed_row_as result (change_in fields.entry) }
 {
     let (event, fields) = next_field(fields)?;
@@ -156,7 +155,7 @@ fn change_in(fields: Split<'_, '_>) -> Result<PrintedRow, u8>
 
 /// A region that a certificate puts together.
 #[tactic(auto, unfolding(printed_model::specs::Reading::join_in))]
-fn join_in(fields: Split<'_, '_>) -> Result<PrintedRow, u8>
+fn join_in(fields: Fields<'_>) -> Result<PrintedRow, u8>
     ensures { Gives printed_row_as result (join_in fields.entry) }
 {
     let (prefix, number) = two_fields(fields)?;
@@ -167,7 +166,7 @@ fn join_in(fields: Split<'_, '_>) -> Result<PrintedRow, u8>
 
 /// A family's bound.
 #[tactic(auto, unfolding(printed_model::specs::Reading::bound_in))]
-fn bound_in(fields: Split<'_, '_>) -> Result<PrintedRow, u8>
+fn bound_in(fields: Fields<'_>) -> Result<PrintedRow, u8>
     ensures { Gives printed_row_as result (bound_in fields.entry) }
 {
     let (family, number) = two_fields(fields)?;
@@ -178,7 +177,7 @@ fn bound_in(fields: Split<'_, '_>) -> Result<PrintedRow, u8>
 
 /// A row of a certificate, by its second word.
 #[tactic(auto, unfolding(printed_model::specs::Reading::part_in))]
-fn part_in(word: &[u8], fields: Split<'_, '_>) -> Result<PrintedRow, u8>
+fn part_in(word: &[u8], fields: Fields<'_>) -> Result<PrintedRow, u8>
     ensures { Gives printed_row_as result (part_in word.now fields.entry) }
 {
     if is(word, b"leaf") {
@@ -195,7 +194,7 @@ fn part_in(word: &[u8], fields: Split<'_, '_>) -> Result<PrintedRow, u8>
 
 /// A row of a certificate.
 #[tactic(auto, unfolding(printed_model::specs::Reading::cert_in))]
-fn cert_in(fields: Split<'_, '_>) -> Result<PrintedRow, u8>
+fn cert_in(fields: Fields<'_>) -> Result<PrintedRow, u8>
     ensures { Gives printed_row_as result (cert_in fields.entry) }
 {
     let (word, fields) = next_field(fields)?;
@@ -204,7 +203,7 @@ fn cert_in(fields: Split<'_, '_>) -> Result<PrintedRow, u8>
 
 /// A count.
 #[tactic(auto, unfolding(printed_model::specs::Reading::report_in))]
-fn report_in(fields: Split<'_, '_>) -> Result<PrintedRow, u8>
+fn report_in(fields: Fields<'_>) -> Result<PrintedRow, u8>
     ensures { Gives printed_row_as result (report_in fields.entry) }
 {
     let (count, number) = two_fields(fields)?;
@@ -215,7 +214,7 @@ fn report_in(fields: Split<'_, '_>) -> Result<PrintedRow, u8>
 
 /// A row, by its name.
 #[tactic(auto, unfolding(printed_model::specs::Reading::named_in))]
-fn named_in(name: &[u8], fields: Split<'_, '_>) -> Result<PrintedRow, u8>
+fn named_in(name: &[u8], fields: Fields<'_>) -> Result<PrintedRow, u8>
     ensures { Gives printed_row_as result (named_in name.now fields.entry) }
 {
     if is(name, b"route") {
@@ -243,7 +242,7 @@ fn named_in(name: &[u8], fields: Split<'_, '_>) -> Result<PrintedRow, u8>
 
 /// A row of the fields of its line.
 #[tactic(auto, unfolding(printed_model::specs::Reading::row_in))]
-fn row_in(fields: Split<'_, '_>) -> Result<PrintedRow, u8>
+fn row_in(fields: Fields<'_>) -> Result<PrintedRow, u8>
     ensures { Gives printed_row_as result (row_in fields.entry) }
 {
     let (name, fields) = next_field(fields)?;
@@ -254,5 +253,5 @@ fn row_in(fields: Split<'_, '_>) -> Result<PrintedRow, u8>
 pub fn read_row(line: &[u8]) -> Result<PrintedRow, u8>
     ensures { Gives printed_row_as result (line_in line.now) }
 {
-    row_in(line.split_str(b","))
+    row_in(Fields::of(line))
 }

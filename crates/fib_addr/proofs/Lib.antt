@@ -7,6 +7,7 @@ pub mod GroupTexts
 pub mod GroupLaws
 pub mod RegionLemmas
 pub mod Numbers
+pub mod Dots
 pub mod HopLists
 pub mod HopLemmas
 pub mod PrefixTexts

@@ -5,7 +5,6 @@ use Rattle.address_model.specs.Bits.{bits_of, value_of}
 use Rattle.address_model.specs.Width.{width}
 use Rattle.address_model.specs.Order.{family_cmp, filled, prefix_cmp}
 use Rattle.address_model.proofs.BitLaws.{value-bits_of}
-use Rattle.address_model.proofs.Families.{family_order}
 use Rattle.fib_addr.specs.declared.prefix.Prefix.{Prefix}
 use Rattle.fib_addr.specs.Views.{prefix_as}
 use Rattle.fib_addr.specs.Order.{code_cmp}
@@ -16,8 +15,7 @@ filled_is p = ap value_of (sym (bits_filled (width p.family) p.len p.bits p.fits
 
 pub cmp_is : (p q : Prefix) → code_cmp p q ≡ prefix_cmp (prefix_as p) (prefix_as q)
 cmp_is p q =
-    ap (λ o. ordering_then o (ordering_then (nat_cmp p.bits q.bits) (nat_cmp p.len q.len))) (family_order p.family q.family)
-    ∙ ap (ordering_then (family_cmp p.family q.family))
+    ap (ordering_then (family_cmp p.family q.family))
     (ap (λ n. ordering_then (nat_cmp n q.bits) (nat_cmp p.len q.len)) (sym (filled_is p))
     ∙ (ap (λ n. ordering_then (nat_cmp (filled (prefix_as p)) n) (nat_cmp p.len q.len)) (sym (filled_is q))
     ∙ ap (ordering_then (nat_cmp (filled (prefix_as p)) (filled (prefix_as q))))

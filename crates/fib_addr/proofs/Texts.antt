@@ -21,7 +21,7 @@ digits_no_dot : (cs : List ℕ) → AllDigits 10 cs → AllByRecursion (λ b. is
 digits_no_dot [] h = tt
 digits_no_dot (c ∷ cs) h = let d = digit_from_value c h.0 in (ne_eqb c 46 (omega (arith, d.0)), digits_no_dot cs h.1)
 
-no_dot : (n : ℕ) → n < 256 → All (λ b. is_dot b ≡ false) (decimal n)
+pub no_dot : (n : ℕ) → n < 256 → All (λ b. is_dot b ≡ false) (decimal n)
 no_dot n h = All-from_recursion _ _ (digits_no_dot (decimal n) (decimal_is_IsNumeral n (omega arith)).0.1)
 
 pub dots : (a b c d : List ℕ) → (((((a ++ codes ".") ++ b) ++ codes ".") ++ c) ++ codes ".") ++ d ≡ a ++ (46 ∷ (b ++ (46 ∷ (c ++ (46 ∷ d)))))

@@ -3,3 +3,4 @@ pub mod Groups
 pub mod Text
 pub mod Hops
 pub mod Order
+pub mod OrderLaws

@@ -8,20 +8,61 @@ ghost use Rattle.address_model.specs.Width.{width};
 use crate::addr::Addr;
 use address_model::Family;
 use byteorder::{BigEndian, ByteOrder};
+use std::cmp::Ordering;
 
 /// A prefix: its first `len` bits filled with zeros as a number. Prefixes are ordered by family, then by that number, then
-/// the shorter first.
-#[derive(Clone, Copy, Debug, PartialEq, Eq, PartialOrd, Ord, Hash)]
+/// the shorter first. The number stands first here, so that a prefix takes 32 octets.
+#[derive(Clone, Copy, Debug, PartialEq, Eq, Hash)]
 pub struct Prefix {
-    /// The family.
-    pub family: Family,
     /// The bits as a number; those past the length are 0.
     pub bits: u128,
+    /// The family.
+    pub family: Family,
     /// How many bits it has, at most the family's width.
     pub len: u8,
     ghost fits: { len ≤ width family },
     ghost below: { bits < 2 ^ width family },
     ghost cleared: { bits % 2 ^ (width family - len) ≡ 0 },
+}
+
+impl Ord for Prefix {
+    ghost use Rattle.std.proofs.Common.{refl};
+    ghost use Rattle.fib_addr.specs.Order.{code_cmp};
+    ghost use Rattle.fib_addr.specs.OrderLaws.{code_total, tied};
+
+    ghost cmp = { code_cmp };
+
+    ghost total = { code_total };
+
+    ghost matches_partial_cmp = { λ p q. refl };
+
+    ghost matches_eq = { tied };
+
+    #[tactic(auto, using(address_model::proofs::Families::family_order))]
+    fn cmp(&self, other: &Prefix) -> Ordering {
+        match self.family.cmp(&other.family) {
+            Ordering::Equal => match self.bits.cmp(&other.bits) {
+                Ordering::Equal => self.len.cmp(&other.len),
+                order => order,
+            },
+            order => order,
+        }
+    }
+}
+
+impl PartialOrd for Prefix {
+    ghost use Rattle.std.specs.Ordering.{as_partial_cmp};
+    ghost use Rattle.std.specs.Cmp.{po};
+    ghost use Rattle.fib_addr.specs.Order.{code_cmp};
+    ghost use Rattle.fib_addr.specs.OrderLaws.{code_total, tied};
+
+    ghost partial_cmp = { as_partial_cmp code_cmp };
+
+    ghost laws = { po code_total tied };
+
+    fn partial_cmp(&self, other: &Prefix) -> Option<Ordering> {
+        Some(self.cmp(other))
+    }
 }
 
 /// The bits but for so many of the lowest ones.

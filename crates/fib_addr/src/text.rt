@@ -1,35 +1,24 @@
 //! The text of addresses and prefixes, read and written.
 //!
 //! An IPv4 address is four decimal numbers with dots between them, an IPv6 address eight hexadecimal groups with colons
-//! between them, of which one run of zeros may be `::`. Both are read by std's parsers, and written digit by digit into the
-//! caller's buffer. No call takes memory; each costs the length of the text.
+//! between them, of which one run of zeros may be `::`. IPv6 addresses are read by std's parser. Both are written digit by
+//! digit into the caller's buffer. No call takes memory; each costs the length of the text.
 
-ghost use Rattle.std.specs.Prelude.{◌≡◌, ◌+◌, ◌≤◌, ◌++◌, codes, decimal, length, take, option_map, position, IfSome};
+ghost use Rattle.std.specs.Prelude.{◌≡◌, ℕ, List, ◌∷◌, ◌+◌, ◌*◌, ◌^◌, ◌<◌, ◌≤◌, ◌++◌, codes, decimal, length, take, option_map, position, IfNone, IfSome};
+ghost use Rattle.std.specs.Char.{digit_value};
+ghost use Rattle.std.specs.Str.Parse.{AllDigits, digits_value};
 ghost use Rattle.std.specs.Net.Text.{ipv4_text};
 ghost use Rattle.fib_addr.specs.Views.{addr_as, prefix_as};
-ghost use Rattle.fib_addr.specs.Text.{address_in, ipv4_in, is_slash, number_below, prefix_in, address_text, prefix_text};
+ghost use Rattle.fib_addr.specs.Text.{address_in, ipv4_in, is_dot, is_slash, number_below, prefix_in, address_text, prefix_text};
 
 use crate::addr::Addr;
 use crate::ipv6::{put_ipv6, read_ipv6};
 use crate::prefix::Prefix;
 use address_model::Family;
 use itoa::Buffer;
-use std::net::Ipv4Addr;
-use std::str;
 
 /// The octets of a buffer that holds the text of any address or prefix: the longest takes 39 of an IPv6 address and `/128`.
 pub const MOST_TEXT: usize = 43;
-
-/// Reads an IPv4 address alone, from its first octet to its last: four decimal numbers from 0 to 255 without leading zeros,
-/// with dots between them (`IPv4address` of RFC 3986, section 3.2.2). `None` exactly where the text is anything else.
-pub fn read_ipv4(text: &[u8]) -> Option<Addr>
-    ensures { option_map addr_as result ≡ ipv4_in text.now }
-{
-    match Ipv4Addr::parse_ascii(text) {
-        Ok(addr) => Some(Addr::v4(addr.to_bits())),
-        Err(_) => None,
-    }
-}
 
 /// Reads an address, from its first octet to its last: an IPv4 address as `read_ipv4`; an IPv6 address as eight groups of one
 /// to four hexadecimal digits with colons between them, or as at most seven with one `::` for those that are missing
@@ -44,18 +33,77 @@ pub fn read_addr(text: &[u8]) -> Option<Addr>
     }
 }
 
+/// The number with one more decimal digit at its end. `None` exactly where the octet is no digit, or the number isn't below
+/// 2^64.
+fn with_digit(number: u64, octet: u8) -> Option<u64>
+    ensures more { IfSome result (λ n. (digit_value octet < 10)
+        × (n ≡ number * 10 + digit_value octet)) }
+    ensures none { IfNone result (digit_value octet < 10
+        → 2 ^ 64 ≤ number * 10 + digit_value octet) }
+{
+    match octet {
+        b'0'..=b'9' => number.checked_mul(10)?.checked_add(u64::from(octet - b'0')),
+        _ => None,
+    }
+}
+
+/// The number of decimal digits, 0 of none. `None` exactly where an octet is no digit, or the number isn't below 2^64.
+fn read_digits(text: &[u8]) -> Option<u64>
+    ensures some { IfSome result (λ n. AllDigits 10 text.now × (n ≡ digits_value 10 text.now)) }
+    ensures none { IfNone result (AllDigits 10 text.now → 2 ^ 64 ≤ digits_value 10 text.now) }
+{
+    let mut number = 0;
+    for octet in text {
+        number = with_digit(number, *octet)?;
+    }
+    Some(number)
+}
+
 /// Reads a decimal number of at most `most`, from the text's first octet to its last, without a sign or leading zeros. `None`
 /// exactly where the text is anything else.
 pub fn read_number(text: &[u8], most: u64) -> Option<u64>
     ensures value { result ≡ number_below (most + 1) text.now }
     ensures fits { IfSome result (λ number. number ≤ most) }
 {
-    let number = str::from_utf8(text).ok()?.parse::<u64>().ok()?;
-    let mut digits = Buffer::new();
-    if digits.format(number).as_bytes() != text {
+    let [first, rest @ ..] = text else {
         return None;
+    };
+    if *first == b'0' {
+        return rest.is_empty().then_some(0);
     }
+    let number = read_digits(text)?;
     (number <= most).then_some(number)
+}
+
+/// The place of the first dot.
+fn dot_at(text: &[u8]) -> Option<usize>
+    ensures { result ≡ position is_dot text.now }
+{
+    text.iter().position(|b| *b == b'.')
+}
+
+/// Reads a decimal number from 0 to 255 and the dot after it, and gives what stands after the dot.
+fn read_octet(text: &[u8]) -> Option<(u8, &[u8])>
+    ensures some { IfSome result (λ r. text.now ≡ decimal r.0 ++ 46 ∷ r.1.now) }
+    ensures fits { IfSome result (λ r. r.0 < 256) }
+    ensures none { IfNone result ((n : ℕ) (rest : List ℕ) → n < 256
+        → text.now ≡ decimal n ++ 46 ∷ rest → ⊥) }
+{
+    let dot = dot_at(text)?;
+    let octet = read_number(&text[..dot], 255)?;
+    Some((octet as u8, &text[dot + 1..]))
+}
+
+/// Reads an IPv4 address alone, from its first octet to its last: four decimal numbers from 0 to 255 without leading zeros,
+/// with dots between them (`IPv4address` of RFC 3986, section 3.2.2). `None` exactly where the text is anything else.
+pub fn read_ipv4(text: &[u8]) -> Option<Addr>
+    ensures { option_map addr_as result ≡ ipv4_in text.now }
+{
+    let (a, text) = read_octet(text)?;
+    let (b, text) = read_octet(text)?;
+    let (c, text) = read_octet(text)?;
+    let d = read_number(text, 255)?;
+    Some(Addr::v4(u32::from_be_bytes([a, b, c, d as u8])))
 }
 
 /// The place of the first slash.

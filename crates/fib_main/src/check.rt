@@ -161,10 +161,11 @@ fn reply_to(alloc: Global, printed: &Printed) -> Result<Reply, AllocError>
 }
 
 /// Reads a printed text and checks that its certificate proves its least table least; `BadRow` names the first line that is
-/// no row. It costs n log n in the text's length.
-pub fn check_text(alloc: Global, text: &[u8]) -> Result<Reply, PrintedError>
-    ensures { IsReply result (printed_in text.now) }
+/// no row. It costs n log n in the text's length. The text is let go once it is read.
+pub fn check_text(alloc: Global, text: Vec<u8>) -> Result<Reply, PrintedError>
+    ensures { IsReply result (printed_in text.items) }
 {
-    let printed = read_printed(alloc, text)?;
+    let printed = read_printed(alloc, &text)?;
+    drop(text);
     reply_to(alloc, &printed).map_err(|_| PrintedError::NoMemory)
 }

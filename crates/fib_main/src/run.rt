@@ -237,7 +237,7 @@ fn check_for<I: Inputs>(alloc: Global, inputs: &mut I, name: &str) -> Result<Rep
     ensures cause { ReadsName name.now (I.faults inputs.old) (I.faults inputs.new) result }
 {
     let octets = octets_of(alloc, inputs, name, Which::Printed)?;
-    match check_text(alloc, &octets) {
+    match check_text(alloc, octets) {
         Ok(reply) => Ok(reply),
         Err(PrintedError::BadRow(bad)) => Err(Outcome::BadLine {
             input: Which::Printed,

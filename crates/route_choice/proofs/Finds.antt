@@ -17,6 +17,7 @@ use Rattle.fib_prefix.specs.contracts.event.ViaPartialEq.TheImpl as via_same
 use Rattle.fib_addr.specs.contracts.prefix.PrefixPartialEq.TheImpl as prefix_same
 use Rattle.std.specs.Option.{option_eq}
 use Rattle.fib_addr.specs.Order.{code_cmp}
+use Rattle.fib_addr.specs.OrderLaws.{tied}
 use Rattle.fib_addr.specs.declared.prefix.Prefix as code
 use Rattle.fib_prefix.specs.declared.event.Peer.{Peer}
 use Rattle.fib_prefix.specs.declared.event.Via.{Via}
@@ -66,13 +67,8 @@ via_eq p q =
     ap (λ b. b && nat_eq p.id q.id) (peer_eq p.peer q.peer)
     ∙ (ap (λ b. is_eq (code_peer_cmp p.peer q.peer) && b) (number_eq p.id q.id) ∙ sym (then_eq (code_peer_cmp p.peer q.peer) (nat_cmp p.id q.id)))
 
-pub prefix_eq : (p q : code.Prefix) → (sameb the_type p.family q.family && (nat_eq p.bits q.bits && nat_eq p.len q.len)) ≡ is_eq (code_cmp p q)
-prefix_eq p q =
-    let f = (family_ord.ghosts).cmp p.family q.family in
-    ap (λ b. b && (nat_eq p.bits q.bits && nat_eq p.len q.len)) (family_eq p.family q.family)
-    ∙ (ap (λ b. is_eq f && (b && nat_eq p.len q.len)) (number_eq p.bits q.bits)
-    ∙ (ap (λ b. is_eq f && (is_eq (nat_cmp p.bits q.bits) && b)) (number_eq p.len q.len)
-    ∙ (ap (λ b. is_eq f && b) (sym (then_eq (nat_cmp p.bits q.bits) (nat_cmp p.len q.len))) ∙ sym (then_eq f (ordering_then (nat_cmp p.bits q.bits) (nat_cmp p.len q.len))))))
+pub prefix_eq : (p q : code.Prefix) → (prefix_same.ghosts).eq p q ≡ is_eq (code_cmp p q)
+prefix_eq = tied
 
 -- and so do its tests of what there may be
 module _ (but : Option Via) (p q : Via) (b : Bool) (test : b ≡ not (option_eq (via_same.ghosts).eq but (Some p))) (own : p ≡ q) where
@@ -228,7 +224,7 @@ walk_start seats but p least ranks items rest s e f g h =
     }
 
 module _ (seats : Seats) (but : Option Via) (p : code.Prefix) (ranks it : List Rank) (r : Rank) (rest : List Rank) (at : AtRanks seats but p ranks it) (step : it ≡ r ∷ rest) (f : code.Prefix) (own : f ≡ r.prefix) (ne : Bool)
-    (test : ne ≡ not (sameb the_type p.family f.family && (nat_eq p.bits f.bits && nat_eq p.len f.len))) where
+    (test : ne ≡ not ((prefix_same.ghosts).eq p f)) where
   here : AtRanks seats but p ranks (r ∷ rest)
   here = subst (λ rs. AtRanks seats but p ranks rs) step at
 

@@ -17,5 +17,5 @@ pub returns-clause-read : goal.returns-clause-read
 returns-clause-read c = λ R t. (
   sym (c.holds.ensures R (c.runs_in.ensures R t)) ∙ c.if-not-holds.false,
   ap stack_as c.in_ok-push-2.ensures.items ∙ (push_as c.args.stack.now.items _
-      ∙ ap (λ (xs : List ℕ). let i : Item = record { prefix = prefix_as c.args.prefix.now; hops = xs; k = 0 } in i ∷ stack_as c.args.stack.now.items) (c.in_ok-push.ensures.items ∙ ap (λ (xs : List ℕ). xs ++ c.args.hop.0 ∷ []) c.new-hops.ensures.items)),
+      ∙ ap (λ (xs : List ℕ). let i : Item = record { prefix = prefix_as c.args.prefix.now; hops = xs; k = 0 } in i ∷ stack_as c.args.stack.now.items) (c.in_ok-push.ensures.ok ∙ ap (λ (xs : List ℕ). xs ++ c.args.hop.0 ∷ []) c.new-hops.ensures.items)),
 )

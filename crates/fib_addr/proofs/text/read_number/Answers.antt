@@ -1,20 +1,23 @@
-use Rattle.std.proofs.Common.{◌∙◌, ◌+◌, arith}
-use Rattle.fib_addr.proofs.Numbers.{not_text, same_text, not_parsed, not_plain, plain_number}
+use Rattle.std.proofs.Common.{ap, ◌∙◌, ◌+◌, arith, length}
+use Rattle.std.specs.Prelude.{◌==◌}
+use Rattle.std.specs.Bool.{then_some}
+use Rattle.std.proofs.lemmas.List.{take_rest}
+use Rattle.fib_addr.proofs.Numbers.{no_text, zero_in_front, not_digits, number_all}
 use Rattle.fib_addr.proofs.text.read_number.Goals as goal
 
-pub returns-in_err-ok-clause-value : goal.returns-in_err-ok-clause-value
-returns-in_err-ok-clause-value c = c.from_residual.ensures ∙ not_text _ _ (c.args.most + 1) c.args.text.now c.from_utf8.result (omega arith) c.from_utf8.ensures.cases c.in_err-ok.ensures.value
+pub returns-in_default-clause-value : goal.returns-in_default-clause-value
+returns-in_default-clause-value c = no_text (c.args.most + 1) c.args.text.now (omega arith) (omega arith)
+
+pub returns-then-first-eq48-clause-value : goal.returns-then-first-eq48-clause-value
+returns-then-first-eq48-clause-value c =
+    let text = c.args.text.now in
+    c.then_some.ensures
+    ∙ (ap (λ t. then_some t 0) c.is_empty.ensures
+    ∙ (ap (λ xs. then_some (length xs == 0) 0) (take_rest text 1) ∙ zero_in_front c.args.most text (omega arith) (omega arith) c.if-first-eq48.true))
 
 pub returns-in_err-number-clause-value : goal.returns-in_err-number-clause-value
-returns-in_err-number-clause-value c =
-    let same = same_text _ c.args.text.now c.in_ok-ok.field-0 c.from_utf8.result c.from_utf8.ensures.cases c.in_ok-ok.ensures.value in
-    c.from_residual-in_err-number.ensures ∙ not_parsed (c.args.most + 1) c.args.text.now c.in_ok-ok.field-0.now c.parse.result (omega arith) same c.parse.ensures.value.0 c.in_err-number.ensures.value
-
-pub returns-then-ne-clause-value : goal.returns-then-ne-clause-value
-returns-then-ne-clause-value c =
-    let same = same_text _ c.args.text.now c.in_ok-ok.field-0 c.from_utf8.result c.from_utf8.ensures.cases c.in_ok-ok.ensures.value in
-    not_plain (c.args.most + 1) c.args.text.now c.in_ok-ok.field-0.now c.as_bytes.result.now c.in_ok-number.number c.parse.result (omega arith) same c.parse.ensures.value.0 c.in_ok-number.ensures.value (c.as_bytes.ensures.value ∙ c.format.ensures.text) c.if-ne.ensures
+returns-in_err-number-clause-value c = c.from_residual.ensures ∙ not_digits c.args.most c.args.text.now (omega arith) c.in_err-number.ensures.none
 
 pub returns-clause-value : goal.returns-clause-value
 returns-clause-value c =
-    c.then_some.ensures ∙ plain_number c.args.most c.in_ok-number.number c.args.text.now c.as_bytes.result.now (omega arith) (omega arith) (c.as_bytes.ensures.value ∙ c.format.ensures.text) c.if-ne.ensures
+    c.then_some-2.ensures ∙ number_all c.args.most c.in_ok-number.number c.args.text.now (omega arith) (omega arith) (omega arith) c.if-first-eq48.false c.in_ok-number.ensures.some

@@ -8,7 +8,7 @@ use Rattle.cert_model.specs.Verdict.{twice}
 use Rattle.fib_addr.specs.Order.{code_cmp}
 use Rattle.fib_addr.specs.Views.{entry_as, prefix_as}
 use Rattle.fib_addr.specs.declared.prefix.Prefix.{Prefix}
-use Rattle.cert_check.proofs.repeats.first_twice.Given as goal
+use Rattle.cert_check.proofs.repeats.first_again.Given as goal
 
 abbrev pub invariant-loop-i : goal.invariant-loop-i
 invariant-loop-i l =
