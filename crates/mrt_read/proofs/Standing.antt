@@ -1,10 +1,9 @@
 -- How a reader stands.
-use Rattle.std.proofs.Common.{◌≡◌, ℕ, ◌+◌, List, [], ◌∷◌, ◌++◌, length, Option, Some, None, IfNone, IfSome, Result, Ok, Err, refl, sym, ap, ◌∙◌, inl, inr, append-nil, arith}
+use Rattle.std.proofs.Common.{◌≡◌, ℕ, ◌+◌, List, [], ◌∷◌, ◌++◌, length, Option, Some, None, IfNone, Result, Ok, Err, refl, sym, ap, ◌∙◌, inl, inr, append-nil, arith}
 use Rattle.std.proofs.lemmas.Bool.{ne_eqb}
 use Rattle.route_model.specs.Events.{Peer, Event}
 use Rattle.octet_fields.specs.Field.{◌>>=◌}
 use Rattle.wire_model.specs.declared.rule.Rule.{Rule}
-use Rattle.wire_model.specs.declared.rule.Rule.TheVariants.{TooLong}
 use Rattle.wire_model.specs.Record.{Record, Fault, record_at, at_record}
 use Rattle.reading_model.specs.Update.{Said}
 use Rattle.reading_model.specs.Input.{Progress, start, record_in, counted, input}

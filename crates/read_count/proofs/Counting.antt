@@ -1,8 +1,8 @@
 -- An input that is counted piece by piece.
-use Rattle.std.proofs.Common.{◌≡◌, ℕ, ◌+◌, ◌-◌, ◌^◌, ◌<◌, ◌≤◌, List, [], ◌++◌, length, take, Option, Some, None, Result, Ok, Err, refl, sym, ap, subst, ◌∙◌, arith, append_assoc, append-nil, length-append, take_all}
-use Rattle.std.specs.Prelude.{IfSome, IfErr, IsErrOf, min}
-use Rattle.route_model.specs.Events.{Event, Peer}
-use Rattle.wire_model.specs.Record.{Record, Fault, record_at}
+use Rattle.std.proofs.Common.{◌≡◌, ℕ, ◌+◌, ◌-◌, ◌^◌, List, [], ◌++◌, length, take, Option, Some, None, Ok, Err, refl, sym, ap, subst, ◌∙◌, arith, append_assoc, append-nil, length-append, take_all}
+use Rattle.std.specs.Prelude.{IfSome, IsErrOf, min}
+use Rattle.route_model.specs.Events.{Event}
+use Rattle.wire_model.specs.Record.{record_at}
 use Rattle.reading_model.specs.Input.{Progress, start, input}
 use Rattle.fib_io.specs.Pieces.{octets_read, octets_from, ComeNext, IsEnd, IsLarge}
 use Rattle.fib_io.specs.declared.pieces.ReadError.{ReadError}
@@ -13,9 +13,7 @@ use Rattle.mrt_read.specs.Standing as reading
 use Rattle.mrt_read.specs.declared.reader.Reader.{Reader}
 use Rattle.mrt_read.specs.declared.reader.EventsError.{EventsError}
 use Rattle.mrt_read.specs.declared.reader.EventsError.TheVariants as read
-use Rattle.read_count.specs.declared.count.Counts.{Counts}
-use Rattle.read_count.specs.declared.count.CountError.{CountError}
-use Rattle.read_count.specs.declared.count.CountError.TheVariants.{Malformed, TooLarge}
+use Rattle.read_count.specs.declared.count.CountError.TheVariants.{Malformed}
 use Rattle.read_count.specs.Counted.{IsCounted, IsRefused, of_input, of_read}
 
 -- the octets that were fed, and those that come

@@ -1,6 +1,4 @@
-use Rattle.std.proofs.Common.{refl, ap, ◌+◌, ◌∙◌, Some, option_map}
-use Rattle.std.specs.Prelude.{map}
-use Rattle.fib_prefix.specs.Views.{event_as}
+use Rattle.std.proofs.Common.{refl, ap, ◌+◌, option_map}
 use Rattle.mrt_frame.specs.Records.{fault_of}
 use Rattle.mrt_records.specs.Views.{peers_in}
 use Rattle.mrt_read.proofs.Standing.{refuses_again, refuses_rule, source, takes_events, went_on, went_wrong}
