@@ -1,0 +1,10 @@
+pub mod Packs
+pub mod Orders
+pub mod Tests
+pub mod Views
+pub mod Holds
+pub mod Places
+pub mod Chains
+pub mod Flats
+pub mod Parts
+pub mod Betters

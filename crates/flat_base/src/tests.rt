@@ -1,0 +1,1 @@
+//! Routes come and go.
