@@ -8,3 +8,4 @@ pub mod Chains
 pub mod Flats
 pub mod Parts
 pub mod Betters
+pub mod Sessions

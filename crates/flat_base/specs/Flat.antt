@@ -1,5 +1,5 @@
 -- What the flat candidates stand for.
-use Rattle.std.specs.Prelude.{cond, ◌≡◌, ◌≢◌, ◌<◌, ◌≤◌, ◌⊎◌, ℕ, suc, List, [], ◌∷◌, ◌++◌, Bool, true, false, ◌||◌, ◌&&◌, ◌==◌, drop, length, slice_get, Option, Some, None, option_map}
+use Rattle.std.specs.Prelude.{cond, ◌≡◌, ◌≢◌, ◌<◌, ◌≤◌, ◌⊎◌, ℕ, suc, List, [], ◌∷◌, ◌++◌, Bool, true, false, ◌||◌, ◌&&◌, ◌==◌, drop, length, slice_get, Option, Some, None, option_map, is_some}
 use Rattle.std.specs.List.{list_any}
 use Rattle.std.specs.Ordering.{is_eq}
 use Rattle.std.specs.Map.{lookup}
@@ -7,6 +7,7 @@ use Rattle.std.specs.BTreeMap.{is_at}
 use Rattle.std.specs.declared.cmp.Ordering.TheVariants.{Less}
 use Rattle.fib_prefix.specs.Views.{peer_as}
 use Rattle.fib_addr.specs.Order.{code_cmp}
+use Rattle.fib_prefix.specs.Order.{code_peer_cmp}
 use Rattle.fib_addr.specs.declared.addr.Addr.{Addr}
 use Rattle.fib_prefix.specs.declared.event.Peer.{Peer}
 use Rattle.fib_prefix.specs.declared.event.Via.{Via}
@@ -210,3 +211,26 @@ Thins old new = (s : Seat) → (lookup (is_at (seat_cmp s)) new ≡ lookup (is_a
 -- no seat comes
 abbrev pub NoSeatComes : Seats → Seats → Type 0
 NoSeatComes old new = (s : Seat) → lookup (is_at (seat_cmp s)) old ≡ None → lookup (is_at (seat_cmp s)) new ≡ None
+
+-- ---- a peer's seats
+
+-- the seat of a slot where something is offered
+abbrev pub live_or : Option Offer → Option Via → Option Row → Option Seat
+live_or None v r = None
+live_or (Some o) None r = None
+live_or (Some o) (Some v) None = None
+live_or (Some o) (Some v) (Some r) = Some (record { via = v; prefix = r.prefix })
+
+abbrev pub live_on : Flat → Slot → Option Seat
+live_on b s = live_or (offer_on b.hops.keys s) (via_on b.peers.keys s) (slice_get b.rows.items s.row)
+
+abbrev pub is_seat : Option Seat → Seat → Bool
+is_seat None s = false
+is_seat (Some t) s = is_eq (seat_cmp t s)
+
+abbrev pub is_among : List Seat → Seat → Bool
+is_among seats s = list_any (is_at (seat_cmp s)) seats
+
+-- whether the seat is the peer's, and something is offered there
+abbrev pub is_offered_by : Peer → Seats → Seat → Bool
+is_offered_by q seats s = is_eq (code_peer_cmp q s.via.peer) && is_some (offer_at seats s)

@@ -1,13 +1,13 @@
 //! The flat base: what comes in the order of prefixes, in runs of slots.
 
-ghost use Rattle.std.specs.Prelude.{◌≡◌, ◌≢◌, ◌≤◌, ◌<◌, ◌+◌, ◌-◌, ℕ, [], suc, true, false, None, Some, MatchOption, IfOk, OnOk, OnErr, IfSome, IfNone, length, slice_get, slice_set, slice_index_or, ◌++◌, ◌∷◌};
+ghost use Rattle.std.specs.Prelude.{◌||◌, ◌≡◌, ◌≢◌, ◌≤◌, ◌<◌, ◌+◌, ◌-◌, ℕ, [], suc, true, false, None, Some, MatchOption, IfOk, OnOk, OnErr, IfSome, IfNone, length, slice_get, slice_set, slice_index_or, ◌++◌, ◌∷◌};
 ghost use Rattle.std.specs.declared.cmp.Ordering.TheVariants.{Less, Equal};
 ghost use Rattle.std.specs.Map.{lookup};
 ghost use Rattle.std.specs.BTreeMap.{is_at};
 ghost use Rattle.flat_base.specs.Orders.{seat_cmp};
 ghost use Rattle.flat_base.specs.Seats.{Seats};
 ghost use Rattle.flat_base.specs.Chains.{no_peer, end_of as chain_end};
-ghost use Rattle.flat_base.specs.Flat.{IsFlat, IsRow, HasNoRow, IsSlot, HasNoSlot, IsSlotOf, HasNoSeat, IsNumber, HasNoNumber, IsGrown, IsRun, IsBehind, IsLastRow, IsNext, IsHop, HasHop, Puts, AreNumbers, AreApart, Offers, Thins, NoSeatComes, IsLastFree, with_offer, emptied, offer_by, seats_on, no_slot, flat_seats, offer_on, via_on, no_hop, both};
+ghost use Rattle.flat_base.specs.Flat.{IsFlat, IsRow, HasNoRow, IsSlot, HasNoSlot, HasNoSeat, IsNumber, HasNoNumber, IsGrown, IsRun, IsBehind, IsLastRow, IsNext, IsHop, HasHop, Puts, AreNumbers, AreApart, Offers, Thins, NoSeatComes, IsLastFree, IsSlotOf, live_on, is_seat, is_among, is_offered_by, with_offer, emptied, offer_by, seats_on, no_slot, flat_seats, offer_on, via_on, no_hop, both};
 ghost use Rattle.flat_base.specs.Bests.{IsBest, better_on, best_step, better_one as better};
 
 use crate::keys::{Candidate, Offer, Seat};
@@ -16,6 +16,7 @@ use fib_prefix::{Addr, Peer, Prefix, Via};
 use indexmap::IndexSet;
 use std::alloc::{AllocError, Global};
 use std::cmp::Ordering;
+use std::collections::BTreeSet;
 
 /// The hop number of a slot that offers nothing.
 const NO_HOP: u32 = u32::MAX;
@@ -282,11 +283,11 @@ impl Flat {
         Ok(())
     }
 
-    /// Where a peer's chain begins: 1 more than the place of its last slot, or 0.
-    fn end_of(&self, peer: u32) -> u32
+    /// Where the chain of a peer's number begins: 1 more than the place of its last slot, or 0.
+    fn end_of(&self, peer: usize) -> u32
         ensures { result ≡ chain_end self.now.ends.items peer }
     {
-        match self.ends.get(peer as usize) {
+        match self.ends.get(peer) {
             Some(end) => *end,
             None => 0,
         }
@@ -303,7 +304,7 @@ impl Flat {
     {
         let peer = self.number_peer(&seat.peer())?;
         let hop = self.number_hop(&offer.hop())?;
-        let link = self.end_of(peer);
+        let link = self.end_of(peer as usize);
         let id = seat.id();
         let path = offer.path();
         self.push_slot(Slot {
@@ -409,7 +410,7 @@ impl Flat {
         if peer == NO_PEER {
             return None;
         }
-        let at = (self.end_of(peer) as usize).checked_sub(1)?;
+        let at = (self.end_of(peer as usize) as usize).checked_sub(1)?;
         let slot = self.slots.get(at)?;
         if slot.hop != NO_HOP {
             return None;
@@ -556,6 +557,72 @@ impl Flat {
             }
             _ => best,
         }
+    }
+
+    /// The seat of a slot where something is offered.
+    fn live_seat(&self, slot: &Slot) -> Option<Seat>
+        ensures { result ≡ live_on self.now slot.now }
+    {
+        match (
+            self.offer(slot),
+            self.via_of(slot),
+            self.rows.get(slot.row as usize),
+        ) {
+            (Some(_), Some(via), Some(row)) => Some(Seat::new(&via, &row.prefix())),
+            _ => None,
+        }
+    }
+
+    /// Adds the seat of a slot where something is offered.
+    fn add_live(&self, slot: &Slot, seats: &mut BTreeSet<Seat>) -> Result<(), AllocError>
+        ensures { OnOk result ((s : Seat) → is_among seats.new.keys s
+            ≡ (is_among seats.old.keys s || is_seat (live_on self.now slot.now) s)) }
+    {
+        if let Some(seat) = self.live_seat(slot) {
+            seats.insert(seat)?;
+        }
+        Ok(())
+    }
+
+    /// Adds the seats of a peer where something is offered.
+    ///
+    /// # Errors
+    ///
+    /// No memory.
+    pub fn add_seats_of(
+        &self,
+        peer: &Peer,
+        seats: &mut BTreeSet<Seat>,
+    ) -> Result<(), AllocError>
+        requires { IsFlat self.now }
+        ensures { OnOk result ((s : Seat) → is_among seats.new.keys s
+            ≡ (is_among seats.old.keys s || is_offered_by peer.now (flat_seats self.now) s)) }
+    {
+        match self.number_of(peer) {
+            Some(number) => self.add_chain(number, peer, seats),
+            None => Ok(()),
+        }
+    }
+
+    /// Adds the seats of a peer's chain where something is offered.
+    fn add_chain(
+        &self,
+        number: usize,
+        peer: &Peer,
+        seats: &mut BTreeSet<Seat>,
+    ) -> Result<(), AllocError>
+        requires flat { IsFlat self.now }
+        requires number { IsNumber self.now.peers.keys peer.now number }
+        ensures { OnOk result ((s : Seat) → is_among seats.new.keys s
+            ≡ (is_among seats.old.keys s || is_offered_by peer.now (flat_seats self.now) s)) }
+    {
+        let mut end = self.end_of(number);
+        while end > 0 {
+            let slot = self.slots[end as usize - 1];
+            self.add_live(&slot, seats)?;
+            end = slot.link;
+        }
+        Ok(())
     }
 
     /// How many rows there are.
