@@ -33,7 +33,7 @@ use Rattle.flat_base.specs.declared.flat.Slot.{Slot}
 use Rattle.flat_base.specs.declared.flat.Flat.{Flat}
 use Rattle.flat_base.specs.Orders.{seat_cmp}
 use Rattle.flat_base.specs.Seats.{Seats, flat, offer_at}
-use Rattle.flat_base.specs.Flat.{via_or, via_on, seat_or, seat_on, offer_on, seat_then, seats_on, flat_seats, IsPlaced, IsFlat, IsRow, HasNoRow, IsSlot, HasNoSlot, IsSlotOf, HasNoSeat, HasNoNumber, IsBehind, IsRun, off_or, IsLastRow, IsGrown, IsNumber, AreFlat, IsNext, IsHop, HasHop, AreNumbers, Puts, offer_by, with_offer, no_slot, no_hop, IsLastFree, emptied, Thins, Offers, NoSeatComes}
+use Rattle.flat_base.specs.Flat.{via_or, via_on, seat_or, seat_on, offer_on, seat_then, seats_on, flat_seats, IsPlaced, IsFlat, IsRow, HasNoRow, IsSlot, HasNoSlot, IsSlotOf, HasNoSeat, HasNoNumber, IsBehind, IsRun, off_or, IsLastRow, IsGrown, IsNumber, AreFlat, IsNext, IsHop, HasHop, AreNumbers, Puts, offer_by, with_offer, no_slot, no_hop, IsLastFree, emptied, Thins, Offers, NoSeatComes, Grows}
 use Rattle.flat_base.proofs.Tests.{peer_eq}
 use Rattle.flat_base.proofs.Chains.{chain_pushed, chain_kept, chain_longer, chain_dropped, end_there}
 use Rattle.flat_base.proofs.Views.{lookup_by_test}
@@ -857,3 +857,28 @@ thin_none old mid new t o p there h s n = elim (h s) [
     by_test : (b : Bool) → is_eq (seat_cmp t s) ≡ b → cond b (Some None) (lookup (is_at (seat_cmp s)) old) ≡ None
     by_test true m = absurd (none-some _ (sym n ∙ (same_lookup t s old m ∙ there)))
     by_test false m = n
+
+-- ---- what is there keeps its place
+
+pub grows_itself : (b : Flat) → Grows b b
+grows_itself b = record { rows = λ i x g. g; slots = λ i x g. g; peers = λ i x g. g; hops = λ i x g. g }
+
+pub same_grown : {X : Type 0} (xs ys : List X) → ys ≡ xs → IsGrown xs ys
+same_grown xs ys e i x g = ap (λ zs. slice_get zs i) e ∙ g
+
+pub pushed_grown : {X : Type 0} (xs ys : List X) (x : X) → ys ≡ xs ++ x ∷ [] → IsGrown xs ys
+pushed_grown xs ys x e i y g = ap (λ zs. slice_get zs i) e ∙ got_old xs (x ∷ []) i y g
+
+pub grows_more : (b m n : Flat) → Grows b m → Grows m n → Grows b n
+grows_more b m n f g = record {
+  rows = λ i x h. g.rows i x (f.rows i x h);
+  slots = λ i x h. g.slots i x (f.slots i x h);
+  peers = λ i x h. g.peers i x (f.peers i x h);
+  hops = λ i x h. g.hops i x (f.hops i x h);
+}
+
+-- a seat keeps its slot
+pub slot_stays : (b n : Flat) (t : Seat) (i : ℕ) → Grows b n → IsSlotOf b t i → IsSlotOf n t i
+slot_stays b n t i g x =
+    let p = seat_parts b.rows.items b.peers.keys x.slot x.seat x.is in
+    record { slot = x.slot; there = g.slots i x.slot x.there; seat = x.seat; is = seat_made n.rows.items n.peers.keys x.slot p.row p.peer (g.rows x.slot.row p.row p.row_there) (g.peers x.slot.peer p.peer p.peer_there) ∙ ap Some p.is; same = x.same }

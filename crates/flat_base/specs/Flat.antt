@@ -94,6 +94,13 @@ IsFlat b = AreFlat b.rows.items b.slots.items b.peers.keys b.hops.keys b.ends.it
 abbrev pub IsGrown : {X : Type 0} → List X → List X → Type 0
 IsGrown {X} old new = (i : ℕ) (x : X) → slice_get old i ≡ Some x → slice_get new i ≡ Some x
 
+-- what is there keeps its place and its number
+pub record Grows (old new : Flat) : Type 0 where
+  pub rows : IsGrown old.rows.items new.rows.items
+  pub slots : IsGrown old.slots.items new.slots.items
+  pub peers : IsGrown old.peers.keys new.peers.keys
+  pub hops : IsGrown old.hops.keys new.hops.keys
+
 -- the peer's number, if it has one
 abbrev pub IsNumber : List Peer → Peer → ℕ → Type 0
 IsNumber peers q n = (r : Peer) × (slice_get peers n ≡ Some r) × (same_peer (peer_as q) (peer_as r) ≡ true)

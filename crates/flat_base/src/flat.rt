@@ -7,7 +7,7 @@ ghost use Rattle.std.specs.BTreeMap.{is_at};
 ghost use Rattle.flat_base.specs.Orders.{seat_cmp};
 ghost use Rattle.flat_base.specs.Seats.{Seats};
 ghost use Rattle.flat_base.specs.Chains.{no_peer, end_of as chain_end};
-ghost use Rattle.flat_base.specs.Flat.{IsFlat, IsRow, HasNoRow, IsSlot, HasNoSlot, HasNoSeat, IsNumber, HasNoNumber, IsGrown, IsRun, IsBehind, IsLastRow, IsNext, IsHop, HasHop, Puts, AreNumbers, AreApart, Offers, Thins, NoSeatComes, IsLastFree, IsSlotOf, live_on, is_seat, is_among, is_offered_by, with_offer, emptied, offer_by, seats_on, no_slot, flat_seats, offer_on, via_on, no_hop, both};
+ghost use Rattle.flat_base.specs.Flat.{IsFlat, IsRow, HasNoRow, IsSlot, HasNoSlot, HasNoSeat, IsNumber, HasNoNumber, IsGrown, IsRun, IsBehind, IsLastRow, IsNext, IsHop, HasHop, Puts, AreNumbers, AreApart, Offers, Thins, NoSeatComes, IsLastFree, Grows, IsSlotOf, live_on, is_seat, is_among, is_offered_by, with_offer, emptied, offer_by, seats_on, no_slot, flat_seats, offer_on, via_on, no_hop, both};
 ghost use Rattle.flat_base.specs.Bests.{IsBest, better_on, best_step, better_one as better};
 
 use crate::keys::{Candidate, Offer, Seat};
@@ -183,6 +183,7 @@ impl Flat {
         ensures slots { self.new.slots.items ≡ self.old.slots.items }
         ensures peers { self.new.peers.keys ≡ self.old.peers.keys }
         ensures ends { self.new.ends.items ≡ self.old.ends.items }
+        ensures grows { Grows self.old self.new }
     {
         if self.hops.len() >= NO_HOP as usize {
             return Err(AllocError);
@@ -200,6 +201,7 @@ impl Flat {
         ensures seats { flat_seats self.new ≡ flat_seats self.old }
         ensures rows { self.new.rows.items ≡ self.old.rows.items }
         ensures hops { self.new.hops.keys ≡ self.old.hops.keys }
+        ensures grows { Grows self.old self.new }
     {
         if self.peers.len() >= NO_PEER as usize {
             return Err(AllocError);
@@ -261,6 +263,7 @@ impl Flat {
         ensures peers { self.new.peers.keys ≡ self.old.peers.keys }
         ensures hops { self.new.hops.keys ≡ self.old.hops.keys }
         ensures ends { self.new.ends.items ≡ self.old.ends.items }
+        ensures grows { Grows self.old self.new }
     {
         let row = u32::try_from(self.rows.len()).map_err(|_| AllocError)?;
         let off = u32::try_from(self.slots.len()).map_err(|_| AllocError)?;
@@ -276,6 +279,7 @@ impl Flat {
         ensures ok { OnOk result (flat_seats self.new ≡ flat_seats self.old
             ++ seats_on self.old.rows.items self.old.peers.keys self.old.hops.keys (slot ∷ [])) }
         ensures err { OnErr result (flat_seats self.new ≡ flat_seats self.old) }
+        ensures grows { Grows self.old self.new }
     {
         let end = u32::try_from(self.slots.len().saturating_add(1)).map_err(|_| AllocError)?;
         self.slots.push(slot)?;
@@ -301,6 +305,7 @@ impl Flat {
         ensures flat { IsFlat self.new }
         ensures ok { OnOk result (Puts (flat_seats self.old) (flat_seats self.new) seat.now (Some offer.now)) }
         ensures err { OnErr result (flat_seats self.new ≡ flat_seats self.old) }
+        ensures grows { Grows self.old self.new }
     {
         let peer = self.number_peer(&seat.peer())?;
         let hop = self.number_hop(&offer.hop())?;
@@ -324,6 +329,7 @@ impl Flat {
         ensures row { IfOk result (λ row. IfSome row (IsLastRow self.new.rows.items prefix.now)) }
         ensures flat { IsFlat self.new }
         ensures seats { flat_seats self.new ≡ flat_seats self.old }
+        ensures grows { Grows self.old self.new }
     {
         match self.order_last(prefix) {
             Ordering::Less => Ok(Some(self.push_row(prefix)?)),
@@ -353,6 +359,7 @@ impl Flat {
         ensures yes { IfOk result (λ b. b ≡ true → Puts (flat_seats self.old) (flat_seats self.new) seat.now (Some offer.now)) }
         ensures no { IfOk result (λ b. b ≡ false → flat_seats self.new ≡ flat_seats self.old) }
         ensures err { OnErr result (flat_seats self.new ≡ flat_seats self.old) }
+        ensures grows { Grows self.old self.new }
     {
         match self.row_behind(&seat.prefix())? {
             Some(row) => {
@@ -469,6 +476,7 @@ impl Flat {
         ensures flat { IsFlat self.new }
         ensures ok { OnOk result (Puts (flat_seats self.old) (flat_seats self.new) seat.now (Some offer.now)) }
         ensures err { OnErr result (flat_seats self.new ≡ flat_seats self.old) }
+        ensures grows { OnErr result (Grows self.old self.new) }
     {
         let hop = self.number_hop(&offer.hop())?;
         self.put_at(at, seat, offer.path(), hop);

@@ -3,7 +3,7 @@ use Rattle.std.specs.Map.{lookup}
 use Rattle.std.specs.BTreeMap.{is_at}
 use Rattle.flat_base.specs.Orders.{seat_cmp}
 use Rattle.flat_base.specs.Flat.{IsFlat, IsLastRow, IsNumber, HasNoSeat, flat_seats}
-use Rattle.flat_base.proofs.Flats.{next_slot, appended}
+use Rattle.flat_base.proofs.Flats.{next_slot, appended, grows_more}
 use Rattle.flat_base.proofs.flat.Flat.append_to.Goals as goal
 
 pub push_slot-requires-clause-next : goal.push_slot-requires-clause-next
@@ -26,3 +26,9 @@ returns-clause-ok c =
     appended c.args.self.now m q c.args.row c.in_ok-peer.peer c.in_ok-hop.hop c.path-path.result c.id-id.result c.end_of-link.result c.hop.result c.args.offer.now seats row.0
     (subst (λ keys. IsNumber keys q.via.peer c.in_ok-peer.peer) (sym c.number_hop.ensures.peers) (subst (λ p. IsNumber c.number_peer.new.self.peers.keys p c.in_ok-peer.peer) c.peer.ensures c.in_ok-peer.ensures.peer))
     c.in_ok-hop.ensures.hop c.path-path.ensures c.hop.ensures c.id-id.ensures c.requires.new _ c.in_ok-push_slot.ensures.ok
+
+pub returns-clause-grows : goal.returns-clause-grows
+returns-clause-grows c = grows_more c.args.self.now c.number_hop.new.self _ (grows_more c.args.self.now c.number_peer.new.self c.number_hop.new.self c.number_peer.ensures.grows c.number_hop.ensures.grows) c.push_slot.ensures.grows
+
+pub returns-in_err-push_slot-clause-grows : goal.returns-in_err-push_slot-clause-grows
+returns-in_err-push_slot-clause-grows c = grows_more c.args.self.now c.number_hop.new.self _ (grows_more c.args.self.now c.number_peer.new.self c.number_hop.new.self c.number_peer.ensures.grows c.number_hop.ensures.grows) c.push_slot.ensures.grows
