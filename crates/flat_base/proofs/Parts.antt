@@ -119,3 +119,24 @@ on_err (Err x) h = h
 
 pub puts_as : (xs new : Seats) (s t : Seat) (o p : Option Offer) → s ≡ t → o ≡ p → Puts xs new s o → Puts xs new t p
 puts_as xs new s t o p e a h = subst (λ r. Puts xs new r p) e (subst (Puts xs new s) a h)
+
+-- nothing offered any more in the flat part, from which seats may go
+pub flat_ends : (xs new ys : Seats) (t : Seat) (o : Option Offer) → AreApart xs ys → at t xs ≡ Some o → Offers xs new t None → NoSeatComes xs new → Offers (xs ++ ys) (new ++ ys) t None
+flat_ends xs new ys t o a there h none s = by_old (at s xs) refl
+  where
+    other : at s xs ≡ None → (b : Bool) → is_eq (seat_cmp t s) ≡ b → b ≡ false
+    other e true m = let x : Some o ≡ None = sym there ∙ (sym (same_lookup t s xs m) ∙ e) in absurd cc
+    other e false m = refl
+
+    by_new : (v : Option Offer) → at s xs ≡ Some v → (w : Option (Option Offer)) → at s new ≡ w → offer_at (new ++ ys) s ≡ flat w
+    by_new v e None f = offer_over s new ys f ∙ no_other xs ys s v a e
+    by_new v e (Some w) f = offer_under s new ys w f
+
+    by_old : (v : Option (Option Offer)) → at s xs ≡ v → offer_at (new ++ ys) s ≡ cond (is_eq (seat_cmp t s)) None (offer_at (xs ++ ys) s)
+    by_old None e =
+        offer_over s new ys (none s e) ∙ (sym (offer_over s xs ys e) ∙ sym (ap (λ b. cond b None (offer_at (xs ++ ys) s)) (other e (is_eq (seat_cmp t s)) refl)))
+    by_old (Some v) e =
+        by_new v e (at s new) refl ∙ (h s ∙ (ap (λ x. cond (is_eq (seat_cmp t s)) None (flat x)) e ∙ sym (ap (cond (is_eq (seat_cmp t s)) None) (offer_under s xs ys v e))))
+
+pub fewer_apart : (xs new ys : Seats) → NoSeatComes xs new → AreApart xs ys → AreApart new ys
+fewer_apart xs new ys h a s offer e = h s (a s offer e)

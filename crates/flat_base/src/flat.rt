@@ -1,6 +1,6 @@
 //! The flat base: what comes in the order of prefixes, in runs of slots.
 
-ghost use Rattle.std.specs.Prelude.{◌||◌, ◌≡◌, ◌≢◌, ◌≤◌, ◌<◌, ◌+◌, ◌-◌, ℕ, [], suc, true, false, None, Some, MatchOption, IfOk, OnOk, OnErr, IfSome, IfNone, length, slice_get, slice_set, slice_index_or, ◌++◌, ◌∷◌};
+ghost use Rattle.std.specs.Prelude.{◌||◌, ◌≡◌, ◌≢◌, ◌≤◌, ◌<◌, ◌+◌, ◌-◌, ℕ, [], suc, true, false, None, Some, MatchOption, IfOk, OnOk, OnErr, IfSome, IfNone, length, option_map, slice_get, slice_set, slice_index_or, ◌++◌, ◌∷◌};
 ghost use Rattle.std.specs.declared.cmp.Ordering.TheVariants.{Less, Equal};
 ghost use Rattle.std.specs.Map.{lookup};
 ghost use Rattle.std.specs.BTreeMap.{is_at};
@@ -642,7 +642,7 @@ impl Flat {
 
     /// The prefix of a row.
     pub fn prefix_of(&self, row: usize) -> Option<Prefix>
-        ensures { IfSome result (λ p. IsRow self.now.rows.items p row) }
+        ensures { result ≡ option_map (λ (r : Row). r.prefix) (slice_get self.now.rows.items row) }
     {
         match self.rows.get(row) {
             Some(row) => Some(row.prefix()),
