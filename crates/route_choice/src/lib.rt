@@ -18,9 +18,13 @@
 //! A change costs a few look-ups, whatever the other routes are; what a lost session takes costs its own routes.
 #![tactic(auto)]
 
+mod both;
 mod candidates;
 mod choice;
-mod keys;
+mod down;
+mod over;
+mod plan;
+mod routes;
 
 pub use candidates::Candidates;
 pub use choice::{Choice, Pick};
