@@ -55,9 +55,9 @@ chain_pushed slots ends s end c there listed link at = record {
     | inr y ↦
         let e2 : s.link ≡ suc k = ap (λ (w : Slot). w.link) y.1 ∙ e in
         elim (got_pushed slots s k t h) [
-        | inl z ↦ c.heads s.peer k t listed (sym link ∙ e2) z ∙ ap (λ (w : Slot). w.peer) y.1
-        | inr z ↦ absurd (omega (arith, c.within s.peer, link, e2, z.0))
-      ]
+          | inl z ↦ c.heads s.peer k t listed (sym link ∙ e2) z ∙ ap (λ (w : Slot). w.peer) y.1
+          | inr z ↦ absurd (omega (arith, c.within s.peer, link, e2, z.0))
+        ]
   ];
   passes = λ i j u t l g h p e. elim (got_pushed slots s j t h) [
     | inl z ↦ elim (got_pushed slots s i u g) [

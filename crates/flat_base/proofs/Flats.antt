@@ -1,5 +1,5 @@
 -- The seats of the flat candidates.
-use Rattle.std.proofs.Common.{length-append, length-set, ◌^◌, Result, Ok, Err, nat_eq, get_or, ◌-◌, position, ◌≡◌, ℕ, zero, suc, ◌<◌, ◌≤◌, List, [], ◌∷◌, ◌++◌, Bool, true, false, cond, Option, Some, None, length, refl, sym, ap, subst, ◌∙◌, arith, inl, inr}
+use Rattle.std.proofs.Common.{not, length-append, length-set, ◌^◌, Result, Ok, Err, nat_eq, get_or, ◌-◌, position, ◌≡◌, ℕ, zero, suc, ◌<◌, ◌≤◌, List, [], ◌∷◌, ◌++◌, Bool, true, false, cond, Option, Some, None, length, refl, sym, ap, subst, ◌∙◌, arith, inl, inr}
 use Rattle.std.specs.Prelude.{◌⊎◌, ◌&&◌, slice_get, slice_set, option_map, MatchOption, IfSome, IfNone}
 use Rattle.std.specs.Map.{lookup}
 use Rattle.std.specs.List.{list_any}
@@ -34,7 +34,7 @@ use Rattle.flat_base.specs.declared.flat.Flat.{Flat}
 use Rattle.flat_base.specs.Orders.{seat_cmp}
 use Rattle.flat_base.specs.Seats.{Seats, flat, offer_at}
 use Rattle.flat_base.specs.Flat.{via_or, via_on, seat_or, seat_on, offer_on, seat_then, seats_on, flat_seats, IsPlaced, IsFlat, IsRow, HasNoRow, IsSlot, HasNoSlot, IsSlotOf, HasNoSeat, HasNoNumber, IsBehind, IsRun, off_or, IsLastRow, IsGrown, IsNumber, AreFlat, IsNext, IsHop, HasHop, AreNumbers, Puts, offer_by, with_offer, no_slot, no_hop, IsLastFree, emptied, Thins, Offers, NoSeatComes, Grows}
-use Rattle.flat_base.proofs.Tests.{peer_eq}
+use Rattle.flat_base.proofs.Equals.{peer_eq}
 use Rattle.flat_base.proofs.Chains.{chain_pushed, chain_kept, chain_longer, chain_dropped, end_there}
 use Rattle.flat_base.proofs.Views.{lookup_by_test}
 use Rattle.flat_base.proofs.Places.{apart_key, position_found, position_none, got_old, got_new, got_pushed, got_set, got_set_at, set_got, grown_key}
@@ -818,7 +818,7 @@ module _ (b : Flat) (q at : ℕ) (f : IsFlat b) (x : IsLastFree b q at) where
         where
           stays : (i : ℕ) (z : IsSlotOf b s i) → (i ≡ at → ⊥) → lookup (is_at (seat_cmp s)) after ≡ lookup (is_at (seat_cmp s)) (flat_seats b)
           stays i z n =
-              lookup_found b.rows.items b.peers.keys b.hops.keys s (slice_set b.slots.items at (emptied x.slot)) i z.slot z.seat (elim (set_got b.slots.items at (emptied x.slot) i z.slot z.there) [ | inl k ↦ absurd (n k) | inr g ↦ g ]) z.is z.same
+              lookup_found b.rows.items b.peers.keys b.hops.keys s (slice_set b.slots.items at (emptied x.slot)) i z.slot z.seat (elim (set_got b.slots.items at (emptied x.slot) i z.slot z.there) [ inl k ↦ absurd (n k) | inr g ↦ g ]) z.is z.same
               (λ j u v g e m. same_seat_slots b f j i u z.slot v z.seat (seat_back j u v g e) z.there e z.is (seats_join s v z.seat m z.same))
               ∙ sym (offer_found b s i f z)
 
@@ -882,3 +882,15 @@ pub slot_stays : (b n : Flat) (t : Seat) (i : ℕ) → Grows b n → IsSlotOf b 
 slot_stays b n t i g x =
     let p = seat_parts b.rows.items b.peers.keys x.slot x.seat x.is in
     record { slot = x.slot; there = g.slots i x.slot x.there; seat = x.seat; is = seat_made n.rows.items n.peers.keys x.slot p.row p.peer (g.rows x.slot.row p.row p.row_there) (g.peers x.slot.peer p.peer p.peer_there) ∙ ap Some p.is; same = x.same }
+
+-- ---- guesses that are tested
+
+not_not : (b : Bool) → false ≡ not b → b ≡ true
+not_not true e = refl
+not_not false e = absurd cc
+
+pub near_number : (q r : Peer) (keys : List Peer) (n : ℕ) → slice_get keys n ≡ Some r → false ≡ not (peer_test r q) → IsNumber keys q n
+near_number q r keys n g t = (r, g, sym (peer_test_is q r) ∙ (peer_back q r ∙ not_not (peer_test r q) t))
+
+pub near_hop : (h k : Addr) (keys : List Addr) (n : ℕ) → slice_get keys n ≡ Some k → false ≡ not (addr_test k h) → slice_get keys n ≡ Some h
+near_hop h k keys n g t = g ∙ ap Some (addr_same k h (not_not (addr_test k h) t))

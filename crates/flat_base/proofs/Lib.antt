@@ -1,6 +1,6 @@
 pub mod Packs
 pub mod Orders
-pub mod Tests
+pub mod Equals
 pub mod Views
 pub mod Holds
 pub mod Places

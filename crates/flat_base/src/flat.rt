@@ -137,9 +137,41 @@ impl Flat {
 
     /// A peer's number.
     fn number_of(&self, peer: &Peer) -> Option<usize>
-        ensures { MatchOption result (HasNoNumber self.now.peers.keys peer.now) (IsNumber self.now.peers.keys peer.now) }
+        ensures { MatchOption result (HasNoNumber self.now.peers.keys peer.now)
+            (IsNumber self.now.peers.keys peer.now) }
     {
-        self.peers.get_index_of(peer)
+        match self.number_near(peer) {
+            Some(number) => Some(number as usize),
+            None => self.peers.get_index_of(peer),
+        }
+    }
+
+    /// A peer's number, where its slot follows as it did in the row before: a guess that is tested, in place of a look-up.
+    fn number_near(&self, peer: &Peer) -> Option<u32>
+        ensures { IfSome result (IsNumber self.now.peers.keys peer.now) }
+    {
+        let last = self.slots.last()?;
+        let next = self.slots.get(last.link as usize)?;
+        let number = next.peer;
+        let near = self.peers.get_index(number as usize)?;
+        if *near != *peer {
+            return None;
+        }
+        Some(number)
+    }
+
+    /// A hop's number, where it is that of the peer's last slot: a guess that is tested, in place of a look-up.
+    fn hop_near(&self, peer: u32, hop: &Addr) -> Option<u32>
+        ensures { IfSome result (λ n. slice_get self.now.hops.keys n ≡ Some hop.now) }
+    {
+        let at = (self.end_of(peer as usize) as usize).checked_sub(1)?;
+        let slot = self.slots.get(at)?;
+        let number = slot.hop;
+        let near = self.hops.get_index(number as usize)?;
+        if *near != *hop {
+            return None;
+        }
+        Some(number)
     }
 
     /// The place of a seat's slot.
@@ -193,6 +225,26 @@ impl Flat {
         Ok(number)
     }
 
+    /// The number of a hop that a peer's route has, which it gets if it has none.
+    fn number_hop_of(&mut self, peer: u32, hop: &Addr) -> Result<u32, AllocError>
+        ensures hop { IfOk result (λ n. slice_get self.new.hops.keys n ≡ Some hop.now) }
+        ensures grown { IsGrown self.old.hops.keys self.new.hops.keys }
+        ensures few { length self.old.hops.keys ≤ no_hop → length self.new.hops.keys ≤ no_hop }
+        ensures flat { IsFlat self.old → IsFlat self.new }
+        ensures seats { IsFlat self.old → flat_seats self.new ≡ flat_seats self.old }
+        ensures rows { self.new.rows.items ≡ self.old.rows.items }
+        ensures slots { self.new.slots.items ≡ self.old.slots.items }
+        ensures peers { self.new.peers.keys ≡ self.old.peers.keys }
+        ensures ends { self.new.ends.items ≡ self.old.ends.items }
+        ensures grows { Grows self.old self.new }
+    {
+        if let Some(number) = self.hop_near(peer, hop) {
+            return Ok(number);
+        }
+        let number = self.number_hop(hop)?;
+        Ok(number)
+    }
+
     /// A peer's number, which it gets if it has none.
     fn number_peer(&mut self, peer: &Peer) -> Result<u32, AllocError>
         requires { IsFlat self.old }
@@ -203,6 +255,9 @@ impl Flat {
         ensures hops { self.new.hops.keys ≡ self.old.hops.keys }
         ensures grows { Grows self.old self.new }
     {
+        if let Some(number) = self.number_near(peer) {
+            return Ok(number);
+        }
         if self.peers.len() >= NO_PEER as usize {
             return Err(AllocError);
         }
@@ -308,7 +363,7 @@ impl Flat {
         ensures grows { Grows self.old self.new }
     {
         let peer = self.number_peer(&seat.peer())?;
-        let hop = self.number_hop(&offer.hop())?;
+        let hop = self.number_hop_of(peer, &offer.hop())?;
         let link = self.end_of(peer as usize);
         let id = seat.id();
         let path = offer.path();
@@ -597,11 +652,7 @@ impl Flat {
     /// # Errors
     ///
     /// No memory.
-    pub fn add_seats_of(
-        &self,
-        peer: &Peer,
-        seats: &mut BTreeSet<Seat>,
-    ) -> Result<(), AllocError>
+    pub fn add_seats_of(&self, peer: &Peer, seats: &mut BTreeSet<Seat>) -> Result<(), AllocError>
         requires { IsFlat self.now }
         ensures { OnOk result ((s : Seat) → is_among seats.new.keys s
             ≡ (is_among seats.old.keys s || is_offered_by peer.now (flat_seats self.now) s)) }

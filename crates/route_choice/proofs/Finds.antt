@@ -32,7 +32,7 @@ use Rattle.route_choice.specs.Walks.{ranks_of, seats_of, offer_ranked, or_next, 
 use Rattle.flat_base.specs.Bests.{is_out}
 use Rattle.flat_base.proofs.Orders.{prefix_total, peer_total}
 use denote.Enum.Bare.{sameb}
-use Rattle.flat_base.proofs.Tests.{via_eq, prefix_eq, peer_eq}
+use Rattle.flat_base.proofs.Equals.{via_eq, prefix_eq, peer_eq}
 use Rattle.flat_base.proofs.Orders.{is_equal}
 
 -- ---- the code's tests of equality say what its orders do

@@ -8,7 +8,9 @@ ghost use Rattle.route_choice.specs.Seats.{IsIndexed, seat_in, offer_in};
 ghost use Rattle.route_choice.specs.Kept.{IsKept, StaysKept, KeepsBeside};
 ghost use Rattle.route_choice.specs.Space.{HasPlace, HasNumber, HasSpace, over_of as over};
 
-use crate::over::{best_but, carry_out, cut_offer, make_room_for, offer_at, offer_of, put_offer, seat_of};
+use crate::over::{
+    best_but, carry_out, cut_offer, make_room_for, offer_at, offer_of, put_offer, seat_of,
+};
 use crate::plan::Plan;
 use fib_prefix::{Elem, Prefix, Via};
 use flat_base::{Candidate, Flat, Offer, Rank, Seat};
@@ -28,11 +30,7 @@ pub fn plan_of(flat: &Flat, elem: &Elem) -> Plan
 }
 
 /// What is offered at a seat.
-pub fn offered_at(
-    flat: &Flat,
-    seats: &BTreeMap<Seat, Option<Offer>>,
-    seat: &Seat,
-) -> Option<Offer>
+pub fn offered_at(flat: &Flat, seats: &BTreeMap<Seat, Option<Offer>>, seat: &Seat) -> Option<Offer>
     requires { IsFlat flat.now }
     ensures { result ≡ offered (both flat.now seats.now.entries) seat.now }
 {

@@ -13,9 +13,9 @@ ghost use Rattle.route_choice.specs.Space.{HasSpace, planned_elem, over_of as ov
 use crate::both::{best_of, carry_one, load_elem, make_space, offered_at, plan_of};
 use crate::choice::{Choice, Pick};
 use crate::down::cuts_of;
-use crate::routes::routes_of as all_routes;
 use crate::over::{better_hop, give_back, offer_of, seat_of};
 use crate::plan::{Plan, over_of};
+use crate::routes::routes_of as all_routes;
 use fib_prefix::{Addr, Elem, Event, Peer, Prefix};
 use flat_base::{Flat, Offer, Rank, Seat};
 use std::alloc::{AllocError, Global};
@@ -103,7 +103,12 @@ impl Candidates {
         make_space(&mut self.flat, &mut self.seats, &mut self.ranks, &plan)?;
         let earlier = over_of(&self.room);
         self.room = Some(plan);
-        give_back(&mut self.seats, &mut self.ranks, earlier, &over_of(&self.room));
+        give_back(
+            &mut self.seats,
+            &mut self.ranks,
+            earlier,
+            &over_of(&self.room),
+        );
         Ok(())
     }
 

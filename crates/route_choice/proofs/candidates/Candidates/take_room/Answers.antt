@@ -20,10 +20,12 @@ returns-in_err-make_space-clause-err c =
     rw p.1 (ap (λ held. let h : Held = record { candidates = held; room = option_map planned_elem c.self.inside.room } in h) (unchanged _ _ (both_same _ _ _ _ c.make_space.ensures.base c.make_space.ensures.offers)) ∙ c.self.view_is)
 
 pub invariant_of-self-2 : goal.invariant_of-self-2
-invariant_of-self-2 c =
-    (c.make_space.ensures.flat, apart_same _ c.make_space.new.seats.entries _ c.give_back.ensures.offers (apart_both _ _ c.self.inside.seats.entries _ c.make_space.ensures.base c.make_space.ensures.offers c.self.invariant.1),
-    kept_after c.self.inside.seats.entries c.make_space.new.seats.entries c.give_back.new.seats.entries c.self.inside.ranks.keys c.make_space.new.ranks.keys c.give_back.new.ranks.keys c.self.inside.room c.over_of-earlier.result c.over_of.result (over_of (Some c.plan_of-plan.result)) c.self.invariant.2 c.in_ok-make_space.ensures.kept c.over_of-earlier.ensures c.over_of.ensures c.give_back.ensures.kept,
-    c.in_ok-make_space.ensures.space)
+invariant_of-self-2 c = (
+  c.make_space.ensures.flat,
+  apart_same _ c.make_space.new.seats.entries _ c.give_back.ensures.offers (apart_both _ _ c.self.inside.seats.entries _ c.make_space.ensures.base c.make_space.ensures.offers c.self.invariant.1),
+  kept_after c.self.inside.seats.entries c.make_space.new.seats.entries c.give_back.new.seats.entries c.self.inside.ranks.keys c.make_space.new.ranks.keys c.give_back.new.ranks.keys c.self.inside.room c.over_of-earlier.result c.over_of.result (over_of (Some c.plan_of-plan.result)) c.self.invariant.2 c.in_ok-make_space.ensures.kept c.over_of-earlier.ensures c.over_of.ensures c.give_back.ensures.kept,
+  c.in_ok-make_space.ensures.space,
+)
 
 pub returns-clause-candidates : goal.returns-clause-candidates
 returns-clause-candidates c = unchanged _ _ (over_same _ _ _ c.give_back.ensures.offers) ∙ (unchanged _ _ (both_same _ _ _ _ c.make_space.ensures.base c.make_space.ensures.offers) ∙ ap (λ (h : Held). h.candidates) c.self.view_is)
