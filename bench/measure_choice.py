@@ -22,7 +22,7 @@ PROGRAM = """\
 //! Candidates in number, for time.
 #![tactic(auto)]
 
-use fib_prefix::{Addr, Elem, Event, Peer, Prefix};
+use fib_prefix::{Addr, Elem, Event, Peer, Prefix, Via};
 use route_choice::Candidates;
 use std::alloc::AllocError;
 use std::io;
@@ -43,13 +43,21 @@ fn peer(n: u32) -> Peer {
     }
 }
 
+/// The way of a peer's routes without a path identifier.
+fn via(n: u32) -> Via {
+    Via {
+        peer: peer(n),
+        id: 0,
+    }
+}
+
 fn put(held: &mut Candidates, q: u32, prefix: Prefix, path: u32) -> Result<(), AllocError> {
-    held.apply(&Elem::Put(peer(q), prefix, path, Addr::v4(q)))?;
+    held.apply(&Elem::Put(via(q), prefix, path, Addr::v4(q)))?;
     Ok(())
 }
 
 fn load(held: &mut Candidates, q: u32, prefix: Prefix, path: u32) -> Result<(), AllocError> {
-    held.load(&Elem::Put(peer(q), prefix, path, Addr::v4(q)))
+    held.load(&Elem::Put(via(q), prefix, path, Addr::v4(q)))
 }
 
 fn fill(held: &mut Candidates) -> Result<(), AllocError> {
@@ -85,7 +93,7 @@ fn crowd(held: &mut Candidates) -> Result<(), AllocError> {
         }
     }
     for q in 0..60_000u32 {
-        held.apply(&Elem::Cut(peer(q), ordered(0)))?;
+        held.apply(&Elem::Cut(via(q), ordered(0)))?;
     }
     Ok(())
 }

@@ -22,16 +22,20 @@ use Rattle.route_model.specs.Choice as model
 use Rattle.route_model.specs.Choice.{Place, Candidates, IsHeld, same_place, beats}
 use Rattle.route_model.proofs.Places.{via_key}
 use Rattle.route_model.proofs.Choices.{beats_flipped}
-use Rattle.route_choice.specs.declared.keys.Seat.{Seat}
-use Rattle.route_choice.specs.declared.keys.Rank.{Rank}
-use Rattle.route_choice.specs.declared.keys.Offer.{Offer}
-use Rattle.route_choice.specs.declared.keys.Candidate.{Candidate}
-use Rattle.route_choice.specs.Orders.{seat_cmp, rank_cmp}
+use Rattle.flat_base.specs.declared.keys.Seat.{Seat}
+use Rattle.flat_base.specs.declared.keys.Rank.{Rank}
+use Rattle.flat_base.specs.declared.keys.Offer.{Offer}
+use Rattle.flat_base.specs.declared.keys.Candidate.{Candidate}
+use Rattle.flat_base.specs.Orders.{seat_cmp, rank_cmp}
 use Rattle.fib_prefix.specs.Order.{code_via_cmp}
-use Rattle.route_choice.specs.Seats.{Seats, held_in, flat, offer_at, rank_at, seat_of, IsIndexed}
-use Rattle.route_choice.specs.Walks.{ranks_of, offer_with_path, offer_ranked, is_out, or_next, first_in}
-use Rattle.route_choice.proofs.Orders.{place_as, via_is, via_same, prefix_same, prefix_total, seat_total, rank_total, via_total, seat_tied}
-use Rattle.route_choice.proofs.Views.{offer_as, at_seat, held_seat, lookup_by_test}
+use Rattle.flat_base.specs.Seats.{Seats, held_in, flat, offer_at, rank_at, seat_of}
+use Rattle.route_choice.specs.Seats.{IsIndexed}
+use Rattle.route_choice.specs.Walks.{ranks_of, offer_with_path, offer_ranked, or_next, first_in}
+use Rattle.flat_base.proofs.Orders.{place_as, via_is, via_same, prefix_same, prefix_total, seat_total, rank_total, via_total, seat_tied}
+use Rattle.flat_base.proofs.Views.{at_seat, held_seat, lookup_by_test}
+use Rattle.flat_base.specs.Bests.{IsBestOf, is_out, out_as, candidate_as, offer_as}
+use Rattle.flat_base.proofs.Holds.{code_of, is_out_as}
+use Rattle.flat_base.proofs.Orders.{is_equal}
 
 -- ---- what the walk over ranks finds
 
@@ -98,7 +102,7 @@ none_is seats but (r ∷ ranks) h = by_out (is_out but r.via) refl (offer_ranked
 
 -- ---- each candidate of a prefix is among its ranks
 
-any_element : {K : Type 0} (test : K → Bool) (T : K → Type 0) (ks : List K) → list_any test ks ≡ true → AllByRecursion T ks → (k : K) × (test k ≡ true) × T k
+pub any_element : {K : Type 0} (test : K → Bool) (T : K → Type 0) (ks : List K) → list_any test ks ≡ true → AllByRecursion T ks → (k : K) × (test k ≡ true) × T k
 any_element test T [] h a = absurd cc
 any_element {K = K} test T (k ∷ ks) h a = by_test (test k) refl h (λ g. any_element test T ks g a.1)
   where
@@ -142,35 +146,10 @@ any_filtered test p (k ∷ ks) f h = by_test (test k) refl (p k) refl h (any_fil
     by_test false t true u g ih = ap (λ x. x || list_any test (filter p ks)) t ∙ ih g
     by_test false t false u g ih = ih g
 
-pub record HasCode (seats : Seats) (d : Place × model.Offer) : Type 0 where
-  pub seat : Seat
-  pub place : place_as seat ≡ d.0
-  pub offer : Offer
-  pub here : offer_at seats seat ≡ Some offer
-  pub is : offer_as offer ≡ d.1
-
-pub code_of : (seats : Seats) (d : Place × model.Offer) → IsHeld (held_in seats) d → HasCode seats d
-code_of seats d h = by_seat (held_seat d.0 d.1 seats h)
-  where
-    by_offer : (s : Seat) → place_as s ≡ d.0 → (o : Option Offer) → offer_at seats s ≡ o → option_map offer_as o ≡ Some d.1 → HasCode seats d
-    by_offer s e None f g = absurd cc
-    by_offer s e (Some offer) f g = record { seat = s; place = e; offer = offer; here = f; is = same_value (offer_as offer) d.1 g }
-      where
-        same_value : (v w : model.Offer) → Some v ≡ Some w → v ≡ w
-        same_value v w i = cc
-
-    by_seat : (s : Seat) × (place_as s ≡ d.0) → HasCode seats d
-    by_seat r = by_offer r.0 r.1 (offer_at seats r.0) refl (sym (at_seat r.0 seats) ∙ (ap (λ q. lookup (same_place q) (held_in seats)) r.1 ∙ h))
-
 eq_parts : (a b : Ordering) → is_eq (ordering_then a b) ≡ true → (a ≡ Equal) × (is_eq b ≡ true)
 eq_parts Less b e = cc
 eq_parts Equal b e = (refl, e)
 eq_parts Greater b e = cc
-
-pub is_equal : (o : Ordering) → is_eq o ≡ true → o ≡ Equal
-is_equal Less e = cc
-is_equal Equal e = refl
-is_equal Greater e = cc
 
 path_equal : (x y : ℕ) → nat_cmp x y ≡ Equal → x ≡ y
 path_equal x y e = ranked x y Equal (sym e)
@@ -238,22 +217,6 @@ rank_of seats ranks p T d i a h e =
     }
 
 -- ---- the best candidate of a prefix, of the ways that aren't out
-
-abbrev pub IsBestOf : Candidates → Prefix → (events.Via → Bool) → Option (Place × model.Offer) → Type 0
-IsBestOf held p out None = (d : Place × model.Offer) → IsHeld held d → same_prefix p d.0.prefix ≡ true → out d.0.via ≡ true
-IsBestOf held p out (Some c) =
-    IsHeld held c × (c.0.prefix ≡ p) × (out c.0.via ≡ false) × ((d : Place × model.Offer) → IsHeld held d → same_prefix p d.0.prefix ≡ true → out d.0.via ≡ false → beats d c ≡ false)
-
-abbrev pub out_as : Option Via → events.Via → Bool
-out_as None m = false
-out_as (Some q) m = same_via (via_as q) m
-
-is_out_as : (but : Option Via) (q : Via) → is_out but q ≡ out_as but (via_as q)
-is_out_as None q = refl
-is_out_as (Some p) q = via_same p q
-
-abbrev pub candidate_as : Prefix → Candidate → Place × model.Offer
-candidate_as p c = (record { prefix = p; via = via_as c.via }, offer_as c.offer)
 
 pub best_is : (seats : Seats) (ranks : List Rank) (p : code.Prefix) (but : Option Via) → IsIndexed seats ranks → IsStrictlySortedBy rank_cmp ranks → (o : Option Candidate) → first_in seats but (ranks_of p ranks) ≡ o → IsBestOf (held_in seats) (prefix_as p) (out_as but) (option_map (candidate_as (prefix_as p)) o)
 best_is seats ranks p but i s None f = λ d h e.

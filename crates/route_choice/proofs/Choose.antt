@@ -1,5 +1,5 @@
 -- The chosen hop before and after an elementary event.
-use Rattle.std.proofs.Common.{◌≡◌, ℕ, List, Bool, true, false, cond, Option, Some, None, refl, sym, ap, ◌∙◌}
+use Rattle.std.proofs.Common.{subst, ◌≡◌, ℕ, List, Bool, true, false, cond, Option, Some, None, refl, sym, ap, ◌∙◌}
 use Rattle.std.specs.Prelude.{option_map, if◌then◌else◌, ◌&&◌, ◌||◌, ◌==◌, nat_lt}
 use Rattle.std.specs.List.Sorted.{IsStrictlySortedBy}
 use Rattle.std.specs.Map.{lookup}
@@ -22,23 +22,24 @@ use Rattle.route_model.specs.Choice.{Place, Candidates, AreCandidates, IsHeld, s
 use Rattle.route_model.proofs.Places.{place_key, via_key}
 use Rattle.route_model.proofs.Choices.{chosen_for-best, chosen_for-none, not_itself, not_back, not_beaten}
 use Rattle.route_model.proofs.Said.{candidates_after, offer_after}
-use Rattle.route_choice.specs.declared.keys.Seat.{Seat}
-use Rattle.route_choice.specs.declared.keys.Rank.{Rank}
-use Rattle.route_choice.specs.declared.keys.Offer.{Offer}
-use Rattle.route_choice.specs.declared.keys.Candidate.{Candidate}
+use Rattle.flat_base.specs.declared.keys.Seat.{Seat}
+use Rattle.flat_base.specs.declared.keys.Rank.{Rank}
+use Rattle.flat_base.specs.declared.keys.Offer.{Offer}
+use Rattle.flat_base.specs.declared.keys.Candidate.{Candidate}
 use Rattle.route_choice.specs.declared.choice.Choice.{Choice}
-use Rattle.route_choice.specs.Orders.{rank_cmp}
+use Rattle.flat_base.specs.Orders.{rank_cmp}
 use Rattle.fib_prefix.specs.Order.{code_via_cmp}
-use Rattle.route_choice.specs.Seats.{Seats, held_in, offer_at, IsIndexed, seat_in, offer_in}
+use Rattle.flat_base.specs.Seats.{Seats, held_in, offer_at}
+use Rattle.route_choice.specs.Seats.{IsIndexed, seat_in, offer_in}
 use Rattle.route_choice.specs.Walks.{ranks_of, first_in, better_of}
 use Rattle.route_model.specs.Events.{elem_prefix}
 use Rattle.route_choice.specs.Held.{IsChoice}
-use Rattle.route_choice.proofs.Orders.{place_as, via_is}
-use Rattle.route_choice.proofs.Views.{offer_as, are_candidates, at_seat, about_is, offered_is, is_elem}
-use Rattle.route_choice.proofs.Best.{IsBestOf, out_as, candidate_as, best_is}
-
-abbrev place_at : Prefix → events.Via → Place
-place_at p q = record { prefix = p; via = q }
+use Rattle.flat_base.proofs.Orders.{place_as, via_is}
+use Rattle.flat_base.specs.Bests.{offer_as}
+use Rattle.flat_base.proofs.Views.{are_candidates, at_seat}
+use Rattle.route_choice.proofs.Views.{about_is, offered_is, is_elem}
+use Rattle.flat_base.specs.Bests.{IsBestOf, IsBest, out_as, candidate_as}
+use Rattle.flat_base.proofs.Holds.{place_at, same_value, is_own, is_better}
 
 -- the better of what comes by a way and what by the others
 abbrev model_better : Place → Option model.Offer → Option (Place × model.Offer) → Option Address
@@ -46,15 +47,6 @@ model_better at None None = None
 model_better at None (Some c) = Some c.1.hop
 model_better at (Some o) None = Some o.hop
 model_better at (Some o) (Some c) = if beats (at, o) c then Some o.hop else Some c.1.hop
-
-same_value : {X : Type 0} (v w : X) → Some v ≡ Some w → v ≡ w
-same_value v w i = cc
-
--- a candidate of the prefix and the way is what is offered there
-is_own : (held : Candidates) (p : Prefix) (q : events.Via) (d : Place × model.Offer) → IsHeld held d → same_prefix p d.0.prefix ≡ true → same_via q d.0.via ≡ true → (lookup (same_place (place_at p q)) held ≡ Some d.1) × (place_at p q ≡ d.0)
-is_own held p q d h e t =
-    let x : place_at p q ≡ d.0 = place_key.same (place_at p q) d.0 (and_from (same_prefix p d.0.prefix) (same_via q d.0.via) e t) in
-    (ap (λ y. lookup (same_place y) held) x ∙ h, x)
 
 joined : (held : Candidates) (p : Prefix) (q : events.Via) (own : Option model.Offer) (others : Option (Place × model.Offer)) → AreCandidates held → lookup (same_place (place_at p q)) held ≡ own → IsBestOf held p (same_via q) others → chosen_for held p ≡ model_better (place_at p q) own others
 joined held p q None None a l b = chosen_for-none held p a (λ d h. by_test d h (same_prefix p d.0.prefix) refl)
@@ -102,14 +94,6 @@ joined held p q (Some o) (Some c) a l b = by_beats (beats (place_at p q, o) c) r
 
 -- ---- the code's comparison
 
-is_better : (x y : ℕ) (o : Ordering) → (nat_lt x y || ((x == y) && is_lt o)) ≡ is_lt (ordering_then (nat_cmp x y) o)
-is_better x y o = by_tests (nat_lt x y) (x == y)
-  where
-    by_tests : (l e : Bool) → (l || (e && is_lt o)) ≡ is_lt (ordering_then (cond l Less (cond e Equal Greater)) o)
-    by_tests true e = refl
-    by_tests false true = refl
-    by_tests false false = refl
-
 better_as : (p : Prefix) (q : Via) (own : Option Offer) (others : Option Candidate) → option_map addr_as (better_of q own others) ≡ model_better (place_at p (via_as q)) (option_map offer_as own) (option_map (candidate_as p) others)
 better_as p q None None = refl
 better_as p q None (Some c) = refl
@@ -154,13 +138,12 @@ others_stay seats e d n = at_after seats e d.0 ∙ ap (λ b. cond b (option_map 
         let y : same_via (via_as (seat_in e).via) d.0.via ≡ true = ap (λ (z : Place). same_via (via_as (seat_in e).via) z.via) x ∙ via_key.itself (via_as (seat_in e).via) in absurd cc
     by_test false t = refl
 
-choice_is : (seats : Seats) (ranks : List Rank) (e : Elem) (others : Option Candidate) (choice : Choice) → IsIndexed seats ranks → IsStrictlySortedBy rank_cmp ranks → first_in seats (Some (seat_in e).via) (ranks_of (seat_in e).prefix ranks) ≡ others
-    → choice.prefix ≡ (seat_in e).prefix → choice.before ≡ better_of (seat_in e).via (offer_at seats (seat_in e)) others → choice.after ≡ better_of (seat_in e).via (offer_in e) others → IsChoice (held_in seats) (elem_as e) choice
-choice_is seats ranks e others choice i s f cp cb ca =
+-- where the best route of the others is known
+choice_best : (seats : Seats) (e : Elem) (others : Option Candidate) (choice : Choice) → IsBest seats (Some (seat_in e).via) (seat_in e).prefix others → choice.prefix ≡ (seat_in e).prefix → choice.before ≡ better_of (seat_in e).via (offer_at seats (seat_in e)) others → choice.after ≡ better_of (seat_in e).via (offer_in e) others → IsChoice (held_in seats) (elem_as e) choice
+choice_best seats e others choice best cp cb ca =
     let at = seat_in e in
     let p = prefix_as at.prefix in
     let q = via_as at.via in
-    let best = best_is seats ranks at.prefix (Some at.via) i s others f in
     let later = best_after (held_in seats) (place_as at) (elem_as e) (option_map (candidate_as p) others) (others_stay seats e) best in
     let before = joined (held_in seats) p q (option_map offer_as (offer_at seats at)) (option_map (candidate_as p) others) (are_candidates seats) (at_seat at seats) best in
     let after = joined (after_elem (held_in seats) (elem_as e)) p q (option_map offer_as (offer_in e)) (option_map (candidate_as p) others) (candidates_after (held_in seats) (elem_as e) (are_candidates seats) (is_elem e)) (own_after seats e) later in
@@ -170,9 +153,18 @@ choice_is seats ranks e others choice i s f cp cb ca =
       after = ap (option_map addr_as) ca ∙ (better_as p at.via (offer_in e) others ∙ (sym after ∙ ap (chosen_for (after_elem (held_in seats) (elem_as e))) (sym (prefix_in e))));
     }
 
--- the chosen hop of a prefix is the best candidate's
-pub chosen_is : (seats : Seats) (ranks : List Rank) (p : code.Prefix) (best : Option Candidate) → IsIndexed seats ranks → IsStrictlySortedBy rank_cmp ranks → first_in seats None (ranks_of p ranks) ≡ best → option_map (λ (c : Candidate). addr_as c.offer.hop) best ≡ chosen_for (held_in seats) (prefix_as p)
-chosen_is seats ranks p best i s f = by_best best (best_is seats ranks p None i s best f)
+-- with the seat, the way and the prefix as the code reads them
+pub choice_from : (seats : Seats) (e : Elem) (at : Seat) (q : Via) (p : code.Prefix) (others : Option Candidate) (own new : Option Offer) (choice : Choice) → at ≡ seat_in e → q ≡ at.via → p ≡ at.prefix → IsBest seats (Some q) p others
+    → choice.prefix ≡ p → own ≡ offer_at seats at → choice.before ≡ better_of q own others → new ≡ offer_in e → choice.after ≡ better_of q new others → IsChoice (held_in seats) (elem_as e) choice
+choice_from seats e at q p others own new choice a b d best cp o cb n ca =
+    let qe : q ≡ (seat_in e).via = b ∙ ap (λ (t : Seat). t.via) a in
+    let pe : p ≡ (seat_in e).prefix = d ∙ ap (λ (t : Seat). t.prefix) a in
+    choice_best seats e others choice (subst (λ r. IsBest seats (Some r) (seat_in e).prefix others) qe (subst (λ r. IsBest seats (Some q) r others) pe best)) (cp ∙ pe)
+    (cb ∙ (ap (λ x. better_of x own others) qe ∙ ap (λ x. better_of (seat_in e).via x others) (o ∙ ap (offer_at seats) a))) (ca ∙ (ap (λ x. better_of x new others) qe ∙ ap (λ x. better_of (seat_in e).via x others) n))
+
+-- the chosen hop of a prefix is the best route's
+pub chosen_best : (seats : Seats) (p : code.Prefix) (best : Option Candidate) → IsBest seats None p best → option_map (λ (c : Candidate). addr_as c.offer.hop) best ≡ chosen_for (held_in seats) (prefix_as p)
+chosen_best seats p best x = by_best best x
   where
     by_best : (o : Option Candidate) → IsBestOf (held_in seats) (prefix_as p) (out_as None) (option_map (candidate_as (prefix_as p)) o) → option_map (λ (c : Candidate). addr_as c.offer.hop) o ≡ chosen_for (held_in seats) (prefix_as p)
     by_best None b = sym (chosen_for-none (held_in seats) (prefix_as p) (are_candidates seats) (λ d h. by_test d h (b d h) (same_prefix (prefix_as p) d.0.prefix) refl))
@@ -181,16 +173,3 @@ chosen_is seats ranks p best i s f = by_best best (best_is seats ranks p None i 
         by_test d h n true t = let x : false ≡ true = n t in absurd cc
         by_test d h n false t = refl
     by_best (Some c) b = sym (chosen_for-best (held_in seats) (candidate_as (prefix_as p) c) (are_candidates seats) b.0 (λ d h e. b.3 d h (ap (same_prefix (prefix_as p)) (same_prefix_is d.0.prefix (prefix_as p) e) ∙ same_prefix_itself (prefix_as p)) refl))
-
--- as the code computes it
-choice_at : (seats : Seats) (ranks : List Rank) (e : Elem) (at : Seat) (others : Option Candidate) (own new : Option Offer) (choice : Choice) → IsIndexed seats ranks → IsStrictlySortedBy rank_cmp ranks → at ≡ seat_in e → others ≡ first_in seats (Some at.via) (ranks_of at.prefix ranks)
-    → choice.prefix ≡ at.prefix → own ≡ offer_at seats at → choice.before ≡ better_of at.via own others → new ≡ offer_in e → choice.after ≡ better_of at.via new others → IsChoice (held_in seats) (elem_as e) choice
-choice_at seats ranks e at others own new choice i s a f cp o cb n ca =
-    choice_is seats ranks e others choice i s (ap (λ (t : Seat). first_in seats (Some t.via) (ranks_of t.prefix ranks)) (sym a) ∙ sym f) (cp ∙ ap (λ (t : Seat). t.prefix) a)
-    (cb ∙ (ap (λ x. better_of at.via x others) o ∙ ap (λ (t : Seat). better_of t.via (offer_at seats t) others) a)) (ca ∙ (ap (λ x. better_of at.via x others) n ∙ ap (λ (t : Seat). better_of t.via (offer_in e) others) a))
-
--- with the way and the prefix as the code reads them
-pub choice_by : (seats : Seats) (ranks : List Rank) (e : Elem) (at : Seat) (q : Via) (p f : code.Prefix) (others : Option Candidate) (own new : Option Offer) (choice : Choice) → IsIndexed seats ranks → IsStrictlySortedBy rank_cmp ranks → at ≡ seat_in e → q ≡ at.via → p ≡ at.prefix → f ≡ at.prefix → others ≡ first_in seats (Some q) (ranks_of p ranks)
-    → choice.prefix ≡ f → own ≡ offer_at seats at → choice.before ≡ better_of q own others → new ≡ offer_in e → choice.after ≡ better_of q new others → IsChoice (held_in seats) (elem_as e) choice
-choice_by seats ranks e at q p f others own new choice i s a b d g h cp o cb n ca =
-    choice_at seats ranks e at others own new choice i s a (h ∙ (ap (λ x. first_in seats (Some x) (ranks_of p ranks)) b ∙ ap (λ x. first_in seats (Some at.via) (ranks_of x ranks)) d)) (cp ∙ g) o (cb ∙ ap (λ x. better_of x own others) b) n (ca ∙ ap (λ x. better_of x new others) b)

@@ -1,7 +1,16 @@
 -- The cuts of a peer that is lost.
-use Rattle.std.proofs.Common.{◌≡◌, List, [], ◌∷◌, Bool, true, false, cond, Option, Some, None, refl, sym, ap, ◌∙◌}
-use Rattle.std.specs.Prelude.{map, filter, option_map}
-use Rattle.std.specs.List.{AllByRecursion}
+use Rattle.std.proofs.Math.Seq.{drop-cons}
+use Rattle.std.proofs.Common.{ℕ, suc, ◌+◌, ◌<◌, length, get_or, drop, arith, ◌++◌, subst, ◌≡◌, List, [], ◌∷◌, Bool, true, false, cond, Option, Some, None, refl, sym, ap, ◌∙◌}
+use Rattle.std.specs.Prelude.{map, filter, option_map, ◌||◌, ◌&&◌, is_some}
+use Rattle.std.specs.List.{AllByRecursion, list_any}
+use Rattle.std.specs.BTreeMap.{is_at}
+use Rattle.std.proofs.lemmas.Cmp.{tied_itself}
+use Rattle.fib_prefix.specs.declared.event.Elem.{Elem}
+use Rattle.flat_base.specs.Flat.{AreApart, is_among, is_offered_by}
+use Rattle.flat_base.proofs.Flats.{or_else}
+use Rattle.flat_base.proofs.Parts.{offer_both, no_other}
+use Rattle.route_choice.specs.Seats.{seat_in}
+use Rattle.route_choice.proofs.Best.{same_offer}
 use Rattle.std.specs.List.Sorted.{IsStrictlySortedBy}
 use Rattle.std.specs.Map.{lookup, keys_of}
 use Rattle.std.specs.Option.{option_and_then}
@@ -17,14 +26,15 @@ use Rattle.route_model.specs.Choice as model
 use Rattle.route_model.specs.Choice.{Place, Candidates, IsPlace, same_place, place_cmp, cut_of}
 use Rattle.route_model.proofs.Keyed.{same_entries, lookup-filter, sorted_filter, all_filter}
 use Rattle.route_model.proofs.Places.{place_key}
-use Rattle.route_choice.specs.declared.keys.Seat.{Seat}
-use Rattle.route_choice.specs.declared.keys.Offer.{Offer}
-use Rattle.route_choice.specs.Orders.{seat_cmp}
+use Rattle.flat_base.specs.declared.keys.Seat.{Seat}
+use Rattle.flat_base.specs.declared.keys.Offer.{Offer}
+use Rattle.flat_base.specs.Orders.{seat_cmp}
 use Rattle.fib_prefix.specs.Order.{code_peer_cmp}
-use Rattle.route_choice.specs.Seats.{Seats, held_in, flat}
-use Rattle.route_choice.specs.Walks.{seats_of, cut_or, cuts_in}
-use Rattle.route_choice.proofs.Orders.{place_as, peer_is, peer_same, seat_same, peer_total, is_place}
-use Rattle.route_choice.proofs.Views.{offer_as, are_candidates, lookup-held}
+use Rattle.flat_base.specs.Seats.{Seats, held_in, flat, offer_at}
+use Rattle.route_choice.specs.Walks.{seats_of, cut_at, cut_or, cuts_in}
+use Rattle.flat_base.proofs.Orders.{place_as, is_equal, peer_is, peer_same, seat_same, seat_total, peer_total, is_place}
+use Rattle.flat_base.specs.Bests.{offer_as}
+use Rattle.flat_base.proofs.Views.{are_candidates, lookup-held, at_seat, held_seat, flips}
 
 -- the candidates of seats, one after another
 live_or : Seat → Option Offer → Candidates → Candidates
@@ -43,11 +53,6 @@ cuts_are (e ∷ seats) = by_offer e.1 (cuts_are seats)
     by_offer : (o : Option Offer) → map elem_as (cuts_in seats) ≡ map cut_of (live seats) → map elem_as (cut_or e.0 o (cuts_in seats)) ≡ map cut_of (live_or e.0 o (live seats))
     by_offer None ih = ih
     by_offer (Some offer) ih = ap (λ xs. cut_of (place_as e.0, offer_as offer) ∷ xs) ih
-
-is_equal : (o : Ordering) → is_eq o ≡ true → o ≡ Equal
-is_equal Less e = cc
-is_equal Equal e = refl
-is_equal Greater e = cc
 
 -- ---- in the order of prefixes, then of path identifiers
 
@@ -175,3 +180,187 @@ peer_live q seats s =
 -- the cuts of a peer that is lost
 pub down_is : (q : Peer) (seats : Seats) → IsStrictlySortedBy seat_cmp (keys_of seats) → map elem_as (cuts_in (seats_of q seats)) ≡ map cut_of (filter (λ c. same_peer (peer_as q) c.0.via.peer) (held_in seats))
 down_is q seats s = cuts_are (seats_of q seats) ∙ ap (map cut_of) (peer_live q seats s)
+
+-- ---- the seats of base and maps together
+
+-- these seats with what is offered there
+with_offers : Seats → List Seat → Seats
+with_offers all [] = []
+with_offers all (k ∷ ks) = (k, offer_at all k) ∷ with_offers all ks
+
+with_keys : (all : Seats) (ks : List Seat) → keys_of (with_offers all ks) ≡ ks
+unfolding with_offers
+with_keys all [] = refl
+with_keys all (k ∷ ks) = ap (λ xs. k ∷ xs) (with_keys all ks)
+
+at_key : (all : Seats) (ks : List Seat) (s : Seat) → lookup (is_at (seat_cmp s)) (with_offers all ks) ≡ cond (is_among ks s) (Some (offer_at all s)) None
+unfolding with_offers
+at_key all [] s = refl
+at_key all (k ∷ ks) s = by_test (is_eq (seat_cmp s k)) refl (at_key all ks s)
+  where
+    by_test : (b : Bool) → is_eq (seat_cmp s k) ≡ b → lookup (is_at (seat_cmp s)) (with_offers all ks) ≡ cond (is_among ks s) (Some (offer_at all s)) None → cond b (Some (offer_at all k)) (lookup (is_at (seat_cmp s)) (with_offers all ks)) ≡ cond (b || is_among ks s) (Some (offer_at all s)) None
+    by_test true e ih = ap Some (same_offer all s k (is_equal _ e))
+    by_test false e ih = ih
+
+-- what holds of each seat that is among these holds of these
+each : (P : Seat → Type 0) (ks : List Seat) → ((s : Seat) → is_among ks s ≡ true → P s) → AllByRecursion P ks
+each P [] h = tt
+each P (k ∷ ks) h = (h k (ap (λ b. b || is_among ks k) (ap is_eq (tied_itself seat_total k))), each P ks (λ s e. h s (right (is_eq (seat_cmp s k)) (is_among ks s) e)))
+  where
+    right : (a b : Bool) → b ≡ true → (a || b) ≡ true
+    right true b e = refl
+    right false b e = e
+
+and_parts : (a b : Bool) → (a && b) ≡ true → (a ≡ true) × (b ≡ true)
+and_parts true b e = (refl, e)
+and_parts false b e = absurd cc
+
+cuts_of_keys : (q : Peer) (all : Seats) (ks : List Seat) → AllByRecursion (λ s. is_offered_by q all s ≡ true) ks → cuts_in (seats_of q (with_offers all ks)) ≡ map cut_at ks
+unfolding cuts_in with_offers
+cuts_of_keys q all [] a = refl
+cuts_of_keys q all (k ∷ ks) a =
+    let x = and_parts _ _ a.0 in
+    ap (λ b. cuts_in (cond b ((k, offer_at all k) ∷ seats_of q (with_offers all ks)) (seats_of q (with_offers all ks)))) x.0 ∙ (by_offer (offer_at all k) x.1 ∙ ap (λ xs. cut_at k ∷ xs) (cuts_of_keys q all ks a.1))
+  where
+    by_offer : (o : Option Offer) → is_some o ≡ true → cut_or k o (cuts_in (seats_of q (with_offers all ks))) ≡ cut_at k ∷ cuts_in (seats_of q (with_offers all ks))
+    by_offer None e = absurd cc
+    by_offer (Some o) e = refl
+
+-- seats that offer the same at a peer's seats hold the same candidates of the peer
+same_of_peer : (q : Peer) (xs ys : Seats) → ((s : Seat) → is_eq (code_peer_cmp q s.via.peer) ≡ true → offer_at xs s ≡ offer_at ys s) → filter (λ c. same_peer (peer_as q) c.0.via.peer) (held_in xs) ≡ filter (λ c. same_peer (peer_as q) c.0.via.peer) (held_in ys)
+same_of_peer q xs ys h =
+    same_entries place_key (filter own (held_in xs)) (filter own (held_in ys))
+    (sorted_filter place_cmp own (held_in xs) (are_candidates xs).1) (sorted_filter place_cmp own (held_in ys) (are_candidates ys).1)
+    (all_filter own IsPlace (held_in xs) (are_candidates xs).0) (all_filter own IsPlace (held_in ys) (are_candidates ys).0)
+    (λ at. lookup-filter place_key own at (held_in xs) (are_candidates xs).1 ∙ (by_own at (same_peer (peer_as q) at.via.peer) refl ∙ sym (lookup-filter place_key own at (held_in ys) (are_candidates ys).1)))
+  where
+    own : Place × model.Offer → Bool
+    own c = same_peer (peer_as q) c.0.via.peer
+
+    at_seat_of : (at : Place) (s : Seat) → place_as s ≡ at → same_peer (peer_as q) at.via.peer ≡ true → lookup (same_place at) (held_in xs) ≡ lookup (same_place at) (held_in ys)
+    at_seat_of at s e t =
+        let p : is_eq (code_peer_cmp q s.via.peer) ≡ true = peer_same q s.via.peer ∙ (ap (λ (r : Place). same_peer (peer_as q) r.via.peer) e ∙ t) in
+        ap (λ r. lookup (same_place r) (held_in xs)) (sym e) ∙ (at_seat s xs ∙ (ap (option_map offer_as) (h s p) ∙ (sym (at_seat s ys) ∙ ap (λ r. lookup (same_place r) (held_in ys)) e)))
+
+    by_found : (at : Place) → same_peer (peer_as q) at.via.peer ≡ true → (x y : Option model.Offer) → lookup (same_place at) (held_in xs) ≡ x → lookup (same_place at) (held_in ys) ≡ y → lookup (same_place at) (held_in xs) ≡ lookup (same_place at) (held_in ys)
+    by_found at t (Some x) y f g = let s = held_seat at x xs f in at_seat_of at s.0 s.1 t
+    by_found at t None (Some y) f g = let s = held_seat at y ys g in at_seat_of at s.0 s.1 t
+    by_found at t None None f g = f ∙ sym g
+
+    never : (o : Option model.Offer) → option_and_then (λ v. cond false (Some v) None) o ≡ None
+    never None = refl
+    never (Some v) = refl
+
+    by_own : (at : Place) (t : Bool) → same_peer (peer_as q) at.via.peer ≡ t → option_and_then (λ v. cond t (Some v) None) (lookup (same_place at) (held_in xs)) ≡ option_and_then (λ v. cond t (Some v) None) (lookup (same_place at) (held_in ys))
+    by_own at true t = ap (option_and_then (λ v. cond true (Some v) None)) (by_found at t (lookup (same_place at) (held_in xs)) (lookup (same_place at) (held_in ys)) refl refl)
+    by_own at false t = never (lookup (same_place at) (held_in xs)) ∙ sym (never (lookup (same_place at) (held_in ys)))
+
+-- a cut at each of the peer's seats where something is offered
+pub lost_is : (q : Peer) (all : Seats) (ks : List Seat) → IsStrictlySortedBy seat_cmp ks → ((s : Seat) → is_among ks s ≡ is_offered_by q all s) → map elem_as (map cut_at ks) ≡ map cut_of (filter (λ c. same_peer (peer_as q) c.0.via.peer) (held_in all))
+lost_is q all ks sorted h =
+    ap (map elem_as) (sym (cuts_of_keys q all ks (each (λ s. is_offered_by q all s ≡ true) ks (λ s e. sym (h s) ∙ e))))
+    ∙ (down_is q (with_offers all ks) (subst (IsStrictlySortedBy seat_cmp) (sym (with_keys all ks)) sorted)
+    ∙ ap (map cut_of) (same_of_peer q (with_offers all ks) all same))
+  where
+    none_else : (o : Option Offer) → is_some o ≡ false → None ≡ o
+    none_else None e = refl
+    none_else (Some o) e = absurd cc
+
+    same : (s : Seat) → is_eq (code_peer_cmp q s.via.peer) ≡ true → offer_at (with_offers all ks) s ≡ offer_at all s
+    same s p = ap flat (at_key all ks s) ∙ by_test (is_among ks s) refl
+      where
+        by_test : (b : Bool) → is_among ks s ≡ b → flat (cond b (Some (offer_at all s)) None) ≡ offer_at all s
+        by_test true e = refl
+        by_test false e = none_else (offer_at all s) (sym (ap (λ x. x && is_some (offer_at all s)) p) ∙ (sym (h s) ∙ e))
+
+-- ---- the cuts of the maps' part
+
+pub cut_seats : (q : Peer) (seats : Seats) (s : Seat) → IsStrictlySortedBy seat_cmp (keys_of seats) → list_any (λ e. is_eq (seat_cmp (seat_in e) s)) (cuts_in (seats_of q seats)) ≡ is_offered_by q seats s
+unfolding IsStrictlySortedBy cuts_in
+cut_seats q [] s o = sym (nothing_there (is_eq (code_peer_cmp q s.via.peer)))
+  where
+    nothing_there : (a : Bool) → (a && false) ≡ false
+    nothing_there true = refl
+    nothing_there false = refl
+cut_seats q (e ∷ seats) s o = by_own (is_eq (code_peer_cmp q e.0.via.peer)) refl e.1 (is_eq (seat_cmp s e.0)) refl (cut_seats q seats s o.1)
+  where
+    rest : List Elem
+    rest = cuts_in (seats_of q seats)
+
+    hits : List Elem → Bool
+    hits cuts = list_any (λ e. is_eq (seat_cmp (seat_in e) s)) cuts
+
+    -- no later seat is this one
+    no_later : is_eq (seat_cmp s e.0) ≡ true → lookup (is_at (seat_cmp s)) seats ≡ None
+    no_later t = later_none seats o.0
+      where
+        later_none : (xs : Seats) → AllByRecursion (λ k. seat_cmp e.0 k ≡ Less) (keys_of xs) → lookup (is_at (seat_cmp s)) xs ≡ None
+        later_none [] a = refl
+        later_none (x ∷ xs) a = ap (λ b. cond b (Some x.1) (lookup (is_at (seat_cmp s)) xs)) (ap is_eq (seat_total.congr s e.0 x.0 (is_equal _ t)) ∙ ap is_eq a.0) ∙ later_none xs a.1
+
+    own_peer : is_eq (seat_cmp s e.0) ≡ true → is_eq (code_peer_cmp q s.via.peer) ≡ is_eq (code_peer_cmp q e.0.via.peer)
+    own_peer t = peer_same q s.via.peer ∙ (ap (λ (r : Place). same_peer (peer_as q) r.via.peer) (place_key.same (place_as s) (place_as e.0) (sym (seat_same s e.0) ∙ t)) ∙ sym (peer_same q e.0.via.peer))
+
+    rest_none : is_eq (seat_cmp s e.0) ≡ true → hits rest ≡ is_offered_by q seats s → hits rest ≡ false
+    rest_none t ih = ih ∙ (ap (λ x. is_eq (code_peer_cmp q s.via.peer) && is_some (flat x)) (no_later t) ∙ nothing_there (is_eq (code_peer_cmp q s.via.peer)))
+      where
+        nothing_there : (a : Bool) → (a && false) ≡ false
+        nothing_there true = refl
+        nothing_there false = refl
+
+    turned : is_eq (seat_cmp e.0 s) ≡ is_eq (seat_cmp s e.0)
+    turned = flips seat_total e.0 s
+
+    by_own : (d : Bool) → is_eq (code_peer_cmp q e.0.via.peer) ≡ d → (x : Option Offer) → (b : Bool) → is_eq (seat_cmp s e.0) ≡ b → hits rest ≡ is_offered_by q seats s
+        → hits (cuts_in (cond d ((e.0, x) ∷ seats_of q seats) (seats_of q seats))) ≡ (is_eq (code_peer_cmp q s.via.peer) && is_some (flat (cond b (Some x) (lookup (is_at (seat_cmp s)) seats))))
+    by_own true d (Some x) true t ih = ap (λ a. a || hits rest) (turned ∙ t) ∙ sym (ap (λ a. a && true) (own_peer t ∙ d))
+    by_own true d (Some x) false t ih = ap (λ a. a || hits rest) (turned ∙ t) ∙ ih
+    by_own true d None true t ih = rest_none t ih ∙ sym (ap (λ a. a && false) (own_peer t ∙ d))
+    by_own true d None false t ih = ih
+    by_own false d (Some x) true t ih = rest_none t ih ∙ sym (ap (λ a. a && true) (own_peer t ∙ d))
+    by_own false d None true t ih = rest_none t ih ∙ sym (ap (λ a. a && false) (own_peer t ∙ d))
+    by_own false d x false t ih = ih
+
+-- what is offered in either part is offered in both
+pub offered_both : (q : Peer) (xs ys : Seats) (s : Seat) → AreApart xs ys → is_offered_by q (xs ++ ys) s ≡ (is_offered_by q xs s || is_offered_by q ys s)
+offered_both q xs ys s a = ap (λ o. is_eq (code_peer_cmp q s.via.peer) && is_some o) (offer_both s xs ys) ∙ by_base (lookup (is_at (seat_cmp s)) xs) refl
+  where
+    both_false : (p b : Bool) → (p && b) ≡ ((p && false) || (p && b))
+    both_false true b = refl
+    both_false false b = refl
+
+    first : (p b : Bool) → (p && b) ≡ ((p && b) || (p && false))
+    first true true = refl
+    first true false = refl
+    first false b = refl
+
+    by_base : (v : Option (Option Offer)) → lookup (is_at (seat_cmp s)) xs ≡ v → (is_eq (code_peer_cmp q s.via.peer) && is_some (flat (or_else v (lookup (is_at (seat_cmp s)) ys)))) ≡ ((is_eq (code_peer_cmp q s.via.peer) && is_some (flat v)) || is_offered_by q ys s)
+    by_base None e = both_false (is_eq (code_peer_cmp q s.via.peer)) (is_some (offer_at ys s))
+    by_base (Some v) e =
+        let n : offer_at ys s ≡ None = no_other xs ys s v a e in
+        first (is_eq (code_peer_cmp q s.via.peer)) (is_some v) ∙ ap (λ o. (is_eq (code_peer_cmp q s.via.peer) && is_some v) || (is_eq (code_peer_cmp q s.via.peer) && is_some o)) (sym n)
+
+-- from no seats over the base's to the maps'
+pub all_seats : (q : Peer) (base over : Seats) (none some all : List Seat) (cuts : List Elem) → AreApart base over → none ≡ [] → ((s : Seat) → is_among some s ≡ (is_among none s || is_offered_by q base s)) → cuts ≡ cuts_in (seats_of q over) → IsStrictlySortedBy seat_cmp (keys_of over)
+    → ((s : Seat) → is_among all s ≡ (is_among some s || list_any (λ e. is_eq (seat_cmp (seat_in e) s)) cuts)) → (s : Seat) → is_among all s ≡ is_offered_by q (base ++ over) s
+all_seats q base over none some all cuts a n f c o g s =
+    g s ∙ (ap (λ b. b || list_any (λ e. is_eq (seat_cmp (seat_in e) s)) cuts) (f s ∙ ap (λ ks. is_among ks s || is_offered_by q base s) n)
+    ∙ (ap (λ xs. is_offered_by q base s || list_any (λ e. is_eq (seat_cmp (seat_in e) s)) xs) c ∙ (ap (λ b. is_offered_by q base s || b) (cut_seats q over s o) ∙ sym (offered_both q base over s a))))
+
+-- ---- the walk over cuts
+
+pub cut_added : (old now new : List Seat) (cuts rest it : List Elem) (e : Elem) (t : Seat) → it ≡ e ∷ rest → t ≡ seat_in e → ((s : Seat) → is_among new s ≡ cond (is_eq (seat_cmp t s)) true (is_among now s))
+    → ((s : Seat) → (is_among now s || list_any (λ e. is_eq (seat_cmp (seat_in e) s)) it) ≡ (is_among old s || list_any (λ e. is_eq (seat_cmp (seat_in e) s)) cuts)) → (s : Seat) → (is_among new s || list_any (λ e. is_eq (seat_cmp (seat_in e) s)) rest) ≡ (is_among old s || list_any (λ e. is_eq (seat_cmp (seat_in e) s)) cuts)
+cut_added old now new cuts rest it e t i h g told s =
+    ap (λ b. b || hits rest) (g s ∙ ap (λ k. cond (is_eq (seat_cmp k s)) true (is_among now s)) h) ∙ (by_test (is_eq (seat_cmp (seat_in e) s)) (is_among now s) (hits rest) ∙ (ap (λ xs. is_among now s || hits xs) (sym i) ∙ told s))
+  where
+    hits : List Elem → Bool
+    hits xs = list_any (λ e. is_eq (seat_cmp (seat_in e) s)) xs
+
+    by_test : (a b c : Bool) → (cond a true b || c) ≡ (b || (a || c))
+    by_test true true c = refl
+    by_test true false c = refl
+    by_test false b c = refl
+
+pub next_cut : (xs cuts : List Elem) (i : ℕ) (e : Elem) → xs ≡ cuts → i < length xs → e ≡ get_or xs i e → drop i cuts ≡ e ∷ drop (i + 1) cuts
+next_cut xs cuts i e d l is = let k : suc i ≡ i + 1 = omega arith in subst (λ ys. drop i ys ≡ e ∷ drop (i + 1) ys) d (subst (λ n. drop i xs ≡ e ∷ drop n xs) k (drop-cons xs i e l ∙ ap (λ x. x ∷ drop (suc i) xs) (sym is)))

@@ -17,58 +17,25 @@ use Rattle.fib_prefix.specs.contracts.event.ViaPartialEq.TheImpl as via_same
 use Rattle.fib_addr.specs.contracts.prefix.PrefixPartialEq.TheImpl as prefix_same
 use Rattle.std.specs.Option.{option_eq}
 use Rattle.fib_addr.specs.Order.{code_cmp}
-use Rattle.fib_addr.specs.OrderLaws.{tied}
 use Rattle.fib_addr.specs.declared.prefix.Prefix as code
 use Rattle.fib_prefix.specs.declared.event.Peer.{Peer}
 use Rattle.fib_prefix.specs.declared.event.Via.{Via}
 use Rattle.fib_prefix.specs.declared.event.Elem.{Elem}
 use Rattle.fib_prefix.specs.declared.event.Elem.TheVariants.{Cut}
-use Rattle.route_choice.specs.declared.keys.Seat.{Seat}
-use Rattle.route_choice.specs.declared.keys.Rank.{Rank}
-use Rattle.route_choice.specs.declared.keys.Offer.{Offer}
-use Rattle.route_choice.specs.Orders.{seat_cmp, rank_cmp}
+use Rattle.flat_base.specs.declared.keys.Seat.{Seat}
+use Rattle.flat_base.specs.declared.keys.Rank.{Rank}
+use Rattle.flat_base.specs.declared.keys.Offer.{Offer}
+use Rattle.flat_base.specs.Orders.{seat_cmp, rank_cmp}
 use Rattle.fib_prefix.specs.Order.{code_peer_cmp, code_via_cmp}
-use Rattle.route_choice.specs.Seats.{Seats}
-use Rattle.route_choice.specs.Walks.{ranks_of, seats_of, offer_ranked, is_out, or_next, first_in, cuts_in}
-use Rattle.route_choice.proofs.Orders.{prefix_total, peer_total}
+use Rattle.flat_base.specs.Seats.{Seats}
+use Rattle.route_choice.specs.Walks.{ranks_of, seats_of, offer_ranked, or_next, first_in, cuts_in}
+use Rattle.flat_base.specs.Bests.{is_out}
+use Rattle.flat_base.proofs.Orders.{prefix_total, peer_total}
 use denote.Enum.Bare.{sameb}
+use Rattle.flat_base.proofs.Equals.{via_eq, prefix_eq, peer_eq}
+use Rattle.flat_base.proofs.Orders.{is_equal}
 
 -- ---- the code's tests of equality say what its orders do
-
-family_eq : (f g : Family) → sameb the_type f g ≡ is_eq ((family_ord.ghosts).cmp f g)
-family_eq V4 V4 = refl
-family_eq V4 V6 = refl
-family_eq V6 V4 = refl
-family_eq V6 V6 = refl
-
-number_eq : (m n : ℕ) → nat_eq m n ≡ is_eq (nat_cmp m n)
-number_eq m n = by_order (nat_cmp m n) refl
-  where
-    by_order : (o : Ordering) → nat_cmp m n ≡ o → nat_eq m n ≡ is_eq o
-    by_order Less e = let x : m < n = ranked m n Less (sym e) in grind arith
-    by_order Equal e = let x : m ≡ n = ranked m n Equal (sym e) in grind arith
-    by_order Greater e = let x : n < m = ranked m n Greater (sym e) in grind arith
-
-then_eq : (a b : Ordering) → is_eq (ordering_then a b) ≡ (is_eq a && is_eq b)
-then_eq Less b = refl
-then_eq Equal b = refl
-then_eq Greater b = refl
-
-pub peer_eq : (p q : Peer) → ((sameb the_type p.addr.family q.addr.family && nat_eq p.addr.bits q.addr.bits) && nat_eq p.asn q.asn) ≡ is_eq (code_peer_cmp p q)
-peer_eq p q =
-    let f = (family_ord.ghosts).cmp p.addr.family q.addr.family in
-    ap (λ b. (b && nat_eq p.addr.bits q.addr.bits) && nat_eq p.asn q.asn) (family_eq p.addr.family q.addr.family)
-    ∙ (ap (λ b. (is_eq f && b) && nat_eq p.asn q.asn) (number_eq p.addr.bits q.addr.bits)
-    ∙ (ap (λ b. (is_eq f && is_eq (nat_cmp p.addr.bits q.addr.bits)) && b) (number_eq p.asn q.asn)
-    ∙ (ap (λ b. b && is_eq (nat_cmp p.asn q.asn)) (sym (then_eq f (nat_cmp p.addr.bits q.addr.bits))) ∙ sym (then_eq (ordering_then f (nat_cmp p.addr.bits q.addr.bits)) (nat_cmp p.asn q.asn)))))
-
-pub via_eq : (p q : Via) → (((sameb the_type p.peer.addr.family q.peer.addr.family && nat_eq p.peer.addr.bits q.peer.addr.bits) && nat_eq p.peer.asn q.peer.asn) && nat_eq p.id q.id) ≡ is_eq (code_via_cmp p q)
-via_eq p q =
-    ap (λ b. b && nat_eq p.id q.id) (peer_eq p.peer q.peer)
-    ∙ (ap (λ b. is_eq (code_peer_cmp p.peer q.peer) && b) (number_eq p.id q.id) ∙ sym (then_eq (code_peer_cmp p.peer q.peer) (nat_cmp p.id q.id)))
-
-pub prefix_eq : (p q : code.Prefix) → (prefix_same.ghosts).eq p q ≡ is_eq (code_cmp p q)
-prefix_eq = tied
 
 -- and so do its tests of what there may be
 module _ (but : Option Via) (p q : Via) (b : Bool) (test : b ≡ not (option_eq (via_same.ghosts).eq but (Some p))) (own : p ≡ q) where
@@ -164,11 +131,6 @@ is_le_from : (o : Ordering) → is_gt o ≡ false → is_le o ≡ true
 is_le_from Less e = refl
 is_le_from Equal e = refl
 is_le_from Greater e = cc
-
-is_equal : (o : Ordering) → is_eq o ≡ true → o ≡ Equal
-is_equal Less e = cc
-is_equal Equal e = refl
-is_equal Greater e = cc
 
 abbrev pub ranks_from : Rank → List Rank → List Rank
 ranks_from least ranks = filter (λ r. is_le (rank_cmp least r) && not false) ranks

@@ -14,16 +14,18 @@ use Rattle.fib_prefix.specs.Views.{elem_as}
 use Rattle.fib_prefix.specs.declared.event.Elem.{Elem}
 use Rattle.fib_prefix.specs.declared.event.Elem.TheVariants as elem
 use Rattle.route_model.specs.Events as model
-use Rattle.route_choice.specs.declared.keys.Seat.{Seat}
-use Rattle.route_choice.specs.declared.keys.Rank.{Rank}
-use Rattle.route_choice.specs.declared.keys.Offer.{Offer}
-use Rattle.route_choice.specs.Orders.{seat_cmp, rank_cmp}
-use Rattle.route_choice.specs.Seats.{Seats, flat, offer_at, rank_at, seat_of, has_rank, has_seat, IsIndexed, HasRoom, seat_in, offer_in}
+use Rattle.flat_base.specs.declared.keys.Seat.{Seat}
+use Rattle.flat_base.specs.declared.keys.Rank.{Rank}
+use Rattle.flat_base.specs.declared.keys.Offer.{Offer}
+use Rattle.flat_base.specs.Orders.{seat_cmp, rank_cmp}
+use Rattle.flat_base.specs.Seats.{Seats, flat, offer_at, rank_at, seat_of}
+use Rattle.route_choice.specs.Seats.{has_rank, has_seat, IsIndexed, HasRoom, seat_in, offer_in}
 use Rattle.route_choice.specs.Walks.{offer_with_path, offer_ranked}
 use Rattle.route_choice.specs.Kept.{IsKept, EachSeatServes, EachRankServes, holds_seat, holds_rank}
-use Rattle.route_choice.proofs.Orders.{seat_total, rank_total, seat_tied}
-use Rattle.route_choice.proofs.Views.{flips, lookup_by_test}
-use Rattle.route_choice.proofs.Best.{same_offer, same_rank, with_path_parts, is_equal}
+use Rattle.flat_base.proofs.Orders.{seat_total, rank_total, seat_tied}
+use Rattle.flat_base.proofs.Views.{flips, lookup_by_test}
+use Rattle.route_choice.proofs.Best.{same_offer, same_rank, with_path_parts}
+use Rattle.flat_base.proofs.Orders.{is_equal}
 use Rattle.route_choice.proofs.Rooms.{any_by_test, own_rank, same_offers, same_put, same_ranks, more_ranks, indexed_put, indexed_cut, indexed_after}
 
 weaker : (a b c : Bool) → (b ≡ true → c ≡ true) → (a || b) ≡ true → (a || c) ≡ true

@@ -1,10 +1,9 @@
-pub mod Packs
-pub mod Orders
 pub mod Views
 pub mod Best
 pub mod Choose
 pub mod Finds
 pub mod Rooms
 pub mod Kept
+pub mod Spaces
 pub mod Downs
-pub mod Routes
+pub mod AllRoutes

@@ -20,15 +20,17 @@ use Rattle.fib_prefix.specs.declared.event.Elem.TheVariants as elem
 use Rattle.route_model.specs.Events as model
 use Rattle.route_model.specs.Events.{same_via}
 use Rattle.route_model.proofs.Places.{via_key, prefix_key}
-use Rattle.route_choice.specs.declared.keys.Seat.{Seat}
-use Rattle.route_choice.specs.declared.keys.Rank.{Rank}
-use Rattle.route_choice.specs.declared.keys.Offer.{Offer}
-use Rattle.route_choice.specs.Orders.{seat_cmp, rank_cmp}
+use Rattle.flat_base.specs.declared.keys.Seat.{Seat}
+use Rattle.flat_base.specs.declared.keys.Rank.{Rank}
+use Rattle.flat_base.specs.declared.keys.Offer.{Offer}
+use Rattle.flat_base.specs.Orders.{seat_cmp, rank_cmp}
 use Rattle.fib_prefix.specs.Order.{code_via_cmp}
-use Rattle.route_choice.specs.Seats.{Seats, flat, offer_at, rank_at, seat_of, has_rank, has_seat, IsIndexed, HasRoom, seat_in, offer_in}
+use Rattle.flat_base.specs.Seats.{Seats, flat, offer_at, rank_at, seat_of}
+use Rattle.route_choice.specs.Seats.{has_rank, has_seat, IsIndexed, HasRoom, seat_in, offer_in}
 use Rattle.route_choice.specs.Walks.{offer_with_path, offer_ranked}
-use Rattle.route_choice.proofs.Orders.{via_same, prefix_same, rank_total, seat_tied, tied_prefix, tied_via}
-use Rattle.route_choice.proofs.Best.{same_offer, SameRank, same_rank, with_own_path, is_equal}
+use Rattle.flat_base.proofs.Orders.{via_same, prefix_same, rank_total, seat_tied, tied_prefix, tied_via}
+use Rattle.route_choice.proofs.Best.{same_offer, SameRank, same_rank, with_own_path}
+use Rattle.flat_base.proofs.Orders.{is_equal}
 use denote.Ref.{Bor}
 
 -- the rank of what a seat offers has that offer

@@ -3,10 +3,11 @@ use Rattle.std.specs.Prelude.{◌≡◌, ◌||◌, List, Bool, true, false, Opti
 use Rattle.std.specs.Ordering.{is_eq}
 use Rattle.fib_prefix.specs.declared.event.Elem.{Elem}
 use Rattle.fib_prefix.specs.declared.event.Elem.TheVariants as elem
-use Rattle.route_choice.specs.declared.keys.Seat.{Seat}
-use Rattle.route_choice.specs.declared.keys.Rank.{Rank}
-use Rattle.route_choice.specs.Orders.{seat_cmp, rank_cmp}
-use Rattle.route_choice.specs.Seats.{Seats, offer_at, has_seat, has_rank, IsIndexed, HasRoom}
+use Rattle.flat_base.specs.declared.keys.Seat.{Seat}
+use Rattle.flat_base.specs.declared.keys.Rank.{Rank}
+use Rattle.flat_base.specs.Orders.{seat_cmp, rank_cmp}
+use Rattle.flat_base.specs.Seats.{Seats, offer_at}
+use Rattle.route_choice.specs.Seats.{has_seat, has_rank, IsIndexed, HasRoom}
 use Rattle.route_choice.specs.Walks.{offer_ranked}
 
 -- whether the seat, or the rank, is held for a plan

@@ -1,6 +1,5 @@
-pub mod Keys
-pub mod Orders
 pub mod Seats
 pub mod Walks
 pub mod Kept
+pub mod Space
 pub mod Held

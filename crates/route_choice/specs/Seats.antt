@@ -1,4 +1,4 @@
--- What seats and ranks stand for.
+-- Seats and ranks as they lie, and the room for a plan.
 use Rattle.std.specs.Prelude.{◌≡◌, ⊤, ℕ, List, [], ◌∷◌, Bool, true, Option, Some, None, is_some}
 use Rattle.std.specs.List.{list_any}
 use Rattle.std.specs.Map.{lookup}
@@ -9,39 +9,11 @@ use Rattle.fib_prefix.specs.declared.event.Elem.{Elem}
 use Rattle.fib_prefix.specs.declared.event.Elem.TheVariants as elem
 use Rattle.route_model.specs.Events as model
 use Rattle.route_model.specs.Choice.{Candidates, after_elem}
-use Rattle.route_choice.specs.declared.keys.Seat.{Seat}
-use Rattle.route_choice.specs.declared.keys.Rank.{Rank}
-use Rattle.route_choice.specs.declared.keys.Offer.{Offer}
-use Rattle.route_choice.specs.Orders.{seat_cmp, rank_cmp}
-
--- the seats, with what is offered at each
-abbrev pub Seats : Type 0
-Seats = List (Seat × Option Offer)
-
--- what a seat says of its place: what is offered there, or nothing
-abbrev pub said_by : Seat → Option Offer → model.Elem
-said_by s (Some offer) = model.Put (via_as s.via) (prefix_as s.prefix) offer.path (addr_as offer.hop)
-said_by s None = model.Cut (via_as s.via) (prefix_as s.prefix)
-
--- the candidates: what all seats say
-unfoldable pub held_in : Seats → Candidates
-held_in [] = []
-held_in (e ∷ seats) = after_elem (held_in seats) (said_by e.0 e.1)
-
--- what is offered at a seat
-abbrev pub flat : Option (Option Offer) → Option Offer
-flat None = None
-flat (Some offer) = offer
-
-abbrev pub offer_at : Seats → Seat → Option Offer
-offer_at seats s = flat (lookup (is_at (seat_cmp s)) seats)
-
--- the rank of what is offered at a seat with this path, and the seat of a rank
-abbrev pub rank_at : Seat → ℕ → Rank
-rank_at s path = record { prefix = s.prefix; path = path; via = s.via }
-
-abbrev pub seat_of : Rank → Seat
-seat_of r = record { via = r.via; prefix = r.prefix }
+use Rattle.flat_base.specs.declared.keys.Seat.{Seat}
+use Rattle.flat_base.specs.declared.keys.Rank.{Rank}
+use Rattle.flat_base.specs.declared.keys.Offer.{Offer}
+use Rattle.flat_base.specs.Orders.{seat_cmp, rank_cmp}
+use Rattle.flat_base.specs.Seats.{Seats, offer_at, rank_at}
 
 abbrev pub has_rank : List Rank → Rank → Bool
 has_rank ranks r = list_any (is_at (rank_cmp r)) ranks

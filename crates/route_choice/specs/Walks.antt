@@ -1,5 +1,13 @@
 -- What walks over seats and ranks find.
-use Rattle.std.specs.Prelude.{◌==◌, ◌&&◌, ◌||◌, nat_lt, ℕ, List, [], ◌∷◌, Bool, false, Option, Some, None, filter, if◌then◌else◌}
+use Rattle.std.specs.Prelude.{◌≡◌, ◌==◌, ◌&&◌, ◌||◌, nat_lt, ℕ, List, [], ◌∷◌, Bool, true, false, Option, Some, None, map, filter, slice_get, if◌then◌else◌}
+use Rattle.std.specs.List.{AllByRecursion, list_any}
+use Rattle.std.specs.BTreeMap.{is_at}
+use Rattle.address_model.specs.Address.{Address, Prefix}
+use Rattle.fib_addr.specs.Views.{prefix_as}
+use Rattle.route_model.specs.Choice.{chosen_for}
+use Rattle.flat_base.specs.declared.rows.Row.{Row}
+use Rattle.flat_base.specs.Seats.{held_in}
+use Rattle.flat_base.specs.Bests.{is_out}
 use Rattle.std.specs.Ordering.{is_eq, is_lt}
 use Rattle.fib_addr.specs.Order.{code_cmp}
 use Rattle.fib_addr.specs.declared.addr.Addr.{Addr}
@@ -8,12 +16,12 @@ use Rattle.fib_prefix.specs.declared.event.Peer.{Peer}
 use Rattle.fib_prefix.specs.declared.event.Via.{Via}
 use Rattle.fib_prefix.specs.declared.event.Elem.{Elem}
 use Rattle.fib_prefix.specs.declared.event.Elem.TheVariants.{Cut}
-use Rattle.route_choice.specs.declared.keys.Seat.{Seat}
-use Rattle.route_choice.specs.declared.keys.Rank.{Rank}
-use Rattle.route_choice.specs.declared.keys.Offer.{Offer}
-use Rattle.route_choice.specs.declared.keys.Candidate.{Candidate}
+use Rattle.flat_base.specs.declared.keys.Seat.{Seat}
+use Rattle.flat_base.specs.declared.keys.Rank.{Rank}
+use Rattle.flat_base.specs.declared.keys.Offer.{Offer}
+use Rattle.flat_base.specs.declared.keys.Candidate.{Candidate}
 use Rattle.fib_prefix.specs.Order.{code_peer_cmp, code_via_cmp}
-use Rattle.route_choice.specs.Seats.{Seats, offer_at, seat_of}
+use Rattle.flat_base.specs.Seats.{Seats, offer_at, seat_of}
 
 -- the ranks of a prefix, and the seats of a peer
 abbrev pub ranks_of : code.Prefix → List Rank → List Rank
@@ -31,11 +39,6 @@ offer_with_path path (Some offer) = if offer.path == path then Some offer else N
 abbrev pub offer_ranked : Seats → Rank → Option Offer
 offer_ranked seats r = offer_with_path r.path (offer_at seats (seat_of r))
 
--- whether it is the way that is left out
-abbrev pub is_out : Option Via → Via → Bool
-is_out None v = false
-is_out (Some u) v = is_eq (code_via_cmp u v)
-
 -- the candidate of the first of these ranks that has an offer, that of a way left out
 abbrev pub or_next : Via → Option Offer → Option Candidate → Option Candidate
 or_next v None next = next
@@ -52,6 +55,10 @@ better_of v None (Some other) = Some other.offer.hop
 better_of v (Some offer) None = Some offer.hop
 better_of v (Some offer) (Some other) = if nat_lt offer.path other.offer.path || (offer.path == other.offer.path && is_lt (code_via_cmp v other.via)) then Some offer.hop else Some other.offer.hop
 
+-- a cut at a seat
+abbrev pub cut_at : Seat → Elem
+cut_at s = Cut s.via s.prefix
+
 -- a cut for each of these seats where something is offered
 abbrev pub cut_or : Seat → Option Offer → List Elem → List Elem
 cut_or s None cuts = cuts
@@ -60,3 +67,26 @@ cut_or s (Some offer) cuts = Cut s.via s.prefix ∷ cuts
 unfoldable pub cuts_in : Seats → List Elem
 cuts_in [] = []
 cuts_in (e ∷ seats) = cut_or e.0 e.1 (cuts_in seats)
+
+-- the routes of these prefixes, each that has one, in their order
+abbrev pub route_or : Prefix → Option Address → List (Prefix × Address) → List (Prefix × Address)
+route_or p None routes = routes
+route_or p (Some hop) routes = (p, hop) ∷ routes
+
+unfoldable pub routes_at : Seats → List code.Prefix → List (Prefix × Address)
+routes_at seats [] = []
+routes_at seats (p ∷ ps) = route_or (prefix_as p) (chosen_for (held_in seats) (prefix_as p)) (routes_at seats ps)
+
+-- whether a prefix is among these, and whether those of all rows and ranks are
+abbrev pub has_prefix : List code.Prefix → code.Prefix → Bool
+has_prefix ps p = list_any (is_at (code_cmp p)) ps
+
+abbrev pub HasRows : List Row → List code.Prefix → Type 0
+HasRows rows ps = (i : ℕ) (row : Row) → slice_get rows i ≡ Some row → has_prefix ps row.prefix ≡ true
+
+abbrev pub HasRanks : List Rank → List code.Prefix → Type 0
+HasRanks ranks ps = AllByRecursion (λ r. has_prefix ps r.prefix ≡ true) ranks
+
+-- the prefixes of rows
+abbrev pub row_prefixes : List Row → List code.Prefix
+row_prefixes rows = map (λ (r : Row). r.prefix) rows

@@ -1,22 +1,23 @@
 //! The candidates: the routes among which one is chosen for each prefix.
 
-ghost use Rattle.std.specs.Prelude.{◌≡◌, ◌&&◌, ◌||◌, List, true, false, cond, [], map, option_map, is_some, Some, None, Bool, IfOk, OnOk, OnErr, IsSome};
-ghost use Rattle.std.specs.Ordering.{is_eq};
-ghost use Rattle.std.specs.BTreeMap as tree;
-ghost use Rattle.std.specs.BTreeSet as set;
+ghost use Rattle.std.specs.Prelude.{◌≡◌, [], map, option_map, Some, None, IfOk, OnOk, OnErr};
 ghost use Rattle.fib_addr.specs.Views.{addr_as, prefix_as, route_as};
-ghost use Rattle.fib_prefix.specs.Views.{event_as, elem_as};
+ghost use Rattle.fib_prefix.specs.Views.{peer_as, event_as, elem_as};
 ghost use Rattle.route_model.specs.Choice.{AreCandidates, after_elem, elems_of, chosen_for, routes_of};
-ghost use Rattle.route_choice.specs.Orders.{seat_cmp, rank_cmp};
-ghost use Rattle.route_choice.specs.Seats.{held_in, IsIndexed, HasRoom, has_rank, has_seat, seat_in, offer_in};
-ghost use Rattle.route_choice.specs.Seats.{offer_at as offered};
+ghost use Rattle.flat_base.specs.Seats.{held_in};
+ghost use Rattle.flat_base.specs.Flat.{IsFlat, AreApart, flat_seats, both};
 ghost use Rattle.route_choice.specs.Held.{Held, IsChoice, IsPlanned, pick_elem};
-ghost use Rattle.route_choice.specs.Kept.{IsKept, StaysKept, KeepsBeside, EachSeatServes, EachRankServes, holds_seat as seat_held, holds_rank as rank_held};
-ghost use Rattle.route_choice.specs.Walks.{offer_ranked as ranked, first_in, better_of, cuts_in, ranks_of, seats_of};
+ghost use Rattle.route_choice.specs.Kept.{IsKept};
+ghost use Rattle.route_choice.specs.Space.{HasSpace, planned_elem, over_of as over};
 
+use crate::both::{best_of, carry_one, load_elem, make_space, offered_at, plan_of};
 use crate::choice::{Choice, Pick};
-use crate::keys::{Candidate, Offer, Rank, Seat};
-use fib_prefix::{Addr, Elem, Event, Peer, Prefix, Via};
+use crate::down::cuts_of;
+use crate::over::{better_hop, give_back, offer_of, seat_of};
+use crate::plan::{Plan, over_of};
+use crate::routes::routes_of as all_routes;
+use fib_prefix::{Addr, Elem, Event, Peer, Prefix};
+use flat_base::{Flat, Offer, Rank, Seat};
 use std::alloc::{AllocError, Global};
 use std::collections::{BTreeMap, BTreeSet};
 use std::marker::Model;
@@ -26,388 +27,22 @@ use std::marker::Model;
 #[derive(Drop)]
 pub struct Candidates {
     alloc: Global,
-    // what is offered at each seat; the seat that is held for the plan alone offers nothing
+    // what came in the order of prefixes
+    flat: Flat,
+    // what is offered at each other seat; the seat that is held for the plan alone offers nothing
     seats: BTreeMap<Seat, Option<Offer>>,
-    // the rank of each offer, and that which is held for the plan
+    // the rank of each offer of these seats, and that which is held for the plan
     ranks: BTreeSet<Rank>,
-    // the plan: the elementary event that was planned last, until something changes
-    room: Option<Elem>,
+    // what was planned last, until something changes
+    room: Option<Plan>,
 }
 
 impl Model for Candidates {
     ghost Value = { Held };
 
-    ghost view = { λ c. record { candidates = held_in c.seats.entries; room = option_map elem_as c.room } };
+    ghost view = { λ c. record { candidates = held_in (both c.flat c.seats.entries); room = option_map planned_elem c.room } };
 
-    ghost invariant = { λ c. IsKept c.seats.entries c.ranks.keys None c.room };
-}
-
-/// The seat that an elementary event is about.
-fn seat_of(elem: &Elem) -> Seat
-    ensures { result ≡ seat_in elem.now }
-{
-    match *elem {
-        Elem::Put(via, prefix, _, _) => Seat::new(&via, &prefix),
-        Elem::Cut(via, prefix) => Seat::new(&via, &prefix),
-    }
-}
-
-/// What it offers there.
-fn offer_of(elem: &Elem) -> Option<Offer>
-    ensures { result ≡ offer_in elem.now }
-{
-    match *elem {
-        Elem::Put(_, _, path, hop) => Some(Offer::new(path, &hop)),
-        Elem::Cut(_, _) => None,
-    }
-}
-
-/// What is offered at a seat.
-fn offer_at(seats: &BTreeMap<Seat, Option<Offer>>, seat: &Seat) -> Option<Offer>
-    ensures { result ≡ offered seats.now.entries seat.now }
-{
-    match seats.get(seat) {
-        Some(offer) => *offer,
-        None => None,
-    }
-}
-
-/// The offer of a rank; none where the seat offers another path, or nothing.
-fn offer_ranked(seats: &BTreeMap<Seat, Option<Offer>>, rank: &Rank) -> Option<Offer>
-    ensures { result ≡ ranked seats.now.entries rank.now }
-{
-    match offer_at(seats, &rank.seat()) {
-        Some(offer) if offer.path() == rank.path() => Some(offer),
-        _ => None,
-    }
-}
-
-/// The preferred route for a prefix, that of a way left out.
-fn best_but(
-    seats: &BTreeMap<Seat, Option<Offer>>,
-    ranks: &BTreeSet<Rank>,
-    prefix: &Prefix,
-    but: Option<Via>,
-) -> Option<Candidate>
-    ensures first { result ≡ first_in seats.now.entries but (ranks_of prefix.now ranks.now.keys) }
-    ensures ordered { set.IsOrdered rank_cmp ranks.now }
-{
-    for rank in ranks.range(Rank::first(prefix)..) {
-        if *prefix != rank.prefix() {
-            return None;
-        }
-        if but != Some(rank.via()) {
-            if let Some(offer) = offer_ranked(seats, rank) {
-                return Some(Candidate {
-                    via: rank.via(),
-                    offer,
-                });
-            }
-        }
-    }
-    None
-}
-
-/// The next hop of the preferred one of the route by a way and that of the others.
-fn better_hop(via: Via, own: Option<Offer>, others: &Option<Candidate>) -> Option<Addr>
-    ensures { result ≡ better_of via own others.now }
-{
-    match (own, others) {
-        (None, None) => None,
-        (Some(offer), None) => Some(offer.hop()),
-        (None, Some(other)) => Some(other.offer.hop()),
-        (Some(offer), Some(other)) => {
-            let is_own = offer.path() < other.offer.path()
-                || (offer.path() == other.offer.path() && via < other.via);
-            Some(if is_own {
-                offer.hop()
-            } else {
-                other.offer.hop()
-            })
-        }
-    }
-}
-
-/// A cut for each route of a peer, in the order of prefixes, then of path identifiers.
-fn cuts_of(
-    alloc: Global,
-    seats: &BTreeMap<Seat, Option<Offer>>,
-    peer: Peer,
-) -> Result<Vec<Elem>, AllocError>
-    ensures cuts { IfOk result (λ cuts. cuts.items ≡ cuts_in (seats_of peer seats.now.entries)) }
-    ensures ordered { tree.IsOrdered seat_cmp seats.now }
-{
-    let mut cuts = Vec::new(alloc);
-    for (seat, offer) in seats.range(Seat::first(&peer)..) {
-        if peer != seat.peer() {
-            return Ok(cuts);
-        }
-        if offer.is_some() {
-            cuts.push(Elem::Cut(seat.via(), seat.prefix()))?;
-        }
-    }
-    Ok(cuts)
-}
-
-/// Sets what is offered at a seat, which is there if anything is to be.
-fn set_offer(seats: &mut BTreeMap<Seat, Option<Offer>>, seat: &Seat, offer: Option<Offer>)
-    requires { (o : Offer) → offer ≡ Some o → has_seat seats.old.entries seat.now ≡ true }
-    ensures offers { (s : Seat) → offered seats.new.entries s
-        ≡ cond (is_eq (seat_cmp seat.now s)) offer (offered seats.old.entries s) }
-    ensures seats { (s : Seat) → has_seat seats.new.entries s
-        ≡ cond (is_eq (seat_cmp seat.now s)) (is_some offer) (has_seat seats.old.entries s) }
-{
-    if offer.is_none() {
-        seats.remove(seat);
-    } else if let Some(place) = seats.get_mut(seat) {
-        *place = offer;
-    }
-}
-
-/// Carries out an elementary event for which there is room.
-fn carry_out(seats: &mut BTreeMap<Seat, Option<Offer>>, ranks: &mut BTreeSet<Rank>, elem: &Elem)
-    requires { IsKept seats.old.entries ranks.old.keys None (Some elem.now) }
-    ensures offers { (s : Seat) → offered seats.new.entries s
-        ≡ cond (is_eq (seat_cmp (seat_in elem.now) s)) (offer_in elem.now)
-        (offered seats.old.entries s) }
-    ensures kept { IsKept seats.new.entries ranks.new.keys None None }
-{
-    let seat = seat_of(elem);
-    let old = offer_at(seats, &seat);
-    set_offer(seats, &seat, offer_of(elem));
-    if let Some(old) = old {
-        prune_rank(seats, ranks, &seat.rank(old.path()));
-    }
-}
-
-/// Removes a rank that no offer has.
-fn prune_rank(seats: &BTreeMap<Seat, Option<Offer>>, ranks: &mut BTreeSet<Rank>, rank: &Rank)
-    ensures indexed { IsIndexed seats.now.entries ranks.old.keys
-        → IsIndexed seats.now.entries ranks.new.keys }
-    ensures serve { (held : Rank → Bool) → EachRankServes seats.now.entries ranks.old.keys
-        (λ r. is_eq (rank_cmp rank.now r) || held r)
-        → EachRankServes seats.now.entries ranks.new.keys held }
-    ensures others { (r : Rank) → is_eq (rank_cmp rank.now r) ≡ false
-        → has_rank ranks.new.keys r ≡ has_rank ranks.old.keys r }
-{
-    if offer_ranked(seats, rank).is_none() {
-        ranks.remove(rank);
-    }
-}
-
-/// Removes a seat where nothing is offered.
-fn prune_seat(seats: &mut BTreeMap<Seat, Option<Offer>>, seat: &Seat)
-    ensures offers { (s : Seat) → offered seats.new.entries s ≡ offered seats.old.entries s }
-    ensures serve { (held : Seat → Bool) → EachSeatServes seats.old.entries
-        (λ s. is_eq (seat_cmp seat.now s) || held s) → EachSeatServes seats.new.entries held }
-    ensures others { (s : Seat) → is_eq (seat_cmp seat.now s) ≡ false
-        → has_seat seats.new.entries s ≡ has_seat seats.old.entries s }
-{
-    if offer_at(seats, seat).is_none() {
-        seats.remove(seat);
-    }
-}
-
-/// Whether the seat is held for the plan.
-fn holds_seat(plan: &Option<Elem>, seat: &Seat) -> bool
-    ensures { result ≡ seat_held plan.now seat.now }
-{
-    match plan {
-        Some(Elem::Put(via, prefix, _, _)) => Seat::new(via, prefix) == *seat,
-        _ => false,
-    }
-}
-
-/// Whether the rank is held for the plan.
-fn holds_rank(plan: &Option<Elem>, rank: &Rank) -> bool
-    ensures { result ≡ rank_held plan.now rank.now }
-{
-    match plan {
-        Some(Elem::Put(via, prefix, path, _)) => Seat::new(via, prefix).rank(*path) == *rank,
-        _ => false,
-    }
-}
-
-/// Gives back a rank of an earlier plan: removes it, but for an offer's and the plan's.
-fn give_back_rank(
-    seats: &BTreeMap<Seat, Option<Offer>>,
-    ranks: &mut BTreeSet<Rank>,
-    rank: &Rank,
-    plan: &Option<Elem>,
-)
-    ensures indexed { IsIndexed seats.now.entries ranks.old.keys
-        → IsIndexed seats.now.entries ranks.new.keys }
-    ensures serve { EachRankServes seats.now.entries ranks.old.keys
-        (λ r. is_eq (rank_cmp rank.now r) || rank_held plan.now r)
-        → EachRankServes seats.now.entries ranks.new.keys (rank_held plan.now) }
-    ensures room { HasRoom seats.now.entries ranks.old.keys plan.now
-        → HasRoom seats.now.entries ranks.new.keys plan.now }
-{
-    if !holds_rank(plan, rank) {
-        prune_rank(seats, ranks, rank);
-    }
-}
-
-/// Gives back a seat of an earlier plan: removes it, but where something is offered and for the plan.
-fn give_back_seat(seats: &mut BTreeMap<Seat, Option<Offer>>, seat: &Seat, plan: &Option<Elem>)
-    ensures offers { (s : Seat) → offered seats.new.entries s ≡ offered seats.old.entries s }
-    ensures serve { EachSeatServes seats.old.entries (λ s. is_eq (seat_cmp seat.now s)
-        || seat_held plan.now s) → EachSeatServes seats.new.entries (seat_held plan.now) }
-    ensures room { (ranks : List Rank) → HasRoom seats.old.entries ranks plan.now
-        → HasRoom seats.new.entries ranks plan.now }
-{
-    if !holds_seat(plan, seat) {
-        prune_seat(seats, seat);
-    }
-}
-
-/// Gives back the room of an earlier plan.
-fn give_back(
-    seats: &mut BTreeMap<Seat, Option<Offer>>,
-    ranks: &mut BTreeSet<Rank>,
-    earlier: Option<Elem>,
-    plan: &Option<Elem>,
-)
-    ensures offers { (s : Seat) → offered seats.new.entries s ≡ offered seats.old.entries s }
-    ensures kept { IsKept seats.old.entries ranks.old.keys earlier plan.now
-        → IsKept seats.new.entries ranks.new.keys None plan.now }
-{
-    let Some(earlier) = earlier else {
-        return;
-    };
-    if let Elem::Put(via, prefix, path, _) = earlier {
-        let seat = Seat::new(&via, &prefix);
-        give_back_rank(seats, ranks, &seat.rank(path), plan);
-        give_back_seat(seats, &seat, plan);
-    }
-}
-
-/// Takes back a rank that was put, where it was new.
-fn take_back(ranks: &mut BTreeSet<Rank>, rank: &Rank, is_new: bool)
-    ensures { (r : Rank) → has_rank ranks.new.keys r ≡ cond
-        (is_new && is_eq (rank_cmp rank.now r)) false (has_rank ranks.old.keys r) }
-{
-    if is_new {
-        ranks.remove(rank);
-    }
-}
-
-/// Makes room for a seat and a rank, where they aren't there. An `Err` leaves both as they were.
-fn make_room(
-    seats: &mut BTreeMap<Seat, Option<Offer>>,
-    ranks: &mut BTreeSet<Rank>,
-    seat: &Seat,
-    rank: &Rank,
-) -> Result<(), AllocError>
-    ensures offers { (s : Seat) → offered seats.new.entries s ≡ offered seats.old.entries s }
-    ensures seats { OnOk result ((s : Seat) → has_seat seats.new.entries s
-        ≡ cond (is_eq (seat_cmp seat.now s)) true (has_seat seats.old.entries s)) }
-    ensures ranks { OnOk result ((r : Rank) → has_rank ranks.new.keys r
-        ≡ cond (is_eq (rank_cmp rank.now r)) true (has_rank ranks.old.keys r)) }
-    ensures err_seats { OnErr result (seats.new.entries ≡ seats.old.entries) }
-    ensures err_ranks { OnErr result ((r : Rank) → has_rank ranks.new.keys r
-        ≡ has_rank ranks.old.keys r) }
-{
-    let is_new = ranks.insert(*rank)?;
-    if seats.get(seat).is_none() {
-        match seats.insert(*seat, None) {
-            Ok(_) => {}
-            Err(failed) => {
-                take_back(ranks, rank, is_new);
-                return Err(AllocError::from(failed));
-            }
-        }
-    }
-    Ok(())
-}
-
-/// Makes room for what an elementary event offers, beside that of the plan before it. An `Err` leaves all as it was.
-fn make_room_for(
-    seats: &mut BTreeMap<Seat, Option<Offer>>,
-    ranks: &mut BTreeSet<Rank>,
-    elem: &Elem,
-) -> Result<(), AllocError>
-    ensures offers { (s : Seat) → offered seats.new.entries s ≡ offered seats.old.entries s }
-    ensures kept { OnOk result (KeepsBeside seats.old.entries ranks.old.keys seats.new.entries
-        ranks.new.keys (Some elem.now)) }
-    ensures err { OnErr result (StaysKept seats.old.entries ranks.old.keys seats.new.entries
-        ranks.new.keys) }
-{
-    match *elem {
-        Elem::Put(via, prefix, path, _) => {
-            let seat = Seat::new(&via, &prefix);
-            make_room(seats, ranks, &seat, &seat.rank(path))
-        }
-        Elem::Cut(_, _) => Ok(()),
-    }
-}
-
-/// Offers something at a seat, beside the room of the plan. An `Err` leaves all as it was.
-fn put_offer(
-    seats: &mut BTreeMap<Seat, Option<Offer>>,
-    ranks: &mut BTreeSet<Rank>,
-    seat: &Seat,
-    offer: Offer,
-) -> Result<(), AllocError>
-    ensures ok { OnOk result ((s : Seat) → offered seats.new.entries s
-        ≡ cond (is_eq (seat_cmp seat.now s)) (Some offer) (offered seats.old.entries s)) }
-    ensures kept { OnOk result (KeepsBeside seats.old.entries ranks.old.keys seats.new.entries
-        ranks.new.keys None) }
-    ensures err_offers { OnErr result ((s : Seat) → offered seats.new.entries s
-        ≡ offered seats.old.entries s) }
-    ensures err { OnErr result (StaysKept seats.old.entries ranks.old.keys seats.new.entries
-        ranks.new.keys) }
-{
-    let rank = seat.rank(offer.path());
-    let is_new = ranks.insert(rank)?;
-    let old = match seats.insert(*seat, Some(offer)) {
-        Ok(old) => old.flatten(),
-        Err(failed) => {
-            take_back(ranks, &rank, is_new);
-            return Err(AllocError::from(failed));
-        }
-    };
-    if let Some(old) = old {
-        prune_rank(seats, ranks, &seat.rank(old.path()));
-    }
-    Ok(())
-}
-
-/// Ends what is offered at a seat, beside the room of the plan.
-fn cut_offer(seats: &mut BTreeMap<Seat, Option<Offer>>, ranks: &mut BTreeSet<Rank>, seat: &Seat)
-    ensures offers { (s : Seat) → offered seats.new.entries s
-        ≡ cond (is_eq (seat_cmp seat.now s)) None (offered seats.old.entries s) }
-    ensures kept { KeepsBeside seats.old.entries ranks.old.keys seats.new.entries ranks.new.keys
-        None }
-{
-    if let Some(old) = seats.remove(seat).flatten() {
-        prune_rank(seats, ranks, &seat.rank(old.path()));
-    }
-}
-
-/// Offers what an elementary event does, or ends what is offered there, beside the room of the plan. An `Err` leaves all as
-/// it was.
-fn load_elem(
-    seats: &mut BTreeMap<Seat, Option<Offer>>,
-    ranks: &mut BTreeSet<Rank>,
-    elem: &Elem,
-) -> Result<(), AllocError>
-    ensures ok { OnOk result ((s : Seat) → offered seats.new.entries s
-        ≡ cond (is_eq (seat_cmp (seat_in elem.now) s)) (offer_in elem.now)
-        (offered seats.old.entries s)) }
-    ensures kept { OnOk result (KeepsBeside seats.old.entries ranks.old.keys seats.new.entries
-        ranks.new.keys None) }
-    ensures err_offers { OnErr result ((s : Seat) → offered seats.new.entries s
-        ≡ offered seats.old.entries s) }
-    ensures err { OnErr result (StaysKept seats.old.entries ranks.old.keys seats.new.entries
-        ranks.new.keys) }
-{
-    let seat = seat_of(elem);
-    match offer_of(elem) {
-        Some(offer) => put_offer(seats, ranks, &seat, offer)?,
-        None => cut_offer(seats, ranks, &seat),
-    }
-    Ok(())
+    ghost invariant = { λ c. IsFlat c.flat × AreApart (flat_seats c.flat) c.seats.entries × IsKept c.seats.entries c.ranks.keys None (over c.room) × HasSpace c.flat c.room };
 }
 
 impl Candidates {
@@ -417,6 +52,7 @@ impl Candidates {
     {
         Candidates {
             alloc,
+            flat: Flat::new(alloc),
             seats: BTreeMap::new(alloc),
             ranks: BTreeSet::new(alloc),
             room: None,
@@ -438,7 +74,7 @@ impl Candidates {
                 Elem::Put(via, prefix, path, hop),
             ]?),
             Event::Withdraw(via, prefix) => Ok(vec![in self.alloc; Elem::Cut(via, prefix)]?),
-            Event::Down(peer) => cuts_of(self.alloc, &self.seats, peer),
+            Event::Down(peer) => cuts_of(self.alloc, &self.flat, &self.seats, &peer),
         }
     }
 
@@ -448,10 +84,11 @@ impl Candidates {
     {
         let seat = seat_of(elem);
         let via = seat.via();
-        let others = best_but(&self.seats, &self.ranks, &seat.prefix(), Some(via));
+        let prefix = seat.prefix();
+        let others = best_of(&self.flat, &self.seats, &self.ranks, &prefix, Some(via));
         Choice {
-            prefix: seat.prefix(),
-            before: better_hop(via, offer_at(&self.seats, &seat), &others),
+            prefix,
+            before: better_hop(via, offered_at(&self.flat, &self.seats, &seat), &others),
             after: better_hop(via, offer_of(elem), &others),
         }
     }
@@ -462,9 +99,16 @@ impl Candidates {
         ensures room { OnOk result (self.new.room ≡ Some (elem_as elem.now)) }
         ensures err { OnErr result (self.new ≡ self.old) }
     {
-        make_room_for(&mut self.seats, &mut self.ranks, elem)?;
-        let earlier = self.room.replace(*elem);
-        give_back(&mut self.seats, &mut self.ranks, earlier, &self.room);
+        let plan = plan_of(&self.flat, elem);
+        make_space(&mut self.flat, &mut self.seats, &mut self.ranks, &plan)?;
+        let earlier = over_of(&self.room);
+        self.room = Some(plan);
+        give_back(
+            &mut self.seats,
+            &mut self.ranks,
+            earlier,
+            &over_of(&self.room),
+        );
         Ok(())
     }
 
@@ -494,7 +138,10 @@ impl Candidates {
         ensures room { self.new.room ≡ None }
         ensures choice { IsChoice self.old.candidates (pick_elem pick) result }
     {
-        carry_out(&mut self.seats, &mut self.ranks, &pick.elem);
+        let Some(plan) = self.room else {
+            return pick.choice;
+        };
+        carry_one(&mut self.flat, &mut self.seats, &mut self.ranks, &plan);
         self.room = None;
         pick.choice
     }
@@ -527,8 +174,9 @@ impl Candidates {
         ensures room { OnOk result (self.new.room ≡ None) }
         ensures err { OnErr result (self.new ≡ self.old) }
     {
-        load_elem(&mut self.seats, &mut self.ranks, elem)?;
-        let earlier = self.room.take();
+        load_elem(&mut self.flat, &mut self.seats, &mut self.ranks, elem)?;
+        let earlier = over_of(&self.room);
+        self.room = None;
         give_back(&mut self.seats, &mut self.ranks, earlier, &None);
         Ok(())
     }
@@ -538,7 +186,7 @@ impl Candidates {
         ensures { option_map addr_as result ≡ chosen_for self.now.candidates
             (prefix_as prefix.now) }
     {
-        let best = best_but(&self.seats, &self.ranks, prefix, None)?;
+        let best = best_of(&self.flat, &self.seats, &self.ranks, prefix, None)?;
         Some(best.offer.hop())
     }
 
@@ -552,17 +200,6 @@ impl Candidates {
             ≡ routes_of self.now.candidates) }
         ensures held { AreCandidates self.now.candidates }
     {
-        let mut routes = Vec::new(self.alloc);
-        let mut last = None;
-        for rank in self.ranks.iter() {
-            let prefix = rank.prefix();
-            if last != Some(prefix) {
-                if let Some(offer) = offer_ranked(&self.seats, rank) {
-                    last = Some(prefix);
-                    routes.push((prefix, offer.hop()))?;
-                }
-            }
-        }
-        Ok(routes)
+        all_routes(self.alloc, &self.flat, &self.seats, &self.ranks)
     }
 }

@@ -1,0 +1,11 @@
+pub mod Packs
+pub mod Orders
+pub mod Equals
+pub mod Views
+pub mod Holds
+pub mod Places
+pub mod Chains
+pub mod Flats
+pub mod Parts
+pub mod Betters
+pub mod Sessions

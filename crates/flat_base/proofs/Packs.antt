@@ -1,0 +1,40 @@
+-- Seats, ranks, offers and rows made of their parts are what clauses see.
+use Rattle.std.proofs.Common.{◌≡◌, ℕ, ◌<◌, ◌≤◌, ◌-◌, ◌^◌, ◌%◌, ap, ◌∙◌}
+use Rattle.std.specs.Coded.{le_prop, Coded-set, coded_ℕ}
+use Rattle.address_model.specs.Width.{width}
+use Rattle.fib_addr.specs.declared.addr.Addr.{Addr}
+use Rattle.fib_prefix.specs.declared.event.Via.{Via}
+use Rattle.fib_addr.specs.declared.prefix.Prefix.{Prefix}
+use Rattle.flat_base.specs.Keys.{SeatKey, RankKey, OfferKey}
+use Rattle.flat_base.specs.Rows.{RowKey}
+
+addr_packed : (h : Addr) (b : h.bits < 2 ^ width h.family) → (let r : Addr = record { family = h.family; bits = h.bits; below = b } in r) ≡ h
+addr_packed h b = ap (λ (x : h.bits < 2 ^ width h.family). let r : Addr = record { family = h.family; bits = h.bits; below = x } in r) (le_prop b h.below)
+
+prefix_packed : (p : Prefix) (f : p.len ≤ width p.family) (b : p.bits < 2 ^ width p.family) (c : p.bits % 2 ^ (width p.family - p.len) ≡ 0) → (let r : Prefix = record { family = p.family; bits = p.bits; len = p.len; fits = f; below = b; cleared = c } in r) ≡ p
+prefix_packed p f b c =
+    ap (λ (x : p.len ≤ width p.family). let r : Prefix = record { family = p.family; bits = p.bits; len = p.len; fits = x; below = b; cleared = c } in r) (le_prop f p.fits)
+    ∙ (ap (λ (x : p.bits < 2 ^ width p.family). let r : Prefix = record { family = p.family; bits = p.bits; len = p.len; fits = p.fits; below = x; cleared = c } in r) (le_prop b p.below)
+    ∙ ap (λ (x : p.bits % 2 ^ (width p.family - p.len) ≡ 0). let r : Prefix = record { family = p.family; bits = p.bits; len = p.len; fits = p.fits; below = p.below; cleared = x } in r) (Coded-set coded_ℕ _ _ c p.cleared))
+
+abbrev packed_via : Via → Addr → Via
+packed_via v a = record { peer = record { addr = a; asn = v.peer.asn }; id = v.id }
+
+pub seat_packed : (v : Via) (p : Prefix) (a : v.peer.addr.bits < 2 ^ width v.peer.addr.family) (f : p.len ≤ width p.family) (b : p.bits < 2 ^ width p.family) (c : p.bits % 2 ^ (width p.family - p.len) ≡ 0)
+    → (let r : SeatKey = record { via = packed_via v (record { family = v.peer.addr.family; bits = v.peer.addr.bits; below = a }); prefix = record { family = p.family; bits = p.bits; len = p.len; fits = f; below = b; cleared = c } } in r) ≡ record { via = v; prefix = p }
+seat_packed v p a f b c =
+    ap (λ (x : Addr). let r : SeatKey = record { via = packed_via v x; prefix = record { family = p.family; bits = p.bits; len = p.len; fits = f; below = b; cleared = c } } in r) (addr_packed v.peer.addr a)
+    ∙ ap (λ (x : Prefix). let r : SeatKey = record { via = v; prefix = x } in r) (prefix_packed p f b c)
+
+pub rank_packed : (v : Via) (p : Prefix) (n : ℕ) (a : v.peer.addr.bits < 2 ^ width v.peer.addr.family) (f : p.len ≤ width p.family) (b : p.bits < 2 ^ width p.family) (c : p.bits % 2 ^ (width p.family - p.len) ≡ 0)
+    → (let r : RankKey = record { prefix = record { family = p.family; bits = p.bits; len = p.len; fits = f; below = b; cleared = c }; path = n; via = packed_via v (record { family = v.peer.addr.family; bits = v.peer.addr.bits; below = a }) } in r) ≡ record { prefix = p; path = n; via = v }
+rank_packed v p n a f b c =
+    ap (λ (x : Addr). let r : RankKey = record { prefix = record { family = p.family; bits = p.bits; len = p.len; fits = f; below = b; cleared = c }; path = n; via = packed_via v x } in r) (addr_packed v.peer.addr a)
+    ∙ ap (λ (x : Prefix). let r : RankKey = record { prefix = x; path = n; via = v } in r) (prefix_packed p f b c)
+
+pub offer_packed : (n : ℕ) (h : Addr) (b : h.bits < 2 ^ width h.family) → (let r : OfferKey = record { path = n; hop = record { family = h.family; bits = h.bits; below = b } } in r) ≡ record { path = n; hop = h }
+offer_packed n h b = ap (λ (x : Addr). let r : OfferKey = record { path = n; hop = x } in r) (addr_packed h b)
+
+pub row_packed : (p : Prefix) (n : ℕ) (f : p.len ≤ width p.family) (b : p.bits < 2 ^ width p.family) (c : p.bits % 2 ^ (width p.family - p.len) ≡ 0)
+    → (let r : RowKey = record { prefix = record { family = p.family; bits = p.bits; len = p.len; fits = f; below = b; cleared = c }; off = n } in r) ≡ record { prefix = p; off = n }
+row_packed p n f b c = ap (λ (x : Prefix). let r : RowKey = record { prefix = x; off = n } in r) (prefix_packed p f b c)

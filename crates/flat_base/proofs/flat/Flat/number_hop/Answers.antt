@@ -1,0 +1,21 @@
+use Rattle.std.proofs.Common.{ap, sym, ◌∙◌, ◌≡◌, ◌≤◌, length, Some, rules}
+use Rattle.std.specs.Prelude.{slice_get}
+use Rattle.flat_base.proofs.Places.{grown_key}
+use Rattle.flat_base.proofs.Flats.{addr_same, more_hops, grown_seats}
+use Rattle.flat_base.specs.Flat.{no_hop}
+use Rattle.flat_base.proofs.flat.Flat.number_hop.Goals as goal
+
+pub returns-clause-hop : goal.returns-clause-hop
+returns-clause-hop c =
+    let s = c.in_ok-at.ensures.stored in
+    let n : c.in_ok-number.number ≡ c.in_ok-at.at = search rules in
+    ap (slice_get _) n ∙ (s.1 ∙ ap Some (sym (addr_same c.args.hop.now s.0 s.2)))
+
+pub returns-clause-grown : goal.returns-clause-grown
+returns-clause-grown c = grown_key _ c.args.self.now.hops.keys c.args.hop.now _ c.in_ok-at.ensures.keys
+
+pub returns-clause-flat : goal.returns-clause-flat
+returns-clause-flat c = λ f. let o = c.args.self.now in let m : length c.insert_full.new.self.keys ≤ no_hop = search rules in more_hops o.rows.items o.slots.items o.peers.keys o.peers.keys o.hops.keys _ o.ends.items f (λ i x g. g) f.numbers f.few_peers f.listed (grown_key _ o.hops.keys c.args.hop.now _ c.in_ok-at.ensures.keys) m
+
+pub returns-clause-seats : goal.returns-clause-seats
+returns-clause-seats c = λ f. let o = c.args.self.now in let m : length c.insert_full.new.self.keys ≤ no_hop = search rules in grown_seats o.rows.items o.rows.items o.slots.items o.peers.keys o.peers.keys o.hops.keys _ o.ends.items f (λ i x g. g) (λ i x g. g) f.few_peers (grown_key _ o.hops.keys c.args.hop.now _ c.in_ok-at.ensures.keys) m

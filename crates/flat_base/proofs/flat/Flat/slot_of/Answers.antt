@@ -1,0 +1,6 @@
+use Rattle.std.proofs.Common.{◌≤◌, arith}
+use Rattle.flat_base.proofs.Flats.{none_at_all}
+use Rattle.flat_base.proofs.flat.Flat.slot_of.Goals as goal
+
+pub returns : goal.returns
+returns c = none_at_all c.args.self.now c.args.row c.args.peer c.args.id c.run_of-run.result.from c.run_of-run.result.to c.loop-i.i c.requires c.run_of-run.ensures (omega (arith, c.loop-i-test.false)) c.loop-i.invariant

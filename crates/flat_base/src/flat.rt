@@ -1,0 +1,717 @@
+//! The flat base: what comes in the order of prefixes, in runs of slots.
+
+ghost use Rattle.std.specs.Prelude.{◌||◌, ◌≡◌, ◌≢◌, ◌≤◌, ◌<◌, ◌+◌, ◌-◌, ℕ, [], suc, true, false, None, Some, MatchOption, IfOk, OnOk, OnErr, IfSome, IfNone, length, option_map, slice_get, slice_set, slice_index_or, ◌++◌, ◌∷◌};
+ghost use Rattle.std.specs.declared.cmp.Ordering.TheVariants.{Less, Equal};
+ghost use Rattle.std.specs.Map.{lookup};
+ghost use Rattle.std.specs.BTreeMap.{is_at};
+ghost use Rattle.flat_base.specs.Orders.{seat_cmp};
+ghost use Rattle.flat_base.specs.Seats.{Seats};
+ghost use Rattle.flat_base.specs.Chains.{no_peer, end_of as chain_end};
+ghost use Rattle.flat_base.specs.Flat.{IsFlat, IsRow, HasNoRow, IsSlot, HasNoSlot, HasNoSeat, IsNumber, HasNoNumber, IsGrown, IsRun, IsBehind, IsLastRow, IsNext, IsHop, HasHop, Puts, AreNumbers, AreApart, Offers, Thins, NoSeatComes, IsLastFree, Grows, IsSlotOf, live_on, is_seat, is_among, is_offered_by, with_offer, emptied, offer_by, seats_on, no_slot, flat_seats, offer_on, via_on, no_hop, both};
+ghost use Rattle.flat_base.specs.Bests.{IsBest, better_on, best_step, better_one as better};
+
+use crate::keys::{Candidate, Offer, Seat};
+use crate::rows::Row;
+use fib_prefix::{Addr, Peer, Prefix, Via};
+use indexmap::IndexSet;
+use std::alloc::{AllocError, Global};
+use std::cmp::Ordering;
+use std::collections::BTreeSet;
+
+/// The hop number of a slot that offers nothing.
+const NO_HOP: u32 = u32::MAX;
+
+/// The most slots of a row.
+const RUN: usize = 64;
+
+/// The peer's number in a slot that is no seat any more.
+const NO_PEER: u32 = u32::MAX;
+
+/// What comes by a way for the prefix of a row, in numbers.
+#[derive(Clone, Copy)]
+pub struct Slot {
+    /// The length of the path.
+    pub path: u32,
+    /// The peer's number, or none where the slot is no seat any more.
+    pub peer: u32,
+    /// The path identifier.
+    pub id: u32,
+    /// The hop's number, or none where nothing is offered.
+    pub hop: u32,
+    /// The row's number.
+    pub row: u32,
+    /// Where the peer's chain goes on: 1 more than the place of the peer's slot before this one, or 0.
+    pub link: u32,
+}
+
+/// Slots in runs, one run a row, and in chains, one chain a peer, with what their numbers stand for.
+#[derive(Drop)]
+pub struct Flat {
+    rows: Vec<Row>,
+    slots: Vec<Slot>,
+    peers: IndexSet<Peer>,
+    hops: IndexSet<Addr>,
+    // by the peer's number, where its chain begins: 1 more than the place of its last slot, or 0
+    ends: Vec<u32>,
+}
+
+/// A run: where it begins and where it ends.
+#[derive(Clone, Copy)]
+pub struct Run {
+    pub from: usize,
+    pub to: usize,
+}
+
+impl Flat {
+    /// No slots.
+    pub fn new(alloc: Global) -> Flat
+        ensures flat { IsFlat result }
+        ensures seats { flat_seats result ≡ [] }
+    {
+        Flat {
+            rows: Vec::new(alloc),
+            slots: Vec::new(alloc),
+            peers: IndexSet::new(alloc),
+            hops: IndexSet::new(alloc),
+            ends: Vec::new(alloc),
+        }
+    }
+
+    /// How the last row stands to a prefix; `Less` where there is none.
+    fn order_last(&self, prefix: &Prefix) -> Ordering
+        requires { IsFlat self.now }
+        ensures less { result ≡ Less → IsBehind self.now.rows.items prefix.now }
+        ensures equal { result ≡ Equal → IsLastRow self.now.rows.items prefix.now (length self.now.rows.items - 1) }
+    {
+        match self.rows.last() {
+            Some(last) => last.prefix().cmp(prefix),
+            None => Ordering::Less,
+        }
+    }
+
+    /// The number of a prefix's row.
+    pub fn row_of(&self, prefix: &Prefix) -> Option<usize>
+        requires { IsFlat self.now }
+        ensures { MatchOption result (HasNoRow self.now.rows.items prefix.now) (IsRow self.now.rows.items prefix.now) }
+    {
+        match self.order_last(prefix) {
+            Ordering::Less => None,
+            Ordering::Equal => Some(self.rows.len().saturating_sub(1)),
+            Ordering::Greater => self.rows.binary_search(&Row::new(prefix, 0)).ok(),
+        }
+    }
+
+    /// The run of a row.
+    fn run_of(&self, row: usize) -> Run
+        ensures { IsRun self.now.rows.items row (length self.now.slots.items) result.from result.to }
+    {
+        let end = self.slots.len();
+        Run {
+            from: match self.rows.get(row) {
+                Some(row) => row.off() as usize,
+                None => end,
+            },
+            to: match self.rows.get(row.saturating_add(1)) {
+                Some(next) => next.off() as usize,
+                None => end,
+            },
+        }
+    }
+
+    /// The place of the slot of a peer and a path identifier in a row.
+    fn slot_of(&self, row: usize, peer: usize, id: u32) -> Option<usize>
+        requires { IsFlat self.now }
+        ensures { MatchOption result (HasNoSlot self.now.slots.items row peer id)
+            (IsSlot self.now.slots.items row peer id) }
+    {
+        let run = self.run_of(row);
+        for i in run.from..run.to {
+            if let Some(slot) = self.slots.get(i) {
+                if slot.row as usize == row && slot.peer as usize == peer && slot.id == id {
+                    return Some(i);
+                }
+            }
+        }
+        None
+    }
+
+    /// A peer's number.
+    fn number_of(&self, peer: &Peer) -> Option<usize>
+        ensures { MatchOption result (HasNoNumber self.now.peers.keys peer.now)
+            (IsNumber self.now.peers.keys peer.now) }
+    {
+        match self.number_near(peer) {
+            Some(number) => Some(number as usize),
+            None => self.peers.get_index_of(peer),
+        }
+    }
+
+    /// A peer's number, where its slot follows as it did in the row before: a guess that is tested, in place of a look-up.
+    fn number_near(&self, peer: &Peer) -> Option<u32>
+        ensures { IfSome result (IsNumber self.now.peers.keys peer.now) }
+    {
+        let last = self.slots.last()?;
+        let next = self.slots.get(last.link as usize)?;
+        let number = next.peer;
+        let near = self.peers.get_index(number as usize)?;
+        if *near != *peer {
+            return None;
+        }
+        Some(number)
+    }
+
+    /// A hop's number, where it is that of the peer's last slot: a guess that is tested, in place of a look-up.
+    fn hop_near(&self, peer: u32, hop: &Addr) -> Option<u32>
+        ensures { IfSome result (λ n. slice_get self.now.hops.keys n ≡ Some hop.now) }
+    {
+        let at = (self.end_of(peer as usize) as usize).checked_sub(1)?;
+        let slot = self.slots.get(at)?;
+        let number = slot.hop;
+        let near = self.hops.get_index(number as usize)?;
+        if *near != *hop {
+            return None;
+        }
+        Some(number)
+    }
+
+    /// The place of a seat's slot.
+    pub fn find(&self, seat: &Seat) -> Option<usize>
+        requires { IsFlat self.now }
+        ensures { MatchOption result (HasNoSeat self.now seat.now) (IsSlotOf self.now seat.now) }
+    {
+        let row = self.row_of(&seat.prefix())?;
+        let peer = self.number_of(&seat.peer())?;
+        self.slot_of(row, peer, seat.id())
+    }
+
+    /// What a slot offers.
+    pub fn offer(&self, slot: &Slot) -> Option<Offer>
+        ensures { result ≡ offer_on self.now.hops.keys slot.now }
+    {
+        let hop = self.hops.get_index(slot.hop as usize)?;
+        Some(Offer::new(slot.path, hop))
+    }
+
+    /// What is offered at the place of a slot.
+    pub fn offer_at(&self, at: usize, seat: &Seat) -> Option<Offer>
+        requires flat { IsFlat self.now }
+        requires slot { IsSlotOf self.now seat.now at }
+        ensures { lookup (is_at (seat_cmp seat.now)) (flat_seats self.now) ≡ Some result }
+    {
+        match self.slots.get(at) {
+            Some(slot) => self.offer(slot),
+            None => None,
+        }
+    }
+
+    /// A hop's number, which it gets if it has none.
+    pub fn number_hop(&mut self, hop: &Addr) -> Result<u32, AllocError>
+        ensures hop { IfOk result (λ n. slice_get self.new.hops.keys n ≡ Some hop.now) }
+        ensures grown { IsGrown self.old.hops.keys self.new.hops.keys }
+        ensures few { length self.old.hops.keys ≤ no_hop → length self.new.hops.keys ≤ no_hop }
+        ensures flat { IsFlat self.old → IsFlat self.new }
+        ensures seats { IsFlat self.old → flat_seats self.new ≡ flat_seats self.old }
+        ensures rows { self.new.rows.items ≡ self.old.rows.items }
+        ensures slots { self.new.slots.items ≡ self.old.slots.items }
+        ensures peers { self.new.peers.keys ≡ self.old.peers.keys }
+        ensures ends { self.new.ends.items ≡ self.old.ends.items }
+        ensures grows { Grows self.old self.new }
+    {
+        if self.hops.len() >= NO_HOP as usize {
+            return Err(AllocError);
+        }
+        let (at, _) = self.hops.insert_full(*hop)?;
+        let number = u32::try_from(at).map_err(|_| AllocError)?;
+        Ok(number)
+    }
+
+    /// The number of a hop that a peer's route has, which it gets if it has none.
+    fn number_hop_of(&mut self, peer: u32, hop: &Addr) -> Result<u32, AllocError>
+        ensures hop { IfOk result (λ n. slice_get self.new.hops.keys n ≡ Some hop.now) }
+        ensures grown { IsGrown self.old.hops.keys self.new.hops.keys }
+        ensures few { length self.old.hops.keys ≤ no_hop → length self.new.hops.keys ≤ no_hop }
+        ensures flat { IsFlat self.old → IsFlat self.new }
+        ensures seats { IsFlat self.old → flat_seats self.new ≡ flat_seats self.old }
+        ensures rows { self.new.rows.items ≡ self.old.rows.items }
+        ensures slots { self.new.slots.items ≡ self.old.slots.items }
+        ensures peers { self.new.peers.keys ≡ self.old.peers.keys }
+        ensures ends { self.new.ends.items ≡ self.old.ends.items }
+        ensures grows { Grows self.old self.new }
+    {
+        if let Some(number) = self.hop_near(peer, hop) {
+            return Ok(number);
+        }
+        let number = self.number_hop(hop)?;
+        Ok(number)
+    }
+
+    /// A peer's number, which it gets if it has none.
+    fn number_peer(&mut self, peer: &Peer) -> Result<u32, AllocError>
+        requires { IsFlat self.old }
+        ensures peer { IfOk result (IsNumber self.new.peers.keys peer.now) }
+        ensures flat { IsFlat self.new }
+        ensures seats { flat_seats self.new ≡ flat_seats self.old }
+        ensures rows { self.new.rows.items ≡ self.old.rows.items }
+        ensures hops { self.new.hops.keys ≡ self.old.hops.keys }
+        ensures grows { Grows self.old self.new }
+    {
+        if let Some(number) = self.number_near(peer) {
+            return Ok(number);
+        }
+        if self.peers.len() >= NO_PEER as usize {
+            return Err(AllocError);
+        }
+        self.add_end()?;
+        let (at, _) = self.peers.insert_full(*peer)?;
+        let number = u32::try_from(at).map_err(|_| AllocError)?;
+        Ok(number)
+    }
+
+    /// Makes room for one more peer's chain.
+    fn add_end(&mut self) -> Result<(), AllocError>
+        requires { IsFlat self.old }
+        ensures room { OnOk result (length self.new.peers.keys < length self.new.ends.items) }
+        ensures flat { IsFlat self.new }
+        ensures rows { self.new.rows.items ≡ self.old.rows.items }
+        ensures slots { self.new.slots.items ≡ self.old.slots.items }
+        ensures peers { self.new.peers.keys ≡ self.old.peers.keys }
+        ensures hops { self.new.hops.keys ≡ self.old.hops.keys }
+    {
+        if self.ends.len() <= self.peers.len() {
+            self.ends.push(0)?;
+        }
+        Ok(())
+    }
+
+    /// A hop's number, if it has one.
+    fn hop_number(&self, hop: &Addr) -> Option<u32>
+        requires { length self.now.hops.keys ≤ no_hop }
+        ensures number { IfSome result (λ n. slice_get self.now.hops.keys n ≡ Some hop.now) }
+        ensures none { IfNone result (HasHop self.now.hops.keys hop.now → ⊥) }
+    {
+        let at = self.hops.get_index_of(hop)?;
+        Some(at as u32)
+    }
+
+    /// Sets what is offered at the place of a slot: a path and a hop's number.
+    fn set(&mut self, at: usize, path: u32, hop: u32)
+        requires { at < length self.old.slots.items }
+        ensures slots { self.new.slots.items ≡ slice_set self.old.slots.items at
+            (with_offer path hop (slice_index_or self.old.slots.items at no_slot)) }
+        ensures rows { self.new.rows.items ≡ self.old.rows.items }
+        ensures peers { self.new.peers.keys ≡ self.old.peers.keys }
+        ensures hops { self.new.hops.keys ≡ self.old.hops.keys }
+        ensures ends { self.new.ends.items ≡ self.old.ends.items }
+    {
+        let slot = self.slots[at];
+        self.slots[at] = Slot { path, hop, ..slot };
+    }
+
+    /// Begins the row of a prefix behind all others.
+    fn push_row(&mut self, prefix: &Prefix) -> Result<u32, AllocError>
+        requires flat { IsFlat self.old }
+        requires behind { IsBehind self.old.rows.items prefix.now }
+        ensures row { IfOk result (IsLastRow self.new.rows.items prefix.now) }
+        ensures flat { IsFlat self.new }
+        ensures seats { flat_seats self.new ≡ flat_seats self.old }
+        ensures slots { self.new.slots.items ≡ self.old.slots.items }
+        ensures peers { self.new.peers.keys ≡ self.old.peers.keys }
+        ensures hops { self.new.hops.keys ≡ self.old.hops.keys }
+        ensures ends { self.new.ends.items ≡ self.old.ends.items }
+        ensures grows { Grows self.old self.new }
+    {
+        let row = u32::try_from(self.rows.len()).map_err(|_| AllocError)?;
+        let off = u32::try_from(self.slots.len()).map_err(|_| AllocError)?;
+        self.rows.push(Row::new(prefix, off))?;
+        Ok(row)
+    }
+
+    /// Puts a slot behind all others.
+    fn push_slot(&mut self, slot: Slot) -> Result<(), AllocError>
+        requires flat { IsFlat self.old }
+        requires next { IsNext self.old slot }
+        ensures flat { IsFlat self.new }
+        ensures ok { OnOk result (flat_seats self.new ≡ flat_seats self.old
+            ++ seats_on self.old.rows.items self.old.peers.keys self.old.hops.keys (slot ∷ [])) }
+        ensures err { OnErr result (flat_seats self.new ≡ flat_seats self.old) }
+        ensures grows { Grows self.old self.new }
+    {
+        let end = u32::try_from(self.slots.len().saturating_add(1)).map_err(|_| AllocError)?;
+        self.slots.push(slot)?;
+        self.ends[slot.peer as usize] = end;
+        Ok(())
+    }
+
+    /// Where the chain of a peer's number begins: 1 more than the place of its last slot, or 0.
+    fn end_of(&self, peer: usize) -> u32
+        ensures { result ≡ chain_end self.now.ends.items peer }
+    {
+        match self.ends.get(peer) {
+            Some(end) => *end,
+            None => 0,
+        }
+    }
+
+    /// Puts an offer behind all others, in the last row.
+    fn append_to(&mut self, row: u32, seat: &Seat, offer: &Offer) -> Result<(), AllocError>
+        requires flat { IsFlat self.old }
+        requires row { IsLastRow self.old.rows.items seat.now.prefix row }
+        requires new { HasNoSeat self.old seat.now }
+        ensures flat { IsFlat self.new }
+        ensures ok { OnOk result (Puts (flat_seats self.old) (flat_seats self.new) seat.now (Some offer.now)) }
+        ensures err { OnErr result (flat_seats self.new ≡ flat_seats self.old) }
+        ensures grows { Grows self.old self.new }
+    {
+        let peer = self.number_peer(&seat.peer())?;
+        let hop = self.number_hop_of(peer, &offer.hop())?;
+        let link = self.end_of(peer as usize);
+        let id = seat.id();
+        let path = offer.path();
+        self.push_slot(Slot {
+            path,
+            peer,
+            id,
+            hop,
+            row,
+            link,
+        })?;
+        Ok(())
+    }
+
+    /// The last row's number, where it is this prefix's and its run isn't long, or that of a new row behind it.
+    fn row_behind(&mut self, prefix: &Prefix) -> Result<Option<u32>, AllocError>
+        requires { IsFlat self.old }
+        ensures row { IfOk result (λ row. IfSome row (IsLastRow self.new.rows.items prefix.now)) }
+        ensures flat { IsFlat self.new }
+        ensures seats { flat_seats self.new ≡ flat_seats self.old }
+        ensures grows { Grows self.old self.new }
+    {
+        match self.order_last(prefix) {
+            Ordering::Less => Ok(Some(self.push_row(prefix)?)),
+            Ordering::Equal => Ok(self.open_row(prefix)),
+            Ordering::Greater => Ok(None),
+        }
+    }
+
+    /// The last row's number, where its run isn't long.
+    fn open_row(&self, prefix: &Prefix) -> Option<u32>
+        requires { IsLastRow self.now.rows.items prefix.now (length self.now.rows.items - 1) }
+        ensures { IfSome result (IsLastRow self.now.rows.items prefix.now) }
+    {
+        let last = self.rows.last()?;
+        if self.slots.len().saturating_sub(last.off() as usize) >= RUN {
+            return None;
+        }
+        let row = u32::try_from(self.rows.len().saturating_sub(1)).ok()?;
+        Some(row)
+    }
+
+    /// Puts an offer behind all others, if its place is there.
+    pub fn append(&mut self, seat: &Seat, offer: &Offer) -> Result<bool, AllocError>
+        requires flat { IsFlat self.old }
+        requires new { HasNoSeat self.old seat.now }
+        ensures flat { IsFlat self.new }
+        ensures yes { IfOk result (λ b. b ≡ true → Puts (flat_seats self.old) (flat_seats self.new) seat.now (Some offer.now)) }
+        ensures no { IfOk result (λ b. b ≡ false → flat_seats self.new ≡ flat_seats self.old) }
+        ensures err { OnErr result (flat_seats self.new ≡ flat_seats self.old) }
+        ensures grows { Grows self.old self.new }
+    {
+        match self.row_behind(&seat.prefix())? {
+            Some(row) => {
+                self.append_to(row, seat, offer)?;
+                Ok(true)
+            }
+            None => Ok(false),
+        }
+    }
+
+    /// Sets what is offered at a seat, by the place of its slot: a path and a hop's number, or none.
+    fn put_at(&mut self, at: usize, seat: &Seat, path: u32, hop: u32)
+        requires flat { IsFlat self.old }
+        requires slot { IsSlotOf self.old seat.now at }
+        requires hop { IsHop self.old.hops.keys hop }
+        ensures flat { IsFlat self.new }
+        ensures puts { Puts (flat_seats self.old) (flat_seats self.new) seat.now (offer_by self.old.hops.keys path hop) }
+    {
+        self.set(at, path, hop);
+    }
+
+    /// Ends what is offered at a seat, by the place of its slot.
+    pub fn cut_at(&mut self, at: usize, seat: &Seat)
+        requires flat { IsFlat self.old }
+        requires slot { IsSlotOf self.old seat.now at }
+        ensures flat { IsFlat self.new }
+        ensures offers { Offers (flat_seats self.old) (flat_seats self.new) seat.now None }
+        ensures seats { NoSeatComes (flat_seats self.old) (flat_seats self.new) }
+    {
+        self.put_at(at, seat, 0, NO_HOP);
+        if let Some(slot) = self.slots.get(at) {
+            let peer = slot.peer;
+            self.trim(peer);
+        }
+    }
+
+    /// Drops a peer's last slots that offer nothing.
+    fn trim(&mut self, peer: u32)
+        requires { IsFlat self.old }
+        ensures flat { IsFlat self.new }
+        ensures seats { Thins (flat_seats self.old) (flat_seats self.new) }
+    {
+        for _ in 0..self.slots.len() {
+            if !self.drop_last(peer) {
+                return;
+            }
+        }
+    }
+
+    /// The place of a peer's last slot, if it has one and nothing is offered there.
+    fn last_free(&self, peer: u32) -> Option<usize>
+        requires { IsFlat self.now }
+        ensures { IfSome result (IsLastFree self.now peer) }
+    {
+        if peer == NO_PEER {
+            return None;
+        }
+        let at = (self.end_of(peer as usize) as usize).checked_sub(1)?;
+        let slot = self.slots.get(at)?;
+        if slot.hop != NO_HOP {
+            return None;
+        }
+        Some(at)
+    }
+
+    /// Drops a peer's last slot where nothing is offered there, and tells whether it did: the slot is no seat any more, and the
+    /// peer's chain begins with the slot before it.
+    fn drop_last(&mut self, peer: u32) -> bool
+        requires { IsFlat self.old }
+        ensures flat { IsFlat self.new }
+        ensures seats { Thins (flat_seats self.old) (flat_seats self.new) }
+    {
+        match self.last_free(peer) {
+            Some(at) => {
+                self.drop_at(at, peer);
+                true
+            }
+            None => false,
+        }
+    }
+
+    /// Drops a peer's last slot, at which nothing is offered.
+    fn drop_at(&mut self, at: usize, peer: u32)
+        requires flat { IsFlat self.old }
+        requires last { IsLastFree self.old peer at }
+        ensures flat { IsFlat self.new }
+        ensures seats { Thins (flat_seats self.old) (flat_seats self.new) }
+    {
+        let slot = self.slots[at];
+        self.slots[at] = Slot {
+            peer: NO_PEER,
+            ..slot
+        };
+        self.ends[peer as usize] = slot.link;
+    }
+
+    /// Offers something whose hop has a number, at a seat, by the place of its slot.
+    pub fn reoffer(&mut self, at: usize, seat: &Seat, offer: &Offer)
+        requires flat { IsFlat self.old }
+        requires slot { IsSlotOf self.old seat.now at }
+        requires hop { HasHop self.old.hops.keys offer.now.hop }
+        ensures flat { IsFlat self.new }
+        ensures puts { Puts (flat_seats self.old) (flat_seats self.new) seat.now (Some offer.now) }
+    {
+        if let Some(hop) = self.hop_number(&offer.hop()) {
+            self.put_at(at, seat, offer.path(), hop);
+        }
+    }
+
+    /// Offers something at a seat, by the place of its slot.
+    pub fn offer_to(&mut self, at: usize, seat: &Seat, offer: &Offer) -> Result<(), AllocError>
+        requires flat { IsFlat self.old }
+        requires slot { IsSlotOf self.old seat.now at }
+        ensures flat { IsFlat self.new }
+        ensures ok { OnOk result (Puts (flat_seats self.old) (flat_seats self.new) seat.now (Some offer.now)) }
+        ensures err { OnErr result (flat_seats self.new ≡ flat_seats self.old) }
+        ensures grows { OnErr result (Grows self.old self.new) }
+    {
+        let hop = self.number_hop(&offer.hop())?;
+        self.put_at(at, seat, offer.path(), hop);
+        Ok(())
+    }
+
+    /// The best candidate of a prefix, that of a way left out: of all slots, and of the others, of which the best is given.
+    pub fn best(
+        &self,
+        prefix: &Prefix,
+        but: Option<Via>,
+        other: Option<Candidate>,
+    ) -> Option<Candidate>
+        requires { IsFlat self.now }
+        ensures { (over : Seats) → AreApart (flat_seats self.now) over → IsBest over but prefix.now other → IsBest (both self.now over) but prefix.now result }
+    {
+        match self.row_of(prefix) {
+            Some(row) => self.best_in(row, prefix, but, other),
+            None => other,
+        }
+    }
+
+    /// The best candidate of a row's slots and the others.
+    pub fn best_in(
+        &self,
+        row: usize,
+        prefix: &Prefix,
+        but: Option<Via>,
+        other: Option<Candidate>,
+    ) -> Option<Candidate>
+        requires flat { IsFlat self.now }
+        requires row { IsRow self.now.rows.items prefix.now row }
+        ensures { (over : Seats) → AreApart (flat_seats self.now) over → IsBest over but prefix.now other → IsBest (both self.now over) but prefix.now result }
+    {
+        let run = self.run_of(row);
+        let mut best = other;
+        for i in run.from..run.to {
+            best = self.best_at(i, row, but, best);
+        }
+        best
+    }
+
+    /// The better of what the slot at a place offers, if it is the row's, and another candidate.
+    fn best_at(
+        &self,
+        at: usize,
+        row: usize,
+        but: Option<Via>,
+        best: Option<Candidate>,
+    ) -> Option<Candidate>
+        ensures { result ≡ best_step self.now.peers.keys self.now.hops.keys row but (slice_get self.now.slots.items at) best }
+    {
+        match self.slots.get(at) {
+            Some(slot) => {
+                if slot.row as usize != row {
+                    return best;
+                }
+                self.better(slot, but, best)
+            }
+            None => best,
+        }
+    }
+
+    /// The way of a slot.
+    fn via_of(&self, slot: &Slot) -> Option<Via>
+        ensures { result ≡ via_on self.now.peers.keys slot.now }
+    {
+        let peer = self.peers.get_index(slot.peer as usize)?;
+        Some(Via {
+            peer: *peer,
+            id: slot.id,
+        })
+    }
+
+    /// The better of what a slot offers and another candidate: the other one, where the slot is of the way that is left out.
+    fn better(&self, slot: &Slot, but: Option<Via>, best: Option<Candidate>) -> Option<Candidate>
+        ensures { result ≡ better_on but (via_on self.now.peers.keys slot.now)
+            (offer_on self.now.hops.keys slot.now) best }
+    {
+        match (self.via_of(slot), self.offer(slot)) {
+            (Some(via), Some(offer)) => {
+                if but == Some(via) {
+                    return best;
+                }
+                Some(better_one(&Candidate { via, offer }, &best))
+            }
+            _ => best,
+        }
+    }
+
+    /// The seat of a slot where something is offered.
+    fn live_seat(&self, slot: &Slot) -> Option<Seat>
+        ensures { result ≡ live_on self.now slot.now }
+    {
+        match (
+            self.offer(slot),
+            self.via_of(slot),
+            self.rows.get(slot.row as usize),
+        ) {
+            (Some(_), Some(via), Some(row)) => Some(Seat::new(&via, &row.prefix())),
+            _ => None,
+        }
+    }
+
+    /// Adds the seat of a slot where something is offered.
+    fn add_live(&self, slot: &Slot, seats: &mut BTreeSet<Seat>) -> Result<(), AllocError>
+        ensures { OnOk result ((s : Seat) → is_among seats.new.keys s
+            ≡ (is_among seats.old.keys s || is_seat (live_on self.now slot.now) s)) }
+    {
+        if let Some(seat) = self.live_seat(slot) {
+            seats.insert(seat)?;
+        }
+        Ok(())
+    }
+
+    /// Adds the seats of a peer where something is offered.
+    ///
+    /// # Errors
+    ///
+    /// No memory.
+    pub fn add_seats_of(&self, peer: &Peer, seats: &mut BTreeSet<Seat>) -> Result<(), AllocError>
+        requires { IsFlat self.now }
+        ensures { OnOk result ((s : Seat) → is_among seats.new.keys s
+            ≡ (is_among seats.old.keys s || is_offered_by peer.now (flat_seats self.now) s)) }
+    {
+        match self.number_of(peer) {
+            Some(number) => self.add_chain(number, peer, seats),
+            None => Ok(()),
+        }
+    }
+
+    /// Adds the seats of a peer's chain where something is offered.
+    fn add_chain(
+        &self,
+        number: usize,
+        peer: &Peer,
+        seats: &mut BTreeSet<Seat>,
+    ) -> Result<(), AllocError>
+        requires flat { IsFlat self.now }
+        requires number { IsNumber self.now.peers.keys peer.now number }
+        ensures { OnOk result ((s : Seat) → is_among seats.new.keys s
+            ≡ (is_among seats.old.keys s || is_offered_by peer.now (flat_seats self.now) s)) }
+    {
+        let mut end = self.end_of(number);
+        while end > 0 {
+            let slot = self.slots[end as usize - 1];
+            self.add_live(&slot, seats)?;
+            end = slot.link;
+        }
+        Ok(())
+    }
+
+    /// How many rows there are.
+    pub fn row_count(&self) -> usize
+        ensures { result ≡ length self.now.rows.items }
+    {
+        self.rows.len()
+    }
+
+    /// The prefix of a row.
+    pub fn prefix_of(&self, row: usize) -> Option<Prefix>
+        ensures { result ≡ option_map (λ (r : Row). r.prefix) (slice_get self.now.rows.items row) }
+    {
+        match self.rows.get(row) {
+            Some(row) => Some(row.prefix()),
+            None => None,
+        }
+    }
+}
+
+/// The better of two candidates.
+fn better_one(one: &Candidate, best: &Option<Candidate>) -> Candidate
+    ensures { result ≡ better one.now best.now }
+{
+    match best {
+        None => *one,
+        Some(other) => {
+            let is_better = one.offer.path() < other.offer.path()
+                || (one.offer.path() == other.offer.path() && one.via < other.via);
+            if is_better { *one } else { *other }
+        }
+    }
+}

@@ -1,0 +1,126 @@
+//! The rows of the flat candidates.
+
+ghost use Rattle.std.specs.Prelude.{◌≡◌, ◌≤◌, ◌-◌, ◌%◌, ◌^◌, ◌<◌};
+ghost use Rattle.address_model.specs.Width.{width};
+
+use fib_prefix::{Family, Prefix};
+use std::cmp::Ordering;
+use std::marker::Model;
+
+/// A prefix with the place where its run of slots begins. Contracts see both. Rows are ordered by their prefixes.
+#[derive(Clone, Copy)]
+pub struct Row {
+    bits: u128,
+    off: u32,
+    family: Family,
+    len: u8,
+    ghost fits: { len ≤ width family },
+    ghost below: { bits < 2 ^ width family },
+    ghost cleared: { bits % 2 ^ (width family - len) ≡ 0 },
+}
+
+impl Model for Row {
+    ghost use Rattle.flat_base.specs.Rows.{RowKey};
+
+    ghost Value = { RowKey };
+
+    ghost view = { λ r. record { prefix = record { family = r.family; bits = r.bits; len = r.len; fits = r.fits; below = r.below; cleared = r.cleared }; off = r.off } };
+
+    ghost inverse = { λ k. record { bits = k.prefix.bits; off = k.off; family = k.prefix.family; len = k.prefix.len; fits = k.prefix.fits; below = k.prefix.below; cleared = k.prefix.cleared } };
+}
+
+impl PartialEq for Row {
+    ghost use Rattle.std.specs.Cmp.{partial_equiv_from_equiv};
+    ghost use Rattle.std.specs.Ordering.{on, eq_by_cmp};
+    ghost use Rattle.std.proofs.lemmas.Cmp.{on_total, eq_by_cmp_equiv};
+    ghost use Rattle.fib_addr.specs.Order.{code_cmp};
+    ghost use Rattle.fib_prefix.proofs.Peers.{prefix_total};
+    ghost use Rattle.flat_base.specs.Rows.{RowKey};
+
+    ghost eq = { eq_by_cmp (on (λ (r : RowKey). r.prefix) code_cmp) };
+
+    ghost laws = { partial_equiv_from_equiv (eq_by_cmp_equiv (on_total (λ (r : RowKey). r.prefix) prefix_total)) };
+
+    fn eq(&self, other: &Row) -> bool {
+        self.cmp(other).is_eq()
+    }
+}
+
+impl Eq for Row {
+    ghost use Rattle.std.proofs.lemmas.Cmp.{on_total, eq_by_cmp_equiv};
+    ghost use Rattle.fib_prefix.proofs.Peers.{prefix_total};
+    ghost use Rattle.flat_base.specs.Rows.{RowKey};
+
+    ghost laws = { eq_by_cmp_equiv (on_total (λ (r : RowKey). r.prefix) prefix_total) };
+}
+
+impl Ord for Row {
+    ghost use Rattle.std.specs.Ordering.{on};
+    ghost use Rattle.std.proofs.Common.{refl};
+    ghost use Rattle.std.proofs.lemmas.Cmp.{on_total};
+    ghost use Rattle.fib_addr.specs.Order.{code_cmp};
+    ghost use Rattle.fib_prefix.proofs.Peers.{prefix_total};
+    ghost use Rattle.flat_base.specs.Rows.{RowKey};
+
+    ghost cmp = { on (λ (r : RowKey). r.prefix) code_cmp };
+
+    ghost total = { on_total (λ (r : RowKey). r.prefix) prefix_total };
+
+    ghost matches_partial_cmp = { λ s t. refl };
+
+    ghost matches_eq = { λ s t. refl };
+
+    fn cmp(&self, other: &Row) -> Ordering {
+        self.prefix().cmp(&other.prefix())
+    }
+}
+
+impl PartialOrd for Row {
+    ghost use Rattle.std.specs.Ordering.{on, as_partial_cmp};
+    ghost use Rattle.std.specs.Cmp.{po};
+    ghost use Rattle.std.proofs.Common.{refl};
+    ghost use Rattle.std.proofs.lemmas.Cmp.{on_total};
+    ghost use Rattle.fib_addr.specs.Order.{code_cmp};
+    ghost use Rattle.fib_prefix.proofs.Peers.{prefix_total};
+    ghost use Rattle.flat_base.specs.Rows.{RowKey};
+
+    ghost partial_cmp = { as_partial_cmp (on (λ (r : RowKey). r.prefix) code_cmp) };
+
+    ghost laws = { po (on_total (λ (r : RowKey). r.prefix) prefix_total) (λ x y. refl) };
+
+    fn partial_cmp(&self, other: &Row) -> Option<Ordering> {
+        Some(self.cmp(other))
+    }
+}
+
+impl Row {
+    /// The row of a prefix whose run begins at a place.
+    pub fn new(prefix: &Prefix, off: u32) -> Row
+        ensures { result ≡ record { prefix = prefix.now; off = off } }
+    {
+        Row {
+            bits: prefix.bits,
+            off,
+            family: prefix.family,
+            len: prefix.len,
+        }
+    }
+
+    /// The prefix.
+    pub fn prefix(&self) -> Prefix
+        ensures { result ≡ self.now.prefix }
+    {
+        Prefix {
+            family: self.family,
+            bits: self.bits,
+            len: self.len,
+        }
+    }
+
+    /// Where its run begins.
+    pub fn off(&self) -> u32
+        ensures { result ≡ self.now.off }
+    {
+        self.off
+    }
+}

@@ -1,0 +1,26 @@
+//! What is planned, and where.
+
+ghost use Rattle.std.specs.Prelude.{◌≡◌};
+ghost use Rattle.route_choice.specs.Space.{over_of as over};
+
+use fib_prefix::Elem;
+
+/// The elementary event that was planned last, with the place of its slot in the base, if its seat has one.
+#[derive(Clone, Copy)]
+pub struct Plan {
+    /// The elementary event.
+    pub elem: Elem,
+    /// The place of the slot.
+    pub at: Option<usize>,
+}
+
+/// The event for which a plan holds room in the ordered maps: none where its seat has a slot in the base.
+pub fn over_of(plan: &Option<Plan>) -> Option<Elem>
+    ensures { result ≡ over plan.now }
+{
+    let plan = (*plan)?;
+    if plan.at.is_some() {
+        return None;
+    }
+    Some(plan.elem)
+}

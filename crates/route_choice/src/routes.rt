@@ -1,0 +1,130 @@
+//! All routes: each prefix with the next hop of its chosen one.
+
+ghost use Rattle.std.specs.Prelude.{◌≡◌, ◌++◌, ◌∷◌, [], map, true, IfOk, OnOk};
+ghost use Rattle.std.specs.BTreeSet as set;
+ghost use Rattle.fib_addr.specs.Views.{route_as};
+ghost use Rattle.fib_addr.specs.Order.{code_cmp};
+ghost use Rattle.fib_addr.specs.declared.prefix.Prefix as code;
+ghost use Rattle.route_model.specs.Choice.{routes_of as model_routes};
+ghost use Rattle.flat_base.specs.Seats.{held_in};
+ghost use Rattle.flat_base.specs.Flat.{IsFlat, AreApart, flat_seats, both};
+ghost use Rattle.route_choice.specs.Seats.{IsIndexed};
+ghost use Rattle.route_choice.specs.Walks.{routes_at, has_prefix, row_prefixes, HasRows, HasRanks};
+
+use crate::both::best_of;
+use fib_prefix::{Addr, Prefix};
+use flat_base::{Flat, Offer, Rank, Seat};
+use std::alloc::{AllocError, Global};
+use std::collections::{BTreeMap, BTreeSet};
+
+/// Each prefix for which a peer offers a route, with the next hop of the chosen one, in the order of prefixes.
+pub fn routes_of(
+    alloc: Global,
+    flat: &Flat,
+    seats: &BTreeMap<Seat, Option<Offer>>,
+    ranks: &BTreeSet<Rank>,
+) -> Result<Vec<(Prefix, Addr)>, AllocError>
+    requires flat { IsFlat flat.now }
+    requires apart { AreApart (flat_seats flat.now) seats.now.entries }
+    requires indexed { IsIndexed seats.now.entries ranks.now.keys }
+    ensures { IfOk result (λ routes. map route_as routes.items
+        ≡ model_routes (held_in (both flat.now seats.now.entries))) }
+{
+    if ranks.is_empty() {
+        let routes = routes_of_rows(alloc, flat, seats, ranks)?;
+        return Ok(routes);
+    }
+    let mut prefixes = BTreeSet::new(alloc);
+    add_rows(flat, &mut prefixes)?;
+    add_ranks(ranks, &mut prefixes)?;
+    let routes = routes_of_prefixes(alloc, flat, seats, ranks, &prefixes)?;
+    Ok(routes)
+}
+
+/// The routes of the prefixes that have a row.
+fn routes_of_rows(
+    alloc: Global,
+    flat: &Flat,
+    seats: &BTreeMap<Seat, Option<Offer>>,
+    ranks: &BTreeSet<Rank>,
+) -> Result<Vec<(Prefix, Addr)>, AllocError>
+    requires flat { IsFlat flat.now }
+    requires apart { AreApart (flat_seats flat.now) seats.now.entries }
+    requires indexed { IsIndexed seats.now.entries ranks.now.keys }
+    ensures { IfOk result (λ routes. map route_as routes.items
+        ≡ routes_at (both flat.now seats.now.entries) (row_prefixes flat.now.rows.items)) }
+{
+    let mut routes = Vec::new(alloc);
+    for row in 0..flat.row_count() {
+        if let Some(prefix) = flat.prefix_of(row) {
+            push_route(flat, seats, ranks, &prefix, &mut routes)?;
+        }
+    }
+    Ok(routes)
+}
+
+/// The routes of these prefixes.
+fn routes_of_prefixes(
+    alloc: Global,
+    flat: &Flat,
+    seats: &BTreeMap<Seat, Option<Offer>>,
+    ranks: &BTreeSet<Rank>,
+    prefixes: &BTreeSet<Prefix>,
+) -> Result<Vec<(Prefix, Addr)>, AllocError>
+    requires flat { IsFlat flat.now }
+    requires apart { AreApart (flat_seats flat.now) seats.now.entries }
+    requires indexed { IsIndexed seats.now.entries ranks.now.keys }
+    ensures routes { IfOk result (λ routes. map route_as routes.items
+        ≡ routes_at (both flat.now seats.now.entries) prefixes.now.keys) }
+    ensures ordered { set.IsOrdered code_cmp prefixes.now }
+{
+    let mut routes = Vec::new(alloc);
+    for prefix in prefixes.iter() {
+        push_route(flat, seats, ranks, prefix, &mut routes)?;
+    }
+    Ok(routes)
+}
+
+/// Adds the route of a prefix, if it has one.
+fn push_route(
+    flat: &Flat,
+    seats: &BTreeMap<Seat, Option<Offer>>,
+    ranks: &BTreeSet<Rank>,
+    prefix: &Prefix,
+    routes: &mut Vec<(Prefix, Addr)>,
+) -> Result<(), AllocError>
+    requires flat { IsFlat flat.now }
+    requires apart { AreApart (flat_seats flat.now) seats.now.entries }
+    requires indexed { IsIndexed seats.now.entries ranks.now.keys }
+    ensures { OnOk result (map route_as routes.new.items ≡ map route_as routes.old.items
+        ++ routes_at (both flat.now seats.now.entries) (prefix.now ∷ [])) }
+{
+    if let Some(best) = best_of(flat, seats, ranks, prefix, None) {
+        routes.push((*prefix, best.offer.hop()))?;
+    }
+    Ok(())
+}
+
+/// Adds the prefixes of all rows.
+fn add_rows(flat: &Flat, prefixes: &mut BTreeSet<Prefix>) -> Result<(), AllocError>
+    ensures { OnOk result (HasRows flat.now.rows.items prefixes.new.keys) }
+{
+    for row in 0..flat.row_count() {
+        if let Some(prefix) = flat.prefix_of(row) {
+            prefixes.insert(prefix)?;
+        }
+    }
+    Ok(())
+}
+
+/// Adds the prefixes of all ranks.
+fn add_ranks(ranks: &BTreeSet<Rank>, prefixes: &mut BTreeSet<Prefix>) -> Result<(), AllocError>
+    ensures ranks { OnOk result (HasRanks ranks.now.keys prefixes.new.keys) }
+    ensures kept { OnOk result ((p : code.Prefix) → has_prefix prefixes.old.keys p ≡ true
+        → has_prefix prefixes.new.keys p ≡ true) }
+{
+    for rank in ranks.iter() {
+        prefixes.insert(rank.prefix())?;
+    }
+    Ok(())
+}
