@@ -99,7 +99,7 @@ fn find<L: Ledger>(
 
 /// The bits of an address as the first of 128.
 #[tactic(auto, using(crate::proofs::Filled::key_is, crate::proofs::Filled::at_most_128))]
-fn key_of(addr: &Addr) -> u128
+pub fn key_of(addr: &Addr) -> u128
     ensures { address (width addr.now.family) result ≡ (addr_as addr.now).bits }
 {
     addr.bits << (128 - addr.family.width())

@@ -2,14 +2,14 @@
 
 ghost use Rattle.std.specs.Prelude.{◌≡◌, ℕ, ◌+◌, ◌*◌, ◌^◌, ◌<◌, ◌≤◌, true, IfSome, IfNone, length, slice_set};
 ghost use Rattle.buddy_arena.specs.Space.{IsSized};
-ghost use Rattle.poptrie_build.specs.Need.{up};
-ghost use Rattle.poptrie_build.specs.Places.{Takes, is_out, count_free, IsFresh};
+ghost use Rattle.block_pool.specs.Powers.{up};
+ghost use Rattle.block_pool.specs.Places.{Takes, is_out, count_free, IsFresh};
 
 use buddy_arena::{Arena, Block};
 
 /// The order of the least block that holds so many.
 #[tactic(auto, using(crate::proofs::Placing::order_is, crate::proofs::Placing::order_small, crate::proofs::Placing::order_most))]
-pub(crate) fn order_for(count: u32) -> u8
+pub fn order_for(count: u32) -> u8
     requires { 0 < count }
     ensures size { 2 ^ result ≡ up count }
     ensures small { result ≤ 32 }
@@ -17,8 +17,19 @@ pub(crate) fn order_for(count: u32) -> u8
     (32 - (count - 1).leading_zeros()) as u8
 }
 
+/// The size of the least block that holds so many, 0 for none.
+#[tactic(auto, using(crate::proofs::Placing::size_is, crate::proofs::Placing::size_none))]
+pub fn block_size(count: u32) -> u64
+    ensures { result ≡ up count }
+{
+    if count == 0 {
+        return 0;
+    }
+    1 << order_for(count)
+}
+
 /// Takes places for so many, a block where there are any; nothing where no free block is large enough.
-pub(crate) fn take_places<T: Copy>(arena: &mut Arena<T>, count: u32) -> Option<u32>
+pub fn take_places<T: Copy>(arena: &mut Arena<T>, count: u32) -> Option<u32>
     requires { IsSized arena.old }
     ensures takes { IfSome result (λ base. Takes base (up count) (is_out arena.old.free)
         (is_out arena.new.free) (length arena.new.cells)) }
@@ -42,7 +53,7 @@ pub(crate) fn take_places<T: Copy>(arena: &mut Arena<T>, count: u32) -> Option<u
 }
 
 /// Writes a place that is out.
-pub(crate) fn put<T: Copy>(arena: &mut Arena<T>, place: u32, value: T)
+pub fn put<T: Copy>(arena: &mut Arena<T>, place: u32, value: T)
     requires out { is_out arena.old.free place ≡ true }
     requires within { place < length arena.old.cells }
     requires sized { IsSized arena.old }

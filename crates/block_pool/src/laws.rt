@@ -1,7 +1,7 @@
 //! What the definitions say: each function does nothing, and its clauses hold for all values.
 
 ghost use Rattle.std.specs.Prelude.{◌≡◌, ℕ, ◌≤◌, ◌<◌, ◌^◌};
-ghost use Rattle.poptrie_build.specs.Need.{up};
+ghost use Rattle.block_pool.specs.Powers.{up};
 
 /// `up` is the least power of two that is at least a number above 0, and 0 for 0.
 pub fn up_law()

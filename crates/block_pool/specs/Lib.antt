@@ -1,0 +1,4 @@
+pub mod Places
+pub mod Arrays
+pub mod Powers
+pub mod Blocks
