@@ -1,0 +1,15 @@
+pub mod Steps
+pub mod Held
+pub mod Kept
+pub mod Read_on
+pub mod Safe
+pub mod First_go
+pub mod Like
+pub mod Needed
+pub mod Agree
+pub mod Lived
+pub mod Prepared
+pub mod Copied
+pub mod Visit
+pub mod Fitting
+pub mod Passed

@@ -1,0 +1,6 @@
+pub mod Rooms
+pub mod Version
+pub mod Lives
+pub mod Reading
+pub mod Past
+pub mod Fits
