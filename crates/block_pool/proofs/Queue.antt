@@ -8,7 +8,7 @@ use Rattle.buddy_arena.specs.declared.arena.Block.{Block}
 use Rattle.block_pool.specs.declared.blocks.Aside.{Aside}
 use Rattle.block_pool.specs.Places.{is_out}
 use Rattle.block_pool.specs.Arrays.{Array, AreApart, among}
-use Rattle.block_pool.specs.Blocks.{Held, Retired, arrays_of, retired_of, blocks_of, at_end, ended, cancelled, released, late, EndAt, EndBy, Ascends, IsQueue, AreHeldIn, IsCut, Gives}
+use Rattle.block_pool.specs.Blocks.{Held, Retired, arrays_of, retired_of, blocks_of, at_end, ended, cancelled, released, late, early, EndAt, EndBy, Ascends, IsQueue, AreHeldIn, IsCut, Gives}
 use Rattle.block_pool.proofs.Sets.{front_back, apart_less}
 
 -- ---- of all blocks of two lists
@@ -154,3 +154,10 @@ none_late since time (x ∷ xs) l e = ap (λ b. cond b (late since (retired_of x
 
 pub all_released : (some : List Block) (xs : List Aside) (n time since : ℕ) → time ≤ since → IsQueue xs n time → (released since (seen some xs n time)).retired ≡ []
 all_released some xs n time since l q = none_late since time (take n xs) l q.past
+
+-- those that are given back are the first
+pub cut_parts : (xs : List Aside) (since k : ℕ) → IsCut xs since k → retired_of xs ≡ early since (retired_of xs) ++ late since (retired_of xs)
+cut_parts xs since k c =
+    ap retired_of (sym (take-append-drop k xs))
+    ∙ (retired_append (take k xs) (drop k xs)
+    ∙ (ap (λ (x : List Retired). x ++ retired_of (drop k xs)) (sym c.gone) ∙ ap (λ (x : List Retired). early since (retired_of xs) ++ x) (sym c.left)))

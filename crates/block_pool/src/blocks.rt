@@ -45,10 +45,10 @@ impl Model for Blocks {
 }
 
 impl Blocks {
-    ghost use Rattle.std.specs.Prelude.{◌≡◌, ◌≤◌, ◌<◌, []};
+    ghost use Rattle.std.specs.Prelude.{◌≡◌, ◌≤◌, ◌<◌, ◌++◌, []};
     ghost use Rattle.buddy_arena.specs.Space.{IsSized};
     ghost use Rattle.block_pool.specs.Places.{is_out};
-    ghost use Rattle.block_pool.specs.Blocks.{AreHeldIn, Gives, nothing_held, ended, cancelled, released, early, blocks_of};
+    ghost use Rattle.block_pool.specs.Blocks.{AreHeldIn, Gives, nothing_held, ended, cancelled, released, early, late, blocks_of};
 
     /// No blocks, at time 0.
     pub fn new(alloc: Global) -> Blocks
@@ -101,9 +101,20 @@ impl Blocks {
         ensures sized { IsSized arena.new }
         ensures held { AreHeldIn (is_out arena.new.free) self.new }
         ensures released { self.new ≡ released since self.old }
+        ensures first { self.old.retired
+            ≡ early since self.old.retired ++ late since self.old.retired }
         ensures all { self.old.time ≤ since → self.new.retired ≡ [] }
     {
         let given = release(arena, &mut self.aside, self.retired, since);
         self.retired -= given;
+    }
+
+    /// Forgets all blocks: the arena was cleared, or is another one.
+    pub fn clear(&mut self)
+        ensures { self.new ≡ nothing_held self.old.time }
+    {
+        self.taken.clear();
+        self.aside.clear();
+        self.retired = 0;
     }
 }

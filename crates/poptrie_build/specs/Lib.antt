@@ -7,3 +7,4 @@ pub mod Making
 pub mod Build
 pub mod Tries
 pub mod Arrays
+pub mod Keys

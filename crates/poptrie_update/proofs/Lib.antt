@@ -13,3 +13,5 @@ pub mod Copied
 pub mod Visit
 pub mod Fitting
 pub mod Passed
+pub mod Quiet
+pub mod First_read

@@ -7,7 +7,8 @@ use Rattle.buddy_arena.specs.Space.{Space, IsSized}
 use Rattle.block_pool.specs.Places.{is_out}
 use Rattle.block_pool.specs.Arrays.{places_of}
 use Rattle.block_pool.specs.Blocks.{Held, blocks_of, AreHeldIn}
-use Rattle.poptrie_build.specs.Tries.{node_need, leaf_need}
+use Rattle.poptrie_build.specs.Tries.{node_need, leaf_need, IsTooMuch}
+use Rattle.poptrie_build.specs.declared.filling.TrieFull.{TrieFull}
 use Rattle.poptrie_build.specs.declared.node.Node.{Node}
 use Rattle.poptrie_update.specs.declared.live.Store.{Store as Stored}
 use Rattle.poptrie_update.specs.declared.live.Pending.{Pending}
@@ -30,6 +31,10 @@ pub record Living : Type 0 where
   pub stores : List Store
   pub made : ℕ
   pub time : ℕ
+
+-- a trie of the same family, direct bits and arenas
+abbrev pub HasShapeOf : Living → Living → Type 0
+HasShapeOf old new = (new.family ≡ old.family) × (new.direct_bits ≡ old.direct_bits) × (new.nodes.space.order ≡ old.nodes.space.order) × (new.leaves.space.order ≡ old.leaves.space.order)
 
 -- whether one of the stores is at the slot
 abbrev pub covers : List Store → ℕ → Bool
@@ -85,3 +90,8 @@ pub record IsLive (direct_bits : ℕ) (words : List ℕ) (nodes : Space Node) (l
 -- a token of the pending update
 abbrev pub IsTokenOf : Pending → Living → Type 0
 IsTokenOf p l = (l.pending ≡ true) × (p.made ≡ l.made)
+
+-- the refusal of entries for which its arenas are too small: it names the nodes where their need is more than their places, else the
+-- leaves
+abbrev pub IsTooMuchFor : Living → Entries → TrieFull → Type 0
+IsTooMuchFor l L e = IsTooMuch e.arena e.need e.have (node_need l.family l.direct_bits L) (leaf_need l.family l.direct_bits L) (2 ^ l.nodes.space.order) (2 ^ l.leaves.space.order)

@@ -11,5 +11,8 @@
 mod live;
 mod reading;
 
-pub use live::{Live, Pending};
+pub use live::{Live, Oldest, Pending};
 pub use reading::At;
+
+#[cfg(test)]
+mod tests;

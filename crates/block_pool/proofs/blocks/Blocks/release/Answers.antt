@@ -1,9 +1,9 @@
-use Rattle.std.proofs.Common.{◌≤◌, ◌∙◌, ap, sym, subst}
+use Rattle.std.proofs.Common.{◌≤◌, ◌∙◌, ap, sym, subst, ◌++◌, ◌≡◌}
 use Rattle.block_pool.specs.Arrays.{AreApart}
 use Rattle.block_pool.specs.Places.{is_out}
-use Rattle.block_pool.specs.Blocks.{Held, released, blocks_of, early, AreHeldIn, Gives}
+use Rattle.block_pool.specs.Blocks.{Held, released, blocks_of, early, AreHeldIn, Gives, late}
 use Rattle.block_pool.proofs.Parting.{part_right}
-use Rattle.block_pool.proofs.Queue.{take_ascends, queue_released, seen_released, held_released, all_released}
+use Rattle.block_pool.proofs.Queue.{take_ascends, queue_released, seen_released, held_released, all_released, cut_parts}
 use Rattle.block_pool.proofs.blocks.Blocks.release.Goals as goal
 
 pub release-given-requires-clause-out : goal.release-given-requires-clause-out
@@ -30,3 +30,6 @@ pub returns-clause-all : goal.returns-clause-all
 returns-clause-all g c = λ l.
     ap (λ (h : Held). h.retired) (seen_released c.self.inside.taken.items c.self.inside.aside.items c.release-given.new.aside.items c.self.inside.retired c.release-given.result c.self.inside.time c.args.since c.release-given.ensures.few c.release-given.ensures.rest c.release-given.ensures.cut)
     ∙ all_released c.self.inside.taken.items c.self.inside.aside.items c.self.inside.retired c.self.inside.time c.args.since (subst (λ (h : Held). h.time ≤ c.args.since) (sym c.self.view_is) l) c.self.invariant
+
+pub returns-clause-first : goal.returns-clause-first
+returns-clause-first g c = subst (λ (h : Held). h.retired ≡ early c.args.since h.retired ++ late c.args.since h.retired) c.self.view_is (cut_parts _ c.args.since c.release-given.result c.release-given.ensures.cut)
