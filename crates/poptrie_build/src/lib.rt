@@ -24,6 +24,7 @@ pub use direct::HOP;
 pub use filling::{TrieFull, fill_all};
 pub use lookup::{Found, key_of};
 pub use node::{Node, rank};
+pub use slots::{ask, descend};
 pub use trie::{Trie, empty_words};
 
 #[cfg(test)]

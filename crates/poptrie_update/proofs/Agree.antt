@@ -11,11 +11,9 @@ use Rattle.block_pool.specs.Powers.{up}
 use Rattle.poptrie_build.specs.Need.{children, runs, if_mixed, need_nodes, need_leaves}
 use Rattle.poptrie_build.specs.Stands.{Stands, BySlot, IsLeaf, node_at}
 use Rattle.poptrie_build.specs.declared.node.Node.{Node}
+use Rattle.poptrie_update.specs.Alike.{Alike}
 use Rattle.poptrie_build.proofs.Address.{length_bits}
 use Rattle.poptrie_build.proofs.Counting.{canonical_same, children_same, runs_same}
-
-abbrev pub Alike : ℕ → (List Bool → ℕ) → (List Bool → ℕ) → Type 0
-Alike d f g = (a : List Bool) → length a ≡ d → f a ≡ g a
 
 pub one_alike : (d : ℕ) (f g : List Bool → ℕ) → Alike d f g → one_answer d f ≡ one_answer d g
 unfolding one_answer

@@ -15,3 +15,4 @@ pub mod Fitting
 pub mod Passed
 pub mod Quiet
 pub mod First_read
+pub mod Same

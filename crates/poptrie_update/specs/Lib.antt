@@ -5,3 +5,4 @@ pub mod Reading
 pub mod First
 pub mod Past
 pub mod Fits
+pub mod Alike

@@ -8,6 +8,7 @@
 //! steps of an update that is ready, and the reading of one node. What makes an update ready isn't here yet.
 #![tactic(auto)]
 
+mod comparing;
 mod live;
 mod reading;
 
