@@ -2,13 +2,16 @@
 use Rattle.std.proofs.Common.{◌≡◌, ℕ, zero, suc, Bool, true, false, cond, ◌+◌, ◌-◌, ◌≤◌, ◌^◌, List, [], ◌∷◌, ◌++◌, length, take, drop, refl, sym, ap, ◌∙◌, arith, subst}
 use Rattle.std.specs.List.{AllByRecursion}
 use Rattle.std.proofs.lemmas.Bool.{le-leb}
-use Rattle.std.proofs.lemmas.List.{take_all, take-append-drop, drop_all, length-take, length-drop, drop-drop, drop-take, append_assoc}
-use Rattle.buddy_arena.specs.Space.{Space}
+use Rattle.std.proofs.lemmas.List.{length-append, take-append-le, drop-append-le, take_all, take-append-drop, drop_all, length-take, length-drop, drop-drop, drop-take, append_assoc}
+use Rattle.buddy_arena.specs.Space.{Space, IsSized, IsOut}
+use Rattle.buddy_arena.specs.Space as arena
+use Rattle.block_pool.proofs.Placing.{taken, still}
 use Rattle.buddy_arena.specs.declared.arena.Block.{Block}
 use Rattle.block_pool.specs.declared.blocks.Aside.{Aside}
 use Rattle.block_pool.specs.Places.{is_out}
-use Rattle.block_pool.specs.Arrays.{Array, AreApart, among}
-use Rattle.block_pool.specs.Blocks.{Held, Retired, arrays_of, retired_of, blocks_of, at_end, ended, cancelled, released, late, early, EndAt, EndBy, Ascends, IsQueue, AreHeldIn, IsCut, Gives}
+use Rattle.block_pool.specs.Arrays.{Array, Has, IsIn, AreApart, among}
+use Rattle.block_pool.specs.Blocks.{Held, with_taken, with_replaced, Retired, arrays_of, retired_of, blocks_of, at_end, ended, cancelled, released, late, early, EndAt, EndBy, Ascends, IsQueue, AreHeldIn, IsCut, Gives}
+use Rattle.block_pool.proofs.Parting.{apart_cons, apart_more}
 use Rattle.block_pool.proofs.Sets.{front_back, apart_less}
 
 -- ---- of all blocks of two lists
@@ -161,3 +164,48 @@ cut_parts xs since k c =
     ap retired_of (sym (take-append-drop k xs))
     ∙ (retired_append (take k xs) (drop k xs)
     ∙ (ap (λ (x : List Retired). x ++ retired_of (drop k xs)) (sym c.gone) ∙ ap (λ (x : List Retired). early since (retired_of xs) ++ x) (sym c.left)))
+
+-- ---- one more block is taken, or set aside
+arrays_join : (xs ys : List Block) → arrays_of (xs ++ ys) ≡ arrays_of xs ++ arrays_of ys
+arrays_join [] ys = refl
+arrays_join (x ∷ xs) ys = ap (λ (r : List Array). (x.place, 2 ^ x.order) ∷ r) (arrays_join xs ys)
+
+pub seen_taken : (some more : List Block) (b : Block) (xs : List Aside) (n time : ℕ) → more ≡ some ++ b ∷ [] → seen more xs n time ≡ with_taken (seen some xs n time) (b.place, 2 ^ b.order)
+seen_taken some more b xs n time e = ap (λ (x : List Array). record { taken = x; replaced = blocks_of (retired_of (drop n xs)); retired = retired_of (take n xs); time = time }) (ap arrays_of e ∙ arrays_join some (b ∷ []))
+
+pub seen_aside : (some : List Block) (xs ys : List Aside) (b : Block) (n time end : ℕ) → n ≤ length xs → ys ≡ xs ++ record { end = end; block = b } ∷ [] → seen some ys n time ≡ with_replaced (seen some xs n time) (b.place, 2 ^ b.order)
+seen_aside some xs ys b n time end l e =
+    let one : List Aside = record { end = end; block = b } ∷ [] in
+    let rest : blocks_of (retired_of (drop n ys)) ≡ blocks_of (retired_of (drop n xs)) ++ (b.place, 2 ^ b.order) ∷ [] =
+    ap (λ (x : List Aside). blocks_of (retired_of (drop n x))) e ∙ (ap (λ (x : List Aside). blocks_of (retired_of x)) (drop-append-le n xs one l) ∙ (ap blocks_of (retired_append (drop n xs) one) ∙ blocks_append (retired_of (drop n xs)) (retired_of one))) in
+    let front : retired_of (take n ys) ≡ retired_of (take n xs) = ap (λ (x : List Aside). retired_of (take n x)) e ∙ ap retired_of (take-append-le n xs one l) in
+    ap (λ (x : List Array). record { taken = arrays_of some; replaced = x; retired = retired_of (take n ys); time = time }) rest
+    ∙ ap (λ (x : List Retired). record { taken = arrays_of some; replaced = blocks_of (retired_of (drop n xs)) ++ (b.place, 2 ^ b.order) ∷ []; retired = x; time = time }) front
+
+one_later : (xs : List Aside) (y : Aside) → AllByRecursion (λ (a : Aside). a.end ≤ y.end) xs → Ascends xs → Ascends (xs ++ y ∷ [])
+one_later [] y a s = (tt, tt)
+one_later (x ∷ xs) y a s = (both_all (λ (b : Aside). x.end ≤ b.end) xs (y ∷ []) s.0 (a.0, tt), one_later xs y a.1 s.1)
+
+pub queue_aside : (xs ys : List Aside) (b : Block) (n time end : ℕ) → end ≡ suc time → ys ≡ xs ++ record { end = end; block = b } ∷ [] → IsQueue xs n time → IsQueue ys n time
+queue_aside xs ys b n time end late e q =
+    let one : List Aside = record { end = end; block = b } ∷ [] in
+    let all : EndBy end xs = subst (λ (x : List Aside). EndBy end x) (take-append-drop n xs) (both_all (λ (a : Aside). a.end ≤ end) (take n xs) (drop n xs) (later_all time end (take n xs) (omega arith) q.past) (subst (λ (t : ℕ). EndBy t (drop n xs)) (sym late) (at_is_by (suc time) (drop n xs) q.pending))) in
+    subst (λ (x : List Aside). IsQueue x n time) (sym e)
+    (record {
+      many = omega (arith, length-append xs one, q.many);
+      past = subst (λ (x : List Aside). EndBy time x) (sym (take-append-le n xs one q.many)) q.past;
+      pending = subst (λ (x : List Aside). EndAt (suc time) x) (sym (drop-append-le n xs one q.many)) (both_all (λ (a : Aside). a.end ≡ suc time) (drop n xs) one q.pending (late, tt));
+      in_order = one_later xs (record { end = end; block = b }) all q.in_order;
+    })
+
+-- the block that is taken was free, so it shares no place with those that are held
+pub held_taken : {T : Type 0} (space after : Space T) (h : Held) (p k n : ℕ) → IsSized after → arena.Takes space.order space.free after.free p k → IsOut after.order after.free p k → 2 ^ k ≡ n → AreHeldIn (is_out space.free) h → AreHeldIn (is_out after.free) (with_taken h (p, 2 ^ k))
+held_taken space after h p k n z w o e a =
+    let t = taken space after p k (2 ^ k) w o z refl in
+    let more = still space after p k 0 w in
+    let inside : IsIn (is_out after.free) (p, 2 ^ k) = ((λ i b. let s : p + (i - p) ≡ i = omega (arith, b.0) in ap (is_out after.free) (sym s) ∙ t.are (i - p) (omega (arith, b.0, b.1))), o.aligned) in
+    let outside : (i : ℕ) → Has (p, 2 ^ k) i → is_out space.free i ≡ false = λ i b. (let s : p + (i - p) ≡ i = omega (arith, b.0) in ap (is_out space.free) (sym s) ∙ t.were (i - p) (omega (arith, b.0, b.1))) in
+    record {
+      with_taken = front_back (is_out after.free) ((p, 2 ^ k) ∷ []) h.taken (blocks_of h.retired) (apart_cons (is_out space.free) (is_out after.free) (p, 2 ^ k) (h.taken ++ blocks_of h.retired) inside outside more a.with_taken);
+      with_replaced = apart_more (is_out space.free) (is_out after.free) (h.replaced ++ blocks_of h.retired) more a.with_replaced;
+    }

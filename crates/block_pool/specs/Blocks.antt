@@ -42,6 +42,13 @@ at_end t (a ∷ rest) = record { block = a; end = t } ∷ at_end t rest
 abbrev pub nothing_held : ℕ → Held
 nothing_held t = record { taken = []; replaced = []; retired = []; time = t }
 
+-- the pending update took one more block, or replaces one more
+abbrev pub with_taken : Held → Array → Held
+with_taken h a = record h { taken = h.taken ++ a ∷ [] }
+
+abbrev pub with_replaced : Held → Array → Held
+with_replaced h a = record h { replaced = h.replaced ++ a ∷ [] }
+
 -- an end: the blocks that the update took are the present version's, and those that it replaced are retired
 abbrev pub ended : Held → Held
 ended h = record { taken = []; replaced = []; retired = h.retired ++ at_end (suc h.time) h.replaced; time = suc h.time }

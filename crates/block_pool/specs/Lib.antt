@@ -2,3 +2,4 @@ pub mod Places
 pub mod Arrays
 pub mod Powers
 pub mod Blocks
+pub mod Refusals

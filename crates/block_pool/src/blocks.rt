@@ -1,8 +1,9 @@
 //! What a pending update took of an arena and what it replaces there, and what is retired.
 
 use crate::giving::{give_all, release};
-use buddy_arena::{Arena, Block};
-use std::alloc::Global;
+use crate::places::order_for;
+use buddy_arena::{Arena, Block, Full};
+use std::alloc::{AllocError, Global};
 use std::collections::VecDeque;
 use std::marker::Model;
 
@@ -12,6 +13,15 @@ pub(crate) struct Aside {
     /// The end at which it is retired.
     pub(crate) end: u64,
     pub(crate) block: Block,
+}
+
+/// Why a block is not taken.
+#[derive(Clone, Copy, Debug, PartialEq, Eq)]
+pub enum Refused {
+    /// No memory for the list of blocks.
+    Memory,
+    /// No free block of the arena is large enough.
+    Full(Full),
 }
 
 /// The blocks of one arena that belong to no present version, or won't: what the pending update took, what it replaces, and what is
@@ -45,10 +55,12 @@ impl Model for Blocks {
 }
 
 impl Blocks {
-    ghost use Rattle.std.specs.Prelude.{◌≡◌, ◌≤◌, ◌<◌, ◌++◌, []};
-    ghost use Rattle.buddy_arena.specs.Space.{IsSized};
+    ghost use Rattle.std.specs.Prelude.{◌≡◌, ◌≤◌, ◌<◌, ◌^◌, ◌++◌, [], IfOk, OnOk, IfErr, OnErr};
+    ghost use Rattle.buddy_arena.specs.Space.{IsSized, IsOut, Takes};
+    ghost use Rattle.block_pool.specs.Powers.{up};
+    ghost use Rattle.block_pool.specs.Refusals.{IsRefusal};
     ghost use Rattle.block_pool.specs.Places.{is_out};
-    ghost use Rattle.block_pool.specs.Blocks.{AreHeldIn, Gives, nothing_held, ended, cancelled, released, early, late, blocks_of};
+    ghost use Rattle.block_pool.specs.Blocks.{AreHeldIn, Gives, with_taken, with_replaced, nothing_held, ended, cancelled, released, early, late, blocks_of};
 
     /// No blocks, at time 0.
     pub fn new(alloc: Global) -> Blocks
@@ -107,6 +119,57 @@ impl Blocks {
     {
         let given = release(arena, &mut self.aside, self.retired, since);
         self.retired -= given;
+    }
+
+    /// Takes a block of the arena for so many places, for the pending update.
+    ///
+    /// # Errors
+    ///
+    /// No memory, or no free block is large enough. Nothing has changed.
+    pub fn take<T: Copy>(&mut self, arena: &mut Arena<T>, count: u32) -> Result<Block, Refused>
+        requires some { 0 < count }
+        requires sized { IsSized arena.old }
+        requires held { AreHeldIn (is_out arena.old.free) self.old }
+        ensures size { IfOk result (λ b. 2 ^ b.order ≡ up count) }
+        ensures ok { IfOk result (λ b. Takes arena.old.order arena.old.free arena.new.free b.place
+            b.order) }
+        ensures out { IfOk result (λ b. IsOut arena.new.order arena.new.free b.place b.order) }
+        ensures taken { IfOk result (λ b. self.new ≡ with_taken self.old (b.place, 2 ^ b.order)) }
+        ensures full { IfErr result (λ e. IsRefusal e count arena.old) }
+        ensures err { OnErr result ((arena.new ≡ arena.old) × (self.new ≡ self.old)) }
+        ensures kept { (arena.new.order ≡ arena.old.order) × (arena.new.cells ≡ arena.old.cells)
+            × (arena.new.fill ≡ arena.old.fill) }
+        ensures sized { IsSized arena.new }
+        ensures held { AreHeldIn (is_out arena.new.free) self.new }
+    {
+        if self.taken.reserve(1).is_err() {
+            return Err(Refused::Memory);
+        }
+        match arena.take(order_for(count)) {
+            Ok(block) => {
+                self.taken.push_reserved(block);
+                Ok(block)
+            }
+            Err(full) => Err(Refused::Full(full)),
+        }
+    }
+
+    /// The pending update replaces this block: it stays out, and is retired at the update's end.
+    ///
+    /// # Errors
+    ///
+    /// No memory. Nothing has changed.
+    pub fn set_aside(&mut self, block: Block) -> Result<(), AllocError>
+        requires { self.old.time < 18446744073709551615 }
+        ensures ok { OnOk result (self.new ≡ with_replaced self.old (block.place, 2 ^ block.order)) }
+        ensures err { OnErr result (self.new ≡ self.old) }
+    {
+        self.aside.reserve(1)?;
+        self.aside.push_back_reserved(Aside {
+            end: self.time + 1,
+            block,
+        });
+        Ok(())
     }
 
     /// Forgets all blocks: the arena was cleared, or is another one.

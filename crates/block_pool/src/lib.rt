@@ -13,6 +13,6 @@ mod giving;
 mod laws;
 mod places;
 
-pub use blocks::Blocks;
+pub use blocks::{Blocks, Refused};
 pub use laws::up_law;
 pub use places::{block_size, order_for, put, take_places};
