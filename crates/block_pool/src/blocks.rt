@@ -161,7 +161,8 @@ impl Blocks {
     /// No memory. Nothing has changed.
     pub fn set_aside(&mut self, block: Block) -> Result<(), AllocError>
         requires { self.old.time < 18446744073709551615 }
-        ensures ok { OnOk result (self.new ≡ with_replaced self.old (block.place, 2 ^ block.order)) }
+        ensures ok { OnOk result (self.new ≡ with_replaced self.old
+            (block.place, 2 ^ block.order)) }
         ensures err { OnErr result (self.new ≡ self.old) }
     {
         self.aside.reserve(1)?;

@@ -16,3 +16,4 @@ pub mod Passed
 pub mod Quiet
 pub mod First_read
 pub mod Same
+pub mod On_way

@@ -5,7 +5,7 @@
 //! given back once no lookup is open that started before that end. Time is the number of ends so far.
 //!
 //! This crate has what makes each step safe: what a live trie shows of the table before the update and of the one after it, the
-//! steps of an update that is ready, and the reading of one node. What makes an update ready isn't here yet.
+//! steps of an update that is ready, and the reads of a lookup, paused or not. What makes an update ready isn't here yet.
 #![tactic(auto)]
 
 mod comparing;

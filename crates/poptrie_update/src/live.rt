@@ -5,9 +5,11 @@ use block_pool::Blocks;
 use buddy_arena::Arena;
 use fib_addr::{Addr, Answers, Family, Hop};
 use fib_regions::{PrefixRegion, Region};
-use poptrie_build::{HOP, Node, TrieFull, empty_words, fill_all, key_of};
+use poptrie_build::{Found, HOP, Node, TrieFull, empty_words, fill_all, key_of};
 use std::alloc::{AllocError, Global};
 use std::marker::Model;
+use std::sync::ledger::Ledger;
+use step_count::Steps;
 
 /// The open lookup that started first.
 #[derive(Clone, Copy, Debug, PartialEq, Eq)]
@@ -77,10 +79,11 @@ impl Model for Live {
 impl Live {
     ghost use Rattle.std.specs.Prelude.{◌≡◌, ℕ, List, [], ◌∷◌, ◌++◌, suc, ◌+◌, ◌*◌, ◌≤◌, ◌<◌, Bool, true, false, length, IfOk, OnOk, OnErr, IfErr};
     ghost use Rattle.address_model.specs.Width.{width};
-    ghost use Rattle.table_model.specs.Entries.{Entries};
+    ghost use Rattle.fib_addr.specs.Views.{addr_as};
+    ghost use Rattle.table_model.specs.Entries.{Entries, match_in};
     ghost use Rattle.fib_regions.specs.Answers.{all_answers};
     ghost use Rattle.block_pool.specs.Blocks.{Gives, late};
-    ghost use Rattle.poptrie_build.specs.Tries.{node_need, leaf_need};
+    ghost use Rattle.poptrie_build.specs.Tries.{node_need, leaf_need, visits_of};
     ghost use Rattle.poptrie_update.specs.Lives.{Living, Shows, HasShapeOf, IsTokenOf, IsTooMuchFor};
     ghost use Rattle.poptrie_update.specs.Fits.{Open, Fits, IsOldest, until};
     ghost use Rattle.poptrie_update.specs.Past.{Past};
@@ -232,6 +235,32 @@ impl Live {
     {
         let key = key_of(addr) << (self.direct_bits + 6 * stride);
         visit(&self.nodes, &self.leaves, node, stride, key)
+    }
+
+    /// The answer that is published to an address, with a step for each node that is visited: all the reads of a lookup without a
+    /// pause.
+    pub fn lookup<L: Ledger>(&self, addr: &Addr, steps: &mut Steps<L>) -> Found
+        requires family { addr.now.family ≡ self.now.family }
+        requires showing { IsShowing self.now }
+        ensures hop { (E F : Entries) → Shows self.now E F
+            → result.hop.0 ≡ match_in (published self.now E F addr.now) (addr_as addr.now) }
+        ensures visits { (E F : Entries) → Shows self.now E F → result.visits
+            ≡ visits_of self.now.direct_bits (published self.now E F addr.now) (addr_as addr.now) }
+        ensures steps { steps.new ≡ steps.old + result.visits }
+    {
+        let _most = self.direct_bits;
+        let mut at = self.first(addr);
+        let mut visits = 0;
+        'walk: loop {
+            match at {
+                At::Answer(hop) => return Found { hop, visits },
+                At::Node { node, stride } => {
+                    steps.tick();
+                    visits += 1;
+                    at = self.next(node, stride, addr);
+                }
+            }
+        }
     }
 
     /// The number of ends so far.
