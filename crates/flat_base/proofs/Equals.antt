@@ -10,6 +10,8 @@ use Rattle.address_model.specs.declared.family.Family.TheVariants.{V4, V6}
 use Rattle.address_model.specs.contracts.family.Family.{the_type}
 use Rattle.address_model.specs.contracts.family.FamilyOrd.TheImpl as family_ord
 use Rattle.fib_addr.specs.Order.{code_cmp}
+use Rattle.fib_addr.specs.OrderLaws.{tied}
+use Rattle.fib_addr.specs.contracts.prefix.PrefixPartialEq.TheImpl as prefix_same
 use Rattle.fib_addr.specs.declared.prefix.Prefix as code
 use Rattle.fib_prefix.specs.Order.{code_peer_cmp, code_via_cmp}
 use Rattle.fib_prefix.specs.declared.event.Peer.{Peer}
@@ -49,10 +51,5 @@ via_eq p q =
     ap (λ b. b && nat_eq p.id q.id) (peer_eq p.peer q.peer)
     ∙ (ap (λ b. is_eq (code_peer_cmp p.peer q.peer) && b) (number_eq p.id q.id) ∙ sym (then_eq (code_peer_cmp p.peer q.peer) (nat_cmp p.id q.id)))
 
-pub prefix_eq : (p q : code.Prefix) → (sameb the_type p.family q.family && (nat_eq p.bits q.bits && nat_eq p.len q.len)) ≡ is_eq (code_cmp p q)
-prefix_eq p q =
-    let f = (family_ord.ghosts).cmp p.family q.family in
-    ap (λ b. b && (nat_eq p.bits q.bits && nat_eq p.len q.len)) (family_eq p.family q.family)
-    ∙ (ap (λ b. is_eq f && (b && nat_eq p.len q.len)) (number_eq p.bits q.bits)
-    ∙ (ap (λ b. is_eq f && (is_eq (nat_cmp p.bits q.bits) && b)) (number_eq p.len q.len)
-    ∙ (ap (λ b. is_eq f && b) (sym (then_eq (nat_cmp p.bits q.bits) (nat_cmp p.len q.len))) ∙ sym (then_eq f (ordering_then (nat_cmp p.bits q.bits) (nat_cmp p.len q.len))))))
+pub prefix_eq : (p q : code.Prefix) → (prefix_same.ghosts).eq p q ≡ is_eq (code_cmp p q)
+prefix_eq = tied

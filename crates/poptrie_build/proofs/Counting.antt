@@ -5,15 +5,16 @@ use Rattle.buddy_arena.specs.Space.{Space, IsSized, OneEach, blocks}
 use Rattle.buddy_arena.specs.Space as arena
 use Rattle.fib_regions.specs.Answers.{one_answer, part}
 use Rattle.poptrie_build.specs.Strides.{slots, slot, mixed, starts, or_earlier, leaf_before, run_start, total}
-use Rattle.poptrie_build.specs.Need.{up, told, children, runs, if_mixed, need_nodes, need_leaves}
+use Rattle.block_pool.specs.Powers.{up}
+use Rattle.poptrie_build.specs.Need.{told, children, runs, if_mixed, need_nodes, need_leaves}
 use Rattle.poptrie_build.specs.Stands.{IsCanonical}
 use Rattle.poptrie_build.specs.Slots.{AreSlots}
 use Rattle.poptrie_build.specs.Making.{kind_in}
 use Rattle.std.proofs.Math.Pow.{pow_mono}
 use Rattle.address_model.specs.Bits.{bits_of}
 use Rattle.address_model.proofs.BitLaws.{length-bits_of}
-use Rattle.poptrie_build.specs.Places.{count_free, IsFresh, Takes}
-use Rattle.poptrie_build.proofs.Powers.{up_above}
+use Rattle.block_pool.specs.Places.{count_free, IsFresh, Takes}
+use Rattle.block_pool.proofs.Powers.{up_above}
 use Rattle.poptrie_build.specs.declared.node.Node.{Node}
 use Rattle.fib_regions.proofs.OneAnswer.{mixed_bits}
 

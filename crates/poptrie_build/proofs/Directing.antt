@@ -9,15 +9,17 @@ use Rattle.address_model.proofs.BitLaws.{length-bits_of}
 use Rattle.buddy_arena.specs.Space.{Space, IsSized}
 use Rattle.fib_regions.specs.Answers.{side, part, one_answer}
 use Rattle.poptrie_build.specs.Strides.{mixed}
-use Rattle.poptrie_build.specs.Need.{up, up_from, told, need_nodes, need_leaves, trie_nodes, trie_leaves}
+use Rattle.block_pool.specs.Powers.{up, up_from}
+use Rattle.poptrie_build.specs.Need.{told, need_nodes, need_leaves, trie_nodes, trie_leaves}
 use Rattle.poptrie_build.specs.Stands.{BySlot, node_at, blank}
-use Rattle.poptrie_build.specs.Places.{Keeps, Takes}
-use Rattle.poptrie_build.specs.Build.{StandsIn, WordIn, WordsIn, since}
+use Rattle.block_pool.specs.Places.{Keeps, Takes, since}
+use Rattle.poptrie_build.specs.Build.{StandsIn, WordIn, WordsIn}
 use Rattle.poptrie_build.specs.declared.node.Node.{Node}
 use Rattle.fib_regions.proofs.OneAnswer.{one_answer_part}
 use Rattle.poptrie_build.proofs.Slotting.{double, low_bits, high_bits}
 use Rattle.poptrie_build.proofs.Carry.{Carries, map_slot, carry}
-use Rattle.poptrie_build.proofs.Going.{since_now, since_not, since_from, not_before, apart, apart2}
+use Rattle.block_pool.proofs.Parting.{since_now, since_not}
+use Rattle.poptrie_build.proofs.Going.{since_from, not_before, apart, apart2}
 use Rattle.poptrie_build.proofs.Counting.{no_nodes, no_leaves}
 
 -- ---- what is kept

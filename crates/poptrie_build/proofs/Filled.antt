@@ -13,15 +13,15 @@ use Rattle.table_model.specs.Entries.{Entries}
 use Rattle.buddy_arena.specs.Space.{Space, IsSized, empty}
 use Rattle.buddy_arena.proofs.Others.{one_whole}
 use Rattle.buddy_arena.proofs.Totals.{total_whole, total_le}
-use Rattle.fib_regions.specs.Answers.{one_answer, part}
+use Rattle.fib_regions.specs.Answers.{one_answer, part, all_answers}
 use Rattle.poptrie_build.specs.Strides.{Region, strides, address}
 use Rattle.poptrie_build.specs.Need.{told, trie_nodes, trie_leaves}
 use Rattle.poptrie_build.specs.Stands.{BySlot, Stands, TrieStands}
-use Rattle.poptrie_build.specs.Places.{count_free, is_out, IsFresh}
-use Rattle.poptrie_build.specs.Arrays.{word_arrays, word_leaf_arrays, AreApart}
+use Rattle.block_pool.specs.Places.{count_free, is_out, IsFresh}
+use Rattle.block_pool.specs.Arrays.{AreApart}
+use Rattle.poptrie_build.specs.Arrays.{word_arrays, word_leaf_arrays}
 use Rattle.poptrie_build.proofs.Wording.{none_apart}
 use Rattle.poptrie_build.specs.Build.{WordsIn}
-use Rattle.fib_regions.specs.Answers.{all_answers}
 use Rattle.poptrie_build.specs.Tries.{Shown, StandsFor, IsTooMuch, rest}
 use Rattle.poptrie_build.specs.declared.node.Node.{Node}
 use Rattle.poptrie_build.proofs.Bits.{bits_take}

@@ -8,12 +8,14 @@ use Rattle.std.proofs.lemmas.Bool.{cases_eq, eqb-true}
 use Rattle.poptrie_build.specs.Bits.{rank_of}
 use Rattle.fib_regions.specs.Answers.{one_answer}
 use Rattle.poptrie_build.specs.Strides.{slots, slot, mixed, starts, or_earlier, leaf_before, run_start}
-use Rattle.poptrie_build.specs.Need.{children, runs, up}
-use Rattle.poptrie_build.proofs.Powers.{up_above}
+use Rattle.block_pool.specs.Powers.{up}
+use Rattle.poptrie_build.specs.Need.{children, runs}
+use Rattle.block_pool.proofs.Powers.{up_above}
 use Rattle.poptrie_build.specs.Stands.{IsCanonical, IsLeaf, BySlot, node_at, blank}
-use Rattle.poptrie_build.specs.Places.{Keeps, Takes}
-use Rattle.poptrie_build.specs.Build.{StandsIn, since}
+use Rattle.block_pool.specs.Places.{Keeps, Takes, since}
+use Rattle.poptrie_build.specs.Build.{StandsIn}
 use Rattle.poptrie_build.specs.declared.node.Node.{Node}
+use Rattle.block_pool.proofs.Parting.{since_now, since_not}
 use Rattle.poptrie_build.proofs.Carry.{carry}
 use Rattle.poptrie_build.proofs.So_far.{rank_total}
 use Rattle.poptrie_build.proofs.Walk.{leaf_ranked, node_ranked, rank_more}
@@ -24,17 +26,6 @@ pub record State : Type 0 where
   pub N : ℕ → Bool
   pub leaves : List ℕ
   pub L : ℕ → Bool
-
-pub since_now : (a b : Bool) → (b && not a) ≡ true → b ≡ true
-since_now true true e = cc
-since_now true false e = cc
-since_now false true e = refl
-since_now false false e = cc
-
-pub since_not : (a b : Bool) → (b && not a) ≡ true → a ≡ false
-since_not true true e = cc
-since_not true false e = cc
-since_not false b e = refl
 
 pub since_from : (a b : Bool) → b ≡ true → a ≡ false → (b && not a) ≡ true
 since_from true b e f = cc

@@ -9,8 +9,6 @@ pub mod Filled
 pub mod Going
 pub mod Parted
 pub mod Parting
-pub mod Placing
-pub mod Powers
 pub mod Slotting
 pub mod So_far
 pub mod Visits

@@ -5,15 +5,17 @@ use Rattle.std.specs.Int.{bit_at}
 use Rattle.std.proofs.lemmas.List.{get_or-set_same, get_or-set_other}
 use Rattle.poptrie_build.specs.Bits.{rank_of}
 use Rattle.poptrie_build.specs.Strides.{slots, mixed, run_start}
-use Rattle.poptrie_build.specs.Need.{up, children, runs}
+use Rattle.block_pool.specs.Powers.{up}
+use Rattle.poptrie_build.specs.Need.{children, runs}
 use Rattle.poptrie_build.specs.Stands.{IsCanonical, node_at, blank}
-use Rattle.poptrie_build.specs.Places.{Keeps, Takes}
-use Rattle.poptrie_build.specs.Build.{since}
-use Rattle.poptrie_build.specs.Arrays.{Array, gather, node_arrays, leaf_arrays, Has, IsIn, AreApart}
+use Rattle.block_pool.specs.Places.{Keeps, Takes, since}
+use Rattle.block_pool.specs.Arrays.{Array, Has, IsIn, AreApart}
+use Rattle.poptrie_build.specs.Arrays.{gather, node_arrays, leaf_arrays}
 use Rattle.poptrie_build.specs.declared.node.Node.{Node}
-use Rattle.poptrie_build.proofs.Powers.{up_above}
-use Rattle.poptrie_build.proofs.Parting.{apart_cons, apart_append, gather_same, part_at, nodes_same, leaves_same}
-use Rattle.poptrie_build.proofs.Going.{State, Going, rank_le, since_now, since_not, since_from, not_before, apart}
+use Rattle.block_pool.proofs.Powers.{up_above}
+use Rattle.block_pool.proofs.Parting.{apart_cons, apart_append, since_now, since_not}
+use Rattle.poptrie_build.proofs.Parting.{gather_same, part_at, nodes_same, leaves_same}
+use Rattle.poptrie_build.proofs.Going.{State, Going, rank_le, since_from, not_before, apart}
 use Rattle.poptrie_build.proofs.So_far.{rank_total}
 use Rattle.poptrie_build.proofs.Walk.{rank_more}
 

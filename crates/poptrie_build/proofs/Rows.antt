@@ -3,7 +3,8 @@ use Rattle.std.proofs.Common.{◌≡◌, ℕ, List, [], ◌∷◌, Bool, true, c
 use Rattle.address_model.specs.Bits.{bits_of}
 use Rattle.fib_regions.specs.Answers.{one_answer}
 use Rattle.poptrie_build.specs.Strides.{slots, visits, leaf_before, total}
-use Rattle.poptrie_build.specs.Need.{need_nodes, need_leaves, up, up_from}
+use Rattle.block_pool.specs.Powers.{up, up_from}
+use Rattle.poptrie_build.specs.Need.{need_nodes, need_leaves}
 
 abbrev two : List Bool → ℕ
 two [] = 0

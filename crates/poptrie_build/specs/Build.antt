@@ -1,5 +1,5 @@
 -- What a node that is not in the arrays yet stands for, and in which places the arrays below it lie.
-use Rattle.std.specs.Prelude.{◌≡◌, ℕ, zero, suc, ◌+◌, ◌-◌, ◌^◌, ◌<◌, List, Bool, true, not, ◌&&◌, None, length, slice_index}
+use Rattle.std.specs.Prelude.{◌≡◌, ℕ, zero, suc, ◌+◌, ◌-◌, ◌^◌, ◌<◌, List, Bool, true, None, length, slice_index}
 use Rattle.address_model.specs.Bits.{bits_of}
 use Rattle.poptrie_build.specs.Bits.{rank_of}
 use Rattle.fib_regions.specs.Answers.{one_answer, part}
@@ -18,10 +18,6 @@ StandsIn (suc k) nodes N leaves L node d f =
     × (node.base1 + rank_of node.vector (v + 1) - 1 < length nodes)
     × StandsIn k nodes N leaves L (node_at nodes (node.base1 + rank_of node.vector (v + 1) - 1)) (d - 6) (slot d f v))
     (λ h. (L (node.base0 + rank_of node.leafvec (v + 1) - 1) ≡ true) × IsLeaf leaves (node.base0 + rank_of node.leafvec (v + 1) - 1) h))
-
--- the places that are out now and were not
-abbrev pub since : (ℕ → Bool) → (ℕ → Bool) → ℕ → Bool
-since old new i = new i && not (old i)
 
 -- a direct word that is a hop beside the top bit, or a node in the places N
 abbrev pub WordIn : ℕ → ℕ → List Node → (ℕ → Bool) → List ℕ → (ℕ → Bool) → ℕ → (List Bool → ℕ) → Type 0

@@ -1,17 +1,8 @@
 -- How many places the nodes and the leaves of a trie need.
-use Rattle.std.specs.Prelude.{ℕ, zero, suc, ◌+◌, ◌-◌, ◌*◌, List, Bool, true, false, cond, Option, Some, None, nat_le, min}
+use Rattle.std.specs.Prelude.{ℕ, zero, suc, ◌+◌, ◌-◌, List, Bool, true, false, Option, Some, None, min}
+use Rattle.block_pool.specs.Powers.{up}
 use Rattle.fib_regions.specs.Answers.{side, one_answer}
 use Rattle.poptrie_build.specs.Strides.{slots, slot, mixed, run_start, total}
-
--- the first of p, 2 p, 4 p, .. that is at least n, of at most k doublings
-unfoldable pub up_from : ℕ → ℕ → ℕ → ℕ
-up_from zero p n = p
-up_from (suc k) p n = cond (nat_le n p) p (up_from k (2 * p) n)
-
--- the least power of two that is at least n, 0 for 0
-unfoldable pub up : ℕ → ℕ
-up zero = 0
-up (suc n) = up_from (suc n) 1 (suc n)
 
 -- the places that one node needs: c nodes and r leaves
 abbrev pub children : (ℕ → Option ℕ) → ℕ

@@ -9,8 +9,9 @@ use Rattle.fib_regions.specs.Answers.{all_answers}
 use Rattle.poptrie_build.specs.Strides.{strides, trie_visits}
 use Rattle.poptrie_build.specs.Need.{told, trie_nodes, trie_leaves}
 use Rattle.poptrie_build.specs.Stands.{TrieStands}
-use Rattle.poptrie_build.specs.Places.{count_free, is_out}
-use Rattle.poptrie_build.specs.Arrays.{word_arrays, word_leaf_arrays, AreApart}
+use Rattle.block_pool.specs.Places.{count_free, is_out}
+use Rattle.block_pool.specs.Arrays.{AreApart}
+use Rattle.poptrie_build.specs.Arrays.{word_arrays, word_leaf_arrays}
 use Rattle.poptrie_build.specs.declared.node.Node.{Node}
 use Rattle.poptrie_build.specs.declared.filling.TrieFull.{TrieFull}
 

@@ -2,11 +2,12 @@
 
 ghost use Rattle.std.specs.Prelude.{◌≡◌, ℕ, ◌-◌, ◌*◌, ◌≤◌, None};
 ghost use Rattle.fib_regions.specs.Answers.{one_answer};
-ghost use Rattle.poptrie_build.specs.Need.{up, told, need_nodes, need_leaves, trie_nodes, trie_leaves};
+ghost use Rattle.block_pool.specs.Powers.{up};
+ghost use Rattle.poptrie_build.specs.Need.{told, need_nodes, need_leaves, trie_nodes, trie_leaves};
 
 use crate::making::make_vectors;
-use crate::places::order_for;
 use crate::slots::{ask, descend};
+use block_pool::block_size;
 use fib_regions::Region;
 
 /// Places of nodes and of leaves; more than a u64 holds is its greatest number.
@@ -14,17 +15,6 @@ use fib_regions::Region;
 pub(crate) struct Needs {
     pub(crate) nodes: u64,
     pub(crate) leaves: u64,
-}
-
-/// The size of the least block that holds so many.
-#[tactic(auto, using(crate::proofs::Placing::size_is, crate::proofs::Placing::size_none))]
-fn block_size(count: u32) -> u64
-    ensures { result ≡ up count }
-{
-    if count == 0 {
-        return 0;
-    }
-    1 << order_for(count)
 }
 
 /// What the arrays below a node need that stands for the region.

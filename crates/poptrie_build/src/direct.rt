@@ -5,19 +5,20 @@ ghost use Rattle.fib_regions.specs.Answers.{one_answer};
 ghost use Rattle.buddy_arena.specs.Space.{IsSized};
 ghost use Rattle.poptrie_build.specs.Stands.{blank, node_at};
 ghost use Rattle.poptrie_build.specs.Need.{trie_nodes, trie_leaves};
-ghost use Rattle.poptrie_build.specs.Places.{Keeps, is_out, count_free, IsFresh};
-ghost use Rattle.poptrie_build.specs.Build.{WordIn, WordsIn, since};
-ghost use Rattle.poptrie_build.specs.Arrays.{node_arrays, leaf_arrays, word_arrays, word_leaf_arrays, AreApart};
+ghost use Rattle.block_pool.specs.Places.{Keeps, is_out, count_free, IsFresh, since};
+ghost use Rattle.poptrie_build.specs.Build.{WordIn, WordsIn};
+ghost use Rattle.block_pool.specs.Arrays.{AreApart};
+ghost use Rattle.poptrie_build.specs.Arrays.{node_arrays, leaf_arrays, word_arrays, word_leaf_arrays};
 
 use crate::building::build_node;
 use crate::node::Node;
-use crate::places::{put, take_places};
+use block_pool::{put, take_places};
 use buddy_arena::Arena;
 use fib_addr::Hop;
 use fib_regions::Region;
 
 /// The top bit of a direct word, which a hop stands beside.
-pub(crate) const HOP: u32 = 1 << 31;
+pub const HOP: u32 = 1 << 31;
 
 /// The direct word of a hop.
 fn leaf_word(hop: Hop) -> u32

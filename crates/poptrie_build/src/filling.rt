@@ -4,8 +4,9 @@ ghost use Rattle.std.specs.Prelude.{◌≡◌, ℕ, ◌+◌, ◌-◌, ◌*◌, �
 ghost use Rattle.buddy_arena.specs.Space.{IsSized, empty};
 ghost use Rattle.poptrie_build.specs.Need.{trie_nodes, trie_leaves};
 ghost use Rattle.poptrie_build.specs.Stands.{TrieStands};
-ghost use Rattle.poptrie_build.specs.Places.{count_free, is_out};
-ghost use Rattle.poptrie_build.specs.Arrays.{word_arrays, word_leaf_arrays, AreApart};
+ghost use Rattle.block_pool.specs.Places.{count_free, is_out};
+ghost use Rattle.block_pool.specs.Arrays.{AreApart};
+ghost use Rattle.poptrie_build.specs.Arrays.{word_arrays, word_leaf_arrays};
 ghost use Rattle.poptrie_build.specs.Tries.{IsTooMuch};
 
 use crate::counts::count_words;
@@ -47,8 +48,13 @@ pub(crate) fn clear_all(words: &mut [u32], nodes: &mut Arena<Node>, leaves: &mut
     leaves.clear();
 }
 
-/// Builds the trie of a region anew, in arenas that are cleared first; where it is refused, all is cleared.
-pub(crate) fn fill_all<R: Region>(
+/// Builds the trie of a region anew, in arenas that are cleared first; where it is refused, all is cleared. It is `Trie::fill` for
+/// those who keep a trie's parts themselves.
+///
+/// # Errors
+///
+/// It needs more nodes than there is room for, or else more leaves.
+pub fn fill_all<R: Region>(
     region: &R,
     direct_bits: u8,
     words: &mut [u32],

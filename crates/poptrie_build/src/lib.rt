@@ -14,19 +14,18 @@ mod building;
 mod counts;
 mod direct;
 mod filling;
-mod laws;
 mod lookup;
 mod making;
 mod node;
-mod places;
 mod slots;
 mod trie;
 
-pub use filling::TrieFull;
-pub use laws::up_law;
-pub use lookup::Found;
+pub use direct::HOP;
+pub use filling::{TrieFull, fill_all};
+pub use lookup::{Found, key_of};
 pub use node::{Node, rank};
-pub use trie::Trie;
+pub use slots::{ask, descend};
+pub use trie::{Trie, empty_words};
 
 #[cfg(test)]
 mod tests;

@@ -7,6 +7,7 @@ ghost use Rattle.buddy_arena.specs.Space.{IsSized};
 ghost use Rattle.fib_regions.specs.Answers.{part};
 ghost use Rattle.poptrie_build.specs.Strides.{Region, address, trie_visits};
 ghost use Rattle.poptrie_build.specs.Stands.{Stands, TrieStands};
+ghost use Rattle.poptrie_build.specs.Keys.{key_as};
 
 use crate::direct::HOP;
 use crate::node::{Node, rank};
@@ -99,8 +100,9 @@ fn find<L: Ledger>(
 
 /// The bits of an address as the first of 128.
 #[tactic(auto, using(crate::proofs::Filled::key_is, crate::proofs::Filled::at_most_128))]
-fn key_of(addr: &Addr) -> u128
-    ensures { address (width addr.now.family) result ≡ (addr_as addr.now).bits }
+pub fn key_of(addr: &Addr) -> u128
+    ensures bits { address (width addr.now.family) result ≡ (addr_as addr.now).bits }
+    ensures key { result ≡ key_as addr.now }
 {
     addr.bits << (128 - addr.family.width())
 }

@@ -16,7 +16,7 @@ impl Node {
     ghost use Rattle.poptrie_build.specs.Stands.{blank};
 
     /// A node with no slot set.
-    pub(crate) fn blank() -> Node
+    pub fn blank() -> Node
         ensures { result ≡ blank }
     {
         Node {

@@ -8,7 +8,7 @@ ghost use Rattle.poptrie_build.specs.Slots.{AreSlots};
 use fib_regions::Region;
 
 /// The one hop of each part of a region that `depth` more bits tell apart, or nothing where it has none.
-pub(crate) fn ask<R: Region>(region: &R, depth: u8, slots: &mut [Option<u16>])
+pub fn ask<R: Region>(region: &R, depth: u8, slots: &mut [Option<u16>])
     requires many { length slots.old ≡ 2 ^ depth }
     requires few { depth ≤ 6 }
     ensures { AreSlots depth (R.bits region.now) (R.answers region.now) slots.new }
@@ -33,7 +33,7 @@ pub(crate) fn ask<R: Region>(region: &R, depth: u8, slots: &mut [Option<u16>])
 }
 
 /// The part of a region that has these next bits, one at least.
-pub(crate) fn descend<R: Region>(region: &R, bits: u8, depth: u8) -> R
+pub fn descend<R: Region>(region: &R, bits: u8, depth: u8) -> R
     requires some { 0 < depth }
     requires few { depth ≤ 8 }
     requires fits { depth ≤ R.bits region.now }

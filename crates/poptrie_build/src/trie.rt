@@ -37,8 +37,12 @@ impl Model for Trie {
 }
 
 /// The direct words of a trie that answers none everywhere.
+///
+/// # Errors
+///
+/// No memory.
 #[tactic(auto, using(crate::proofs::Filled::slots_are))]
-fn no_hops(alloc: Global, direct_bits: u8) -> Result<Vec<u32>, AllocError>
+pub fn empty_words(alloc: Global, direct_bits: u8) -> Result<Vec<u32>, AllocError>
     requires { direct_bits ≤ 18 }
     ensures { IfOk result (λ v. v.items ≡ replicate (2 ^ direct_bits) 2147483648) }
 {
@@ -77,7 +81,7 @@ impl Trie {
             × (t.leaves.order ≡ leaf_order)) }
         ensures none { IfOk result (λ t. StandsFor t []) }
     {
-        let words = no_hops(alloc, direct_bits)?;
+        let words = empty_words(alloc, direct_bits)?;
         let nodes = Arena::new(alloc, node_order, Node::blank())?;
         let leaves = Arena::new(alloc, leaf_order, 0)?;
         Ok(Trie {

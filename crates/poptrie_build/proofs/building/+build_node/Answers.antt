@@ -1,13 +1,14 @@
 use Rattle.std.proofs.Common.{rules, arith, ◌≡◌, ◌∙◌, ap, sym, subst, ◌+◌, ◌<◌, None, Some, ℕ, set, ◌*◌}
 use Rattle.poptrie_build.specs.Strides.{slots, mixed}
-use Rattle.poptrie_build.specs.Need.{children, up}
+use Rattle.block_pool.specs.Powers.{up}
+use Rattle.poptrie_build.specs.Need.{children}
 use Rattle.poptrie_build.specs.Making.{kind_in}
 use Rattle.poptrie_build.proofs.Going.{child_none, child_less, leaf_room, node_room, leaf_written, node_written, at_end_stands, going_start, state}
 use Rattle.poptrie_build.proofs.Walk.{rank_more}
 use Rattle.poptrie_build.proofs.Parted.{parted_start, parted_leaf, parted_node, nodes_parted, leaves_parted, rank_fits}
 use Rattle.poptrie_build.proofs.Counting.{Counted, canonical_same, children_same, runs_same, count_start, count_leaf, count_node, nodes_end, leaves_end, nodes_refused, leaves_refused, child_fits, kinds_agree, block_small, descended_slot, six_bits}
 use Rattle.buddy_arena.specs.Space.{Space, IsSized}
-use Rattle.poptrie_build.specs.Places.{is_out}
+use Rattle.block_pool.specs.Places.{is_out}
 use Rattle.poptrie_build.specs.declared.node.Node.{Node}
 use Rattle.poptrie_build.proofs.building.+build_node.Goals.{in-Some, in-None+in_ok-node-in-None}
 use Rattle.poptrie_build.proofs.building.+build_node.Goals as goal

@@ -1,4 +1,4 @@
-use Rattle.poptrie_build.specs.Places.{is_out}
+use Rattle.block_pool.specs.Places.{is_out}
 use Rattle.poptrie_build.proofs.Going.{Going, state}
 use Rattle.poptrie_build.proofs.Counting.{Counted}
 use Rattle.poptrie_build.proofs.Parted.{Parted}

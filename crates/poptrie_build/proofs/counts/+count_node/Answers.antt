@@ -1,6 +1,6 @@
 use Rattle.std.proofs.Common.{rules, arith, ◌≡◌, ◌∙◌, ap, sym, None, Some}
 use Rattle.poptrie_build.specs.Strides.{slots}
-use Rattle.poptrie_build.specs.Need.{up}
+use Rattle.block_pool.specs.Powers.{up}
 use Rattle.poptrie_build.specs.Making.{kind_in}
 use Rattle.poptrie_build.proofs.Going.{child_none, child_less}
 use Rattle.poptrie_build.proofs.Counting.{children_same, runs_same, kinds_agree, descended_slot, six_bits, told_start, told_leaf, told_leaf_leaves, told_child, told_child_leaves, told_end, told_end_leaves}

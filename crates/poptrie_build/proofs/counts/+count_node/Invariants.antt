@@ -1,6 +1,7 @@
 use Rattle.std.proofs.Common.{◌≡◌, ℕ, ◌+◌, ◌-◌, ◌*◌, ◌≤◌}
 use Rattle.poptrie_build.specs.Strides.{slots, total}
-use Rattle.poptrie_build.specs.Need.{up, children, runs, told}
+use Rattle.block_pool.specs.Powers.{up}
+use Rattle.poptrie_build.specs.Need.{children, runs, told}
 use Rattle.poptrie_build.proofs.Counting.{nodes_at, leaves_at}
 use Rattle.poptrie_build.proofs.counts.+count_node.Given as goal
 

@@ -1,6 +1,5 @@
 use Rattle.std.proofs.Common.{rules, arith, ◌≡◌, ◌≤◌, ◌∙◌, ap, ℕ, suc, ◌-◌, ◌^◌, length}
-use Rattle.poptrie_build.specs.Places.{is_out}
-use Rattle.poptrie_build.specs.Build.{since}
+use Rattle.block_pool.specs.Places.{is_out, since}
 use Rattle.poptrie_build.proofs.Slotting.{double}
 use Rattle.poptrie_build.proofs.Directing.{word_zero, words_same, no_trie_nodes, no_trie_leaves, split_nodes, split_leaves, split_words, low_nodes, low_leaves}
 use Rattle.poptrie_build.proofs.Wording.{one_apart, one_apart_leaves, none_apart, halves_apart, halves_apart_leaves}

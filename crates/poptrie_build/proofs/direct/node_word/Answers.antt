@@ -1,7 +1,7 @@
 use Rattle.std.proofs.Common.{ap, sym, ◌∙◌, arith, ◌+◌}
 use Rattle.buddy_arena.specs.Space as arena
 use Rattle.poptrie_build.specs.Need.{need_nodes}
-use Rattle.poptrie_build.specs.Places.{is_out}
+use Rattle.block_pool.specs.Places.{is_out}
 use Rattle.poptrie_build.specs.Stands.{blank}
 use Rattle.poptrie_build.proofs.Directing.{one_refused, one_fits, one_fits_leaves, first_out, keeps_put, keeps_both, keeps_all, word_node, small_len, one_nodes, one_leaves}
 use Rattle.poptrie_build.proofs.Wording.{put_apart, put_apart_leaves}

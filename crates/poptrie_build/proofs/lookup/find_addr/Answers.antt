@@ -9,7 +9,7 @@ find-requires g c κs within =
     (within, (c.requires.1.0, (l, (c.requires.1.1.1.0, (c.requires.1.1.1.1.0, c.requires.1.1.1.1.1)))))
 
 pub returns-clause-hop : goal.returns-clause-hop
-returns-clause-hop g c = c.find.ensures.hop ∙ ap g.region.answers (ap (λ n. address n c.key_of.result) c.requires.1.1.0 ∙ c.key_of.ensures)
+returns-clause-hop g c = c.find.ensures.hop ∙ ap g.region.answers (ap (λ n. address n c.key_of.result) c.requires.1.1.0 ∙ c.key_of.ensures.bits)
 
 pub returns-clause-visits : goal.returns-clause-visits
-returns-clause-visits g c = c.find.ensures.visits ∙ ap (trie_visits c.args.direct_bits g.region.strides g.region.bits g.region.answers) (ap (λ n. address n c.key_of.result) c.requires.1.1.0 ∙ c.key_of.ensures)
+returns-clause-visits g c = c.find.ensures.visits ∙ ap (trie_visits c.args.direct_bits g.region.strides g.region.bits g.region.answers) (ap (λ n. address n c.key_of.result) c.requires.1.1.0 ∙ c.key_of.ensures.bits)

@@ -1,0 +1,5 @@
+pub mod Places
+pub mod Arrays
+pub mod Powers
+pub mod Blocks
+pub mod Refusals

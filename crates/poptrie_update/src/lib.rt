@@ -1,0 +1,19 @@
+//! A Poptrie that is changed beside its readers, one word at a time (Asai and Ohara, 'Poptrie', SIGCOMM 2015).
+//!
+//! An update builds new arrays beside the old ones and stores direct words, one a step; all else is shared. So a lookup that pauses
+//! between any two of these steps goes on in the version that it began with. What an update replaced is retired at its end, and is
+//! given back once no lookup is open that started before that end. Time is the number of ends so far.
+//!
+//! This crate has what makes each step safe: what a live trie shows of the table before the update and of the one after it, the
+//! steps of an update that is ready, and the reads of a lookup, paused or not. What makes an update ready isn't here yet.
+#![tactic(auto)]
+
+mod comparing;
+mod live;
+mod reading;
+
+pub use live::{Live, Oldest, Pending};
+pub use reading::At;
+
+#[cfg(test)]
+mod tests;

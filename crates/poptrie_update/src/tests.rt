@@ -1,0 +1,107 @@
+//! The first reads of a live trie of one route, and its refusal.
+
+ghost use Rattle.std.specs.Prelude.{◌≡◌, ◌∷◌, [], ◌≤◌};
+ghost use Rattle.fib_addr.specs.Views.{prefix_as};
+ghost use Rattle.table_model.proofs.Once.{once_in_order};
+
+use crate::{At, Live, Oldest};
+use fib_addr::{Addr, Answers, Family, Hop, Prefix};
+use poptrie_build::TrieFull;
+use std::alloc::{AllocError, Global};
+use std::test::Fail;
+
+/// A table of one route.
+#[derive(Clone, Copy)]
+struct OneRoute {
+    prefix: Prefix,
+    hop: Hop,
+}
+
+impl Answers for OneRoute {
+    ghost entries = { λ t. (prefix_as t.prefix, t.hop.0) ∷ [] };
+
+    ghost of = { λ t. t.prefix.family };
+
+    ghost distinct = { λ t. once_in_order ((prefix_as t.prefix, t.hop.0) ∷ []) };
+
+    fn family(&self) -> Family {
+        self.prefix.family
+    }
+
+    fn uniform(&self, prefix: &Prefix) -> Option<Hop> {
+        if prefix.is_within(&self.prefix) {
+            return Some(self.hop);
+        }
+        if !self.prefix.is_within(prefix) {
+            return Some(Hop::NONE);
+        }
+        if self.hop.0 == 0 {
+            return Some(Hop::NONE);
+        }
+        None
+    }
+}
+
+/// What a live trie of a table tells: the first reads of two addresses, and whether it is at its start; or why it is refused.
+#[derive(Clone, Copy, Debug, PartialEq, Eq)]
+enum Told {
+    Reads(At, At, u64, bool),
+    Refused(TrieFull),
+}
+
+fn tell(
+    alloc: Global,
+    table: &OneRoute,
+    direct_bits: u8,
+    leaves: u8,
+    addr: &Addr,
+    other: &Addr,
+) -> Result<Told, AllocError>
+    requires family { addr.now.family ≡ table.now.prefix.family }
+    requires other { other.now.family ≡ table.now.prefix.family }
+    requires small { (direct_bits ≤ 18) × (leaves ≤ 26) }
+{
+    let mut live = Live::new(alloc, table.prefix.family, direct_bits, 1, leaves)?;
+    match live.build(table) {
+        Ok(()) => {
+            live.give_back(Oldest::Nobody);
+            Ok(Told::Reads(
+                live.first(addr),
+                live.first(other),
+                live.time(),
+                live.is_pending(),
+            ))
+        }
+        Err(full) => Ok(Told::Refused(full)),
+    }
+}
+
+/// 10.0.0.0/8: without direct bits two nodes and five leaves, with eight of them a word that is its hop.
+#[test]
+fn a_short_route(rt: HostRuntime) -> Result<(), Fail> {
+    let inside = Addr::v4(0x0a01_0203);
+    let beside = Addr::v4(0x0b00_0001);
+    let table = OneRoute {
+        prefix: Prefix::new(&inside, 8),
+        hop: Hop(1),
+    };
+    let node = At::Node { node: 0, stride: 0 };
+    let full = TrieFull {
+        arena: 1,
+        need: 5,
+        have: 4,
+    };
+    assert_eq!(rt;
+        tell(rt.alloc(), &table, 0, 3, &inside, &beside)?,
+        Told::Reads(node, node, 0, false)
+    );
+    assert_eq!(rt;
+        tell(rt.alloc(), &table, 8, 3, &inside, &beside)?,
+        Told::Reads(At::Answer(Hop(1)), At::Answer(Hop::NONE), 0, false)
+    );
+    assert_eq!(rt;
+        tell(rt.alloc(), &table, 0, 2, &inside, &beside)?,
+        Told::Refused(full)
+    );
+    Ok(())
+}
