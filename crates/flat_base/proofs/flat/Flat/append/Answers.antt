@@ -8,3 +8,6 @@ append_to-requires-clause-row c = subst (λ p. IsLastRow c.row_behind.new.self.r
 
 pub returns-in_ok-append_to-in-Some-clause-grows : goal.returns-in_ok-append_to-in-Some-clause-grows
 returns-in_ok-append_to-in-Some-clause-grows c = grows_more c.args.self.now c.row_behind.new.self _ c.row_behind.ensures.grows c.append_to.ensures.grows
+
+pub returns-in_err-append_to-in-Some-clause-grows : goal.returns-in_err-append_to-in-Some-clause-grows
+returns-in_err-append_to-in-Some-clause-grows c = grows_more c.args.self.now c.row_behind.new.self _ c.row_behind.ensures.grows c.append_to.ensures.grows
