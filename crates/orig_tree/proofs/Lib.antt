@@ -15,3 +15,4 @@ pub mod Roots
 pub mod Settling
 pub mod Dropping
 pub mod Branching
+pub mod Within

@@ -11,6 +11,7 @@ mod cover;
 mod drops;
 mod node;
 mod node_ref;
+mod parts;
 mod path;
 mod tree;
 mod whole;

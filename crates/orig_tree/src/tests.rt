@@ -58,6 +58,10 @@ fn routes_and_entries_are_apart(rt: HostRuntime) -> Result<(), AllocError> {
     assert_eq!(rt; tree.answer_route(&Addr::v4(0x0a01_0001)), Hop(2));
     assert_eq!(rt; tree.answer_entry(&Addr::v4(0x0a01_0001)), Hop(3));
     assert_eq!(rt; tree.inherited(&narrow), Hop(3));
+    assert_eq!(rt; tree.route(&narrow), Some(Hop(2)));
+    assert_eq!(rt; tree.route(&beside), None);
+    assert_eq!(rt; tree.entries_within(&wide)?.len(), 1);
+    assert_eq!(rt; tree.entries_within(&narrow)?.len(), 0);
     assert_eq!(rt; tree.inherited(&wide), Hop::NONE);
     tree.clear_route(&narrow);
     tree.clear_entry(&wide);

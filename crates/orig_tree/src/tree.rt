@@ -1,8 +1,10 @@
 //! The tree of a family.
 
-ghost use Rattle.std.specs.Prelude.{◌≡◌, [], ◌∷◌, true, List, Bool, OnOk, OnErr, IsOk, IfOk, IfSome, IfNone, map};
-ghost use Rattle.std.specs.Map.{remove_entry};
+ghost use Rattle.std.specs.Prelude.{◌≡◌, [], ◌∷◌, true, List, Bool, OnOk, OnErr, IsOk, IfOk, IfSome, IfNone, map, filter, option_map};
+ghost use Rattle.std.specs.List.{AllByRecursion};
+ghost use Rattle.std.specs.Map.{keys_of, lookup, remove_entry};
 ghost use Rattle.address_model.specs.Address.{same_prefix};
+ghost use Rattle.address_model.specs.Regions.{is_within};
 ghost use Rattle.table_model.specs.Entries.{with_entry, match_in, of_family, of_table};
 ghost use Rattle.table_model.specs.Uniform.{AllGet, TwoDiffer};
 ghost use Rattle.least_model.specs.Regions.{above};
@@ -15,6 +17,7 @@ ghost use Rattle.orig_tree.specs.Trims.{AreTrimmed};
 
 use crate::node::{Label, Nodes, answer, inherited, tell, uniform};
 use crate::node_ref::NodeRef;
+use crate::parts::{route_at, tell_within};
 use crate::path::path_bits;
 use crate::whole::{change, drop_unused, empty, make_room};
 use fib_addr::{Addr, Entry, Family, Hop, Prefix};
@@ -82,6 +85,7 @@ impl Tree {
     /// The entries.
     pub fn entries(&self) -> Result<Vec<Entry>, AllocError>
         ensures order { InPlace self.now.entries }
+        ensures family { AllByRecursion (λ p. p.family ≡ self.now.family) (keys_of self.now.entries) }
         ensures entries { IfOk result (λ v. map entry_as v.items ≡ self.now.entries) }
     {
         list_label(self.alloc, self.family, &self.nodes, Label::Entry)
@@ -210,6 +214,36 @@ impl Tree {
     {
         let q = path_bits(prefix);
         Hop(inherited(&self.nodes, 0, q, prefix.len, 0))
+    }
+
+    /// The hop of the prefix's own route, if it has one.
+    pub fn route(&self, prefix: &Prefix) -> Option<Hop>
+        requires { prefix.now.family ≡ self.now.family }
+        ensures order { InPlace self.now.routes }
+        ensures route { option_map (λ h. h.0) result
+            ≡ lookup (same_prefix (prefix_as prefix.now)) self.now.routes }
+    {
+        let q = path_bits(prefix);
+        let hop = route_at(&self.nodes, 0, q, prefix.len)?;
+        Some(Hop(hop))
+    }
+
+    /// The entries within the prefix, its own among them, in the order of prefixes. It costs the prefix's length, and the
+    /// nodes within it.
+    ///
+    /// # Errors
+    ///
+    /// No memory.
+    pub fn entries_within(&self, prefix: &Prefix) -> Result<Vec<Entry>, AllocError>
+        requires { prefix.now.family ≡ self.now.family }
+        ensures order { InPlace self.now.entries }
+        ensures entries { IfOk result (λ v. map entry_as v.items
+            ≡ filter (λ e. is_within e.0 (prefix_as prefix.now)) self.now.entries) }
+    {
+        let q = path_bits(prefix);
+        let mut list = Vec::new(self.alloc);
+        tell_within(&self.nodes, 0, q, prefix.len, *prefix, &mut list)?;
+        Ok(list)
     }
 
     /// Takes the prefix's route away, if it has one.
