@@ -10,7 +10,7 @@ use Rattle.feed_model.specs.Feed.{hops_after, full_at, changes_from}
 use Rattle.fib_words.specs.Commands.{Named}
 use Rattle.fib_main.specs.declared.outcome.Outcome.{Outcome}
 use Rattle.fib_main.specs.declared.outcome.Outcome.TheVariants.{Done, CheckNo, Usage, ReadFault, WriteFault, NoMemory, TooLarge, Malformed, HopsFull, BadLine}
-use Rattle.fib_main.specs.declared.outcome.Which.TheVariants.{Dump, Updates}
+use Rattle.fib_main.specs.declared.outcome.MrtInput.TheVariants.{Dump, Updates}
 use Rattle.fib_main.specs.declared.state.State.{State}
 use Rattle.fib_main.specs.Stops.{Stop, Untold, Refused, IsDueIfTold, FailsDue}
 use Rattle.fib_main.specs.Due.{Feed, feed_at, printed, told_at, printed_text, with_text}

@@ -17,7 +17,7 @@ use Rattle.mrt_frame.specs.declared.Malformed as code_malformed
 use Rattle.mrt_read.specs.Standing as reading
 use Rattle.mrt_read.specs.declared.reader.Reader.{Reader}
 use Rattle.fib_main.proofs.Arriving.{Comes}
-use Rattle.fib_main.specs.declared.outcome.Which.{Which}
+use Rattle.fib_main.specs.declared.outcome.MrtInput.{MrtInput}
 use Rattle.fib_main.specs.declared.outcome.Outcome.TheVariants as outcome
 use Rattle.fib_main.specs.declared.state.State.{State}
 use Rattle.fib_main.specs.declared.state.FeedError.{FeedError}
@@ -26,12 +26,12 @@ use Rattle.std.specs.Prelude.{IfSome, Bool, true, false, not, ◌&&◌}
 use Rattle.fib_io.specs.Pieces.{octets_read, octets_from}
 use Rattle.reading_model.proofs.Reading.{reading_feeds}
 use Rattle.fib_main.specs.declared.outcome.Outcome.{Outcome}
-use Rattle.fib_main.specs.Stops.{Stop, Untold, Refused, IsDueIfTold, FailsDue, told_content, is_small, is_cut, all_records, bad_record, whole_records, few_hops, event_in}
+use Rattle.fib_main.specs.Stops.{Stop, Untold, Refused, IsDueIfTold, FailsDue, told_content, is_small, is_cut, all_records, bad_record, whole_records, few_hops, event_in, input_of}
 use Rattle.fib_main.specs.Due.{Feed, read_part, elems_in, feed_in, feed_of}
 use Rattle.fib_main.specs.Standing.{StateStands, IsFull, StateTakesAll, next_elems, refusal_of}
 
 -- this much of the input was read, and the state has what it brings
-pub record Going (which : Which) (before : List Elem) (octets : List ℕ) (reader : Reader) (state : State) (events : ℕ) : Type 0 where
+pub record Going (which : MrtInput) (before : List Elem) (octets : List ℕ) (reader : Reader) (state : State) (events : ℕ) : Type 0 where
   pub read : Progress
   pub stands : reading.ReaderStands octets read reader
   pub counted : events ≡ length (elems_in before read)
@@ -45,13 +45,13 @@ in_more before read next events e =
     ap (λ h. elems_in before read ++ elems_after h events) (fold-append after_elem [] before (elems_in before read))
     ∙ (sym (elems_more held read.events events) ∙ ap (elems_after held) (sym e))
 
-pub going_start : (which : Which) (before : List Elem) (octets : List ℕ) (reader : Reader) (state : State) → reading.ReaderStands octets start reader → StateStands which before [] state → Going which before octets reader state 0
+pub going_start : (which : MrtInput) (before : List Elem) (octets : List ℕ) (reader : Reader) (state : State) → reading.ReaderStands octets start reader → StateStands which before [] state → Going which before octets reader state 0
 unfolding elems_after
 going_start which before octets reader state r s = record { read = start; stands = r; counted = refl; held = s }
 
 -- ---- one record more
 
-pub going_next : (which : Which) (before : List Elem) (octets : List ℕ) (old new : Reader) (mid state : State) (events n : ℕ) (more : List Event) → Going which before octets old mid events → reading.TakesEvents old more new
+pub going_next : (which : MrtInput) (before : List Elem) (octets : List ℕ) (old new : Reader) (mid state : State) (events n : ℕ) (more : List Event) → Going which before octets old mid events → reading.TakesEvents old more new
     → ((done : List Elem) → events ≡ length done → StateStands which before done mid → (n ≡ length (done ++ next_elems before done more)) × StateStands which before (done ++ next_elems before done more) state) → Going which before octets new state n
 going_next which before octets old new mid state events n more g t taken =
     let next : Progress = record { peers = reading.peers new; events = g.read.events ++ more; records = new.records; skipped = new.skipped; treated = new.treated } in
@@ -112,7 +112,7 @@ reads_on octets read reader none s = rw none at s.goes_on
 -- ---- what is due, where it is told
 
 -- what an input brings, where it is told
-abbrev pub due_of : Which → List Elem → Option (List ℕ) → Result Feed Stop
+abbrev pub due_of : MrtInput → List Elem → Option (List ℕ) → Result Feed Stop
 due_of which before o = told_content o >>= feed_of which before
 
 pub refused_is : (d : Result Feed Stop) (o : Outcome) → d ≡ Err (Refused o) → IsDueIfTold d (Err (Refused o))
@@ -124,7 +124,7 @@ brought_is d feed e = rw e refl
 reads_all : (c fed rest left : List ℕ) (read : Progress) → octets_read c ≡ fed ++ rest → ReadsEvents fed read left → ReadsEvents (octets_read c) read (left ++ rest)
 reads_all c fed rest left read e r = subst (λ xs. ReadsEvents xs read (left ++ rest)) (sym e) (reading_feeds fed rest left read r)
 
-full_due : (which : Which) (before : List Elem) (c left : List ℕ) (read : Progress) (n : ℕ) → ReadsEvents (octets_read c) read left → IsFull before (elems_in before read) n → feed_of which before c ≡ Err (Refused (outcome.HopsFull (event_in which n)))
+full_due : (which : MrtInput) (before : List Elem) (c left : List ℕ) (read : Progress) (n : ℕ) → ReadsEvents (octets_read c) read left → IsFull before (elems_in before read) n → feed_of which before c ≡ Err (Refused (outcome.HopsFull (event_in which n)))
 unfolding feed_of
 full_due which before c left read n r full =
     let octets : List ℕ = octets_read c in
@@ -135,7 +135,7 @@ full_due which before c left read n r full =
 
 -- ---- refusals
 
-pub refused_hops : (which : Which) (before : List Elem) (o : Option (List ℕ)) (fed : List ℕ) (at : ℕ) (old new : Reader) (mid state : State) (events : ℕ) (more : List Event) (error : FeedError) → IfSome o (Comes fed at) → Going which before fed old mid events → reading.TakesEvents old more new → StateTakesAll which events more mid (Err error) state
+pub refused_hops : (which : MrtInput) (before : List Elem) (o : Option (List ℕ)) (fed : List ℕ) (at : ℕ) (old new : Reader) (mid state : State) (events : ℕ) (more : List Event) (error : FeedError) → IfSome o (Comes fed at) → Going which before fed old mid events → reading.TakesEvents old more new → StateTakesAll which events more mid (Err error) state
     → FailsDue (refusal_of which error) (due_of which before o)
 refused_hops which before None fed at old new mid state events more (HopsFull n) comes g t taken = tt
 refused_hops which before (Some c) fed at old new mid state events more (HopsFull n) comes g t taken =
@@ -148,60 +148,60 @@ refused_hops which before o fed at old new mid state events more Fault comes g t
 refused_hops which before o fed at old new mid state events more TooLarge comes g t taken = absurd taken
 refused_hops which before o fed at old new mid state events more NoMemory comes g t taken = tt
 
-feeds_bad : (which : Which) (o : Option ℕ) (b : Bool) (stopped : Stopped) (f : Progress → Result Feed Stop) → o ≡ None → b ≡ false → few_hops which o (bad_record which b stopped >>= f) ≡ Err (Refused (outcome.Malformed which stopped.read.records (rule_number stopped.rule)))
+feeds_bad : (which : MrtInput) (o : Option ℕ) (b : Bool) (stopped : Stopped) (f : Progress → Result Feed Stop) → o ≡ None → b ≡ false → few_hops which o (bad_record which b stopped >>= f) ≡ Err (Refused (outcome.Malformed (input_of which) stopped.read.records (rule_number stopped.rule)))
 feeds_bad which None false stopped f o b = refl
 feeds_bad which None true stopped f o b = absurd cc
 feeds_bad which (Some n) b stopped f o e = absurd cc
 
-feeds_large : (which : Which) (o : Option ℕ) (b : Bool) (stopped : Stopped) (f : Progress → Result Feed Stop) → o ≡ None → b ≡ true → few_hops which o (bad_record which b stopped >>= f) ≡ Err (Refused (outcome.TooLarge which))
+feeds_large : (which : MrtInput) (o : Option ℕ) (b : Bool) (stopped : Stopped) (f : Progress → Result Feed Stop) → o ≡ None → b ≡ true → few_hops which o (bad_record which b stopped >>= f) ≡ Err (Refused (outcome.TooLarge (input_of which)))
 feeds_large which None true stopped f o b = refl
 feeds_large which None false stopped f o b = absurd cc
 feeds_large which (Some n) b stopped f o e = absurd cc
 
-feeds_all : (which : Which) (o : Option ℕ) (b : Bool) (read : Progress) (f : Progress → Result Feed Stop) → o ≡ None → b ≡ true → few_hops which o (all_records which b read >>= f) ≡ f read
+feeds_all : (which : MrtInput) (o : Option ℕ) (b : Bool) (read : Progress) (f : Progress → Result Feed Stop) → o ≡ None → b ≡ true → few_hops which o (all_records which b read >>= f) ≡ f read
 feeds_all which None true read f o b = refl
 feeds_all which None false read f o b = absurd cc
 feeds_all which (Some n) b read f o e = absurd cc
 
-feeds_past : (which : Which) (o : Option ℕ) (b : Bool) (read : Progress) (f : Progress → Result Feed Stop) → o ≡ None → b ≡ false → few_hops which o (all_records which b read >>= f) ≡ Err (Refused (outcome.TooLarge which))
+feeds_past : (which : MrtInput) (o : Option ℕ) (b : Bool) (read : Progress) (f : Progress → Result Feed Stop) → o ≡ None → b ≡ false → few_hops which o (all_records which b read >>= f) ≡ Err (Refused (outcome.TooLarge (input_of which)))
 feeds_past which None false read f o b = refl
 feeds_past which None true read f o b = absurd cc
 feeds_past which (Some n) b read f o e = absurd cc
 
 -- what is due of what was read
-abbrev due_in : Which → List Elem → List ℕ → Result Progress Stopped → Result Feed Stop
+abbrev due_in : MrtInput → List Elem → List ℕ → Result Progress Stopped → Result Feed Stop
 due_in which before c r = few_hops which (full_at (hops_after [] before) (elems_in before (read_part r))) (whole_records which (is_small c) (is_cut (octets_read c)) r >>= λ read. Ok (feed_in before read))
 
-due_is : (which : Which) (before : List Elem) (c : List ℕ) (r : Result Progress Stopped) → input (octets_read c) ≡ r → feed_of which before c ≡ due_in which before c r
+due_is : (which : MrtInput) (before : List Elem) (c : List ℕ) (r : Result Progress Stopped) → input (octets_read c) ≡ r → feed_of which before c ≡ due_in which before c r
 unfolding feed_of
 due_is which before c r e = ap (due_in which before c) e
 
-pub fault_due : (which : Which) (before : List Elem) (c : List ℕ) (read : Progress) (malformed : code_malformed.Malformed) (state : State) → StateStands which before (elems_in before read) state → malformed.number ≡ read.records → input (octets_read c) ≡ Err (record { read = read; rule = malformed.rule }) → (not (is_small c) && is_cut (octets_read c) read.records) ≡ false
-    → feed_of which before c ≡ Err (Refused (outcome.Malformed which malformed.number (rule_number malformed.rule)))
+pub fault_due : (which : MrtInput) (before : List Elem) (c : List ℕ) (read : Progress) (malformed : code_malformed.Malformed) (state : State) → StateStands which before (elems_in before read) state → malformed.number ≡ read.records → input (octets_read c) ≡ Err (record { read = read; rule = malformed.rule }) → (not (is_small c) && is_cut (octets_read c) read.records) ≡ false
+    → feed_of which before c ≡ Err (Refused (outcome.Malformed (input_of which) malformed.number (rule_number malformed.rule)))
 fault_due which before c read malformed state s n e cut =
     due_is which before c (Err (record { read = read; rule = malformed.rule })) e
     ∙ feeds_bad which (full_at (hops_after [] before) (elems_in before read)) (not (is_small c) && is_cut (octets_read c) read.records) (record { read = read; rule = malformed.rule }) (λ read. Ok (feed_in before read)) s.fits cut
-    ∙ ap (λ k. Err (Refused (outcome.Malformed which k (rule_number malformed.rule)))) (sym n)
+    ∙ ap (λ k. Err (Refused (outcome.Malformed (input_of which) k (rule_number malformed.rule)))) (sym n)
 
-pub going_still : (which : Which) (before : List Elem) (octets : List ℕ) (old new : Reader) (state : State) (events : ℕ) → Going which before octets old state events → reading.ReaderTakesNothing old new → Going which before octets new state events
+pub going_still : (which : MrtInput) (before : List Elem) (octets : List ℕ) (old new : Reader) (state : State) (events : ℕ) → Going which before octets old state events → reading.ReaderTakesNothing old new → Going which before octets new state events
 going_still which before octets old new state events g nothing = record { read = g.read; stands = nothing.stands octets g.read g.stands; counted = g.counted; held = g.held }
 
-pub going_feeds : (which : Which) (before : List Elem) (octets piece : List ℕ) (old new : Reader) (state : State) (events : ℕ) → Going which before octets old state events → reading.ReaderFeeds old piece new → Going which before (octets ++ piece) new state events
+pub going_feeds : (which : MrtInput) (before : List Elem) (octets piece : List ℕ) (old new : Reader) (state : State) (events : ℕ) → Going which before octets old state events → reading.ReaderFeeds old piece new → Going which before (octets ++ piece) new state events
 going_feeds which before octets piece old new state events g feeds = record { read = g.read; stands = feeds.stands octets g.read g.stands; counted = g.counted; held = g.held }
 
 -- ---- the end
 
-pub whole_due : (which : Which) (before : List Elem) (c : List ℕ) (read : Progress) (state : State) → StateStands which before (elems_in before read) state → input (octets_read c) ≡ Ok read → is_small c ≡ true → feed_of which before c ≡ Ok (feed_in before read)
+pub whole_due : (which : MrtInput) (before : List Elem) (c : List ℕ) (read : Progress) (state : State) → StateStands which before (elems_in before read) state → input (octets_read c) ≡ Ok read → is_small c ≡ true → feed_of which before c ≡ Ok (feed_in before read)
 whole_due which before c read state s e small =
     due_is which before c (Ok read) e
     ∙ feeds_all which (full_at (hops_after [] before) (elems_in before read)) (is_small c) read (λ read. Ok (feed_in before read)) s.fits small
 
-pub past_due : (which : Which) (before : List Elem) (c : List ℕ) (read : Progress) (state : State) → StateStands which before (elems_in before read) state → input (octets_read c) ≡ Ok read → is_small c ≡ false → feed_of which before c ≡ Err (Refused (outcome.TooLarge which))
+pub past_due : (which : MrtInput) (before : List Elem) (c : List ℕ) (read : Progress) (state : State) → StateStands which before (elems_in before read) state → input (octets_read c) ≡ Ok read → is_small c ≡ false → feed_of which before c ≡ Err (Refused (outcome.TooLarge (input_of which)))
 past_due which before c read state s e large =
     due_is which before c (Ok read) e
     ∙ feeds_past which (full_at (hops_after [] before) (elems_in before read)) (is_small c) read (λ read. Ok (feed_in before read)) s.fits large
 
-pub cut_due : (which : Which) (before : List Elem) (c : List ℕ) (read : Progress) (rule : Rule) (state : State) → StateStands which before (elems_in before read) state → input (octets_read c) ≡ Err (record { read = read; rule = rule }) → (not (is_small c) && is_cut (octets_read c) read.records) ≡ true → feed_of which before c ≡ Err (Refused (outcome.TooLarge which))
+pub cut_due : (which : MrtInput) (before : List Elem) (c : List ℕ) (read : Progress) (rule : Rule) (state : State) → StateStands which before (elems_in before read) state → input (octets_read c) ≡ Err (record { read = read; rule = rule }) → (not (is_small c) && is_cut (octets_read c) read.records) ≡ true → feed_of which before c ≡ Err (Refused (outcome.TooLarge (input_of which)))
 cut_due which before c read rule state s e cut =
     due_is which before c (Err (record { read = read; rule = rule })) e
     ∙ feeds_large which (full_at (hops_after [] before) (elems_in before read)) (not (is_small c) && is_cut (octets_read c) read.records) (record { read = read; rule = rule }) (λ read. Ok (feed_in before read)) s.fits cut

@@ -16,8 +16,8 @@ use Rattle.feed_model.specs.Feed.{hops_after, full_at, entries_of}
 use Rattle.feed_model.proofs.Tables.{all}
 use Rattle.fib_words.specs.Commands.{Named, Asked, Run, Check, command_of}
 use Rattle.printed_model.specs.Used.{Used}
-use Rattle.fib_main.specs.declared.outcome.Which.{Which}
-use Rattle.fib_main.specs.declared.outcome.Which.TheVariants.{Dump, Updates}
+use Rattle.fib_main.specs.declared.outcome.MrtInput.{MrtInput}
+use Rattle.fib_main.specs.declared.outcome.MrtInput.TheVariants.{Dump, Updates}
 use Rattle.std.specs.Prelude.{Bool, true, false, not, ◌&&◌}
 use Rattle.fib_io.specs.Pieces.{octets_read}
 use Rattle.fib_main.specs.Stops.{Stop, bad_record, few_hops, is_cut, is_small, records_due, told_content, whole_records}
@@ -31,7 +31,7 @@ use Rattle.fib_main.proofs.Telling.{entries_sorted}
 
 -- ---- what an input brings is of prefixes and peers that there are
 
-few_ok : (which : Which) (o : Option ℕ) (next : Result Feed Stop) (feed : Feed) → few_hops which o next ≡ Ok feed → next ≡ Ok feed
+few_ok : (which : MrtInput) (o : Option ℕ) (next : Result Feed Stop) (feed : Feed) → few_hops which o next ≡ Ok feed → next ≡ Ok feed
 few_ok which None next feed e = e
 few_ok which (Some n) next feed e = absurd cc
 
@@ -41,7 +41,7 @@ brought feed = Ok feed
 same_feed : (f g : Feed) → brought f ≡ brought g → f ≡ g
 same_feed f g e = cc
 
-feed_proper : (which : Which) (before : List Elem) (octets : List ℕ) (feed : Feed) → AllByRecursion IsElem before → feed_of which before octets ≡ Ok feed → AllByRecursion IsElem feed.elems
+feed_proper : (which : MrtInput) (before : List Elem) (octets : List ℕ) (feed : Feed) → AllByRecursion IsElem before → feed_of which before octets ≡ Ok feed → AllByRecursion IsElem feed.elems
 unfolding feed_of
 feed_proper which before octets feed p e = by_input (is_small octets) (input (octets_read octets)) refl (few_ok which (full_at (hops_after [] before) (elems_in before (read_part (input (octets_read octets))))) (records_due which octets >>= λ read. Ok (feed_in before read)) feed e)
   where
@@ -53,7 +53,7 @@ feed_proper which before octets feed p e = by_input (is_small octets) (input (oc
       bad true e = cc
       bad false e = cc
 
-named_proper : (content : List ℕ → Option (List ℕ)) (which : Which) (before : List Elem) (name : Option (List ℕ)) (feed : Feed) → AllByRecursion IsElem before → feed_at content which before name ≡ Ok feed → AllByRecursion IsElem feed.elems
+named_proper : (content : List ℕ → Option (List ℕ)) (which : MrtInput) (before : List Elem) (name : Option (List ℕ)) (feed : Feed) → AllByRecursion IsElem before → feed_at content which before name ≡ Ok feed → AllByRecursion IsElem feed.elems
 unfolding feed_at
 named_proper content which before None feed p e = let none = same_feed _ feed e in subst (λ (f : Feed). AllByRecursion IsElem f.elems) none tt
 named_proper content which before (Some name) feed p e = by_octets (told_content (content name)) e

@@ -35,8 +35,8 @@ use Rattle.fib_prefix.specs.declared.event.Via as code_via
 use Rattle.fib_addr.specs.declared.prefix.Prefix as code_prefix
 use Rattle.fib_prefix.specs.declared.event.Elem as code_elem
 use Rattle.fib_prefix.specs.declared.event.Elem.TheVariants as code_variant
-use Rattle.fib_main.specs.declared.outcome.Which.{Which}
-use Rattle.fib_main.specs.declared.outcome.Which.TheVariants.{Asks, Dump, Updates, Printed}
+use Rattle.fib_main.specs.declared.outcome.MrtInput.{MrtInput}
+use Rattle.fib_main.specs.declared.outcome.MrtInput.TheVariants.{Dump, Updates}
 use Rattle.fib_main.specs.declared.state.State.{State}
 use Rattle.fib_main.specs.Views.{changes_as}
 use Rattle.fib_main.specs.Standing.{kept, StateStands, IsFull, StateTakes, StateTakesAll, next_elems}
@@ -78,10 +78,10 @@ unfolding full_at
 fits_one hops elem few = ap (λ t. cond t (Some 1) (option_map suc None)) (le-ltb most_hops (length (hops_after hops (elem ∷ []))) few)
 
 -- the hops of a state after what came before it in its input
-hops_here : (which : Which) (before done : List Elem) (state : State) → StateStands which before done state → hops_after (hops_after [] before) done ≡ state.hops.list
+hops_here : (which : MrtInput) (before done : List Elem) (state : State) → StateStands which before done state → hops_after (hops_after [] before) done ≡ state.hops.list
 hops_here which before done state s = sym (hops_more [] before done) ∙ sym s.hops
 
-pub full_here : (which : Which) (before done : List Elem) (elem : Elem) (state : State) (event : ℕ) → event ≡ length (done ++ elem ∷ []) → StateStands which before done state → most_hops < length (hops_after state.hops.list (elem ∷ [])) → IsFull before (done ++ elem ∷ []) event
+pub full_here : (which : MrtInput) (before done : List Elem) (elem : Elem) (state : State) (event : ℕ) → event ≡ length (done ++ elem ∷ []) → StateStands which before done state → most_hops < length (hops_after state.hops.list (elem ∷ [])) → IsFull before (done ++ elem ∷ []) event
 full_here which before done elem state event counted s over =
     let one : full_at (hops_after (hops_after [] before) done) (elem ∷ []) ≡ Some 1 = ap (λ hs. full_at hs (elem ∷ [])) (hops_here which before done state s) ∙ full_one state.hops.list elem over in
     let n : length done + 1 ≡ event = omega (arith, counted, length-append done (elem ∷ [])) in
@@ -104,40 +104,32 @@ changes_push hops n held (d ∷ done) elem =
     ∙ sym (append_assoc (at_event n (change_by hops held d)) (changes_from hops (n + 1) (after_elem held d) done) (at_event (n + suc (length done)) (change_by hops (after_elems held (d ∷ done)) elem)))
 
 -- the changes that are kept of one elementary event
-abbrev pub kept_one : Which → ℕ → List Change → List (ℕ × Change)
-kept_one Asks n changes = []
-kept_one Printed n changes = []
+abbrev pub kept_one : MrtInput → ℕ → List Change → List (ℕ × Change)
 kept_one Dump n changes = []
 kept_one Updates n changes = at_event n changes
 
-kept_push : (which : Which) (hops : List Address) (held : Candidates) (done : List Elem) (elem : Elem) → kept which hops held (done ++ elem ∷ []) ≡ kept which hops held done ++ kept_one which (1 + length done) (change_by hops (after_elems held done) elem)
-kept_push Asks hops held done elem = refl
-kept_push Printed hops held done elem = refl
+kept_push : (which : MrtInput) (hops : List Address) (held : Candidates) (done : List Elem) (elem : Elem) → kept which hops held (done ++ elem ∷ []) ≡ kept which hops held done ++ kept_one which (1 + length done) (change_by hops (after_elems held done) elem)
 kept_push Dump hops held done elem = refl
 kept_push Updates hops held done elem = changes_push hops 1 held done elem
 
 -- what is added to the kept changes: the event's change where the input is of updates
-pub record Adds (which : Which) (event : ℕ) (changes : List Change) (old new : List (ℕ × Change)) : Type 0 where
+pub record Adds (which : MrtInput) (event : ℕ) (changes : List Change) (old new : List (ℕ × Change)) : Type 0 where
   pub added : new ≡ old ++ kept_one which event changes
 
-pub adds_nothing : (which : Which) (event : ℕ) (changes : List Change) (old : List (ℕ × code_change.Change)) → kept_one which event changes ≡ [] → Adds which event changes (changes_as old) (changes_as old)
+pub adds_nothing : (which : MrtInput) (event : ℕ) (changes : List Change) (old : List (ℕ × code_change.Change)) → kept_one which event changes ≡ [] → Adds which event changes (changes_as old) (changes_as old)
 adds_nothing which event changes old e = record { added = sym (ap (λ cs. changes_as old ++ cs) e ∙ append-nil (changes_as old)) }
 
-pub adds_change : (which : Which) (event : ℕ) (changes : List Change) (change : code_change.Change) (old new : List (ℕ × code_change.Change)) → which ≡ Updates → change_as change ∷ [] ≡ changes → new ≡ old ++ (event, change) ∷ [] → Adds which event changes (changes_as old) (changes_as new)
+pub adds_change : (which : MrtInput) (event : ℕ) (changes : List Change) (change : code_change.Change) (old new : List (ℕ × code_change.Change)) → which ≡ Updates → change_as change ∷ [] ≡ changes → new ≡ old ++ (event, change) ∷ [] → Adds which event changes (changes_as old) (changes_as new)
 adds_change which event changes change old new w e grown = record {
   added = ap changes_as grown ∙ (map_push (λ (c : ℕ × code_change.Change). (c.0, change_as c.1)) old (event, change) ∙ ap (λ cs. changes_as old ++ cs) (ap (at_event event) e ∙ ap (λ u. kept_one u event changes) (sym w)));
 }
 
 -- of an input that isn't the updates
-pub none_kept : (which : Which) (event : ℕ) (changes : List Change) → which ≡ Asks ⊎ (which ≡ Dump ⊎ which ≡ Printed) → kept_one which event changes ≡ []
-none_kept Asks event changes w = refl
+pub none_kept : (which : MrtInput) (event : ℕ) (changes : List Change) → which ≡ Dump → kept_one which event changes ≡ []
 none_kept Dump event changes w = refl
-none_kept Printed event changes w = refl
-none_kept Updates event changes (inl e) = cc
-none_kept Updates event changes (inr (inl e)) = cc
-none_kept Updates event changes (inr (inr e)) = cc
+none_kept Updates event changes w = absurd cc
 
-pub no_change : (which : Which) (event : ℕ) (changes : List Change) → which ≡ Updates → [] ≡ changes → kept_one which event changes ≡ []
+pub no_change : (which : MrtInput) (event : ℕ) (changes : List Change) → which ≡ Updates → [] ≡ changes → kept_one which event changes ≡ []
 no_change which event changes w e = ap (λ u. kept_one u event changes) w ∙ ap (at_event event) (sym e)
 
 -- ---- elementary events of the code are about places that there are
@@ -153,7 +145,7 @@ all_push : (P : Elem → Type 0) (xs : List Elem) (x : Elem) → AllByRecursion 
 all_push P [] x a p = (p, tt)
 all_push P (y ∷ xs) x a p = (a.0, all_push P xs x a.1 p)
 
-pub stands_after : (which : Which) (before done : List Elem) (elem : Elem) (old new : State) (event : ℕ) → IsElem elem → event ≡ length (done ++ elem ∷ []) → StateStands which before done old
+pub stands_after : (which : MrtInput) (before done : List Elem) (elem : Elem) (old new : State) (event : ℕ) → IsElem elem → event ≡ length (done ++ elem ∷ []) → StateStands which before done old
     → new.candidates.candidates ≡ after_elem old.candidates.candidates elem → new.hops.list ≡ hops_after old.hops.list (elem ∷ []) → (length old.hops.list ≤ most_hops → length new.hops.list ≤ most_hops)
     → Adds which event (change_by new.hops.list old.candidates.candidates elem) (changes_as old.changes.items) (changes_as new.changes.items)
     → StateStands which before (done ++ elem ∷ []) new
@@ -189,7 +181,7 @@ stands_after which before done elem old new event is counted s held more few add
       subst (λ h. AreNumbered new.hops.list h) (sym candidates ∙ held) (subst (λ hs. AreNumbered hs (after_elems [] (before ++ (done ++ elem ∷ [])))) (sym hops) at)
 
 -- the same where the event's choice is told
-pub stands_next : (which : Which) (before done : List Elem) (elem : Elem) (old new : State) (event : ℕ) (choice : Choice) → IsElem elem → event ≡ length (done ++ elem ∷ []) → StateStands which before done old
+pub stands_next : (which : MrtInput) (before done : List Elem) (elem : Elem) (old new : State) (event : ℕ) (choice : Choice) → IsElem elem → event ≡ length (done ++ elem ∷ []) → StateStands which before done old
     → new.candidates.candidates ≡ after_elem old.candidates.candidates elem → new.hops.list ≡ hops_after old.hops.list (elem ∷ []) → (length old.hops.list ≤ most_hops → length new.hops.list ≤ most_hops) → IsChoice old.candidates.candidates elem choice
     → Adds which event (change_of new.hops.list (prefix_as choice.prefix) (option_map addr_as choice.before) (option_map addr_as choice.after)) (changes_as old.changes.items) (changes_as new.changes.items)
     → StateStands which before (done ++ elem ∷ []) new
@@ -208,7 +200,7 @@ next_more before done xs ys =
     ∙ ap (λ zs. done ++ zs) (ap (λ h. elems_after held xs ++ elems_after h ys) same ∙ sym (elems_more held xs ys))
 
 -- those of one event are the ones that the candidates give
-pub next_one : (which : Which) (before done : List Elem) (event : Event) (state : State) → StateStands which before done state → next_elems before done (event ∷ []) ≡ elems_of state.candidates.candidates event
+pub next_one : (which : MrtInput) (before done : List Elem) (event : Event) (state : State) → StateStands which before done state → next_elems before done (event ∷ []) ≡ elems_of state.candidates.candidates event
 unfolding elems_after
 next_one which before done event state s = append-nil (elems_of (after_elems [] (before ++ done)) event) ∙ ap (λ h. elems_of h event) (sym s.candidates)
 
@@ -236,14 +228,14 @@ all_taken view items i le = ap (map view) (take_all i items le)
 -- ---- refusals
 
 -- the elementary events of an input up to the one that is refused, and those behind it
-pub record Apart (which : Which) (before : List Elem) (n : ℕ) (elem : Elem) (mid : State) (all : List Elem) : Type 0 where
+pub record Apart (which : MrtInput) (before : List Elem) (n : ℕ) (elem : Elem) (mid : State) (all : List Elem) : Type 0 where
   pub front : List Elem
   pub rest : List Elem
   pub counted : n ≡ length (front ++ elem ∷ [])
   pub stands : StateStands which before front mid
   pub same : (front ++ elem ∷ []) ++ rest ≡ all
 
-pub refused_step : (which : Which) (count n : ℕ) (events : List Event) (elem : Elem) (old mid new after : State) (error : FeedError) → StateTakes {T = Unit {0}} which n (elem ∷ []) mid (Err error) new
+pub refused_step : (which : MrtInput) (count n : ℕ) (events : List Event) (elem : Elem) (old mid new after : State) (error : FeedError) → StateTakes {T = Unit {0}} which n (elem ∷ []) mid (Err error) new
     → ((before done : List Elem) → count ≡ length done → StateStands which before done old → Apart which before n elem mid (done ++ next_elems before done events)) → StateTakesAll which count events old (Err error) after
 refused_step which count n events elem old mid new after (HopsFull m) taken at = λ before done counted s.
     let a = at before done counted s in
@@ -254,14 +246,14 @@ refused_step which count n events elem old mid new after TooLarge taken at = tak
 refused_step which count n events elem old mid new after NoMemory taken at = tt
 
 -- the same of events
-pub record ApartEvents (which : Which) (before : List Elem) (n : ℕ) (event : Event) (mid : State) (all : List Elem) : Type 0 where
+pub record ApartEvents (which : MrtInput) (before : List Elem) (n : ℕ) (event : Event) (mid : State) (all : List Elem) : Type 0 where
   pub front : List Elem
   pub rest : List Elem
   pub counted : n ≡ length front
   pub stands : StateStands which before front mid
   pub same : (front ++ next_elems before front (event ∷ [])) ++ rest ≡ all
 
-pub refused_event : (which : Which) (count n : ℕ) (events : List Event) (event : Event) (old mid new after : State) (error : FeedError) → StateTakesAll which n (event ∷ []) mid (Err error) new
+pub refused_event : (which : MrtInput) (count n : ℕ) (events : List Event) (event : Event) (old mid new after : State) (error : FeedError) → StateTakesAll which n (event ∷ []) mid (Err error) new
     → ((before done : List Elem) → count ≡ length done → StateStands which before done old → ApartEvents which before n event mid (done ++ next_elems before done events)) → StateTakesAll which count events old (Err error) after
 refused_event which count n events event old mid new after (HopsFull m) taken at = λ before done counted s.
     let a = at before done counted s in
@@ -291,7 +283,7 @@ pub next_counted : (done : List Elem) (elem : Elem) (n count : ℕ) → count �
 next_counted done elem n count c e = omega (arith, c, e, length-append done (elem ∷ []))
 
 -- one elementary event more was taken
-pub taken_push : (which : Which) (before done front all : List Elem) (elem : Elem) (count : ℕ) (old new : State) → (count ≡ length (done ++ front)) × StateStands which before (done ++ front) old → StateTakes {T = Unit {0}} which (count + 1) (elem ∷ []) old (Ok tt) new → all ≡ front ++ elem ∷ []
+pub taken_push : (which : MrtInput) (before done front all : List Elem) (elem : Elem) (count : ℕ) (old new : State) → (count ≡ length (done ++ front)) × StateStands which before (done ++ front) old → StateTakes {T = Unit {0}} which (count + 1) (elem ∷ []) old (Ok tt) new → all ≡ front ++ elem ∷ []
     → (count + 1 ≡ length (done ++ all)) × StateStands which before (done ++ all) new
 taken_push which before done front all elem count old new so_far takes next =
     let at : count + 1 ≡ length ((done ++ front) ++ elem ∷ []) = next_counted (done ++ front) elem (count + 1) count so_far.0 refl in

@@ -23,13 +23,13 @@ use Rattle.mrt_read.specs.Standing as reading
 use Rattle.mrt_read.specs.declared.reader.Reader.{Reader}
 use Rattle.mrt_read.specs.declared.reader.EventsError.{EventsError}
 use Rattle.mrt_read.specs.declared.reader.EventsError.TheVariants as read
-use Rattle.fib_main.specs.declared.outcome.Which.{Which}
+use Rattle.fib_main.specs.declared.outcome.MrtInput.{MrtInput}
 use Rattle.fib_main.specs.declared.outcome.Outcome.TheVariants as outcome
 use Rattle.fib_main.specs.declared.state.State.{State}
 use Rattle.fib_main.specs.declared.state.FeedError.{FeedError}
 use Rattle.fib_main.specs.declared.state.FeedError.TheVariants.{Malformed, TooLarge}
 use Rattle.fib_main.specs.Counts.{AreFew, CountsFit, CountsOn}
-use Rattle.fib_main.specs.Stops.{Stop, Refused, FailsDue, IsDueIfTold, cut_at, is_cut, is_small}
+use Rattle.fib_main.specs.Stops.{Stop, Refused, FailsDue, IsDueIfTold, cut_at, is_cut, is_small, input_of}
 use Rattle.fib_main.specs.Due.{Feed, elems_in, feed_in, feed_of}
 use Rattle.fib_main.specs.Standing.{StateStands, StateHas, StateBrings, StateTakesAll, next_elems, of_input, of_read, refusal_of}
 use Rattle.fib_main.proofs.Counting.{Counting, counting_end, counting_feeds, counting_fits, counting_next, counting_start, counting_still}
@@ -37,7 +37,7 @@ use Rattle.fib_main.proofs.Arriving.{Comes, all_fed, comes_first, comes_next}
 use Rattle.fib_main.proofs.Feeding.{Going, due_of, going_start, going_next, going_still, going_feeds, refused_hops, refused_is, brought_is, reads_on, fault_due, whole_due, past_due, cut_due}
 
 -- So many octets of the input were fed: its records were counted behind these candidates, the state has what they bring, and the reader isn't refused.
-pub record Streaming (which : Which) (content : Option (List ℕ)) (first : State) (reader : Reader) (state : State) (at events : ℕ) : Type 0 where
+pub record Streaming (which : MrtInput) (content : Option (List ℕ)) (first : State) (reader : Reader) (state : State) (at events : ℕ) : Type 0 where
   pub fed : List ℕ
   pub octets : length fed ≡ at
   pub comes : IfSome content (Comes fed at)
@@ -54,7 +54,7 @@ IsCutNow reader = (record_at (reading.reader_left reader) ≡ Err HeaderCut) ⊎
 
 -- ---- the start
 
-pub streaming_start : (which : Which) (content : Option (List ℕ)) (first : State) (reader : Reader) → reading.reader_left reader ≡ [] → reading.reader_refusal reader ≡ None → reading.ReaderStands [] start reader → Streaming which content first reader first 0 0
+pub streaming_start : (which : MrtInput) (content : Option (List ℕ)) (first : State) (reader : Reader) → reading.reader_left reader ≡ [] → reading.reader_refusal reader ≡ None → reading.ReaderStands [] start reader → Streaming which content first reader first 0 0
 streaming_start which content first reader empty none s = record {
   fed = [];
   octets = refl;
@@ -81,7 +81,7 @@ used_up reader (inr e) = used_up_by reader (Err BodyCut) e refl (reading.reader_
 
 -- ---- a piece more
 
-pub streaming_feeds : (which : Which) (content : Option (List ℕ)) (first : State) (old new : Reader) (state : State) (room : List ℕ) (at n events : ℕ) → n ≤ length room → IfSome content (λ c. ComeNext c at room n) → Streaming which content first old state at events → reading.ReaderFeeds old (take n room) new → Streaming which content first new state (at + n) events
+pub streaming_feeds : (which : MrtInput) (content : Option (List ℕ)) (first : State) (old new : Reader) (state : State) (room : List ℕ) (at n events : ℕ) → n ≤ length room → IfSome content (λ c. ComeNext c at room n) → Streaming which content first old state at events → reading.ReaderFeeds old (take n room) new → Streaming which content first new state (at + n) events
 streaming_feeds which content first old new state room at n events h next s feeds = record {
   fed = s.fed ++ take n room;
   octets = omega (arith, s.octets, h, length-append s.fed (take n room), length-take n room);
@@ -96,7 +96,7 @@ streaming_feeds which content first old new state room at n events h next s feed
 
 -- ---- a record more
 
-pub streaming_takes : (which : Which) (content : Option (List ℕ)) (first : State) (old new : Reader) (mid state : State) (at events n : ℕ) (more : List Event) → Streaming which content first old mid at events → reading.TakesEvents old more new → CountsOn mid.candidates.candidates more events n state.candidates.candidates
+pub streaming_takes : (which : MrtInput) (content : Option (List ℕ)) (first : State) (old new : Reader) (mid state : State) (at events n : ℕ) (more : List Event) → Streaming which content first old mid at events → reading.TakesEvents old more new → CountsOn mid.candidates.candidates more events n state.candidates.candidates
     → ((before done : List Elem) → events ≡ length done → StateStands which before done mid → (n ≡ length (done ++ next_elems before done more)) × StateStands which before (done ++ next_elems before done more) state)
     → Streaming which content first new state at n
 streaming_takes which content first old new mid state at events n more s t c took = record {
@@ -111,7 +111,7 @@ streaming_takes which content first old new mid state at events n more s t c too
   going = λ before stands. going_next which before s.fed old new mid state events n more (s.going before stands) t (λ done counted held. took before done counted held);
 }
 
-pub streaming_still : (which : Which) (content : Option (List ℕ)) (first : State) (old new : Reader) (state : State) (at events : ℕ) → Streaming which content first old state at events → reading.ReaderTakesNothing old new → Streaming which content first new state at events
+pub streaming_still : (which : MrtInput) (content : Option (List ℕ)) (first : State) (old new : Reader) (state : State) (at events : ℕ) → Streaming which content first old state at events → reading.ReaderTakesNothing old new → Streaming which content first new state at events
 streaming_still which content first old new state at events s nothing = record {
   fed = s.fed;
   octets = s.octets;
@@ -124,7 +124,7 @@ streaming_still which content first old new state at events s nothing = record {
   going = λ before stands. going_still which before s.fed old new state events (s.going before stands) nothing;
 }
 
-pub streaming_fits : (which : Which) (content : Option (List ℕ)) (first : State) (old new : Reader) (mid : State) (at events : ℕ) (more : List Event) → length first.candidates.candidates ≤ 2 ^ 40 → at ≤ 2 ^ 36 → Streaming which content first old mid at events → reading.TakesEvents old more new → CountsFit mid.candidates.candidates more events
+pub streaming_fits : (which : MrtInput) (content : Option (List ℕ)) (first : State) (old new : Reader) (mid : State) (at events : ℕ) (more : List Event) → length first.candidates.candidates ≤ 2 ^ 40 → at ≤ 2 ^ 36 → Streaming which content first old mid at events → reading.TakesEvents old more new → CountsFit mid.candidates.candidates more events
 streaming_fits which content first old new mid at events more few within s t =
     counting_fits s.fed first.candidates.candidates mid.candidates.candidates old new events more (omega (arith, few, within, s.octets)) s.counting t
 
@@ -194,34 +194,34 @@ goes_past false b e h = h
 
 -- ---- refusals
 
-read_fault : (which : Which) (before : List Elem) (c fed rest : List ℕ) (old new : Reader) (state : State) (events : ℕ) (taken : List Record) (malformed : code_malformed.Malformed) → octets_read c ≡ fed ++ rest → Going which before fed old state events → TakesRecords fed taken (reading.reader_left old) → length taken ≡ old.records
-    → reading.reader_refusal old ≡ None → reading.reader_next old ≡ Err (fault_of malformed) → reading.ReaderRefuses old (fault_of malformed) new → feed_of which before c ≡ Err (Refused (outcome.Malformed which malformed.number (rule_number malformed.rule)))
+read_fault : (which : MrtInput) (before : List Elem) (c fed rest : List ℕ) (old new : Reader) (state : State) (events : ℕ) (taken : List Record) (malformed : code_malformed.Malformed) → octets_read c ≡ fed ++ rest → Going which before fed old state events → TakesRecords fed taken (reading.reader_left old) → length taken ≡ old.records
+    → reading.reader_refusal old ≡ None → reading.reader_next old ≡ Err (fault_of malformed) → reading.ReaderRefuses old (fault_of malformed) new → feed_of which before c ≡ Err (Refused (outcome.Malformed (input_of which) malformed.number (rule_number malformed.rule)))
 read_fault which before c fed rest old new state events taken malformed e g t n none next r =
     let s = r.stands fed g.read g.stands in
     let no = rw r.refuses at s.refuses in
     let cut : is_cut (octets_read c) g.read.records ≡ false = rw (e, g.stands.records) (uncut fed rest old taken (fault_of malformed) t n none next) in
     fault_due which before c g.read malformed state g.held no.0 (ap input e ∙ no.1.whatever rest) (not_cut (is_small c) (is_cut (octets_read c) g.read.records) cut)
 
-pub refused_read : (which : Which) (before : List Elem) (content : Option (List ℕ)) (first : State) (old new : Reader) (state : State) (at events : ℕ) (more : List Event) (error : EventsError) → StateStands which before [] first → Streaming which content first old state at events → reading.ReaderFills (Err error) more (reading.reader_next old) → reading.ReaderFilled old (Err error) more new → FailsDue (refusal_of which (of_read error)) (due_of which before content)
+pub refused_read : (which : MrtInput) (before : List Elem) (content : Option (List ℕ)) (first : State) (old new : Reader) (state : State) (at events : ℕ) (more : List Event) (error : EventsError) → StateStands which before [] first → Streaming which content first old state at events → reading.ReaderFills (Err error) more (reading.reader_next old) → reading.ReaderFilled old (Err error) more new → FailsDue (refusal_of which (of_read error)) (due_of which before content)
 refused_read which before None first old new state at events more (read.Malformed malformed) stands s next t = tt
 refused_read which before (Some c) first old new state at events more (read.Malformed malformed) stands s next t =
-    refused_is (feed_of which before c) (outcome.Malformed which malformed.number (rule_number malformed.rule)) (read_fault which before c s.fed (octets_from at c) old new state events s.taken malformed s.comes (s.going before stands) s.frames s.numbered s.none next t)
+    refused_is (feed_of which before c) (outcome.Malformed (input_of which) malformed.number (rule_number malformed.rule)) (read_fault which before c s.fed (octets_from at c) old new state events s.taken malformed s.comes (s.going before stands) s.frames s.numbered s.none next t)
 refused_read which before content first old new state at events more read.NoMemory stands s next t = tt
 
-pub refused_event : (which : Which) (before : List Elem) (content : Option (List ℕ)) (first : State) (old new : Reader) (mid state : State) (at events : ℕ) (more : List Event) (error : FeedError) → StateStands which before [] first → Streaming which content first old mid at events → reading.TakesEvents old more new → StateTakesAll which events more mid (Err error) state → FailsDue (refusal_of which error) (due_of which before content)
+pub refused_event : (which : MrtInput) (before : List Elem) (content : Option (List ℕ)) (first : State) (old new : Reader) (mid state : State) (at events : ℕ) (more : List Event) (error : FeedError) → StateStands which before [] first → Streaming which content first old mid at events → reading.TakesEvents old more new → StateTakesAll which events more mid (Err error) state → FailsDue (refusal_of which error) (due_of which before content)
 refused_event which before content first old new mid state at events more error stands s t taken = refused_hops which before content s.fed at old new mid state events more error s.comes (s.going before stands) t taken
 
 -- ---- the end
 
-pub refused_end : (which : Which) (before : List Elem) (content : Option (List ℕ)) (first : State) (reader : Reader) (state : State) (at events : ℕ) (malformed : code_malformed.Malformed) → IfSome content (λ c. IsEnd c at) → StateStands which before [] first → Streaming which content first reader state at events → reading.ReaderTells reader (Err malformed) → FailsDue (refusal_of which (Malformed malformed)) (due_of which before content)
+pub refused_end : (which : MrtInput) (before : List Elem) (content : Option (List ℕ)) (first : State) (reader : Reader) (state : State) (at events : ℕ) (malformed : code_malformed.Malformed) → IfSome content (λ c. IsEnd c at) → StateStands which before [] first → Streaming which content first reader state at events → reading.ReaderTells reader (Err malformed) → FailsDue (refusal_of which (Malformed malformed)) (due_of which before content)
 refused_end which before None first reader state at events malformed end stands s t = tt
 refused_end which before (Some c) first reader state at events malformed end stands s t =
     let g = s.going before stands in
     let f = t s.fed g.read g.stands in
     let same = all_fed c s.fed at end.0 s.comes in
-    refused_is (feed_of which before c) (outcome.Malformed which malformed.number (rule_number malformed.rule)) (fault_due which before c g.read malformed state g.held f.0 (ap input same ∙ f.1) (ends_here (is_small c) (is_cut (octets_read c) g.read.records) (le-leb (length c) (2 ^ 36) end.1)))
+    refused_is (feed_of which before c) (outcome.Malformed (input_of which) malformed.number (rule_number malformed.rule)) (fault_due which before c g.read malformed state g.held f.0 (ap input same ∙ f.1) (ends_here (is_small c) (is_cut (octets_read c) g.read.records) (le-leb (length c) (2 ^ 36) end.1)))
 
-pub brings_all : (which : Which) (before : List Elem) (content : Option (List ℕ)) (first : State) (reader : Reader) (state : State) (at events records skipped treated : ℕ) → IfSome content (λ c. IsEnd c at) → StateStands which before [] first → Streaming which content first reader state at events → reading.ReaderTells reader (Ok tt) → records ≡ reader.records → skipped ≡ reader.skipped → treated ≡ reader.treated
+pub brings_all : (which : MrtInput) (before : List Elem) (content : Option (List ℕ)) (first : State) (reader : Reader) (state : State) (at events records skipped treated : ℕ) → IfSome content (λ c. IsEnd c at) → StateStands which before [] first → Streaming which content first reader state at events → reading.ReaderTells reader (Ok tt) → records ≡ reader.records → skipped ≡ reader.skipped → treated ≡ reader.treated
     → StateBrings which before (Ok (record { records = records; skipped = skipped; events = events; treated = treated })) state (due_of which before content)
 brings_all which before content first reader state at events records skipped treated end stands s t r k w =
     let g = s.going before stands in
@@ -235,13 +235,13 @@ brings_all which before content first reader state at events records skipped tre
     is_due None end comes = tt
     is_due (Some c) end comes = brought_is (feed_of which before c) _ (whole_due which before c (s.going before stands).read state (s.going before stands).held (ap input (all_fed c s.fed at end.0 comes) ∙ t s.fed (s.going before stands).read (s.going before stands).stands) (le-leb (length c) (2 ^ 36) end.1))
 
-pub few_all : (which : Which) (content : Option (List ℕ)) (first : State) (reader : Reader) (state : State) (at events records skipped treated : ℕ) → at ≤ 2 ^ 36 → Streaming which content first reader state at events → reading.ReaderTells reader (Ok tt) → records ≡ reader.records → skipped ≡ reader.skipped → treated ≡ reader.treated → AreFew (2 ^ 36) first.candidates.candidates (record { records = records; skipped = skipped; events = events; treated = treated }) state.candidates.candidates
+pub few_all : (which : MrtInput) (content : Option (List ℕ)) (first : State) (reader : Reader) (state : State) (at events records skipped treated : ℕ) → at ≤ 2 ^ 36 → Streaming which content first reader state at events → reading.ReaderTells reader (Ok tt) → records ≡ reader.records → skipped ≡ reader.skipped → treated ≡ reader.treated → AreFew (2 ^ 36) first.candidates.candidates (record { records = records; skipped = skipped; events = events; treated = treated }) state.candidates.candidates
 few_all which content first reader state at events records skipped treated within s t r k w = counting_end s.fed first.candidates.candidates state.candidates.candidates reader events records skipped treated (omega (arith, within, s.octets)) s.counting t r k w
 
 -- ---- more octets than are read
 
-large_in : (which : Which) (before : List Elem) (c fed : List ℕ) (reader : Reader) (state : State) (events : ℕ) (taken : List Record) (left : List ℕ) (rule : Rule) → reading.reader_left reader ≡ left → octets_read c ≡ fed → is_small c ≡ false → Going which before fed reader state events → TakesRecords fed taken left → length taken ≡ reader.records → reading.reader_refusal reader ≡ None
-    → record_at left ≡ Err rule → (rule ≡ HeaderCut) ⊎ (rule ≡ BodyCut) → feed_of which before c ≡ Err (Refused (outcome.TooLarge which))
+large_in : (which : MrtInput) (before : List Elem) (c fed : List ℕ) (reader : Reader) (state : State) (events : ℕ) (taken : List Record) (left : List ℕ) (rule : Rule) → reading.reader_left reader ≡ left → octets_read c ≡ fed → is_small c ≡ false → Going which before fed reader state events → TakesRecords fed taken left → length taken ≡ reader.records → reading.reader_refusal reader ≡ None
+    → record_at left ≡ Err rule → (rule ≡ HeaderCut) ⊎ (rule ≡ BodyCut) → feed_of which before c ≡ Err (Refused (outcome.TooLarge (input_of which)))
 large_in which before c fed reader state events taken [] rule is same large g t n none e cut =
     past_due which before c g.read state g.held (ap input same ∙ reading_ends fed g.read (rw is at (reads_on fed g.read reader none g.stands))) large
 large_in which before c fed reader state events taken (b ∷ left) rule is same large g t n none e cut =
@@ -249,16 +249,16 @@ large_in which before c fed reader state events taken (b ∷ left) rule is same 
     let is_cut_now : cut_at g.read.records (records_in (octets_read c)) ≡ true = rw same (ap (cut_at g.read.records) (ends_cut fed (b ∷ left) taken rule t some e) ∙ cut_rules (length taken) g.read.records rule (n ∙ sym g.stands.records) cut) in
     cut_due which before c g.read rule state g.held (ap input same ∙ reading_ends_cut fed (b ∷ left) g.read rule (rw is at (reads_on fed g.read reader none g.stands)) some e) (goes_past (is_small c) (is_cut (octets_read c) g.read.records) large is_cut_now)
 
-large_due : (which : Which) (before : List Elem) (c fed : List ℕ) (reader : Reader) (state : State) (events : ℕ) (taken : List Record) → octets_read c ≡ fed → is_small c ≡ false → Going which before fed reader state events → TakesRecords fed taken (reading.reader_left reader) → length taken ≡ reader.records → reading.reader_refusal reader ≡ None → IsCutNow reader → feed_of which before c ≡ Err (Refused (outcome.TooLarge which))
+large_due : (which : MrtInput) (before : List Elem) (c fed : List ℕ) (reader : Reader) (state : State) (events : ℕ) (taken : List Record) → octets_read c ≡ fed → is_small c ≡ false → Going which before fed reader state events → TakesRecords fed taken (reading.reader_left reader) → length taken ≡ reader.records → reading.reader_refusal reader ≡ None → IsCutNow reader → feed_of which before c ≡ Err (Refused (outcome.TooLarge (input_of which)))
 large_due which before c fed reader state events taken same large g t n none (inl e) = large_in which before c fed reader state events taken (reading.reader_left reader) HeaderCut refl same large g t n none e (inl refl)
 large_due which before c fed reader state events taken same large g t n none (inr e) = large_in which before c fed reader state events taken (reading.reader_left reader) BodyCut refl same large g t n none e (inr refl)
 
-pub refused_large : (which : Which) (before : List Elem) (content : Option (List ℕ)) (first : State) (reader : Reader) (state : State) (at events : ℕ) → IfSome content (λ c. IsLarge c at) → StateStands which before [] first → Streaming which content first reader state at events → IsCutNow reader → FailsDue (refusal_of which TooLarge) (due_of which before content)
+pub refused_large : (which : MrtInput) (before : List Elem) (content : Option (List ℕ)) (first : State) (reader : Reader) (state : State) (at events : ℕ) → IfSome content (λ c. IsLarge c at) → StateStands which before [] first → Streaming which content first reader state at events → IsCutNow reader → FailsDue (refusal_of which TooLarge) (due_of which before content)
 refused_large which before None first reader state at events large stands s cut = tt
 refused_large which before (Some c) first reader state at events large stands s cut =
-    refused_is (feed_of which before c) (outcome.TooLarge which) (large_due which before c s.fed reader state events s.taken (all_fed c s.fed at large.0 s.comes) (lt-leb (length c) (2 ^ 36) large.1) (s.going before stands) s.frames s.numbered s.none cut)
+    refused_is (feed_of which before c) (outcome.TooLarge (input_of which)) (large_due which before c s.fed reader state events s.taken (all_fed c s.fed at large.0 s.comes) (lt-leb (length c) (2 ^ 36) large.1) (s.going before stands) s.frames s.numbered s.none cut)
 
-pub refused_piece : (which : Which) (before : List Elem) (content : Option (List ℕ)) (first : State) (reader : Reader) (state : State) (at events : ℕ) (error : ReadError) → (IsErrOf {T = ℕ} (Err error) pieces.TooLarge → IfSome content (λ c. IsLarge c at)) → StateStands which before [] first → Streaming which content first reader state at events → IsCutNow reader
+pub refused_piece : (which : MrtInput) (before : List Elem) (content : Option (List ℕ)) (first : State) (reader : Reader) (state : State) (at events : ℕ) (error : ReadError) → (IsErrOf {T = ℕ} (Err error) pieces.TooLarge → IfSome content (λ c. IsLarge c at)) → StateStands which before [] first → Streaming which content first reader state at events → IsCutNow reader
     → FailsDue (refusal_of which (of_input error)) (due_of which before content)
 refused_piece which before content first reader state at events pieces.Fault large stands s cut = tt
 refused_piece which before content first reader state at events pieces.NoMemory large stands s cut = tt

@@ -17,9 +17,10 @@ use Rattle.cert_model.specs.Verdict.{No}
 use Rattle.printed_model.specs.Used.{Used, printed_in}
 use Rattle.fib_words.specs.Commands.{Named, Asked, Run, Check, command_of}
 use Rattle.fib_main.specs.declared.outcome.Outcome.TheVariants.{Usage}
+use Rattle.fib_main.specs.declared.outcome.MrtInput.{MrtInput}
+use Rattle.fib_main.specs.declared.outcome.MrtInput.TheVariants.{Dump, Updates}
 use Rattle.fib_main.specs.declared.outcome.Which.{Which}
-use Rattle.fib_main.specs.declared.outcome.Which.TheVariants.{Asks, Dump, Updates}
-use Rattle.fib_main.specs.declared.outcome.Which.TheVariants as which
+use Rattle.fib_main.specs.declared.outcome.Which.TheVariants as all
 use Rattle.fib_main.specs.Stops.{Stop, Refused, told_content, is_small, sized, lined, lined_past, rowed, records_due, few_hops}
 use Rattle.fib_io.specs.Pieces.{octets_read}
 use Rattle.fib_main.specs.Asks.{asks_in, ended_asks_in}
@@ -37,7 +38,7 @@ input_at content which name = do
 
 -- The asks that an input's octets have, or the first line that is neither empty nor an address. Of an input of more than 2^36 octets only the first 2^36 are read: it is too large, unless a line that they have with its line feed is bad.
 unfoldable pub asks_of : List ℕ → Result (List Address) Stop
-asks_of octets = if is_small octets then lined Asks (asks_in octets) else lined_past Asks (ended_asks_in (octets_read octets))
+asks_of octets = if is_small octets then lined all.Asks (asks_in octets) else lined_past all.Asks (ended_asks_in (octets_read octets))
 
 -- the same of an input, where it is told
 abbrev pub told_asks : Option (List ℕ) → Result (List Address) Stop
@@ -73,13 +74,13 @@ abbrev pub feed_in : List Elem → Progress → Feed
 feed_in before read = record { elems = elems_in before read; records = read.records; skipped = read.skipped; treated = read.treated }
 
 -- What the octets of an input bring after earlier elementary events. Records are taken one by one: a hop too many comes before a record after it that breaks a rule, and before the end of what is read.
-unfoldable pub feed_of : Which → List Elem → List ℕ → Result Feed Stop
+unfoldable pub feed_of : MrtInput → List Elem → List ℕ → Result Feed Stop
 feed_of which before octets =
     few_hops which (full_at (hops_after [] before) (elems_in before (read_part (input (octets_read octets)))))
     (records_due which octets >>= λ read. Ok (feed_in before read))
 
 -- nothing comes of an input that isn't named
-unfoldable pub feed_at : (List ℕ → Option (List ℕ)) → Which → List Elem → Option (List ℕ) → Result Feed Stop
+unfoldable pub feed_at : (List ℕ → Option (List ℕ)) → MrtInput → List Elem → Option (List ℕ) → Result Feed Stop
 feed_at content which before None = Ok no_feed
 feed_at content which before (Some name) = do
   octets ← told_content (content name)
@@ -144,7 +145,7 @@ with_text printed = printed >>= λ p. Ok (printed_text p)
 -- what a check uses of the printed text of this name, or the text's refusal
 unfoldable pub used_at : (List ℕ → Option (List ℕ)) → List ℕ → Result Used Stop
 used_at content name = do
-  octets ← input_at content which.Printed name
+  octets ← input_at content all.Printed name
   rowed (printed_in octets)
 
 -- What is to be printed: the rows of a run, or the verdict on what a printed text has.

@@ -5,6 +5,7 @@ use Rattle.fib_io.specs.Octets.{Adds, AddsSome}
 use Rattle.cert_model.specs.Verdict.{No}
 use Rattle.cert_check.specs.declared.refusal.No as code
 use Rattle.cert_check.specs.Views.{no_as}
+use Rattle.fib_main.specs.declared.outcome.MrtInput.TheVariants as mrt
 use Rattle.fib_main.specs.declared.outcome.Which.{Which}
 use Rattle.fib_main.specs.declared.outcome.Which.TheVariants.{Asks, Dump, Updates, Printed}
 use Rattle.fib_main.specs.declared.outcome.Outcome.{Outcome}
@@ -58,7 +59,7 @@ after (Ok x) names = names
 
 -- the dump and then the updates
 abbrev pub feeds_named : (List ℕ → Option (List ℕ)) → Named → List (List ℕ)
-feeds_named content named = named.dump ∷ after (feed_at content Dump [] (Some named.dump)) (option_to_list named.updates)
+feeds_named content named = named.dump ∷ after (feed_at content mrt.Dump [] (Some named.dump)) (option_to_list named.updates)
 
 -- the inputs that are to be read, up to the first that is refused
 abbrev pub reads_named : (List ℕ → Option (List ℕ)) → Named → List (List ℕ)

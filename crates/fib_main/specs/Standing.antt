@@ -8,8 +8,8 @@ use Rattle.route_model.specs.Choice.{Candidates, IsElem, after_elems, elems_afte
 use Rattle.feed_model.specs.Feed.{hops_after, full_at, changes_from}
 use Rattle.wire_model.specs.Rules.{rule_number}
 use Rattle.fib_addr.specs.Hops.{most_hops}
-use Rattle.fib_main.specs.declared.outcome.Which.{Which}
-use Rattle.fib_main.specs.declared.outcome.Which.TheVariants.{Asks, Dump, Updates, Printed}
+use Rattle.fib_main.specs.declared.outcome.MrtInput.{MrtInput}
+use Rattle.fib_main.specs.declared.outcome.MrtInput.TheVariants.{Dump, Updates}
 use Rattle.fib_main.specs.declared.outcome.Outcome.{Outcome}
 use Rattle.fib_main.specs.declared.outcome.Outcome.TheVariants as outcome
 use Rattle.fib_main.specs.declared.feed.Counts.{Counts}
@@ -24,18 +24,16 @@ use Rattle.mrt_read.specs.declared.reader.EventsError.{EventsError}
 use Rattle.mrt_read.specs.declared.reader.EventsError.TheVariants as read
 use Rattle.fib_addr.specs.Views.{route_as}
 use Rattle.fib_main.specs.Views.{changes_as}
-use Rattle.fib_main.specs.Stops.{Stop, Refused, IsDueIfTold, FailsDue, event_in}
+use Rattle.fib_main.specs.Stops.{Stop, Refused, IsDueIfTold, FailsDue, event_in, input_of}
 use Rattle.fib_main.specs.Due.{Feed}
 
 -- the changes that are kept of an input's elementary events: those of updates
-abbrev pub kept : Which → List Address → Candidates → List Elem → List (ℕ × Change)
-kept Asks hops held elems = []
+abbrev pub kept : MrtInput → List Address → Candidates → List Elem → List (ℕ × Change)
 kept Dump hops held elems = []
-kept Printed hops held elems = []
 kept Updates hops held elems = changes_from hops 1 held elems
 
 -- The state after these elementary events of an input, which came after earlier ones. Its hops are few enough, and the changes that it keeps are those of the input, whatever hops get numbers later.
-pub record StateStands (which : Which) (before elems : List Elem) (state : State) : Type 0 where
+pub record StateStands (which : MrtInput) (before elems : List Elem) (state : State) : Type 0 where
   pub candidates : state.candidates.candidates ≡ after_elems [] (before ++ elems)
   pub hops : state.hops.list ≡ hops_after [] (before ++ elems)
   pub few : length state.hops.list ≤ most_hops
@@ -48,7 +46,7 @@ abbrev pub IsFull : List Elem → List Elem → ℕ → Type 0
 IsFull before elems n = full_at (hops_after [] before) elems ≡ Some n
 
 -- what became of a state that took elementary events, the last of which has this number in its input
-abbrev pub StateTakes : {T : Type 0} → Which → ℕ → List Elem → State → Result T FeedError → State → Type 0
+abbrev pub StateTakes : {T : Type 0} → MrtInput → ℕ → List Elem → State → Result T FeedError → State → Type 0
 StateTakes which event elems old (Ok x) new = (before done : List Elem) → event ≡ length (done ++ elems) → StateStands which before done old → StateStands which before (done ++ elems) new
 StateTakes which event elems old (Err (HopsFull n)) new = (before done : List Elem) → event ≡ length (done ++ elems) → StateStands which before done old → IsFull before (done ++ elems) n
 StateTakes which event elems old (Err (Malformed malformed)) new = ⊥
@@ -61,7 +59,7 @@ abbrev pub next_elems : List Elem → List Elem → List Event → List Elem
 next_elems before done events = elems_after (after_elems [] (before ++ done)) events
 
 -- the same of events, after so many elementary events of the input
-abbrev pub StateTakesAll : Which → ℕ → List Event → State → Result ℕ FeedError → State → Type 0
+abbrev pub StateTakesAll : MrtInput → ℕ → List Event → State → Result ℕ FeedError → State → Type 0
 StateTakesAll which count events old (Ok n) new = (before done : List Elem) → count ≡ length done → StateStands which before done old → (n ≡ length (done ++ next_elems before done events)) × StateStands which before (done ++ next_elems before done events) new
 StateTakesAll which count events old (Err (HopsFull n)) new = (before done : List Elem) → count ≡ length done → StateStands which before done old → IsFull before (done ++ next_elems before done events) n
 StateTakesAll which count events old (Err (Malformed malformed)) new = ⊥
@@ -77,7 +75,7 @@ pub record IsCounted (feed : Feed) (counts : Counts) : Type 0 where
   pub events : counts.events ≡ length feed.elems
 
 -- the state has what the input brings, and it was counted
-pub record StateHas (which : Which) (before : List Elem) (feed : Feed) (counts : Counts) (state : State) : Type 0 where
+pub record StateHas (which : MrtInput) (before : List Elem) (feed : Feed) (counts : Counts) (state : State) : Type 0 where
   pub counted : IsCounted feed counts
   pub stands : StateStands which before feed.elems state
 
@@ -87,12 +85,12 @@ of_read (read.Malformed malformed) = Malformed malformed
 of_read read.NoMemory = NoMemory
 
 -- the outcome where an input brings nothing
-abbrev pub refusal_of : Which → FeedError → Outcome
+abbrev pub refusal_of : MrtInput → FeedError → Outcome
 refusal_of which (HopsFull n) = outcome.HopsFull (event_in which n)
-refusal_of which (Malformed malformed) = outcome.Malformed which malformed.number (rule_number malformed.rule)
+refusal_of which (Malformed malformed) = outcome.Malformed (input_of which) malformed.number (rule_number malformed.rule)
 refusal_of which NoMemory = outcome.NoMemory
 refusal_of which Fault = outcome.ReadFault
-refusal_of which TooLarge = outcome.TooLarge which
+refusal_of which TooLarge = outcome.TooLarge (input_of which)
 
 -- a refusal of what is read, as one of an input
 abbrev pub of_input : ReadError → FeedError
@@ -101,7 +99,7 @@ of_input pieces.TooLarge = TooLarge
 of_input pieces.NoMemory = NoMemory
 
 -- what was brought is what the definition gives, but for a fault of reading or want of memory
-abbrev pub StateBrings : Which → List Elem → Result Counts FeedError → State → Result Feed Stop → Type 0
+abbrev pub StateBrings : MrtInput → List Elem → Result Counts FeedError → State → Result Feed Stop → Type 0
 StateBrings which before (Ok counts) new due = (feed : Feed) × StateHas which before feed counts new × IsDueIfTold due (Ok feed)
 StateBrings which before (Err error) new due = FailsDue (refusal_of which error) due
 
@@ -111,7 +109,7 @@ FeedsFrom before now name (Err Fault) = Rose (before name) (now name)
 FeedsFrom before now name result = now ≡ before
 
 -- the same of a call that answers an outcome
-abbrev pub StateFeeds : Which → List Elem → Result Counts Outcome → State → Result Feed Stop → Type 0
+abbrev pub StateFeeds : MrtInput → List Elem → Result Counts Outcome → State → Result Feed Stop → Type 0
 StateFeeds which before (Ok counts) new due = (feed : Feed) × StateHas which before feed counts new × IsDueIfTold due (Ok feed)
 StateFeeds which before (Err o) new due = FailsDue o due
 

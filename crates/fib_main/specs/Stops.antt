@@ -10,8 +10,11 @@ use Rattle.printed_model.specs.Texts.{BadLine as BadRow}
 use Rattle.printed_model.specs.Used.{Used}
 use Rattle.fib_main.specs.declared.outcome.Outcome.{Outcome}
 use Rattle.fib_main.specs.declared.outcome.Outcome.TheVariants.{Done, CheckNo, NoMemory, ReadFault, WriteFault, TooLarge, Malformed, HopsFull, BadLine}
+use Rattle.fib_main.specs.declared.outcome.MrtInput.{MrtInput}
+use Rattle.fib_main.specs.declared.outcome.MrtInput.TheVariants.{Dump, Updates}
 use Rattle.fib_main.specs.declared.outcome.Which.{Which}
-use Rattle.fib_main.specs.declared.outcome.Which.TheVariants.{Dump, Asks, Updates, Printed}
+use Rattle.fib_main.specs.declared.outcome.Which.TheVariants.{Printed}
+use Rattle.fib_main.specs.declared.outcome.Which.TheVariants as all
 
 -- an input that doesn't tell its content, or a refusal
 pub data Stop : Type 0 where
@@ -45,6 +48,11 @@ abbrev pub rowed : Result Used BadRow → Result Used Stop
 rowed (Ok used) = Ok used
 rowed (Err bad) = Err (Refused (BadLine Printed bad.line bad.why))
 
+-- an input of records, among all inputs
+abbrev pub input_of : MrtInput → Which
+input_of Dump = all.Dump
+input_of Updates = all.Updates
+
 -- a record that breaks this rule is cut, in its header or in its body
 abbrev pub is_cut_by : Rule → Bool
 is_cut_by HeaderCut = true
@@ -60,33 +68,31 @@ abbrev pub is_cut : List ℕ → ℕ → Bool
 is_cut octets n = cut_at n (records_in octets)
 
 -- records that break no rule, if they are all of the input
-abbrev pub all_records : Which → Bool → Progress → Result Progress Stop
+abbrev pub all_records : MrtInput → Bool → Progress → Result Progress Stop
 all_records which true read = Ok read
-all_records which false read = Err (Refused (TooLarge which))
+all_records which false read = Err (Refused (TooLarge (input_of which)))
 
 -- the first record that breaks a rule, if it isn't cut where the input goes on
-abbrev pub bad_record : Which → Bool → Stopped → Result Progress Stop
-bad_record which true stopped = Err (Refused (TooLarge which))
-bad_record which false stopped = Err (Refused (Malformed which stopped.read.records (rule_number stopped.rule)))
+abbrev pub bad_record : MrtInput → Bool → Stopped → Result Progress Stop
+bad_record which true stopped = Err (Refused (TooLarge (input_of which)))
+bad_record which false stopped = Err (Refused (Malformed (input_of which) stopped.read.records (rule_number stopped.rule)))
 
 -- what was read of an input which ends there or not, and whose records are cut or not
-abbrev pub whole_records : Which → Bool → (ℕ → Bool) → Result Progress Stopped → Result Progress Stop
+abbrev pub whole_records : MrtInput → Bool → (ℕ → Bool) → Result Progress Stopped → Result Progress Stop
 whole_records which ends cut (Ok read) = all_records which ends read
 whole_records which ends cut (Err stopped) = bad_record which (not ends && cut stopped.read.records) stopped
 
 -- The records of an input, or the first that breaks a rule. Of an input of more than 2^36 octets only the first 2^36 are read: it is too large, unless a record that they have whole, or a header that they have whole, breaks a rule.
-abbrev pub records_due : Which → List ℕ → Result Progress Stop
+abbrev pub records_due : MrtInput → List ℕ → Result Progress Stop
 records_due which octets = whole_records which (is_small octets) (is_cut (octets_read octets)) (input (octets_read octets))
 
 -- the event that a refusal names: those of a dump are the load, event 0
-abbrev pub event_in : Which → ℕ → ℕ
-event_in Asks n = 0
+abbrev pub event_in : MrtInput → ℕ → ℕ
 event_in Dump n = 0
-event_in Printed n = 0
 event_in Updates n = n
 
 -- no elementary event brings one hop too many, or the first that does
-abbrev pub few_hops : {A : Type 0} → Which → Option ℕ → Result A Stop → Result A Stop
+abbrev pub few_hops : {A : Type 0} → MrtInput → Option ℕ → Result A Stop → Result A Stop
 few_hops which None next = next
 few_hops which (Some n) next = Err (Refused (HopsFull (event_in which n)))
 

@@ -6,7 +6,7 @@ ghost use Rattle.fib_main.specs.Counts.{AreFew};
 ghost use Rattle.fib_main.specs.Due.{feed_at};
 ghost use Rattle.fib_main.specs.Standing.{FeedsFrom, StateBrings, StateStands};
 
-use crate::outcome::Which;
+use crate::outcome::MrtInput;
 use crate::state::{FeedError, State, take_events};
 use fib_io::{Inputs, piece_room, read_piece};
 use mrt_read::Reader;
@@ -31,7 +31,7 @@ fn feed_through<I: Inputs>(
     alloc: Global,
     inputs: &mut I,
     state: &mut State,
-    which: Which,
+    which: MrtInput,
     name: &str,
     room: &mut [u8],
 ) -> Result<Counts, FeedError>
@@ -74,7 +74,7 @@ pub fn feed<I: Inputs>(
     alloc: Global,
     inputs: &mut I,
     state: &mut State,
-    which: Which,
+    which: MrtInput,
     name: &str,
 ) -> Result<Counts, FeedError>
     requires { length state.old.candidates.candidates ≤ 2 ^ 40 }

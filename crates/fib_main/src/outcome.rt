@@ -3,6 +3,7 @@
 ghost use Rattle.std.specs.Prelude.{◌≡◌, ◌+◌, ◌++◌, ◌≤◌, decimal, length};
 ghost use Rattle.arrayvec.specs.ArrayString.{array_string_len};
 ghost use Rattle.fib_main.specs.Ends.{outcome_line, name_of, status_of};
+ghost use Rattle.fib_main.specs.Stops.{input_of};
 ghost use Rattle.fib_main.specs.declared.outcome.Outcome.TheVariants.{Malformed as IsMalformed, HopsFull as IsHopsFull, BadLine as IsBadLine, TooLarge as IsTooLarge};
 
 use arrayvec::ArrayString;
@@ -23,6 +24,27 @@ pub enum Which {
     Updates,
     /// The printed text that is checked.
     Printed,
+}
+
+/// An input of MRT records.
+#[derive(Clone, Copy, Debug, PartialEq, Eq)]
+pub enum MrtInput {
+    /// The dump of routes.
+    Dump,
+    /// The updates to them.
+    Updates,
+}
+
+impl MrtInput {
+    /// The input, among all.
+    pub fn which(self) -> Which
+        ensures { result ≡ input_of self }
+    {
+        match self {
+            MrtInput::Dump => Which::Dump,
+            MrtInput::Updates => Which::Updates,
+        }
+    }
 }
 
 /// What a run or a check comes to.

@@ -7,11 +7,11 @@ ghost use Rattle.fib_main.specs.Asking.{ask_refusal};
 ghost use Rattle.fib_main.specs.Counts.{AreFew};
 ghost use Rattle.fib_main.specs.Due.{asks_at, checked, feed_at, input_at, output_at, reply_at, run_at, told_at, used_at, with_reply, with_text};
 ghost use Rattle.fib_main.specs.Ends.{feeds_named, OneRose, reads_asked, reads_named, ReadsFor};
-ghost use Rattle.fib_main.specs.Owned.{HasRecords, IsOf, Owns, StopsAt, StopsIn};
+ghost use Rattle.fib_main.specs.Owned.{IsOf, Owns, StopsAt, StopsIn};
 ghost use Rattle.fib_main.specs.Proves.{ChecksYes, IfRan, IsRun, PrintsYes};
 ghost use Rattle.fib_main.specs.Views.{reply_as};
 ghost use Rattle.fib_main.specs.Standing.{StateFeeds, refusal_of, StateStands};
-ghost use Rattle.fib_main.specs.Stops.{GivesDue, event_in};
+ghost use Rattle.fib_main.specs.Stops.{GivesDue, event_in, input_of};
 ghost use Rattle.fib_main.specs.Untold.{GivesSome, ReplyOfSome, TextOfSome};
 ghost use Rattle.fib_main.specs.Words.{asked_by, due_by, read_by, texts_of};
 ghost use Rattle.fib_words.specs.Commands.{asked_as, Check, named_as, Run};
@@ -20,7 +20,7 @@ ghost use Rattle.route_model.specs.Events.{Elem};
 use crate::asks::{AskError, read_asks};
 use crate::check::{Reply, check_text};
 use crate::feed::{Counts, feed};
-use crate::outcome::{Outcome, Which};
+use crate::outcome::{MrtInput, Outcome, Which};
 use crate::report::{Fed, write_text};
 use crate::state::{FeedError, State};
 use cost_cert::PrintedError;
@@ -90,22 +90,22 @@ fn asks_of<I: Inputs>(
 }
 
 /// The event that a refusal names: those of a dump are the load, event 0.
-fn event_in(which: Which, event: u64) -> u64
+fn event_in(which: MrtInput, event: u64) -> u64
     ensures { result ≡ event_in which event }
 {
     match which {
-        Which::Updates => event,
-        Which::Asks | Which::Dump | Which::Printed => 0,
+        MrtInput::Dump => 0,
+        MrtInput::Updates => event,
     }
 }
 
 /// The outcome where an input brings nothing.
-fn outcome_of_refusal(which: Which, error: FeedError) -> Outcome
+fn outcome_of_refusal(which: MrtInput, error: FeedError) -> Outcome
     ensures { result ≡ refusal_of which error }
 {
     match error {
         FeedError::Malformed(malformed) => Outcome::Malformed {
-            input: which,
+            input: which.which(),
             number: malformed.number,
             rule: malformed.rule.number(),
         },
@@ -114,7 +114,9 @@ fn outcome_of_refusal(which: Which, error: FeedError) -> Outcome
         },
         FeedError::NoMemory => Outcome::NoMemory,
         FeedError::Fault => Outcome::ReadFault,
-        FeedError::TooLarge => Outcome::TooLarge { input: which },
+        FeedError::TooLarge => Outcome::TooLarge {
+            input: which.which(),
+        },
     }
 }
 
@@ -123,12 +125,12 @@ fn feed_of<I: Inputs>(
     alloc: Global,
     inputs: &mut I,
     state: &mut State,
-    which: Which,
+    which: MrtInput,
     name: &str,
 ) -> Result<Counts, Outcome>
     requires { length state.old.candidates.candidates ≤ 2 ^ 40 }
     ensures due { (before : List Elem) → StateStands which before [] state.old → StateFeeds which before result state.new (feed_at (I.content inputs.old) which before (Some name.now)) }
-    ensures stops { HasRecords which → IfErr result (StopsAt which) }
+    ensures stops { IfErr result (StopsAt (input_of which)) }
     ensures few { IfOk result (λ counts. AreFew (2 ^ 36) state.old.candidates.candidates
         counts state.new.candidates.candidates) }
     ensures same { I.content inputs.new ≡ I.content inputs.old }
@@ -146,7 +148,7 @@ fn updates_of<I: Inputs>(
     command: &RunWords<'_>,
 ) -> Result<Counts, Outcome>
     requires { length state.old.candidates.candidates ≤ 2 ^ 40 }
-    ensures due { (before : List Elem) → StateStands Which.Updates before [] state.old → StateFeeds Which.Updates before result state.new (feed_at (I.content inputs.old) Which.Updates before (named_as command.now).updates) }
+    ensures due { (before : List Elem) → StateStands MrtInput.Updates before [] state.old → StateFeeds MrtInput.Updates before result state.new (feed_at (I.content inputs.old) MrtInput.Updates before (named_as command.now).updates) }
     ensures stops { IfErr result (StopsAt Which.Updates) }
     ensures named { OnErr result (IsSome (named_as command.now).updates) }
     ensures few { IfOk result (λ counts. AreFew (2 ^ 36) state.old.candidates.candidates
@@ -155,7 +157,7 @@ fn updates_of<I: Inputs>(
     ensures cause { ReadsFor (OneRose (option_to_list (named_as command.now).updates) (I.faults inputs.old) (I.faults inputs.new)) (I.faults inputs.old) (I.faults inputs.new) result }
 {
     match command.updates {
-        Some(name) => feed_of(alloc, inputs, state, Which::Updates, name),
+        Some(name) => feed_of(alloc, inputs, state, MrtInput::Updates, name),
         None => Ok(Counts {
             records: 0,
             skipped: 0,
@@ -180,7 +182,7 @@ fn text_of<I: Inputs>(
     ensures cause { ReadsFor (OneRose (feeds_named (I.content inputs.old) (named_as command.now)) (I.faults inputs.old) (I.faults inputs.new)) (I.faults inputs.old) (I.faults inputs.new) result }
 {
     let mut state = State::new(alloc);
-    let load = feed_of(alloc, inputs, &mut state, Which::Dump, command.dump)?;
+    let load = feed_of(alloc, inputs, &mut state, MrtInput::Dump, command.dump)?;
     let Ok(loaded) = state.candidates.routes() else {
         return Err(Outcome::NoMemory);
     };

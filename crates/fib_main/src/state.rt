@@ -12,7 +12,7 @@ ghost use Rattle.fib_main.specs.Counts.{CountsFit, CountsOn};
 ghost use Rattle.fib_main.specs.Standing.{of_input, of_read, StateTakes, StateTakesAll};
 ghost use Rattle.fib_main.specs.declared.state.FeedError.TheVariants.{Malformed as IsMalformed, NoMemory as IsNoMemory};
 
-use crate::outcome::Which;
+use crate::outcome::MrtInput;
 use fib_delta::Change;
 use fib_io::ReadError;
 use fib_prefix::{Addr, Elem, Event, Hop, HopError, HopTable};
@@ -154,7 +154,7 @@ fn number_hop(hops: &mut HopTable, elem: &Elem) -> Result<(), HopError>
 
 /// Takes the elementary event of this number: its hop gets a number, and the candidates change. Of updates it keeps the change
 /// that it makes; of a dump nobody asks for it.
-fn step(state: &mut State, which: Which, event: u64, elem: &Elem) -> Result<(), FeedError>
+fn step(state: &mut State, which: MrtInput, event: u64, elem: &Elem) -> Result<(), FeedError>
     ensures takes { StateTakes which event (elem_as elem.now ∷ []) state.old result state.new }
     ensures candidates { OnOk result (state.new.candidates.candidates
         ≡ after_elem state.old.candidates.candidates (elem_as elem.now)) }
@@ -165,8 +165,8 @@ fn step(state: &mut State, which: Which, event: u64, elem: &Elem) -> Result<(), 
         Err(HopError::NoMemory) => return Err(FeedError::NoMemory),
     }
     match which {
-        Which::Asks | Which::Dump | Which::Printed => state.candidates.load(elem)?,
-        Which::Updates => {
+        MrtInput::Dump => state.candidates.load(elem)?,
+        MrtInput::Updates => {
             let choice = state.candidates.apply(elem)?;
             if let Some(change) = change_of(&state.hops, choice) {
                 state.changes.push((event, change))?;
@@ -177,7 +177,12 @@ fn step(state: &mut State, which: Which, event: u64, elem: &Elem) -> Result<(), 
 }
 
 /// Takes an event after so many elementary events, and gives how many there are then.
-fn take_event(state: &mut State, which: Which, before: u64, event: &Event) -> Result<u64, FeedError>
+fn take_event(
+    state: &mut State,
+    which: MrtInput,
+    before: u64,
+    event: &Event,
+) -> Result<u64, FeedError>
     requires { CountsFit state.old.candidates.candidates (event_as event.now ∷ []) before }
     ensures takes { StateTakesAll which before (event_as event.now ∷ [])
         state.old result state.new }
@@ -196,7 +201,7 @@ fn take_event(state: &mut State, which: Which, before: u64, event: &Event) -> Re
 /// Takes events after so many elementary events, and gives how many there are then.
 pub fn take_events(
     state: &mut State,
-    which: Which,
+    which: MrtInput,
     before: u64,
     events: &[Event],
 ) -> Result<u64, FeedError>

@@ -5,10 +5,10 @@ use Rattle.fib_main.proofs.state.step.Goals as goal
 pub returns-in-Err-HopsFull-clause-takes : goal.returns-in-Err-HopsFull-clause-takes
 returns-in-Err-HopsFull-clause-takes c = λ before done counted s. full_here _ before done _ _ _ counted s (c.in-Err-HopsFull.ensures.full (ap Err c.in-Err-HopsFull.field-0-is))
 
-pub returns-in_ok-load-in-Asks-clause-takes : goal.returns-in_ok-load-in-Asks-clause-takes
-returns-in_ok-load-in-Asks-clause-takes c = λ before done counted s.
+pub returns-in_ok-load-in-Dump-clause-takes : goal.returns-in_ok-load-in-Dump-clause-takes
+returns-in_ok-load-in-Dump-clause-takes c = λ before done counted s.
     let e = c.in-Ok.ensures in
-    stands_after _ before done _ c.args.state.now _ _ (is_elem c.args.elem.now) counted s c.in_ok-load-in-Asks.ensures.candidates e.hops e.few (adds_nothing _ _ _ _ (none_kept _ _ _ c.in-Asks.is))
+    stands_after _ before done _ c.args.state.now _ _ (is_elem c.args.elem.now) counted s c.in_ok-load-in-Dump.ensures.candidates e.hops e.few (adds_nothing _ _ _ _ (none_kept _ _ _ c.in-Dump.is))
 
 pub returns-in_ok-push-in-Updates-clause-takes : goal.returns-in_ok-push-in-Updates-clause-takes
 returns-in_ok-push-in-Updates-clause-takes c = λ before done counted s.
