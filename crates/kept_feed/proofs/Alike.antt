@@ -1,18 +1,18 @@
 -- The kept table answers as the routes.
-use Rattle.std.proofs.Common.{◌≡◌, ℕ, ◌+◌, ◌≤◌, List, [], ◌∷◌, ◌++◌, Bool, true, false, cond, Option, Some, None, length, refl, sym, ap, subst, ◌∙◌, arith}
-use Rattle.std.specs.Prelude.{option_map, if◌then◌else◌, ◌&&◌}
+use Rattle.std.proofs.Common.{◌≡◌, ℕ, ◌+◌, ◌≤◌, List, [], ◌∷◌, ◌++◌, Bool, true, false, cond, Option, Some, None, refl, sym, ap, subst, ◌∙◌, arith}
+use Rattle.std.specs.Prelude.{option_map, if◌then◌else◌}
 use Rattle.std.specs.List.{AllByRecursion}
-use Rattle.std.specs.Map.{lookup, keys_of}
-use Rattle.address_model.specs.Bits.{begins, same_bits}
+use Rattle.std.specs.Map.{lookup}
+use Rattle.address_model.specs.Bits.{begins}
 use Rattle.address_model.specs.Width.{width}
-use Rattle.address_model.specs.Address.{Address, Prefix, IsAddress, IsPrefix, same_address, same_family, same_prefix}
+use Rattle.address_model.specs.Address.{Address, Prefix, same_address, same_family, same_prefix}
 use Rattle.address_model.specs.declared.family.Family.{Family}
 use Rattle.address_model.specs.declared.family.Family.TheVariants.{V4, V6}
 use Rattle.address_model.proofs.Same.{same_address_is, same_prefix_is, same_family_is, same_family_itself}
-use Rattle.table_model.specs.Table.{Table, lpm, IsTable, Alike}
-use Rattle.table_model.specs.Entries.{Entries, of_family, of_table, match_in, AlikeInBoth, in_order}
+use Rattle.table_model.specs.Table.{Alike}
+use Rattle.table_model.specs.Entries.{Entries, of_family, AlikeInBoth}
 use Rattle.least_model.specs.Regions.{SameEntries, SameOutside, entry_at}
-use Rattle.least_model.specs.Least.{Least, aggregate}
+use Rattle.least_model.specs.Least.{aggregate}
 use Rattle.least_model.specs.Both.{LeastInBoth, aggregate_in, aggregate_in_both}
 use Rattle.least_model.proofs.Laws.{aggregate_table, fresh_law}
 use Rattle.least_model.proofs.Same.{same_answers, same_least}
@@ -23,16 +23,16 @@ use Rattle.route_model.proofs.Said.{candidates_after}
 use Rattle.route_model.proofs.Keyed.{same_entries}
 use Rattle.route_model.proofs.Places.{prefix_key}
 use Rattle.delta_model.specs.Between.{AreEntries, hop_at}
-use Rattle.delta_model.proofs.Held.{Placed, hop_in_order, all_both}
+use Rattle.delta_model.proofs.Held.{Placed, hop_in_order}
 use Rattle.delta_model.proofs.Alike.{placed_are}
 use Rattle.kept_model.specs.Patched.{patch_of, after_repair}
 use Rattle.kept_model.proofs.Repairs.{table_entries}
-use Rattle.kept_model.proofs.Patches.{family_hop, table_hop, family_table, placed_patched, patched_alike, patched_elsewhere}
+use Rattle.kept_model.proofs.Patches.{family_hop, table_hop, family_table, patched_alike, patched_elsewhere}
 use Rattle.kept_model.proofs.Families.{hop_low, hop_high, table_of, are_both}
 use Rattle.feed_model.specs.Feed.{number_in, entries_of}
 use Rattle.feed_model.proofs.Tables.{at_prefix, entries_sorted, entries_at_prefixes, entry_after, new_entry}
 use Rattle.feed_model.proofs.Tables.{entry_at as routed_at}
-use Rattle.kept_feed.specs.Kept.{is_other, changed_at, is_due, snapshot_of, snapshot_if, kept_at_load, repaired_by, kept_by, kept_from}
+use Rattle.kept_feed.specs.Kept.{is_other, is_due, snapshot_of, snapshot_if, kept_at_load, repaired_by, kept_by, kept_from}
 use Rattle.kept_feed.proofs.Sums.{snapshot_placed, renewed_placed, by_placed}
 
 -- ---- a snapshot is least in both families

@@ -1,5 +1,5 @@
 -- The kept table stays what it is as more hops get numbers.
-use Rattle.std.proofs.Common.{◌≡◌, ℕ, ◌+◌, List, [], ◌∷◌, ◌++◌, refl, sym, ap, ◌∙◌}
+use Rattle.std.proofs.Common.{◌≡◌, ℕ, ◌+◌, List, [], ◌∷◌, ◌++◌, refl, ap, ◌∙◌}
 use Rattle.address_model.specs.Address.{Address}
 use Rattle.table_model.specs.Entries.{Entries}
 use Rattle.table_model.specs.Changes.{Change}
@@ -7,9 +7,9 @@ use Rattle.route_model.specs.Events.{Elem}
 use Rattle.route_model.specs.Choice.{Candidates, after_elem}
 use Rattle.delta_model.specs.Between.{between}
 use Rattle.kept_model.specs.Patched.{after_repair}
-use Rattle.feed_model.specs.Feed.{AreNumbered, entries_of, hops_after, at_event}
+use Rattle.feed_model.specs.Feed.{AreNumbered, hops_after, at_event}
 use Rattle.feed_model.proofs.Numbers.{entries_stay}
-use Rattle.kept_feed.specs.Kept.{AreNumberedAlong, changed_at, is_due, snapshot_of, snapshot_if, kept_at_load, kept_by, changes_by, kept_from, kept_changes_from, kept_load_changes}
+use Rattle.kept_feed.specs.Kept.{AreNumberedAlong, changed_at, is_due, snapshot_of, snapshot_if, kept_at_load, kept_by, changes_by, kept_from, kept_changes_from}
 
 module _ (every : ℕ) (hops : List Address) (more : List Elem) where
   by_stays : (n : ℕ) (held : Candidates) (T : Entries) (elem : Elem) → AreNumbered hops (after_elem held elem) → kept_by every (hops_after hops more) n held T elem ≡ kept_by every hops n held T elem

@@ -1,10 +1,8 @@
 -- One elementary event more, and the numbers of hops on the way.
-use Rattle.std.proofs.Common.{◌≡◌, ℕ, zero, suc, ◌+◌, ◌≤◌, List, [], ◌∷◌, ◌++◌, length, refl, sym, ap, subst, ◌∙◌, arith, append-nil, append_assoc}
+use Rattle.std.proofs.Common.{◌≡◌, ℕ, ◌+◌, ◌≤◌, List, [], ◌∷◌, ◌++◌, length, refl, sym, ap, subst, ◌∙◌, arith, append-nil, append_assoc}
 use Rattle.std.specs.List.{AllByRecursion}
-use Rattle.std.specs.Prelude.{fold}
 use Rattle.address_model.specs.Address.{Address, Prefix}
 use Rattle.table_model.specs.Entries.{Entries}
-use Rattle.table_model.specs.Changes.{Change}
 use Rattle.table_model.proofs.Sums.{in_order_again}
 use Rattle.least_model.specs.Both.{aggregate_in_both}
 use Rattle.least_model.proofs.Both.{aggregates_sorted}

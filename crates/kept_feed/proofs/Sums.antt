@@ -1,5 +1,5 @@
 -- The changes add up to the kept table.
-use Rattle.std.proofs.Common.{◌≡◌, ℕ, ◌+◌, List, [], ◌∷◌, ◌++◌, Bool, true, false, Option, Some, None, refl, sym, ap, subst, ◌∙◌, ◌≤◌, arith, length}
+use Rattle.std.proofs.Common.{◌≡◌, ℕ, ◌+◌, List, [], ◌∷◌, ◌++◌, Bool, true, false, Option, Some, None, refl, ap, subst, ◌∙◌, ◌≤◌, arith}
 use Rattle.std.specs.Prelude.{if◌then◌else◌}
 use Rattle.std.proofs.lemmas.List.{map-append}
 use Rattle.std.specs.Option.{option_and_then}
@@ -10,18 +10,17 @@ use Rattle.address_model.specs.Width.{width}
 use Rattle.address_model.specs.Address.{Address, Prefix, IsPrefix}
 use Rattle.address_model.specs.declared.family.Family.{Family}
 use Rattle.address_model.specs.declared.family.Family.TheVariants.{V4, V6}
-use Rattle.table_model.specs.Entries.{Entries, of_family, in_order}
+use Rattle.table_model.specs.Entries.{Entries, of_family}
 use Rattle.table_model.specs.Changes.{Change, after_change, after_changes, sum_of}
 use Rattle.least_model.specs.Least.{aggregate}
 use Rattle.least_model.specs.Both.{aggregate_in, aggregate_in_both}
 use Rattle.least_model.proofs.Laws.{aggregate_table}
 use Rattle.route_model.specs.Events.{Elem, elem_prefix}
-use Rattle.route_model.specs.Choice.{Candidates, AreCandidates, IsElem, after_elem, chosen_for}
-use Rattle.route_model.proofs.Said.{candidates_after}
+use Rattle.route_model.specs.Choice.{Candidates, IsElem, after_elem, chosen_for}
 use Rattle.delta_model.specs.Between.{between}
 use Rattle.delta_model.proofs.Held.{Placed, in_order_placed, all_both}
 use Rattle.delta_model.proofs.Alike.{made_placed}
-use Rattle.kept_model.specs.Patched.{patch_of, after_repair}
+use Rattle.kept_model.specs.Patched.{after_repair}
 use Rattle.kept_model.proofs.Repairs.{table_entries}
 use Rattle.kept_model.proofs.Patches.{placed_patched}
 use Rattle.feed_model.specs.Feed.{entries_of, at_event, changes_in}

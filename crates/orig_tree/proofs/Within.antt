@@ -1,25 +1,24 @@
 -- What a tree has at a prefix, and within it.
-use Rattle.std.proofs.Common.{◌≡◌, ◌≢◌, ℕ, zero, suc, ◌+◌, ◌-◌, ◌<◌, ◌≤◌, List, [], ◌∷◌, ◌++◌, Bool, true, false, cond, Option, Some, None, length, map, refl, sym, ap, ◌∙◌, subst, arith, length-append}
-use Rattle.std.specs.Prelude.{nat_eq, filter, option_map, ◌&&◌}
+use Rattle.std.proofs.Common.{◌≡◌, ◌≢◌, ℕ, suc, ◌+◌, ◌-◌, ◌<◌, ◌≤◌, List, [], ◌∷◌, ◌++◌, Bool, true, false, cond, Option, Some, None, length, refl, sym, ap, ◌∙◌, subst, arith}
+use Rattle.std.specs.Prelude.{nat_eq, filter, ◌&&◌}
 use Rattle.std.specs.Int.{bit_at}
 use Rattle.std.specs.List.{AllByRecursion}
 use Rattle.std.specs.Map.{lookup, keys_of}
 use Rattle.address_model.specs.Bits.{bits_of, begins, same_bits}
 use Rattle.address_model.specs.Width.{width}
-use Rattle.address_model.specs.Address.{Prefix, IsPrefix, same_family, same_prefix}
+use Rattle.address_model.specs.Address.{Prefix, same_family, same_prefix}
 use Rattle.address_model.specs.declared.family.Family.{Family}
 use Rattle.address_model.proofs.Same.{same_family_itself}
 use Rattle.table_model.specs.Table.{Entry, Table, root, half, cut}
-use Rattle.table_model.specs.Entries.{Entries, of_family, of_table}
+use Rattle.table_model.specs.Entries.{Entries, of_table}
 use Rattle.table_model.proofs.Cut.{entry}
 use Rattle.least_model.specs.Regions.{entry_at, lift}
 use Rattle.least_model.proofs.Same.{cut_nil}
 use Rattle.address_model.specs.Regions.{is_within}
-use Rattle.fib_addr.specs.Views.{prefix_as, entry_as}
+use Rattle.fib_addr.specs.Views.{prefix_as}
 use Rattle.fib_addr.specs.declared.prefix.Prefix as code
 use Rattle.fib_addr.proofs.Parts.{length_prefix}
 use Rattle.orig_tree.specs.Views.{Fits}
-use Rattle.orig_tree.specs.Walk.{Walks}
 use Rattle.orig_tree.specs.Arena.{node_at, half_place, from_half, walks_at}
 use Rattle.orig_tree.specs.declared.node.Node.{Node}
 use Rattle.orig_tree.proofs.Branching.{half_rows}

@@ -1,4 +1,4 @@
-use Rattle.std.proofs.Common.{suc, arith, sym, ap, ◌∙◌}
+use Rattle.std.proofs.Common.{suc, sym, ap, ◌∙◌}
 use Rattle.std.specs.Prelude.{option_map}
 use Rattle.address_model.specs.Bits.{bits_of}
 use Rattle.address_model.specs.Width.{width}

@@ -1,0 +1,25 @@
+-- What a kept table answers, and how few entries it has, in its family.
+use Rattle.std.specs.Prelude.{◌≤◌, length}
+use Rattle.address_model.specs.Address.{Prefix}
+use Rattle.address_model.specs.Width.{width}
+use Rattle.table_model.specs.Table.{Alike}
+use Rattle.table_model.specs.Entries.{Entries, of_family}
+use Rattle.least_model.specs.Least.{Least}
+use Rattle.least_model.specs.Regions.{SameOutside}
+use Rattle.delta_model.specs.Between.{AreEntries}
+use Rattle.orig_tree.specs.Views.{Labels}
+
+-- the table sends every address where the routes send it
+abbrev pub IsAlike : Labels → Type 0
+IsAlike kept = Alike (width kept.family) (of_family kept.family kept.routes) (of_family kept.family kept.entries)
+
+-- no table that does has fewer entries
+abbrev pub IsLeast : Labels → Type 0
+IsLeast kept = Least (width kept.family) (of_family kept.family kept.routes) (of_family kept.family kept.entries)
+
+-- of the tables that do, and have T's entries outside p, none has fewer entries
+abbrev pub IsFewestWithin : Prefix → Entries → Labels → Type 0
+IsFewestWithin p T kept =
+    (L : Entries) → AreEntries L → Alike (width kept.family) (of_family kept.family kept.routes) (of_family kept.family L)
+    → SameOutside p.bits (of_family kept.family L) (of_family kept.family T)
+    → length (of_family kept.family kept.entries) ≤ length (of_family kept.family L)

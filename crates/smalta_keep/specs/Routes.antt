@@ -1,0 +1,39 @@
+-- Routes that are put back.
+use Rattle.std.specs.Prelude.{◌≡◌, ℕ, true, Option, Some, None, option_map}
+use Rattle.std.specs.Map.{remove_entry}
+use Rattle.address_model.specs.Address.{Prefix, same_prefix}
+use Rattle.table_model.specs.Entries.{Entries, with_entry}
+use Rattle.fib_addr.specs.Views.{prefix_as}
+use Rattle.orig_tree.specs.Walk.{has_node}
+use Rattle.orig_tree.specs.Views.{Labels}
+use Rattle.smalta_keep.specs.declared.routes.Former.{Former}
+
+-- the routes with what p had
+abbrev pub put_back_in : Prefix → Option ℕ → Entries → Entries
+put_back_in p None R = remove_entry (same_prefix p) R
+put_back_in p (Some h) R = with_entry R (p, h)
+
+-- what the former route says of the routes
+abbrev pub former_in : Former → Entries → Entries
+former_in f R = put_back_in (prefix_as f.prefix) (option_map (λ h. h.0) f.hop) R
+
+-- put back, the former route gives the old routes, and there is room for it
+pub record IsFormer (f : Former) (old new : Labels) : Type 0 where
+  pub family : f.prefix.family ≡ new.family
+  pub room : has_node (prefix_as f.prefix).bits new.nodes ≡ true
+  pub routes : former_in f new.routes ≡ old.routes
+
+-- the former route, if there is one, has room in the tree
+abbrev pub HasFormer : Labels → Option Former → Type 0
+HasFormer kept None = Unit {0}
+HasFormer kept (Some f) = (f.prefix.family ≡ kept.family) × (has_node (prefix_as f.prefix).bits kept.nodes ≡ true)
+
+-- the routes with the former one, if there is one, put back
+abbrev pub undone_in : Option Former → Entries → Entries
+undone_in None R = R
+undone_in (Some f) R = former_in f R
+
+-- put back, the former route, if there is one, gives the old routes
+abbrev pub IsFormerOf : Option Former → Labels → Labels → Type 0
+IsFormerOf None old new = new.routes ≡ old.routes
+IsFormerOf (Some f) old new = IsFormer f old new

@@ -1,0 +1,41 @@
+//! Nodes of the tree that nothing uses any more are given back.
+
+ghost use Rattle.std.specs.Prelude.{◌≡◌, map};
+ghost use Rattle.std.specs.Option.{ForSome};
+ghost use Rattle.delta_model.specs.Between.{place_of};
+ghost use Rattle.fib_delta.specs.Views.{change_as};
+ghost use Rattle.smalta_keep.specs.Rooms.{AreOf, KeepsTables};
+
+use fib_addr::Prefix;
+use fib_delta::Change;
+use orig_tree::Tree;
+
+/// The prefix of an entry that a change takes away where it was made, or would have added where it wasn't.
+fn place_left(change: &Change, made: bool) -> Option<Prefix>
+    ensures { ForSome result (λ p. p.family ≡ (place_of (change_as change.now)).family) }
+{
+    match (change, made) {
+        (Change::Remove(prefix), true) | (Change::Add(prefix, _), false) => Some(*prefix),
+        _ => None,
+    }
+}
+
+/// Drops the nodes at a prefix, if there is one, within it and on the way to it that nothing uses.
+pub fn trim_at(tree: &mut Tree, prefix: Option<Prefix>)
+    requires { ForSome prefix (λ p. p.family ≡ tree.old.family) }
+    ensures { KeepsTables tree.old tree.new }
+{
+    if let Some(prefix) = prefix {
+        tree.trim(&prefix);
+    }
+}
+
+/// Drops the nodes that nothing uses where changes took entries away, or where those that weren't made would have added them.
+pub fn trim_left(tree: &mut Tree, changes: &[Change], made: bool)
+    requires { AreOf tree.old.family (map change_as changes.now) }
+    ensures { KeepsTables tree.old tree.new }
+{
+    for change in changes {
+        trim_at(tree, place_left(change, made));
+    }
+}

@@ -1,0 +1,24 @@
+//! The kept table of a family: it answers as the routes do, and is repaired where they change (after Uzmi and others, 'SMALTA:
+//! Practical and Near-Optimal FIB Aggregation', CoNEXT 2011; the rule of repair is our own).
+//!
+//! A `Keep` holds a tree with both labels: the routes, and the entries of the kept table. Where the route of a prefix changes,
+//! the entries within the prefix become the least ones under what is inherited there, and all others stay; a snapshot makes
+//! the whole table least again. Both are told as changes before they are made: `plan` takes all memory and changes no entry,
+//! then `commit` makes the changes, or `undo` puts the route back.
+//!
+//! A repair costs the prefix's length, and the nodes within it with their sets of hops; a snapshot the whole tree.
+#![tactic(auto)]
+
+mod entries;
+mod idle;
+mod keep;
+mod plan;
+mod repair;
+mod routes;
+mod told;
+
+pub use keep::Keep;
+pub use repair::{Moved, Repair};
+
+#[cfg(test)]
+mod tests;

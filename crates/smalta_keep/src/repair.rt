@@ -1,0 +1,32 @@
+//! What a plan tells and keeps.
+
+ghost use Rattle.std.specs.Prelude.{◌≡◌};
+ghost use Rattle.smalta_keep.specs.Views.{moved_of};
+
+use crate::routes::Former;
+use fib_delta::Change;
+
+/// The changes of a repair, and those of the snapshot after it; each in the order of prefixes.
+#[derive(Debug, Drop)]
+pub struct Moved {
+    /// The changes of the repair.
+    pub repair: Vec<Change>,
+    /// The changes of the snapshot.
+    pub snapshot: Vec<Change>,
+}
+
+/// A repair that is planned: it is to be committed or undone.
+#[derive(Debug, Drop)]
+pub struct Repair {
+    pub(crate) former: Option<Former>,
+    pub(crate) moved: Moved,
+}
+
+impl Repair {
+    /// The changes that it will make.
+    pub fn moved(&self) -> &Moved
+        ensures { result.now ≡ moved_of self.now }
+    {
+        &self.moved
+    }
+}
