@@ -10,7 +10,7 @@ use Rattle.table_model.specs.Changes.{Change, sum_of}
 use Rattle.table_model.specs.Table.{Alike}
 use Rattle.least_model.specs.Regions.{SameOutside}
 use Rattle.least_model.specs.Both.{LeastInBoth}
-use Rattle.delta_model.specs.Between.{AreEntries}
+use Rattle.delta_model.specs.Between.{AreEntries, between}
 use Rattle.delta_model.proofs.Held.{Placed}
 use Rattle.kept_model.specs.Patched.{after_repair, patch_of}
 use Rattle.kept_model.proofs.Patches.{family_table, patched_least}
@@ -18,11 +18,14 @@ use Rattle.route_model.specs.Events.{Elem, elem_prefix}
 use Rattle.route_model.specs.Choice.{AreCandidates, Candidates, IsElem, after_elem, after_elems, chosen_for}
 use Rattle.route_model.proofs.Elems.{candidates_stay}
 use Rattle.route_model.proofs.Said.{candidates_after}
-use Rattle.feed_model.specs.Feed.{at_event, changes_in, entries_of}
+use Rattle.feed_model.specs.Feed.{at_event, changes_in, entries_of, hops_after}
 use Rattle.feed_model.proofs.Tables.{at_prefix}
-use Rattle.kept_feed.specs.Kept.{changed_at, changes_by, is_due, is_other, kept_at_load, kept_by, kept_changes_from, kept_from, kept_load_changes, repaired_by, snapshot_if, snapshot_of}
+use Rattle.kept_feed.specs.Kept.{AreNumberedAlong, changed_at, changes_by, is_due, is_other, kept_at_load, kept_by, kept_changes_from, kept_from, kept_load_changes, repaired_by, snapshot_if, snapshot_of}
 use Rattle.kept_feed.proofs.Alike.{kept_alike, loaded_alike, snapshot_least}
 use Rattle.kept_feed.proofs.Sums.{all, by_placed, renewed_placed, snapshot_placed}
+use Rattle.kept_feed.proofs.Stays.{kept_changes_stay, kept_stays, load_stays}
+use Rattle.kept_feed.proofs.Steps.{changes_step, numbered_along, numbered_later}
+use Rattle.fib_main.specs.Due.{changes_of, kept_of}
 use Rattle.fib_main.specs.Keeps.{changes_to, has_snapshot}
 
 -- ---- one list of elementary events after another
@@ -187,3 +190,40 @@ fewest_by every hops n held T L elem q e t c l a o =
     let repaired : repaired_by hops held T elem ≡ patch_of R q T = ap (λ at. after_repair R at T) c in
     subst (λ (N : Entries). length (of_family q.family (snapshot_if (is_due every n) R N)) ≤ length (of_family q.family L)) (sym repaired)
     (by_fewest (is_due every n) R T L q (subst IsPrefix same (at_prefix elem e)) t l a o)
+
+-- ---- one elementary event more
+
+-- the changes stay what they are as more hops get numbers
+changes_stay : (every : ℕ) (before elems more : List Elem) → changes_of every (hops_after (hops_after [] (before ++ elems)) more) before elems ≡ changes_of every (hops_after [] (before ++ elems)) before elems
+changes_stay every before elems more =
+    let hops = hops_after [] (before ++ elems) in
+    let held = after_elems [] before in
+    let along : AreNumberedAlong hops held elems = subst (λ es. AreNumberedAlong (hops_after [] (before ++ es)) held elems) (append-nil elems) (numbered_along before elems []) in
+    let load = load_stays hops more held (numbered_later before elems) in
+    ap (λ T. at_event 0 (between [] T) ++ kept_changes_from every (hops_after hops more) 1 held T elems) load
+    ∙ ap (λ cs. kept_load_changes hops held ++ cs) (kept_changes_stay every hops more 1 held (kept_at_load hops held) elems along)
+
+-- the table does
+table_stays : (every : ℕ) (before elems more : List Elem) → kept_of every (hops_after (hops_after [] (before ++ elems)) more) before elems ≡ kept_of every (hops_after [] (before ++ elems)) before elems
+table_stays every before elems more =
+    let hops = hops_after [] (before ++ elems) in
+    let held = after_elems [] before in
+    let along : AreNumberedAlong hops held elems = subst (λ es. AreNumberedAlong (hops_after [] (before ++ es)) held elems) (append-nil elems) (numbered_along before elems []) in
+    ap (λ T. kept_from every (hops_after hops more) 1 held T elems) (load_stays hops more held (numbered_later before elems))
+    ∙ kept_stays every hops more 1 held (kept_at_load hops held) elems along
+
+pub changes_grow : (every : ℕ) (before done : List Elem) (elem : Elem) (hops : List Address) (held : Candidates) (T : Entries) (n : ℕ) → hops ≡ hops_after [] (before ++ done) → held ≡ after_elems (after_elems [] before) done → T ≡ kept_of every hops before done → n ≡ length done
+    → changes_of every hops before done ++ at_event (n + 1) (changes_by every (hops_after hops (elem ∷ [])) (n + 1) held T elem) ≡ changes_of every (hops_after hops (elem ∷ [])) before (done ++ elem ∷ [])
+changes_grow every before done elem hops held T n h c t e =
+    let now = hops_after hops (elem ∷ []) in
+    let first = after_elems [] before in
+    let table : T ≡ kept_of every now before done = t ∙ (ap (λ hs. kept_of every hs before done) h ∙ (sym (table_stays every before done (elem ∷ [])) ∙ ap (λ hs. kept_of every (hops_after hs (elem ∷ [])) before done) (sym h))) in
+    let changes : changes_of every hops before done ≡ changes_of every now before done = ap (λ hs. changes_of every hs before done) h ∙ (sym (changes_stay every before done (elem ∷ [])) ∙ ap (λ hs. changes_of every (hops_after hs (elem ∷ [])) before done) (sym h)) in
+    let last : at_event (n + 1) (changes_by every now (n + 1) held T elem) ≡ at_event (length done + 1) (changes_by every now (length done + 1) (after_elems first done) (kept_of every now before done) elem) =
+    ap (λ m. at_event (m + 1) (changes_by every now (m + 1) held T elem)) e
+    ∙ (ap (λ h. at_event (length done + 1) (changes_by every now (length done + 1) h T elem)) c ∙ ap (λ K. at_event (length done + 1) (changes_by every now (length done + 1) (after_elems first done) K elem)) table)
+    in
+    ap (λ cs. cs ++ at_event (n + 1) (changes_by every now (n + 1) held T elem)) changes
+    ∙ (ap (λ cs. changes_of every now before done ++ cs) last
+    ∙ (append_assoc (kept_load_changes now first) (kept_changes_from every now 1 first (kept_at_load now first) done) (at_event (length done + 1) (changes_by every now (length done + 1) (after_elems first done) (kept_of every now before done) elem))
+    ∙ ap (λ cs. kept_load_changes now first ++ cs) (sym (changes_step every now elem first (kept_at_load now first) done))))

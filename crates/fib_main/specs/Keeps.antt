@@ -1,5 +1,5 @@
 -- What the printed changes come to on the way, event by event: the load is event 0, and the elementary events of the updates are numbered from 1.
-use Rattle.std.specs.Prelude.{◌≡◌, ◌≤◌, ℕ, zero, suc, ◌+◌, List, ◌∷◌, ◌++◌, Bool, true, Some, length, nat_le}
+use Rattle.std.specs.Prelude.{◌≡◌, ◌≤◌, ℕ, zero, suc, ◌+◌, List, [], ◌∷◌, ◌++◌, Bool, true, Some, length, nat_le}
 use Rattle.std.specs.List.{filter}
 use Rattle.address_model.specs.Address.{Prefix}
 use Rattle.address_model.specs.Width.{width}
