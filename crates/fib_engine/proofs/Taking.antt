@@ -1,0 +1,476 @@
+-- What an engine holds after one elementary event more.
+use Rattle.std.proofs.Common.{◌≡◌, ℕ, zero, suc, ◌+◌, ◌<◌, ◌≤◌, List, [], ◌∷◌, ◌++◌, Bool, true, false, cond, Option, Some, None, length, map, refl, sym, ap, subst, ◌∙◌, arith, append-nil, append_assoc, length-append}
+use Rattle.std.specs.Prelude.{option_map, if◌then◌else◌, not}
+use Rattle.std.specs.List.{AllByRecursion}
+use Rattle.std.specs.List.Sorted.{IsStrictlySortedBy}
+use Rattle.std.specs.Map.{keys_of, lookup}
+use Rattle.address_model.specs.Width.{width}
+use Rattle.address_model.specs.Address.{Address, Prefix, IsAddress, IsPrefix, same_address, same_family, same_prefix}
+use Rattle.address_model.specs.declared.family.Family.{Family}
+use Rattle.address_model.specs.declared.family.Family.TheVariants.{V4, V6}
+use Rattle.address_model.proofs.BitLaws.{length-bits_of}
+use Rattle.address_model.proofs.Same.{same_address_is}
+use Rattle.table_model.specs.Table.{Table, lpm}
+use Rattle.table_model.specs.Entries.{Entries, of_family, match_in, in_order}
+use Rattle.table_model.specs.Changes.{Change, after_changes}
+use Rattle.table_model.proofs.Sums.{in_order_again}
+use Rattle.route_model.specs.Events.{Elem, elem_prefix}
+use Rattle.route_model.specs.Choice.{Candidates, AreCandidates, IsElem, after_elem, after_elems, chosen_for}
+use Rattle.route_model.proofs.Said.{candidates_after, none_yet}
+use Rattle.route_model.proofs.Elems.{candidates_stay}
+use Rattle.feed_model.specs.Feed.{AreNumbered, IsNumbered, entries_of, hops_after, number_in}
+use Rattle.feed_model.proofs.Numbers.{hops_more, entries_stay, routes_numbered, chosen_numbered}
+use Rattle.feed_model.proofs.Tables.{at_prefix, entries_sorted, entries_at_prefixes, entry_after, new_entry}
+use Rattle.feed_model.proofs.Tables.{entry_at as routed_at}
+use Rattle.least_model.specs.Both.{aggregate_in, aggregate_in_both}
+use Rattle.least_model.specs.Sets.{answers}
+use Rattle.least_model.specs.Least.{bound}
+use Rattle.cert_model.specs.Rows.{CertRow, bound_row, certificate_of, family_rows, region_rows, whole_prefix}
+use Rattle.delta_model.specs.Between.{between, hop_at}
+use Rattle.kept_model.specs.Patched.{with_route, patch_of, after_repair, after_snapshot}
+use Rattle.kept_feed.specs.Kept.{AreNumberedAlong, is_other, is_due, changed_at, snapshot_if, kept_at_load, kept_by, changes_by, kept_from}
+use Rattle.kept_feed.proofs.Steps.{elems_more, kept_step, numbered_along, numbered_later, snapshot_is}
+use Rattle.kept_feed.proofs.Stays.{kept_stays, load_stays}
+use Rattle.kept_feed.proofs.Sums.{snapshot_placed}
+use Rattle.kept_feed.proofs.Alike.{kept_alike, loaded_alike}
+use Rattle.fib_addr.specs.Hops.{most_hops}
+use Rattle.fib_addr.specs.Views.{addr_as, prefix_as}
+use Rattle.fib_addr.specs.declared.addr.Addr.{Addr}
+use Rattle.fib_addr.specs.declared.prefix.Prefix as code_prefix
+use Rattle.fib_addr.specs.declared.entry.Hop as code_hop
+use Rattle.fib_delta.proofs.Held.{is_prefix}
+use Rattle.fib_prefix.specs.Views.{elem_as}
+use Rattle.fib_prefix.specs.declared.event.Elem as code_elem
+use Rattle.fib_prefix.specs.declared.event.Elem.TheVariants as code_variant
+use Rattle.orig_tree.specs.Views.{Labels, InPlace}
+use Rattle.orig_tree.proofs.Places.{labels_are}
+use Rattle.route_choice.specs.Held.{IsChoice}
+use Rattle.route_choice.specs.declared.choice.Choice.{Choice}
+use Rattle.smalta_keep.specs.declared.repair.Repair.{Repair}
+use Rattle.smalta_keep.specs.Views.{moved_of, place_in, repair_as, snapshot_as, with_planned}
+use Rattle.smalta_keep.specs.Plans.{Tells}
+use Rattle.smalta_keep.proofs.Alike.{committed}
+use Rattle.smalta_keep.proofs.Tables.{renewed_placed, renewed_family}
+use Rattle.fib_engine.specs.Tables.{Both, Route, AreBoth, AreOfRoutes, AreTold, ArePut, KeepRoutes, KeepTables, MadeBy, gathered, labels_of, only, route_in, table_of as both_tables}
+use Rattle.fib_engine.specs.Held.{Held, IsKept, IsSound, routes_in}
+use Rattle.fib_engine.specs.Numbers.{IsNewNumber, IsRouteOf, HasNumber, number_or_none}
+use Rattle.fib_engine.specs.Stands.{EndsLoad, IsLoading, Stands, Takes}
+use Rattle.fib_engine.proofs.Holding.{Fine, some_of, turned, stays_out, stays_all, both_repaired, both_repaired_high, both_snapshots, both_changes, both_aggregates, fine_repaired, fine_renewed, low_part, high_part, of_only, only_placed}
+use Rattle.fib_engine.proofs.Numbering.{number_least}
+
+-- ---- elementary events of the code are about places that there are
+
+pub is_address : (a : Addr) → IsAddress (addr_as a)
+is_address a = length-bits_of (width a.family) a.bits
+
+pub is_elem : (elem : code_elem.Elem) → IsElem (elem_as elem)
+is_elem (code_variant.Put v p path hop) = (is_prefix p, is_address v.peer.addr)
+is_elem (code_variant.Cut v p) = (is_prefix p, is_address v.peer.addr)
+
+all_push : (P : Elem → Type 0) (xs : List Elem) (x : Elem) → AllByRecursion P xs → P x → AllByRecursion P (xs ++ x ∷ [])
+all_push P [] x a p = (p, tt)
+all_push P (y ∷ xs) x a p = (a.0, all_push P xs x a.1 p)
+
+-- ---- the start
+
+none_order : InPlace []
+unfolding IsStrictlySortedBy
+none_order = (tt, tt)
+
+kept_none : (f : Family) (E : Entries) (k : Labels) → k.family ≡ f → k.entries ≡ [] → IsKept f false E k
+kept_none f E k s e = record {
+  family = s;
+  order = subst (λ (T : Entries). InPlace T) (sym e) none_order;
+  of_family = subst (λ (T : Entries). AllByRecursion (λ (p : Prefix). p.family ≡ f) (keys_of T)) (sym e) tt;
+  routes = λ t. absurd cc;
+  empty = λ t. e;
+}
+
+pub sound_start : (C : Candidates) (H : List Address) (b : Both) → C ≡ [] → H ≡ [] → AreBoth b → b.v4.entries ≡ [] → b.v6.entries ≡ [] → IsSound C H false b
+sound_start C H b c h f x y = record {
+  elems = [];
+  proper = tt;
+  candidates = c;
+  hops = h;
+  few = omega (arith, ap length h);
+  v4 = kept_none V4 (entries_of H C) b.v4 f.0 x;
+  v6 = kept_none V6 (entries_of H C) b.v6 f.1 y;
+}
+
+-- ---- one elementary event of the load
+
+hops_push : (elems : List Elem) (elem : Elem) (H H' : List Address) → H ≡ hops_after [] elems → H' ≡ hops_after H (elem ∷ []) → H' ≡ hops_after [] (elems ++ elem ∷ [])
+hops_push elems elem H H' h e = e ∙ (ap (λ hs. hops_after hs (elem ∷ [])) h ∙ sym (hops_more [] elems (elem ∷ [])))
+
+held_push : (elems : List Elem) (elem : Elem) (C C' : Candidates) → C ≡ after_elems [] elems → C' ≡ after_elem C elem → C' ≡ after_elems [] (elems ++ elem ∷ [])
+held_push elems elem C C' c e = e ∙ (ap (λ x. after_elem x elem) c ∙ sym (elems_more [] elems (elem ∷ [])))
+
+pub not_over : (n : ℕ) → (most_hops < n → false ≡ true) → n ≤ most_hops
+not_over n h = let k : most_hops < n → ⊥ = (λ l. let z : false ≡ true = h l in cc) in omega arith
+
+pub sound_load : (C C' : Candidates) (H H' : List Address) (elem : Elem) (loaded : Bool) (b : Both) → loaded ≡ false → IsSound C H loaded b → IsElem elem → C' ≡ after_elem C elem → H' ≡ hops_after H (elem ∷ []) → length H' ≤ most_hops → IsSound C' H' loaded b
+sound_load C C' H H' elem loaded b l s x c h few = record {
+  elems = s.elems ++ elem ∷ [];
+  proper = all_push IsElem s.elems elem s.proper x;
+  candidates = held_push s.elems elem C C' s.candidates c;
+  hops = hops_push s.elems elem H H' s.hops h;
+  few = few;
+  v4 = subst (λ (t : Bool). IsKept V4 t (entries_of H' C') b.v4) (sym l) (kept_none V4 (entries_of H' C') b.v4 s.v4.family (s.v4.empty l));
+  v6 = subst (λ (t : Bool). IsKept V6 t (entries_of H' C') b.v6) (sym l) (kept_none V6 (entries_of H' C') b.v6 s.v6.family (s.v6.empty l));
+}
+
+pub loading_more : (load : List Elem) (elem : Elem) (old new : Held) → IsElem elem → new.candidates ≡ after_elem old.candidates elem → new.hops ≡ hops_after old.hops (elem ∷ []) → new.table ≡ old.table → new.loaded ≡ old.loaded → new.events ≡ old.events
+    → IsLoading load old → IsLoading (load ++ elem ∷ []) new
+loading_more load elem old new x c h t l e s = record {
+  candidates = held_push load elem old.candidates new.candidates s.candidates c;
+  hops = hops_push load elem old.hops new.hops s.hops h;
+  proper = all_push IsElem load elem s.proper x;
+  table = t ∙ s.table;
+  loaded = l ∙ s.loaded;
+  events = e ∙ s.events;
+}
+
+-- ---- the end of the load
+
+pub held_are : (C : Candidates) (H : List Address) (l : Bool) (b : Both) → IsSound C H l b → AreCandidates C
+held_are C H l b s = subst (λ (X : Candidates). AreCandidates X) (sym s.candidates) (candidates_stay [] s.elems none_yet s.proper)
+
+pub routes_have : (C : Candidates) (H : List Address) (l : Bool) (b : Both) → IsSound C H l b → AreNumbered H C
+routes_have C H l b s =
+    subst (λ (hs : List Address). AreNumbered hs C) (sym s.hops) (subst (λ (X : Candidates). AreNumbered (hops_after [] s.elems) X) (sym s.candidates) (routes_numbered s.elems))
+
+pub routes_placed : (C : Candidates) (H : List Address) (l : Bool) (b : Both) → IsSound C H l b → InPlace (entries_of H C)
+routes_placed C H l b s = let a = held_are C H l b s in (entries_at_prefixes H C a, entries_sorted H C a)
+
+-- a family's routes, put one by one in their order
+pub put_in_order : (f : Family) (E : Entries) → InPlace E → in_order (only f E) ≡ only f E
+put_in_order f E e = in_order_again (only f E) (only_placed f E e).1
+
+kept_fresh : (f : Family) (E T R : Entries) (k : Labels) → k.family ≡ f → k.routes ≡ only f E → k.entries ≡ aggregate_in f R T → IsKept f true E k
+kept_fresh f E T R k s r e = record {
+  family = s;
+  order = subst (λ (U : Entries). InPlace U) (sym e) (renewed_placed f R T);
+  of_family = subst (λ (U : Entries). AllByRecursion (λ (p : Prefix). p.family ≡ f) (keys_of U)) (sym e) (renewed_family f R T);
+  routes = λ t. r;
+  empty = λ t. absurd cc;
+}
+
+-- the tables of the routes before their first snapshot, and after it
+module _ (C : Candidates) (H : List Address) (b t n : Both) (s : IsSound C H false b) (a : AreOfRoutes (entries_of H C) t) (k : KeepRoutes t n) (v4 : n.v4.entries ≡ aggregate_in V4 t.v4.routes t.v4.entries) (v6 : n.v6.entries ≡ aggregate_in V6 t.v6.routes t.v6.entries) where
+  pub sound_end : IsSound C H true n
+  sound_end = record {
+    elems = s.elems;
+    proper = s.proper;
+    candidates = s.candidates;
+    hops = s.hops;
+    few = s.few;
+    v4 = kept_fresh V4 (entries_of H C) t.v4.entries t.v4.routes n.v4 (k.v4_family ∙ a.families.0) (k.v4 ∙ a.v4) v4;
+    v6 = kept_fresh V6 (entries_of H C) t.v6.entries t.v6.routes n.v6 (k.v6_family ∙ a.families.1) (k.v6 ∙ a.v6) v6;
+  }
+
+  low_end : n.v4.entries ≡ aggregate_in V4 (only V4 (entries_of H C)) []
+  low_end = v4 ∙ (ap (λ (R : Entries). aggregate_in V4 R t.v4.entries) a.v4 ∙ ap (λ (T : Entries). aggregate_in V4 (only V4 (entries_of H C)) T) a.v4_empty)
+
+  high_end : n.v6.entries ≡ aggregate_in V6 (only V6 (entries_of H C)) []
+  high_end = v6 ∙ (ap (λ (R : Entries). aggregate_in V6 R t.v6.entries) a.v6 ∙ ap (λ (T : Entries). aggregate_in V6 (only V6 (entries_of H C)) T) a.v6_empty)
+
+  pub table_end : both_tables n ≡ kept_at_load H C
+  table_end =
+      let E = entries_of H C in
+      ap (λ (L : Entries). L ++ n.v6.entries) low_end
+      ∙ (ap (λ (L : Entries). aggregate_in V4 (only V4 E) [] ++ L) high_end ∙ (both_aggregates E [] [] tt tt ∙ sym (snapshot_is E [])))
+
+  pub changes_end : between t.v4.entries n.v4.entries ++ between t.v6.entries n.v6.entries ≡ between [] (both_tables n)
+  changes_end =
+      let none4 : Fine V4 [] = record { order = none_order; of = tt } in
+      let none6 : Fine V6 [] = record { order = none_order; of = tt } in
+      let x = sound_end in
+      ap (λ (L : Entries). between L n.v4.entries ++ between t.v6.entries n.v6.entries) a.v4_empty
+      ∙ (ap (λ (L : Entries). between [] n.v4.entries ++ between L n.v6.entries) a.v6_empty
+      ∙ both_changes [] [] n.v4.entries n.v6.entries none4 none6 (record { order = x.v4.order; of = x.v4.of_family }) (record { order = x.v6.order; of = x.v6.of_family }))
+
+pub stands_end : (load : List Elem) (old new : Held) → new.candidates ≡ old.candidates → new.hops ≡ old.hops → new.table ≡ kept_at_load old.hops old.candidates → new.loaded ≡ true → new.events ≡ old.events → IsLoading load old → Stands load [] new
+unfolding kept_from
+stands_end load old new c h t l e s = record {
+  candidates = c ∙ s.candidates;
+  hops = h ∙ (s.hops ∙ ap (hops_after []) (sym (append-nil load)));
+  proper = (s.proper, tt);
+  table = t ∙ (ap (λ (X : Candidates). kept_at_load old.hops X) s.candidates ∙ ap (λ (hs : List Address). kept_at_load hs (after_elems [] load)) (sym h));
+  loaded = l;
+  events = e ∙ s.events;
+}
+
+-- ---- answers
+
+pub answer_is : (b : Both) (a : Address) → AllByRecursion (λ (p : Prefix). p.family ≡ V4) (keys_of b.v4.entries) → AllByRecursion (λ (p : Prefix). p.family ≡ V6) (keys_of b.v6.entries) → match_in (labels_of a.family b).entries a ≡ match_in (both_tables b) a
+answer_is b a x y = by_family a.family refl
+  where
+    by_family : (g : Family) → a.family ≡ g → lpm (of_family a.family (labels_of a.family b).entries) a.bits 0 ≡ lpm (of_family a.family (both_tables b)) a.bits 0
+    by_family V4 e =
+        ap (λ (g : Family). lpm (of_family g (labels_of g b).entries) a.bits 0) e
+        ∙ (ap (λ (L : Table). lpm L a.bits 0) (sym (low_part b.v4.entries b.v6.entries y)) ∙ ap (λ (g : Family). lpm (of_family g (both_tables b)) a.bits 0) (sym e))
+    by_family V6 e =
+        ap (λ (g : Family). lpm (of_family g (labels_of g b).entries) a.bits 0) e
+        ∙ (ap (λ (L : Table). lpm L a.bits 0) (sym (high_part b.v4.entries b.v6.entries x)) ∙ ap (λ (g : Family). lpm (of_family g (both_tables b)) a.bits 0) (sym e))
+
+-- the kept table answers as the routes
+pub answers_routes : (load elems : List Elem) (e : Held) (a : Address) → Stands load elems e → IsAddress a → match_in e.table a ≡ match_in (routes_in e) a
+answers_routes load elems e a s x =
+    let C = after_elems [] load in
+    let c = candidates_stay [] load none_yet s.proper.0 in
+    let T = kept_at_load e.hops C in
+    ap (λ (L : Entries). match_in L a) s.table
+    ∙ (sym (kept_alike e.every e.hops 1 C T elems c s.proper.1 (snapshot_placed (entries_of e.hops C) []) (loaded_alike e.hops C) a x) ∙ ap (λ (X : Candidates). match_in (entries_of e.hops X) a) (sym s.candidates))
+
+-- ---- one elementary event after the load
+
+-- what a plan of one family tells, and what making it leaves
+one_side : (f : Family) (n m : Labels) (R A : Entries) (at : Option Prefix) (due : Bool) (r : Repair) → n.family ≡ f → n.routes ≡ R → n.entries ≡ A → Tells n at due (moved_of r) → MadeBy r n m
+    → (m.entries ≡ after_snapshot f R due (after_repair R at A)) × (repair_as (moved_of r) ≡ between A (after_repair R at A)) × (snapshot_as (moved_of r) ≡ between (after_repair R at A) (after_snapshot f R due (after_repair R at A)))
+one_side f n m R A at due r s e t tells made =
+    let k : Labels = record { family = f; routes = R; entries = A; nodes = n.nodes } in
+    let same : n ≡ k = labels_are n.family f n.routes R n.entries A n.nodes n.nodes s e t refl in
+    let told : Tells k at due (moved_of r) = subst (λ (x : Labels). Tells x at due (moved_of r)) same tells in
+    let done : after_changes (repair_as (moved_of r) ++ snapshot_as (moved_of r)) k.entries ≡ Some m.entries = ap (λ (T : Entries). after_changes (repair_as (moved_of r) ++ snapshot_as (moved_of r)) T) (sym t) ∙ made in
+    (committed k m.entries at due (moved_of r) told done, told.repair, told.snapshot)
+
+some_least : (n : ℕ) → 1 ≤ n → some_of n ≡ Some n
+some_least zero l = absurd (omega arith)
+some_least (suc n) l = refl
+
+same_turned : (f g : Family) → same_family f g ≡ same_family g f
+same_turned V4 V4 = refl
+same_turned V4 V6 = refl
+same_turned V6 V4 = refl
+same_turned V6 V6 = refl
+
+not_other : (old new : Option Address) → is_other old new ≡ false → old ≡ new
+not_other None None e = refl
+not_other None (Some hop) e = cc
+not_other (Some old) None e = cc
+not_other (Some old) (Some hop) e = by_test (same_address old hop) refl e
+  where
+    by_test : (b : Bool) → same_address old hop ≡ b → (if b then false else true) ≡ false → Some old ≡ Some hop
+    by_test true s e = ap Some (same_address_is old hop s)
+    by_test false s e = cc
+
+module _ (C : Candidates) (H : List Address) (elem : Elem) (elems : List Elem) (proper : AllByRecursion IsElem elems) (c : C ≡ after_elems [] elems) (h : H ≡ hops_after [] elems) (x : IsElem elem) where
+  abbrev C' : Candidates
+  C' = after_elem C elem
+
+  abbrev H' : List Address
+  H' = hops_after H (elem ∷ [])
+
+  abbrev p : Prefix
+  p = elem_prefix elem
+
+  abbrev E : Entries
+  E = entries_of H C
+
+  abbrev E' : Entries
+  E' = entries_of H' C'
+
+  ac : AreCandidates C
+  ac = subst (λ (X : Candidates). AreCandidates X) (sym c) (candidates_stay [] elems none_yet proper)
+
+  old_placed : InPlace E
+  old_placed = (entries_at_prefixes H C ac, entries_sorted H C ac)
+
+  new_placed : InPlace E'
+  new_placed = let a = candidates_after C elem ac x in (entries_at_prefixes H' C' a, entries_sorted H' C' a)
+
+  same_numbers : entries_of H' C ≡ E
+  same_numbers =
+      entries_stay H C (elem ∷ [])
+      (subst (λ (hs : List Address). AreNumbered hs C) (sym h) (subst (λ (X : Candidates). AreNumbered (hops_after [] elems) X) (sym c) (routes_numbered elems)))
+
+  abbrev new : Option ℕ
+  new = new_entry H' C elem
+
+  after : (q : Prefix) → hop_at q E' ≡ cond (same_prefix q p) new (hop_at q E)
+  after q = entry_after H' C elem q ac x ∙ ap (λ (L : Entries). cond (same_prefix q p) new (hop_at q L)) same_numbers
+
+  pub chosen_has : (o : Option Address) → chosen_for C' p ≡ o → HasNumber H' o
+  chosen_has None e = tt
+  chosen_has (Some a) e =
+      let held = held_push elems elem C C' c refl in
+      subst (λ (hs : List Address). IsNumbered hs a) (sym (hops_push elems elem H H' h refl)) (chosen_numbered (elems ++ elem ∷ []) p a (ap (λ (X : Candidates). chosen_for X p) (sym held) ∙ e))
+
+  some_new : (o : Option Address) → HasNumber H' o → some_of (number_or_none H' o) ≡ option_map (number_in H') o
+  some_new None i = refl
+  some_new (Some a) i = some_least (number_in H' a) (number_least H' a i)
+
+  module _ (choice : Choice) (ch : IsChoice C elem choice) where
+    other_is : is_other (chosen_for C p) (chosen_for C' p) ≡ is_other (option_map addr_as choice.before) (option_map addr_as choice.after)
+    other_is = ap (λ o. is_other o (chosen_for C' p)) (sym ch.before) ∙ ap (is_other (option_map addr_as choice.before)) (sym ch.after)
+
+    routes_turn : (route : Route) → IsRouteOf H' choice route → (f : Family) → with_planned (route_in f route) (only f E) ≡ only f E'
+    routes_turn None r f =
+        let same : chosen_for C p ≡ chosen_for C' p = not_other (chosen_for C p) (chosen_for C' p) (other_is ∙ r) in
+        ap (only f) (stays_all p E E' new (at_prefix elem x) old_placed new_placed after (ap (option_map (number_in H')) (sym same) ∙ (sym (routed_at H' C p) ∙ ap (hop_at p) same_numbers)))
+    routes_turn (Some rr) r f = by_test (same_family rr.0.family f) refl
+      where
+        there : prefix_as rr.0 ≡ p
+        there = ap prefix_as r.1 ∙ ch.prefix
+
+        turned_family : same_family f p.family ≡ same_family rr.0.family f
+        turned_family = same_turned f p.family ∙ ap (λ (q : Prefix). same_family q.family f) (sym there)
+
+        by_test : (b : Bool) → same_family rr.0.family f ≡ b → with_planned (cond b (Some rr) None) (only f E) ≡ only f E'
+        by_test true t =
+            ap (λ q. with_route q rr.1.0 (only f E)) there
+            ∙ turned p E E' new (at_prefix elem x) old_placed new_placed after f rr.1.0 (turned_family ∙ t) (ap some_of (r.2 ∙ ap (number_or_none H') ch.after) ∙ some_new (chosen_for C' p) (chosen_has (chosen_for C' p) refl))
+        by_test false t = stays_out p E E' new (at_prefix elem x) old_placed new_placed after f (turned_family ∙ t)
+
+    module _ (A B : Entries) (a : Fine V4 A) (b : Fine V6 B) where
+      abbrev Turned : Route → Route → Type 0
+      Turned low high =
+          (after_repair (only V4 E') (place_in low) A ++ after_repair (only V6 E') (place_in high) B ≡ after_repair E' (changed_at C elem) (A ++ B))
+          × Fine V4 (after_repair (only V4 E') (place_in low) A) × Fine V6 (after_repair (only V6 E') (place_in high) B)
+
+      tables_turn : (route : Route) → IsRouteOf H' choice route → Turned (route_in V4 route) (route_in V6 route)
+      tables_turn None r = (ap (λ t. after_repair E' (if t then Some p else None) (A ++ B)) (sym (other_is ∙ r)), a, b)
+      tables_turn (Some rr) r = by_family rr.0.family refl
+        where
+          there : prefix_as rr.0 ≡ p
+          there = ap prefix_as r.1 ∙ ch.prefix
+
+          changed : patch_of E' (prefix_as rr.0) (A ++ B) ≡ after_repair E' (changed_at C elem) (A ++ B)
+          changed = ap (λ q. patch_of E' q (A ++ B)) there ∙ ap (λ t. after_repair E' (if t then Some p else None) (A ++ B)) (sym (other_is ∙ r.0))
+
+          routed : (g f : Family) → rr.0.family ≡ g → cond (same_family g f) (Some rr) None ≡ route_in f (Some rr)
+          routed g f e = ap (λ (k : Family). cond (same_family k f) (Some rr) None) (sym e)
+
+          by_family : (g : Family) → rr.0.family ≡ g → Turned (route_in V4 (Some rr)) (route_in V6 (Some rr))
+          by_family V4 e =
+              subst (λ (o : Route). Turned o (route_in V6 (Some rr))) (routed V4 V4 e)
+              (subst (λ (o : Route). Turned (Some rr) o) (routed V4 V6 e) (both_repaired E' A B (prefix_as rr.0) (is_prefix rr.0) a b e ∙ changed, fine_repaired V4 (only V4 E') A (prefix_as rr.0) (is_prefix rr.0) e a, b))
+          by_family V6 e =
+              subst (λ (o : Route). Turned o (route_in V6 (Some rr))) (routed V6 V4 e)
+              (subst (λ (o : Route). Turned None o) (routed V6 V6 e) (both_repaired_high E' A B (prefix_as rr.0) (is_prefix rr.0) a b e ∙ changed, a, fine_repaired V6 (only V6 E') B (prefix_as rr.0) (is_prefix rr.0) e b))
+
+-- what the engine's parts come to
+pub record IsTaken (every event : ℕ) (C : Candidates) (H : List Address) (elem : Elem) (old new : Both) (v4 v6 : Repair) : Type 0 where
+  pub sound : IsSound (after_elem C elem) (hops_after H (elem ∷ [])) true new
+  pub table : both_tables new ≡ kept_by every (hops_after H (elem ∷ [])) event C (both_tables old) elem
+  pub changes : gathered (moved_of v4) (moved_of v6) ≡ changes_by every (hops_after H (elem ∷ [])) event C (both_tables old) elem
+
+pub taken : (every event : ℕ) (C : Candidates) (H : List Address) (elem : Elem) (b n m : Both) (choice : Choice) (route : Route) (r4 r6 : Repair) (due : Bool) → IsSound C H true b → IsElem elem → length (hops_after H (elem ∷ [])) ≤ most_hops
+    → IsChoice C elem choice → IsRouteOf (hops_after H (elem ∷ [])) choice route → KeepTables b n → ArePut route b n → AreTold n route due r4 r6 → KeepRoutes n m → MadeBy r4 n.v4 m.v4 → MadeBy r6 n.v6 m.v6 → due ≡ is_due every event
+    → IsTaken every event C H elem b m r4 r6
+taken every event C H elem b n m choice route r4 r6 due s x few ch r kt put told kr m4 m6 d =
+    let E = entries_of H C in
+    let N = entries_of (hops_after H (elem ∷ [])) (after_elem C elem) in
+    let A = b.v4.entries in
+    let B = b.v6.entries in
+    let fa : Fine V4 A = record { order = s.v4.order; of = s.v4.of_family } in
+    let fb : Fine V6 B = record { order = s.v6.order; of = s.v6.of_family } in
+    let turn = routes_turn C H elem s.elems s.proper s.candidates s.hops x choice ch route r in
+    let R4 : n.v4.routes ≡ only V4 N = put.v4 ∙ (ap (with_planned (route_in V4 route)) (s.v4.routes refl) ∙ turn V4) in
+    let R6 : n.v6.routes ≡ only V6 N = put.v6 ∙ (ap (with_planned (route_in V6 route)) (s.v6.routes refl) ∙ turn V6) in
+    let low = one_side V4 n.v4 m.v4 (only V4 N) A (place_in (route_in V4 route)) due r4 (kt.v4_family ∙ s.v4.family) R4 kt.v4 told.v4_tells m4 in
+    let high = one_side V6 n.v6 m.v6 (only V6 N) B (place_in (route_in V6 route)) due r6 (kt.v6_family ∙ s.v6.family) R6 kt.v6 told.v6_tells m6 in
+    let both = tables_turn C H elem s.elems s.proper s.candidates s.hops x choice ch A B fa fb route r in
+    let A' = after_repair (only V4 N) (place_in (route_in V4 route)) A in
+    let B' = after_repair (only V6 N) (place_in (route_in V6 route)) B in
+    let A'' = after_snapshot V4 (only V4 N) due A' in
+    let B'' = after_snapshot V6 (only V6 N) due B' in
+    let ga : Fine V4 A'' = fine_renewed V4 due (only V4 N) A' both.1 in
+    let gb : Fine V6 B'' = fine_renewed V6 due (only V6 N) B' both.2 in
+    let U = after_repair N (changed_at C elem) (A ++ B) in
+    let whole : A'' ++ B'' ≡ snapshot_if (is_due every event) N U =
+    both_snapshots due N A' B' both.1.of both.2.of ∙ (ap (λ (T : Entries). snapshot_if due N T) both.0 ∙ ap (λ (t : Bool). snapshot_if t N U) d)
+    in
+    record {
+      sound = record {
+        elems = s.elems ++ elem ∷ [];
+        proper = all_push IsElem s.elems elem s.proper x;
+        candidates = held_push s.elems elem C (after_elem C elem) s.candidates refl;
+        hops = hops_push s.elems elem H (hops_after H (elem ∷ [])) s.hops refl;
+        few = few;
+        v4 = record {
+          family = kr.v4_family ∙ (kt.v4_family ∙ s.v4.family);
+          order = subst (λ (T : Entries). InPlace T) (sym low.0) ga.order;
+          of_family = subst (λ (T : Entries). AllByRecursion (λ (q : Prefix). q.family ≡ V4) (keys_of T)) (sym low.0) ga.of;
+          routes = λ t. kr.v4 ∙ R4;
+          empty = λ t. absurd cc;
+        };
+        v6 = record {
+          family = kr.v6_family ∙ (kt.v6_family ∙ s.v6.family);
+          order = subst (λ (T : Entries). InPlace T) (sym high.0) gb.order;
+          of_family = subst (λ (T : Entries). AllByRecursion (λ (q : Prefix). q.family ≡ V6) (keys_of T)) (sym high.0) gb.of;
+          routes = λ t. kr.v6 ∙ R6;
+          empty = λ t. absurd cc;
+        };
+      };
+      table = ap (λ (L : Entries). L ++ m.v6.entries) low.0 ∙ (ap (λ (L : Entries). A'' ++ L) high.0 ∙ whole);
+      changes =
+          ap (λ (cs : List Change). (cs ++ repair_as (moved_of r6)) ++ (snapshot_as (moved_of r4) ++ snapshot_as (moved_of r6))) low.1
+          ∙ (ap (λ (cs : List Change). (between A A' ++ cs) ++ (snapshot_as (moved_of r4) ++ snapshot_as (moved_of r6))) high.1
+          ∙ (ap (λ (cs : List Change). (between A A' ++ between B B') ++ (cs ++ snapshot_as (moved_of r6))) low.2
+          ∙ (ap (λ (cs : List Change). (between A A' ++ between B B') ++ (between A' A'' ++ cs)) high.2
+          ∙ (ap (λ (cs : List Change). cs ++ (between A' A'' ++ between B' B'')) (both_changes A B A' B' fa fb both.1 both.2)
+          ∙ (ap (λ (cs : List Change). between (A ++ B) (A' ++ B') ++ cs) (both_changes A' B' A'' B'' both.1 both.2 ga gb)
+          ∙ (ap (λ (T : Entries). between (A ++ B) T ++ between T (A'' ++ B'')) both.0 ∙ ap (λ (T : Entries). between (A ++ B) U ++ between U T) whole))))));
+    }
+
+-- ---- by whole lists
+
+pub stands_more : (load elems : List Elem) (elem : Elem) (old new : Held) → IsElem elem → Takes elem old new → Stands load elems old → Stands load (elems ++ elem ∷ []) new
+stands_more load elems elem old new x t s =
+    let C = after_elems [] load in
+    let hops : new.hops ≡ hops_after [] (load ++ (elems ++ elem ∷ [])) =
+    hops_push (load ++ elems) elem old.hops new.hops s.hops t.hops ∙ ap (hops_after []) (append_assoc load elems (elem ∷ []))
+    in
+    let along = numbered_along load elems [] in
+    let all : load ++ (elems ++ []) ≡ load ++ elems = ap (λ z. load ++ z) (append-nil elems) in
+    let numbers = subst (λ (hs : List Address). AreNumberedAlong hs C elems) (ap (hops_after []) all ∙ sym s.hops) along in
+    let first : AreNumbered old.hops C = subst (λ (hs : List Address). AreNumbered hs C) (sym s.hops) (numbered_later load elems) in
+    let start : kept_at_load new.hops C ≡ kept_at_load old.hops C = ap (λ (hs : List Address). kept_at_load hs C) t.hops ∙ load_stays old.hops (elem ∷ []) C first in
+    let before : kept_from old.every new.hops 1 C (kept_at_load new.hops C) elems ≡ old.table =
+    ap (λ (T : Entries). kept_from old.every new.hops 1 C T elems) start
+    ∙ (ap (λ (hs : List Address). kept_from old.every hs 1 C (kept_at_load old.hops C) elems) t.hops ∙ (kept_stays old.every old.hops (elem ∷ []) 1 C (kept_at_load old.hops C) elems numbers ∙ sym s.table))
+    in
+    record {
+      candidates = t.candidates ∙ (ap (λ (X : Candidates). after_elem X elem) s.candidates ∙ sym (elems_more C elems (elem ∷ [])));
+      hops = hops;
+      proper = (s.proper.0, all_push IsElem elems elem s.proper.1 x);
+      table =
+          t.table
+          ∙ (ap (λ (k : ℕ). kept_by old.every new.hops (k + 1) old.candidates old.table elem) s.events
+          ∙ (ap (λ (X : Candidates). kept_by old.every new.hops (length elems + 1) X old.table elem) s.candidates
+          ∙ (ap (λ (T : Entries). kept_by old.every new.hops (length elems + 1) (after_elems C elems) T elem) (sym before)
+          ∙ (sym (kept_step old.every new.hops elem C (kept_at_load new.hops C) elems) ∙ ap (λ (k : ℕ). kept_from k new.hops 1 C (kept_at_load new.hops C) (elems ++ elem ∷ [])) (sym t.every)))));
+      loaded = t.loaded ∙ s.loaded;
+      events = t.events ∙ (ap (λ (k : ℕ). k + 1) s.events ∙ sym (length-append elems (elem ∷ [])));
+    }
+
+-- the same, as the engine's code comes to it
+pub applied : (every event : ℕ) (C : Candidates) (H H1 : List Address) (elem : Elem) (b n m : Both) (choice : Choice) (own : Option code_hop.Hop) (route : Route) (r4 r6 : Repair) (due : Bool) → IsSound C H true b → IsElem elem → H1 ≡ H → length (hops_after H (elem ∷ [])) ≤ most_hops
+    → IsNewNumber H (hops_after H (elem ∷ [])) own → IsChoice C elem choice
+    → ((after : List Address) (e : Elem) → after ≡ hops_after H1 (e ∷ []) → IsNewNumber H1 after own → HasNumber after (option_map addr_as choice.after) → IsRouteOf after choice route)
+    → KeepTables b n → ArePut route b n → AreTold n route due r4 r6 → KeepRoutes n m → MadeBy r4 n.v4 m.v4 → MadeBy r6 n.v6 m.v6 → due ≡ is_due every event
+    → IsTaken every event C H elem b m r4 r6
+applied every event C H H1 elem b n m choice own route r4 r6 due s x room few fresh ch turn =
+    let H' = hops_after H (elem ∷ []) in
+    let has : HasNumber H' (option_map addr_as choice.after) =
+    subst (λ (o : Option Address). HasNumber H' o) (sym ch.after) (chosen_has C H elem s.elems s.proper s.candidates s.hops x (chosen_for (after_elem C elem) (elem_prefix elem)) refl)
+    in
+    let new : IsNewNumber H1 H' own = subst (λ (hs : List Address). IsNewNumber hs H' own) (sym room) fresh in
+    taken every event C H elem b n m choice route r4 r6 due s x few ch (turn H' elem (ap (λ (hs : List Address). hops_after hs (elem ∷ [])) (sym room)) new has)
+
+-- ---- least tables
+
+pub both_least : (C : Candidates) (H : List Address) (l : Bool) (b : Both) → IsSound C H l b → l ≡ true → aggregate_in V4 b.v4.routes b.v4.entries ++ aggregate_in V6 b.v6.routes b.v6.entries ≡ aggregate_in_both (entries_of H C) (both_tables b)
+both_least C H l b s t =
+    ap (λ (R : Entries). aggregate_in V4 R b.v4.entries ++ aggregate_in V6 b.v6.routes b.v6.entries) (s.v4.routes t)
+    ∙ (ap (λ (R : Entries). aggregate_in V4 (only V4 (entries_of H C)) b.v4.entries ++ aggregate_in V6 R b.v6.entries) (s.v6.routes t) ∙ both_aggregates (entries_of H C) b.v4.entries b.v6.entries s.v4.of_family s.v6.of_family)
+
+same_rows : (f : Family) (R S : Entries) → of_family f R ≡ of_family f S → family_rows f R ≡ family_rows f S
+same_rows f R S e = ap (λ (T : Table). region_rows (width f) (answers T []) (whole_prefix f) ++ (bound_row f (bound (width f) T) ∷ [])) e
+
+pub both_rows : (C : Candidates) (H : List Address) (l : Bool) (b : Both) → IsSound C H l b → l ≡ true → family_rows V4 b.v4.routes ++ family_rows V6 b.v6.routes ≡ certificate_of (entries_of H C)
+both_rows C H l b s t =
+    let E = entries_of H C in
+    ap (λ (rows : List CertRow). rows ++ family_rows V6 b.v6.routes) (same_rows V4 b.v4.routes E (ap (of_family V4) (s.v4.routes t) ∙ of_only V4 E))
+    ∙ ap (λ (rows : List CertRow). family_rows V4 E ++ rows) (same_rows V6 b.v6.routes E (ap (of_family V6) (s.v6.routes t) ∙ of_only V6 E))

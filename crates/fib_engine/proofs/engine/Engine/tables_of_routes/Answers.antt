@@ -1,0 +1,36 @@
+use Rattle.std.proofs.Common.{◌≡◌, ◌≤◌, ℕ, map, sym, ap, subst, ◌∙◌}
+use Rattle.std.specs.List.{AllByRecursion}
+use Rattle.address_model.specs.Address.{Prefix}
+use Rattle.address_model.specs.declared.family.Family.TheVariants.{V4, V6}
+use Rattle.table_model.specs.Entries.{Entries, in_order}
+use Rattle.route_model.specs.Choice.{routes_of}
+use Rattle.fib_addr.specs.Views.{entry_as}
+use Rattle.orig_tree.specs.Views.{InPlace}
+use Rattle.fib_engine.specs.Held.{Held, routes_in}
+use Rattle.fib_engine.specs.Tables.{Both, only}
+use Rattle.fib_engine.proofs.Numbering.{numbers_least}
+use Rattle.fib_engine.proofs.Taking.{put_in_order, routes_have, routes_placed}
+use Rattle.fib_engine.proofs.engine.Engine.tables_of_routes.Goals as goal
+
+pub put_all-requires-clause-hops : goal.put_all-requires-clause-hops
+put_all-requires-clause-hops c =
+    let t = c.self.inside in
+    let C = t.candidates.candidates in
+    let is : map entry_as c.deref.result.now ≡ routes_in c.args.self.now = ap (map entry_as) c.deref.ensures.value ∙ c.in_ok-routes.ensures in
+    subst (λ (E : Entries). AllByRecursion (λ (r : Prefix × ℕ). 1 ≤ r.1) E) (sym (is ∙ ap routes_in (sym c.self.view_is))) (numbers_least t.hops.list (routes_of C) (routes_have C t.hops.list t.is_loaded t.tables c.self.invariant))
+
+pub returns : goal.returns
+returns c =
+    let t = c.self.inside in
+    let E = routes_in c.args.self.now in
+    let is : map entry_as c.deref.result.now ≡ E = ap (map entry_as) c.deref.ensures.value ∙ c.in_ok-routes.ensures in
+    let placed = subst (λ (e : Held). InPlace (routes_in e)) c.self.view_is (routes_placed t.candidates.candidates t.hops.list t.is_loaded t.tables c.self.invariant) in
+    let k = c.put_all.ensures.tables in
+    let given = c.in_ok-put_all.ensures.given in
+    record {
+      families = (k.v4_family ∙ ap (λ (b : Both). b.v4.family) c.new-tables.ensures, k.v6_family ∙ ap (λ (b : Both). b.v6.family) c.new-tables.ensures);
+      v4 = given V4 ∙ (ap (λ (L : Entries). in_order (only V4 L)) is ∙ put_in_order V4 E placed);
+      v6 = given V6 ∙ (ap (λ (L : Entries). in_order (only V6 L)) is ∙ put_in_order V6 E placed);
+      v4_empty = k.v4 ∙ ap (λ (b : Both). b.v4.entries) c.new-tables.ensures;
+      v6_empty = k.v6 ∙ ap (λ (b : Both). b.v6.entries) c.new-tables.ensures;
+    }

@@ -1,0 +1,46 @@
+-- What is seen of an engine.
+use Rattle.std.specs.Prelude.{◌≡◌, ◌≤◌, ℕ, List, [], length, Bool, true, false}
+use Rattle.std.specs.List.{AllByRecursion}
+use Rattle.std.specs.Map.{keys_of}
+use Rattle.address_model.specs.Address.{Address}
+use Rattle.address_model.specs.declared.family.Family.{Family}
+use Rattle.address_model.specs.declared.family.Family.TheVariants.{V4, V6}
+use Rattle.table_model.specs.Entries.{Entries}
+use Rattle.route_model.specs.Events.{Elem}
+use Rattle.route_model.specs.Choice.{Candidates, IsElem, after_elems}
+use Rattle.feed_model.specs.Feed.{entries_of, hops_after}
+use Rattle.fib_addr.specs.Hops.{most_hops}
+use Rattle.orig_tree.specs.Views.{Labels, InPlace}
+use Rattle.fib_engine.specs.Tables.{Both, only}
+
+-- How often a snapshot comes, the candidates of all peers, the hops with numbers, the kept table of both families, whether the
+-- load ended, and how many elementary events were taken since.
+pub record Held : Type 0 where
+  pub every : ℕ
+  pub candidates : Candidates
+  pub hops : List Address
+  pub table : Entries
+  pub loaded : Bool
+  pub events : ℕ
+
+-- the routes: each prefix that has a candidate, with the number of the hop of its chosen one
+abbrev pub routes_in : Held → Entries
+routes_in e = entries_of e.hops e.candidates
+
+-- A family's kept table is of the family and in order. Once the load ended its routes are those of the family; before, it is empty.
+pub record IsKept (f : Family) (loaded : Bool) (E : Entries) (kept : Labels) : Type 0 where
+  pub family : kept.family ≡ f
+  pub order : InPlace kept.entries
+  pub of_family : AllByRecursion (λ p. p.family ≡ f) (keys_of kept.entries)
+  pub routes : loaded ≡ true → kept.routes ≡ only f E
+  pub empty : loaded ≡ false → kept.entries ≡ []
+
+-- The candidates and the hops are those after some elementary events, and the kept tables are of the routes that they come to.
+pub record IsSound (C : Candidates) (H : List Address) (is_loaded : Bool) (both : Both) : Type 0 where
+  pub elems : List Elem
+  pub proper : AllByRecursion IsElem elems
+  pub candidates : C ≡ after_elems [] elems
+  pub hops : H ≡ hops_after [] elems
+  pub few : length H ≤ most_hops
+  pub v4 : IsKept V4 is_loaded (entries_of H C) both.v4
+  pub v6 : IsKept V6 is_loaded (entries_of H C) both.v6

@@ -1,0 +1,65 @@
+-- What an engine holds after elementary events: those of the load, and those since.
+use Rattle.std.specs.Prelude.{◌≡◌, ℕ, ◌+◌, ◌<◌, List, [], ◌∷◌, ◌++◌, length, true, false}
+use Rattle.std.specs.List.{AllByRecursion}
+use Rattle.table_model.specs.Changes.{Change}
+use Rattle.route_model.specs.Events.{Elem}
+use Rattle.route_model.specs.Choice.{IsElem, after_elem, after_elems}
+use Rattle.feed_model.specs.Feed.{hops_after}
+use Rattle.kept_feed.specs.Kept.{changes_by, kept_at_load, kept_by, kept_from}
+use Rattle.fib_addr.specs.Hops.{most_hops}
+use Rattle.fib_engine.specs.Held.{Held}
+
+-- the load has had these elementary events, and goes on
+pub record IsLoading (load : List Elem) (e : Held) : Type 0 where
+  pub candidates : e.candidates ≡ after_elems [] load
+  pub hops : e.hops ≡ hops_after [] load
+  pub proper : AllByRecursion IsElem load
+  pub table : e.table ≡ []
+  pub loaded : e.loaded ≡ false
+  pub events : e.events ≡ 0
+
+-- The load had these elementary events, and those came since: the candidates, the hops and the kept table are theirs.
+pub record Stands (load elems : List Elem) (e : Held) : Type 0 where
+  pub candidates : e.candidates ≡ after_elems (after_elems [] load) elems
+  pub hops : e.hops ≡ hops_after [] (load ++ elems)
+  pub proper : AllByRecursion IsElem load × AllByRecursion IsElem elems
+  pub table : e.table ≡ kept_from e.every e.hops 1 (after_elems [] load) (kept_at_load e.hops (after_elems [] load)) elems
+  pub loaded : e.loaded ≡ true
+  pub events : e.events ≡ length elems
+
+-- ---- one elementary event
+
+-- An elementary event of the load was taken: the candidates and the hops are those after it, and all else is as it was.
+pub record Loads (elem : Elem) (old new : Held) : Type 0 where
+  pub candidates : new.candidates ≡ after_elem old.candidates elem
+  pub hops : new.hops ≡ hops_after old.hops (elem ∷ [])
+  pub every : new.every ≡ old.every
+  pub table : new.table ≡ old.table
+  pub loaded : new.loaded ≡ old.loaded
+  pub events : new.events ≡ old.events
+
+-- The load ended: the kept table is the least one for the routes with nothing old.
+pub record EndsLoad (old new : Held) : Type 0 where
+  pub candidates : new.candidates ≡ old.candidates
+  pub hops : new.hops ≡ old.hops
+  pub every : new.every ≡ old.every
+  pub table : new.table ≡ kept_at_load old.hops old.candidates
+  pub loaded : new.loaded ≡ true
+  pub events : new.events ≡ old.events
+
+-- An elementary event after the load was taken: candidates, hops and kept table are those after it, and it was counted.
+pub record Takes (elem : Elem) (old new : Held) : Type 0 where
+  pub candidates : new.candidates ≡ after_elem old.candidates elem
+  pub hops : new.hops ≡ hops_after old.hops (elem ∷ [])
+  pub every : new.every ≡ old.every
+  pub table : new.table ≡ kept_by old.every new.hops (old.events + 1) old.candidates old.table elem
+  pub loaded : new.loaded ≡ old.loaded
+  pub events : new.events ≡ old.events + 1
+
+-- its changes: those of the repair, and then those of the snapshot, if one is due
+abbrev pub changes_of : Elem → Held → List Change
+changes_of elem old = changes_by old.every (hops_after old.hops (elem ∷ [])) (old.events + 1) old.candidates old.table elem
+
+-- the elementary event brings one different hop too many
+abbrev pub IsTooMany : Elem → Held → Type 0
+IsTooMany elem old = most_hops < length (hops_after old.hops (elem ∷ []))

@@ -1,0 +1,335 @@
+//! The engine.
+
+ghost use Rattle.std.specs.Prelude.{◌≡◌, ◌≤◌, ◌<◌, ◌+◌, ◌^◌, ◌↔◌, [], ◌∷◌, ◌++◌, ℕ, List, length, map, not, option_map, true, false, IfOk, OnOk, OnErr, IsErr, IsErrOf};
+ghost use Rattle.address_model.specs.Address.{Address};
+ghost use Rattle.table_model.specs.Entries.{match_in};
+ghost use Rattle.least_model.specs.Both.{aggregate_in_both};
+ghost use Rattle.cert_model.specs.Rows.{certificate_of};
+ghost use Rattle.delta_model.specs.Between.{between};
+ghost use Rattle.route_model.specs.Events.{Elem as model_elem};
+ghost use Rattle.route_model.specs.Choice.{elems_of};
+ghost use Rattle.feed_model.specs.Feed.{hops_after, number_in};
+ghost use Rattle.kept_feed.specs.Kept.{is_due as due_at, is_other};
+ghost use Rattle.fib_addr.specs.Hops.{most_hops, number_of};
+ghost use Rattle.fib_addr.specs.Views.{addr_as, entry_as, route_as};
+ghost use Rattle.fib_prefix.specs.Views.{elem_as, event_as};
+ghost use Rattle.fib_delta.specs.Views.{change_as};
+ghost use Rattle.cert_rows.specs.Views.{row_as};
+ghost use Rattle.fib_engine.specs.Held.{routes_in};
+ghost use Rattle.fib_engine.specs.Numbers.{HasNumber, IsNewNumber, IsRouteOf, numbered};
+ghost use Rattle.fib_engine.specs.Tables.{AreOfRoutes};
+ghost use Rattle.fib_engine.specs.Stands.{EndsLoad, IsLoading, IsTooMany, Loads, Stands, Takes, changes_of};
+
+use crate::error::EngineError;
+use crate::tables::Tables;
+use fib_delta::Change;
+use fib_prefix::{Addr, Elem, Entry, Event, Hop, HopTable, HopsFull, Prefix};
+use ortc::Fresh;
+use route_choice::{Candidates, Choice};
+use std::alloc::{AllocError, Global};
+use std::marker::Model;
+
+/// How often a snapshot comes.
+#[derive(Clone, Copy, Debug, PartialEq, Eq)]
+pub struct Limits {
+    /// A snapshot of both families follows each so many elementary events after the load; with 0 none does.
+    pub every: u32,
+}
+
+/// The candidates of all peers, the numbers of next hops, and the kept tables of both families, under one event at a time.
+/// Contracts see what `Held` lists.
+#[derive(Drop)]
+pub struct Engine {
+    alloc: Global,
+    candidates: Candidates,
+    hops: HopTable,
+    // empty until the load ends
+    tables: Tables,
+    events: u64,
+    limits: Limits,
+    is_loaded: bool,
+}
+
+impl Model for Engine {
+    ghost use Rattle.fib_engine.specs.Held.{Held, IsSound};
+    ghost use Rattle.fib_engine.specs.Tables.{table_of};
+
+    ghost Value = { Held };
+
+    ghost view = { λ e. record { every = e.limits.every; candidates = e.candidates.candidates; hops = e.hops.list; table = table_of e.tables; loaded = e.is_loaded; events = e.events } };
+
+    ghost invariant = { λ e. IsSound e.candidates.candidates e.hops.list e.is_loaded e.tables };
+}
+
+/// Whether a snapshot follows the elementary event of this number.
+fn is_due(every: u32, event: u64) -> bool
+    ensures { result ≡ due_at every event }
+{
+    every != 0 && event % u64::from(every) == 0
+}
+
+/// The number that an elementary event's hop has or gets, if it puts a route.
+fn number_put(hops: &HopTable, elem: &Elem) -> Result<Option<Hop>, HopsFull>
+    requires { length hops.now.list ≤ most_hops }
+    ensures full { IsErr result ↔ (most_hops
+        < length (hops_after hops.now.list (elem_as elem.now ∷ []))) }
+    ensures number { IfOk result (IsNewNumber hops.now.list
+        (hops_after hops.now.list (elem_as elem.now ∷ []))) }
+{
+    match elem {
+        Elem::Put(_, _, _, hop) => Ok(Some(hops.next(hop)?)),
+        Elem::Cut(_, _) => Ok(None),
+    }
+}
+
+/// Numbers the hop of an elementary event, if it puts a route. There is room for it, so it takes no memory.
+fn number_hop(hops: &mut HopTable, elem: &Elem)
+    requires room { 1 ≤ hops.old.spare }
+    requires few { length (hops_after hops.old.list (elem_as elem.now ∷ [])) ≤ most_hops }
+    ensures { hops.new.list ≡ hops_after hops.old.list (elem_as elem.now ∷ []) }
+{
+    if let Elem::Put(_, _, _, hop) = elem {
+        let _number = hops.number(hop);
+    }
+}
+
+/// The number of a hop once an elementary event was taken: the one that it has, or the one that the event gives.
+fn number_after(hops: &HopTable, own: Option<Hop>, hop: &Addr) -> Hop
+    ensures { (after : List Address) (elem : model_elem) → after ≡ hops_after hops.now.list (elem ∷ [])
+        → IsNewNumber hops.now.list after own → HasNumber after (Some (addr_as hop.now))
+        → result.0 ≡ number_in after (addr_as hop.now) }
+{
+    hops.find(hop).or(own).unwrap_or(Hop::NONE)
+}
+
+/// Whether both hops are one, or there is none before and after.
+fn is_same(before: &Option<Addr>, after: &Option<Addr>) -> bool
+    ensures { is_other (option_map addr_as before.now) (option_map addr_as after.now) ≡ not result }
+{
+    match (before, after) {
+        (None, None) => true,
+        (Some(before), Some(after)) => before == after,
+        _ => false,
+    }
+}
+
+/// The route of a choice that changes its hop, with the number of the hop after; `Hop::NONE` where there is none.
+fn changed_route(hops: &HopTable, own: Option<Hop>, choice: &Choice) -> Option<(Prefix, Hop)>
+    ensures { (after : List Address) (elem : model_elem) → after ≡ hops_after hops.now.list (elem ∷ [])
+        → IsNewNumber hops.now.list after own → HasNumber after (option_map addr_as choice.now.after)
+        → IsRouteOf after choice.now result }
+{
+    if is_same(&choice.before, &choice.after) {
+        return None;
+    }
+    let hop = match choice.after {
+        Some(hop) => number_after(hops, own, &hop),
+        None => Hop::NONE,
+    };
+    Some((choice.prefix, hop))
+}
+
+/// Routes as entries, with the numbers of their hops.
+fn number_routes(
+    alloc: Global,
+    hops: &HopTable,
+    routes: &[(Prefix, Addr)],
+) -> Result<Vec<Entry>, AllocError>
+    ensures { IfOk result (λ entries. map entry_as entries.items
+        ≡ numbered hops.now.list (map route_as routes.now)) }
+{
+    let mut entries = Vec::with_capacity(alloc, routes.len())?;
+    for (prefix, hop) in routes {
+        entries.push(Entry {
+            prefix: *prefix,
+            hop: number(hops, hop),
+        })?;
+    }
+    Ok(entries)
+}
+
+/// The number of a hop, none's where it has no number.
+fn number(hops: &HopTable, hop: &Addr) -> Hop
+    ensures { result.0 ≡ number_in hops.now.list (addr_as hop.now) }
+{
+    hops.find(hop).unwrap_or(Hop::NONE)
+}
+
+impl Engine {
+    /// No candidates, no hops, and empty tables; the load begins.
+    pub fn new(alloc: Global, limits: Limits) -> Engine
+        ensures { result ≡ record {
+          every = limits.every;
+          candidates = [];
+          hops = [];
+          table = [];
+          loaded = false;
+          events = 0;
+        } }
+    {
+        Engine {
+            alloc,
+            candidates: Candidates::new(alloc),
+            hops: HopTable::new(alloc),
+            tables: Tables::new(alloc),
+            events: 0,
+            limits,
+            is_loaded: false,
+        }
+    }
+
+    /// Whether the load ended.
+    pub fn is_loaded(&self) -> bool
+        ensures { result ≡ self.now.loaded }
+    {
+        self.is_loaded
+    }
+
+    /// The hops with their numbers.
+    pub fn hops(&self) -> &HopTable
+        ensures { result.now.list ≡ self.now.hops }
+    {
+        &self.hops
+    }
+
+    /// The event as elementary events: a cut for each route of a peer whose session is lost, in the order of prefixes, then
+    /// of path identifiers.
+    ///
+    /// # Errors
+    ///
+    /// No memory.
+    pub fn elementary(&self, event: &Event) -> Result<Vec<Elem>, AllocError>
+        ensures { IfOk result (λ elems. map elem_as elems.items
+            ≡ elems_of self.now.candidates (event_as event.now)) }
+    {
+        self.candidates.elementary(event)
+    }
+
+    /// Takes an elementary event of the load. Its hop gets a number, chosen or not. No table is touched.
+    ///
+    /// # Errors
+    ///
+    /// `HopsFull` exactly where the event brings one different hop too many, or no memory. Then the engine is as it was.
+    pub fn load(&mut self, elem: &Elem) -> Result<(), EngineError>
+        requires { self.old.loaded ≡ false }
+        ensures loads { OnOk result (Loads (elem_as elem.now) self.old self.new) }
+        ensures loading { OnOk result ((load : List model_elem) → IsLoading load self.old
+            → IsLoading (load ++ elem_as elem.now ∷ []) self.new) }
+        ensures full { IsErrOf result EngineError.HopsFull ↔ IsTooMany (elem_as elem.now) self.old }
+        ensures err { OnErr result (self.new ≡ self.old) }
+    {
+        number_put(&self.hops, elem)?;
+        self.hops.room()?;
+        self.candidates.load(elem)?;
+        number_hop(&mut self.hops, elem);
+        Ok(())
+    }
+
+    /// Takes an elementary event after the load, counts it, and gives its changes: those of the repair at its prefix, where it
+    /// changes the chosen hop, then those of a snapshot of both families, where one is due. Its hop gets a number, chosen or
+    /// not.
+    ///
+    /// # Errors
+    ///
+    /// `HopsFull` exactly where the event brings one different hop too many, or no memory. Then the engine is as it was.
+    pub fn apply(&mut self, elem: &Elem) -> Result<Vec<Change>, EngineError>
+        requires loaded { self.old.loaded ≡ true }
+        requires few { self.old.events + 1 < 2 ^ 64 }
+        ensures takes { OnOk result (Takes (elem_as elem.now) self.old self.new) }
+        ensures changes { IfOk result (λ v. map change_as v.items
+            ≡ changes_of (elem_as elem.now) self.old) }
+        ensures stands { OnOk result ((load elems : List model_elem) → Stands load elems self.old
+            → Stands load (elems ++ elem_as elem.now ∷ []) self.new) }
+        ensures full { IsErrOf result EngineError.HopsFull ↔ IsTooMany (elem_as elem.now) self.old }
+        ensures err { OnErr result (self.new ≡ self.old) }
+    {
+        let own = number_put(&self.hops, elem)?;
+        self.hops.room()?;
+        let pick = self.candidates.plan(elem)?;
+        let event = self.events + 1;
+        let route = changed_route(&self.hops, own, pick.choice());
+        let due = is_due(self.limits.every, event);
+        let plan = self.tables.plan(self.alloc, route, due)?;
+        // from here on nothing takes memory
+        self.candidates.commit(pick);
+        number_hop(&mut self.hops, elem);
+        self.events = event;
+        Ok(self.tables.commit(plan))
+    }
+
+    /// The routes: each prefix for which a peer offers one, with the number of the chosen one's hop, in the order of prefixes.
+    ///
+    /// # Errors
+    ///
+    /// No memory.
+    pub fn routes(&self) -> Result<Vec<Entry>, AllocError>
+        ensures { IfOk result (λ v. map entry_as v.items ≡ routes_in self.now) }
+    {
+        number_routes(self.alloc, &self.hops, &self.candidates.routes()?)
+    }
+
+    /// The tables of the routes, before their first snapshot.
+    fn tables_of_routes(&self) -> Result<Tables, AllocError>
+        ensures { IfOk result (AreOfRoutes (routes_in self.now)) }
+    {
+        let mut tables = Tables::new(self.alloc);
+        tables.put_all(&self.routes()?)?;
+        Ok(tables)
+    }
+
+    /// Ends the load: makes the kept tables, which are least for the routes, and gives what adds their entries.
+    ///
+    /// # Errors
+    ///
+    /// No memory; then the engine is as it was.
+    pub fn finish_load(&mut self) -> Result<Vec<Change>, AllocError>
+        requires { self.old.loaded ≡ false }
+        ensures ends { OnOk result (EndsLoad self.old self.new) }
+        ensures changes { IfOk result (λ v. map change_as v.items ≡ between [] self.new.table) }
+        ensures stands { OnOk result ((load : List model_elem) → IsLoading load self.old
+            → Stands load [] self.new) }
+        ensures err { OnErr result (self.new ≡ self.old) }
+    {
+        let mut tables = self.tables_of_routes()?;
+        let changes = tables.snapshot()?;
+        self.tables = tables;
+        self.is_loaded = true;
+        Ok(changes)
+    }
+
+    /// The kept table, in the order of prefixes.
+    ///
+    /// # Errors
+    ///
+    /// No memory.
+    pub fn table(&self) -> Result<Vec<Entry>, AllocError>
+        ensures { IfOk result (λ v. map entry_as v.items ≡ self.now.table) }
+    {
+        self.tables.table()
+    }
+
+    /// The least table of the routes, with the kept one as the old table, and the rows that prove it least; IPv4 first.
+    ///
+    /// # Errors
+    ///
+    /// No memory.
+    pub fn least(&self) -> Result<Fresh, AllocError>
+        requires { self.now.loaded ≡ true }
+        ensures table { IfOk result (λ v. map entry_as v.table.items
+            ≡ aggregate_in_both (routes_in self.now) self.now.table) }
+        ensures proof { IfOk result (λ v. map row_as v.proof.items
+            ≡ certificate_of (routes_in self.now)) }
+    {
+        self.tables.least()
+    }
+
+    /// Longest match in the kept table: the hop of the longest entry whose prefix the address begins with, or none. The kept
+    /// table answers as the routes do.
+    pub fn answer(&self, addr: &Addr) -> Hop
+        ensures table { result.0 ≡ match_in self.now.table (addr_as addr.now) }
+        ensures routes { (load elems : List model_elem) → Stands load elems self.now
+            → result.0 ≡ match_in (routes_in self.now) (addr_as addr.now) }
+    {
+        self.tables.answer(addr)
+    }
+}

@@ -1,0 +1,215 @@
+//! The kept tables of both families.
+
+ghost use Rattle.std.specs.Prelude.{◌≡◌, ◌≤◌, [], ◌∷◌, ◌++◌, IfOk, OnOk, OnErr, map};
+ghost use Rattle.std.specs.List.{AllByRecursion};
+ghost use Rattle.address_model.specs.declared.family.Family.TheVariants.{V4, V6};
+ghost use Rattle.table_model.specs.Entries.{Entries, match_in};
+ghost use Rattle.least_model.specs.Both.{aggregate_in};
+ghost use Rattle.cert_model.specs.Rows.{family_rows};
+ghost use Rattle.delta_model.specs.Between.{between};
+ghost use Rattle.fib_addr.specs.Views.{addr_as, entry_as};
+ghost use Rattle.fib_delta.specs.Views.{change_as};
+ghost use Rattle.cert_rows.specs.Views.{row_as};
+ghost use Rattle.smalta_keep.specs.Views.{moved_of};
+ghost use Rattle.fib_engine.specs.Tables.{AreBoth, AreTold, ArePlanned, ArePut, Given, gathered, route_in, labels_of, table_of, KeepRoutes, KeepTables, MadeBy};
+
+use fib_delta::Change;
+use fib_prefix::{Addr, Entry, Family, Hop, Prefix};
+use ortc::Fresh;
+use smalta_keep::{Keep, Moved, Repair};
+use std::alloc::{AllocError, Global};
+use std::marker::Model;
+
+/// The kept table of each family. Contracts see both.
+#[derive(Drop)]
+pub struct Tables {
+    v4: Keep,
+    v6: Keep,
+}
+
+impl Model for Tables {
+    ghost use Rattle.fib_engine.specs.Tables.{Both};
+
+    ghost Value = { Both };
+
+    ghost view = { λ t. record { v4 = t.v4; v6 = t.v6 } };
+}
+
+/// What is planned of both tables, and all changes that it will make.
+#[derive(Drop)]
+pub struct Plan {
+    v4: Repair,
+    v6: Repair,
+    changes: Vec<Change>,
+}
+
+/// The route, if it is of the family.
+fn route_of(route: Option<(Prefix, Hop)>, family: Family) -> Option<(Prefix, Hop)>
+    ensures { result ≡ route_in family route }
+{
+    match route {
+        Some((prefix, hop)) if prefix.family == family => Some((prefix, hop)),
+        _ => None,
+    }
+}
+
+/// The changes of both repairs, then those of both snapshots; IPv4 first.
+fn gather(alloc: Global, v4: &Moved, v6: &Moved) -> Result<Vec<Change>, AllocError>
+    ensures { IfOk result (λ v. map change_as v.items ≡ gathered v4.now v6.now) }
+{
+    let mut changes = Vec::new(alloc);
+    changes.extend_from_slice(&v4.repair)?;
+    changes.extend_from_slice(&v6.repair)?;
+    changes.extend_from_slice(&v4.snapshot)?;
+    changes.extend_from_slice(&v6.snapshot)?;
+    Ok(changes)
+}
+
+impl Tables {
+    /// Empty tables of no routes.
+    pub fn new(alloc: Global) -> Tables
+        ensures { result ≡ record {
+          v4 = record { family = V4; routes = []; entries = []; nodes = [] ∷ [] };
+          v6 = record { family = V6; routes = []; entries = []; nodes = [] ∷ [] };
+        } }
+    {
+        Tables {
+            v4: Keep::new(alloc, Family::V4),
+            v6: Keep::new(alloc, Family::V6),
+        }
+    }
+
+    /// Gives the table of its family a route.
+    pub fn put(&mut self, route: &Entry) -> Result<(), AllocError>
+        requires both { AreBoth self.old }
+        requires hop { 1 ≤ route.now.hop.0 }
+        ensures tables { KeepTables self.old self.new }
+        ensures given { OnOk result ((E : Entries) → Given E self.old
+            → Given (E ++ entry_as route.now ∷ []) self.new) }
+    {
+        match route.prefix.family {
+            Family::V4 => self.v4.put(&route.prefix, route.hop),
+            Family::V6 => self.v6.put(&route.prefix, route.hop),
+        }
+    }
+
+    /// Gives the tables these routes.
+    pub fn put_all(&mut self, routes: &[Entry]) -> Result<(), AllocError>
+        requires both { AreBoth self.old }
+        requires hops { AllByRecursion (λ r. 1 ≤ r.1) (map entry_as routes.now) }
+        requires none { Given [] self.old }
+        ensures tables { KeepTables self.old self.new }
+        ensures given { OnOk result (Given (map entry_as routes.now) self.new) }
+    {
+        for route in routes {
+            self.put(route)?;
+        }
+        Ok(())
+    }
+
+    /// Makes both tables least, and gives the changes, IPv4 first.
+    pub fn snapshot(&mut self) -> Result<Vec<Change>, AllocError>
+        requires { AreBoth self.old }
+        ensures routes { KeepRoutes self.old self.new }
+        ensures v4 { OnOk result (self.new.v4.entries
+            ≡ aggregate_in V4 self.old.v4.routes self.old.v4.entries) }
+        ensures v6 { OnOk result (self.new.v6.entries
+            ≡ aggregate_in V6 self.old.v6.routes self.old.v6.entries) }
+        ensures changes { IfOk result (λ v. map change_as v.items
+            ≡ between self.old.v4.entries self.new.v4.entries
+            ++ between self.old.v6.entries self.new.v6.entries) }
+    {
+        let mut changes = self.v4.snapshot()?;
+        changes.extend_from_slice(&self.v6.snapshot()?)?;
+        Ok(changes)
+    }
+
+    /// Plans the repair where a route changes, if one does, and a snapshot of both, if it is due: the table of the route's
+    /// family has the route then, and all memory is taken. The plan is to be committed before anything else changes.
+    ///
+    /// # Errors
+    ///
+    /// No memory; then routes and tables are as they were.
+    pub fn plan(
+        &mut self,
+        alloc: Global,
+        route: Option<(Prefix, Hop)>,
+        snapshot: bool,
+    ) -> Result<Plan, AllocError>
+        requires { AreBoth self.old }
+        ensures tables { KeepTables self.old self.new }
+        ensures put { OnOk result (ArePut route self.old self.new) }
+        ensures planned { IfOk result (ArePlanned self.new) }
+        ensures told { IfOk result (λ p. AreTold self.new route snapshot p.v4 p.v6) }
+        ensures changes { IfOk result (λ p. map change_as p.changes.items
+            ≡ gathered (moved_of p.v4) (moved_of p.v6)) }
+        ensures err { OnErr result (KeepRoutes self.old self.new) }
+    {
+        let v4 = self.v4.plan(route_of(route, Family::V4), snapshot)?;
+        let v6 = match self.v6.plan(route_of(route, Family::V6), snapshot) {
+            Ok(v6) => v6,
+            Err(failed) => {
+                self.v4.undo(v4);
+                return Err(failed);
+            }
+        };
+        match gather(alloc, v4.moved(), v6.moved()) {
+            Ok(changes) => Ok(Plan { v4, v6, changes }),
+            Err(failed) => {
+                self.v4.undo(v4);
+                self.v6.undo(v6);
+                Err(failed)
+            }
+        }
+    }
+
+    /// Makes what was planned, where nothing changed since, and gives the changes. It takes no memory.
+    pub fn commit(&mut self, plan: Plan) -> Vec<Change>
+        requires { ArePlanned self.old plan }
+        ensures routes { KeepRoutes self.old self.new }
+        ensures v4 { MadeBy plan.v4 self.old.v4 self.new.v4 }
+        ensures v6 { MadeBy plan.v6 self.old.v6 self.new.v6 }
+        ensures changes { result.items ≡ plan.changes.items }
+    {
+        self.v4.commit(plan.v4);
+        self.v6.commit(plan.v6);
+        plan.changes
+    }
+
+    /// Longest match in the table of the address's family.
+    pub fn answer(&self, addr: &Addr) -> Hop
+        requires { AreBoth self.now }
+        ensures { result.0 ≡ match_in (labels_of addr.now.family self.now).entries
+            (addr_as addr.now) }
+    {
+        match addr.family {
+            Family::V4 => self.v4.tree().answer_entry(addr),
+            Family::V6 => self.v6.tree().answer_entry(addr),
+        }
+    }
+
+    /// Both tables, IPv4 first.
+    pub fn table(&self) -> Result<Vec<Entry>, AllocError>
+        ensures { IfOk result (λ v. map entry_as v.items ≡ table_of self.now) }
+    {
+        let mut table = self.v4.table()?;
+        table.extend_from_slice(&self.v6.table()?)?;
+        Ok(table)
+    }
+
+    /// The least tables of the routes, with the kept ones as the old tables, and the rows that prove them least; IPv4 first.
+    pub fn least(&self) -> Result<Fresh, AllocError>
+        requires { AreBoth self.now }
+        ensures table { IfOk result (λ v. map entry_as v.table.items
+            ≡ aggregate_in V4 self.now.v4.routes self.now.v4.entries
+            ++ aggregate_in V6 self.now.v6.routes self.now.v6.entries) }
+        ensures proof { IfOk result (λ v. map row_as v.proof.items
+            ≡ family_rows V4 self.now.v4.routes ++ family_rows V6 self.now.v6.routes) }
+    {
+        let mut least = self.v4.least()?;
+        let v6 = self.v6.least()?;
+        least.table.extend_from_slice(&v6.table)?;
+        least.proof.extend_from_slice(&v6.proof)?;
+        Ok(least)
+    }
+}

@@ -1,0 +1,3 @@
+//! A load, updates and snapshots.
+
+use super::*;
