@@ -26,7 +26,7 @@ use Rattle.std.specs.Prelude.{IfSome, Bool, true, false, not, ◌&&◌}
 use Rattle.fib_io.specs.Pieces.{octets_read, octets_from}
 use Rattle.reading_model.proofs.Reading.{reading_feeds}
 use Rattle.fib_main.specs.declared.outcome.Outcome.{Outcome}
-use Rattle.fib_main.specs.Stops.{Stop, Untold, Refused, IsDueIfTold, FailsDue, told_content, is_small, is_cut, all_records, bad_record, whole_records, few_hops, event_in, input_of}
+use Rattle.fib_main.specs.Stops.{Stop, Refused, IsDueIfTold, FailsDue, told_content, is_small, is_cut, all_records, bad_record, whole_records, few_hops, event_in, input_of}
 use Rattle.fib_main.specs.Due.{Feed, read_part, elems_in, feed_in, feed_of}
 use Rattle.fib_main.specs.Standing.{StateStands, IsFull, StateTakesAll, next_elems, refusal_of}
 

@@ -1,17 +1,16 @@
 -- An input that is taken piece by piece.
-use Rattle.std.proofs.Common.{◌≡◌, ◌≢◌, ℕ, zero, suc, ◌+◌, ◌*◌, ◌^◌, ◌<◌, ◌≤◌, Bool, true, false, cond, List, [], ◌∷◌, ◌++◌, length, take, drop, Option, Some, None, Result, Ok, Err, refl, sym, ap, subst, ◌∙◌, inl, inr, arith, append_assoc, append-nil, length-append, length-take}
-use Rattle.std.specs.Prelude.{IfSome, IfNone, IsErrOf, min, not, ◌&&◌, ◌==◌, ◌⊎◌}
-use Rattle.std.proofs.lemmas.Bool.{and_right, eq-eqb, eqb-true, ne_eqb, le-leb, lt-leb}
+use Rattle.std.proofs.Common.{◌≡◌, ℕ, zero, suc, ◌+◌, ◌^◌, ◌<◌, ◌≤◌, Bool, true, false, List, [], ◌∷◌, ◌++◌, length, take, Option, Some, None, Result, Ok, Err, refl, sym, ap, ◌∙◌, inl, inr, arith, length-append, length-take}
+use Rattle.std.specs.Prelude.{IfSome, IfNone, IsErrOf, not, ◌&&◌, ◌==◌, ◌⊎◌}
+use Rattle.std.proofs.lemmas.Bool.{and_right, eq-eqb, ne_eqb, le-leb, lt-leb}
 use Rattle.route_model.specs.Events.{Elem, Event, Peer}
-use Rattle.route_model.specs.Choice.{Candidates}
-use Rattle.octet_fields.specs.Field.{◌>>=◌, steps, until_end}
+use Rattle.octet_fields.specs.Field.{◌>>=◌, steps}
 use Rattle.wire_model.specs.declared.rule.Rule.{Rule}
 use Rattle.wire_model.specs.declared.rule.Rule.TheVariants.{HeaderCut, BodyCut, TooLong, PeerTableForm, NoPeerTable, PrefixLength, PeerIndex, RibForm, AttributeCut, AttributeValue, SecondMp, SessionForm, MessageLength, UpdateLengths}
 use Rattle.wire_model.specs.Rules.{rule_number}
 use Rattle.wire_model.specs.Record.{Record, Fault, at_record, record_at, next_record, records_in}
-use Rattle.wire_model.specs.Pieces.{TakesRecords, Breaks}
+use Rattle.wire_model.specs.Pieces.{TakesRecords}
 use Rattle.wire_model.proofs.More.{starts_so, feeds_on, takes_on, stays_too_long, ends_cut}
-use Rattle.reading_model.specs.Input.{Progress, Stopped, start, input}
+use Rattle.reading_model.specs.Input.{start, input}
 use Rattle.reading_model.proofs.Reading.{reading_ends, reading_ends_cut}
 use Rattle.fib_io.specs.Pieces.{octets_read, octets_from, ComeNext, IsEnd, IsLarge}
 use Rattle.fib_io.specs.declared.pieces.ReadError.{ReadError}
@@ -29,8 +28,8 @@ use Rattle.fib_main.specs.declared.state.State.{State}
 use Rattle.fib_main.specs.declared.state.FeedError.{FeedError}
 use Rattle.fib_main.specs.declared.state.FeedError.TheVariants.{Malformed, TooLarge}
 use Rattle.fib_main.specs.Counts.{AreFew, CountsFit, CountsOn}
-use Rattle.fib_main.specs.Stops.{Stop, Refused, FailsDue, IsDueIfTold, cut_at, is_cut, is_small, input_of}
-use Rattle.fib_main.specs.Due.{Feed, elems_in, feed_in, feed_of}
+use Rattle.fib_main.specs.Stops.{Refused, FailsDue, IsDueIfTold, cut_at, is_cut, is_small, input_of}
+use Rattle.fib_main.specs.Due.{feed_in, feed_of}
 use Rattle.fib_main.specs.Standing.{StateStands, StateHas, StateBrings, StateTakesAll, next_elems, of_input, of_read, refusal_of}
 use Rattle.fib_main.proofs.Counting.{Counting, counting_end, counting_feeds, counting_fits, counting_next, counting_start, counting_still}
 use Rattle.fib_main.proofs.Arriving.{Comes, all_fed, comes_first, comes_next}

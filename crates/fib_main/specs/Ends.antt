@@ -93,6 +93,14 @@ abbrev pub ReadsFor : {X : Type 0} → Type 0 → (List ℕ → ℕ) → (List �
 ReadsFor cause before now (Ok x) = now ≡ before
 ReadsFor cause before now (Err o) = ReadsBy cause before now o
 
+-- of a call that reads the input of this name
+abbrev pub ReadsName : {X : Type 0} → List ℕ → (List ℕ → ℕ) → (List ℕ → ℕ) → Result X Outcome → Type 0
+ReadsName name before now result = ReadsFor (Rose (before name) (now name)) before now result
+
+-- of a call that reads the inputs of these names
+abbrev pub ReadsNames : {X : Type 0} → List (List ℕ) → (List ℕ → ℕ) → (List ℕ → ℕ) → Result X Outcome → Type 0
+ReadsNames names before now result = ReadsFor (OneRose names before now) before now result
+
 -- a fault of writing comes only where the count of out rose, and any other outcome leaves it
 abbrev pub WritesBy : ℕ → ℕ → Outcome → Type 0
 WritesBy before now WriteFault = Rose before now

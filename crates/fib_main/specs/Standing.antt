@@ -26,7 +26,7 @@ use Rattle.fib_main.specs.declared.report.Fed.{Fed}
 use Rattle.mrt_read.specs.declared.reader.EventsError.{EventsError}
 use Rattle.mrt_read.specs.declared.reader.EventsError.TheVariants as read
 use Rattle.fib_main.specs.Views.{changes_as}
-use Rattle.fib_main.specs.Stops.{Stop, Refused, IsDueIfTold, FailsDue, event_in, input_of}
+use Rattle.fib_main.specs.Stops.{Stop, IsDueIfTold, FailsDue, event_in, input_of}
 use Rattle.fib_main.specs.Due.{Feed, changes_of}
 
 -- the engine has these elementary events of an input, which came after those: of a dump they are its load, and updates came since the load

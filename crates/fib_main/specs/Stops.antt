@@ -1,5 +1,5 @@
 -- Where a run stops, and what a call gives of it.
-use Rattle.std.specs.Prelude.{◌≡◌, ℕ, ◌^◌, List, length, Option, Some, None, Result, Ok, Err, Bool, true, false, not, ◌&&◌, ◌||◌, ◌==◌, nat_le, if◌then◌else◌}
+use Rattle.std.specs.Prelude.{◌≡◌, ℕ, ◌^◌, List, length, Option, Some, None, Result, Ok, Err, Bool, true, false, not, ◌&&◌, ◌==◌, nat_le, if◌then◌else◌}
 use Rattle.wire_model.specs.declared.rule.Rule.{Rule}
 use Rattle.wire_model.specs.declared.rule.Rule.TheVariants.{HeaderCut, BodyCut}
 use Rattle.wire_model.specs.Rules.{rule_number}

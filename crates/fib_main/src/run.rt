@@ -1,12 +1,11 @@
 //! From the words and the inputs to the text that is due.
 
 ghost use Rattle.std.specs.Prelude.{◌≡◌, ◌≤◌, ◌^◌, ℕ, List, [], Some, None, length, map, IfErr, IfOk, IsSome, OnErr, OnOk, option_to_list};
-ghost use Rattle.fib_io.specs.Causes.{Rose};
 ghost use Rattle.fib_addr.specs.Views.{addr_as};
 ghost use Rattle.fib_main.specs.Asking.{ask_refusal};
 ghost use Rattle.fib_main.specs.Counts.{AreFew};
 ghost use Rattle.fib_main.specs.Due.{asks_at, checked, feed_at, input_at, output_at, reply_at, run_at, told_at, used_at, with_reply, with_text};
-ghost use Rattle.fib_main.specs.Ends.{feeds_named, OneRose, reads_asked, reads_named, ReadsFor};
+ghost use Rattle.fib_main.specs.Ends.{feeds_named, reads_asked, reads_named, ReadsName, ReadsNames};
 ghost use Rattle.fib_main.specs.Owned.{IsOf, Owns, StopsAt, StopsIn};
 ghost use Rattle.fib_main.specs.Proves.{ChecksYes, IfRan, IsRun, PrintsYes};
 ghost use Rattle.fib_main.specs.Views.{reply_as};
@@ -44,7 +43,7 @@ fn octets_of<I: Inputs>(
     ensures stops { IfErr result (StopsAt which) }
     ensures most { IfOk result (λ v. length v.items ≤ 2 ^ 36) }
     ensures same { I.content inputs.new ≡ I.content inputs.old }
-    ensures cause { ReadsFor (Rose (I.faults inputs.old name.now) (I.faults inputs.new name.now)) (I.faults inputs.old) (I.faults inputs.new) result }
+    ensures cause { ReadsName name.now (I.faults inputs.old) (I.faults inputs.new) result }
 {
     match read_whole(alloc, inputs, name) {
         Ok(octets) => Ok(octets),
@@ -77,11 +76,13 @@ fn asks_of<I: Inputs>(
     inputs: &mut I,
     command: &RunWords<'_>,
 ) -> Result<Vec<Addr>, Outcome>
-    ensures due { GivesDue (λ v. map addr_as v.items) result (asks_at (I.content inputs.old) (named_as command.now).asks) }
+    ensures due { GivesDue (λ v. map addr_as v.items) result
+        (asks_at (I.content inputs.old) (named_as command.now).asks) }
     ensures stops { IfErr result (StopsAt Which.Asks) }
     ensures named { OnErr result (IsSome (named_as command.now).asks) }
     ensures same { I.content inputs.new ≡ I.content inputs.old }
-    ensures cause { ReadsFor (OneRose (option_to_list (named_as command.now).asks) (I.faults inputs.old) (I.faults inputs.new)) (I.faults inputs.old) (I.faults inputs.new) result }
+    ensures cause { ReadsNames (option_to_list (named_as command.now).asks) (I.faults inputs.old)
+        (I.faults inputs.new) result }
 {
     let Some(name) = command.asks else {
         return Ok(Vec::new(alloc));
@@ -138,7 +139,7 @@ fn feed_of<I: Inputs>(
     ensures few { IfOk result (λ counts. AreFew (2 ^ 36) state.old.engine.candidates
         counts state.new.engine.candidates) }
     ensures same { I.content inputs.new ≡ I.content inputs.old }
-    ensures cause { ReadsFor (Rose (I.faults inputs.old name.now) (I.faults inputs.new name.now)) (I.faults inputs.old) (I.faults inputs.new) result }
+    ensures cause { ReadsName name.now (I.faults inputs.old) (I.faults inputs.new) result }
 {
     feed(alloc, inputs, state, which, name).map_err(|error| outcome_of_refusal(which, error))
 }
@@ -163,7 +164,8 @@ fn updates_of<I: Inputs>(
     ensures few { IfOk result (λ counts. AreFew (2 ^ 36) state.old.engine.candidates
         counts state.new.engine.candidates) }
     ensures same { I.content inputs.new ≡ I.content inputs.old }
-    ensures cause { ReadsFor (OneRose (option_to_list (named_as command.now).updates) (I.faults inputs.old) (I.faults inputs.new)) (I.faults inputs.old) (I.faults inputs.new) result }
+    ensures cause { ReadsNames (option_to_list (named_as command.now).updates) (I.faults inputs.old)
+        (I.faults inputs.new) result }
 {
     match command.updates {
         Some(name) => feed_of(alloc, inputs, state, MrtInput::Updates, name),
@@ -184,17 +186,19 @@ fn text_of<I: Inputs>(
     command: &RunWords<'_>,
     asks: &[Addr],
 ) -> Result<Vec<u8>, Outcome>
-    ensures due { GivesDue (λ v. v.items) result (with_text (told_at (I.content inputs.old) (named_as command.now) (map addr_as asks.now))) }
+    ensures due { GivesDue (λ v. v.items) result
+        (with_text (told_at (I.content inputs.old) (named_as command.now) (map addr_as asks.now))) }
     ensures stops { IfErr result (StopsIn (Run (named_as command.now))) }
     ensures yes { IfOk result (λ text. ChecksYes text.items) }
     ensures same { I.content inputs.new ≡ I.content inputs.old }
-    ensures cause { ReadsFor (OneRose (feeds_named (I.content inputs.old) (named_as command.now)) (I.faults inputs.old) (I.faults inputs.new)) (I.faults inputs.old) (I.faults inputs.new) result }
+    ensures cause { ReadsNames (feeds_named (I.content inputs.old) (named_as command.now))
+        (I.faults inputs.old) (I.faults inputs.new) result }
 {
     let mut state = State::new(alloc, command.every);
     let load = feed_of(alloc, inputs, &mut state, MrtInput::Dump, command.dump)?;
-    if state.finish_load().is_err() {
+    let Ok(()) = state.finish_load() else {
         return Err(Outcome::NoMemory);
-    }
+    };
     let updates = updates_of(alloc, inputs, &mut state, command)?;
     match write_text(alloc, state, &Fed { load, updates }, asks) {
         Ok(text) => Ok(text),
@@ -209,12 +213,14 @@ fn run_for<I: Inputs>(
     inputs: &mut I,
     command: &RunWords<'_>,
 ) -> Result<Vec<u8>, Outcome>
-    ensures due { GivesDue (λ v. v.items) result (with_text (run_at (I.content inputs.old) (named_as command.now))) }
+    ensures due { GivesDue (λ v. v.items) result
+        (with_text (run_at (I.content inputs.old) (named_as command.now))) }
     ensures some { TextOfSome (I.content inputs.old) (named_as command.now) result }
     ensures stops { IfErr result (StopsIn (Run (named_as command.now))) }
     ensures yes { IfOk result (λ text. ChecksYes text.items) }
     ensures same { I.content inputs.new ≡ I.content inputs.old }
-    ensures cause { ReadsFor (OneRose (reads_named (I.content inputs.old) (named_as command.now)) (I.faults inputs.old) (I.faults inputs.new)) (I.faults inputs.old) (I.faults inputs.new) result }
+    ensures cause { ReadsNames (reads_named (I.content inputs.old) (named_as command.now))
+        (I.faults inputs.old) (I.faults inputs.new) result }
 {
     let asks = asks_of(alloc, inputs, command)?;
     text_of(alloc, inputs, command, &asks)
@@ -223,11 +229,12 @@ fn run_for<I: Inputs>(
 /// Takes a printed text, and gives the reply to it.
 #[tactic(auto, unfolding(crate::specs::Due::used_at))]
 fn check_for<I: Inputs>(alloc: Global, inputs: &mut I, name: &str) -> Result<Reply, Outcome>
-    ensures due { GivesDue reply_as result (with_reply (checked (used_at (I.content inputs.old) name.now))) }
+    ensures due { GivesDue reply_as result
+        (with_reply (checked (used_at (I.content inputs.old) name.now))) }
     ensures some { ReplyOfSome result }
     ensures stops { IfErr result (StopsAt Which.Printed) }
     ensures same { I.content inputs.new ≡ I.content inputs.old }
-    ensures cause { ReadsFor (Rose (I.faults inputs.old name.now) (I.faults inputs.new name.now)) (I.faults inputs.old) (I.faults inputs.new) result }
+    ensures cause { ReadsName name.now (I.faults inputs.old) (I.faults inputs.new) result }
 {
     let octets = octets_of(alloc, inputs, name, Which::Printed)?;
     match check_text(alloc, &octets) {
@@ -255,14 +262,18 @@ fn reply_to<I: Inputs>(
     inputs: &mut I,
     command: &CommandWords<'_>,
 ) -> Result<Reply, Outcome>
-    ensures due { GivesDue reply_as result (with_reply (output_at (I.content inputs.old) (asked_as command.now))) }
+    ensures due { GivesDue reply_as result
+        (with_reply (output_at (I.content inputs.old) (asked_as command.now))) }
     ensures some { GivesSome (I.content inputs.old) (Some (asked_as command.now)) result }
     ensures stops { IfErr result (StopsIn (asked_as command.now)) }
     ensures owns { IfOk result (Owns (Some (asked_as command.now))) }
-    ensures yes { IsRun (Some (asked_as command.now)) → IfOk result (λ reply. ChecksYes reply.text.items) }
-    ensures due_yes { OnOk result (IfRan (output_at (I.content inputs.old) (asked_as command.now)) PrintsYes) }
+    ensures yes { IsRun (Some (asked_as command.now))
+        → IfOk result (λ reply. ChecksYes reply.text.items) }
+    ensures due_yes { OnOk result
+        (IfRan (output_at (I.content inputs.old) (asked_as command.now)) PrintsYes) }
     ensures same { I.content inputs.new ≡ I.content inputs.old }
-    ensures cause { ReadsFor (OneRose (reads_asked (I.content inputs.old) (Some (asked_as command.now))) (I.faults inputs.old) (I.faults inputs.new)) (I.faults inputs.old) (I.faults inputs.new) result }
+    ensures cause { ReadsNames (reads_asked (I.content inputs.old) (Some (asked_as command.now)))
+        (I.faults inputs.old) (I.faults inputs.new) result }
 {
     match command {
         CommandWords::Run(run) => {
@@ -287,7 +298,8 @@ pub fn reply_for<I: Inputs>(
     ensures yes { IsRun (asked_by words.now) → IfOk result (λ reply. ChecksYes reply.text.items) }
     ensures due_yes { OnOk result (IfRan (due_by words.now (I.content inputs.old)) PrintsYes) }
     ensures same { I.content inputs.new ≡ I.content inputs.old }
-    ensures cause { ReadsFor (OneRose (read_by words.now (I.content inputs.old)) (I.faults inputs.old) (I.faults inputs.new)) (I.faults inputs.old) (I.faults inputs.new) result }
+    ensures cause { ReadsNames (read_by words.now (I.content inputs.old)) (I.faults inputs.old)
+        (I.faults inputs.new) result }
 {
     let command = match read_words(alloc, words) {
         Ok(command) => command,

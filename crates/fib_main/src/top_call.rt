@@ -111,8 +111,9 @@ fn run_and_tell<I: Inputs, O: Sink, E: Sink>(
 /// to `out` before all is accepted. Every outcome but Done is told by one line to `err`, and a fault of `err` changes nothing.
 ///
 /// It costs n log n in the octets read and the rows written, and the routes' number times the lengths of their prefixes. In
-/// memory are, at most, one input twice while it is read, the candidates of all peers, the trees of the routes while they are
-/// looked up, and the whole text. A check keeps the text, its routes, least table and certificate, and the runs of both tables.
+/// memory are, at most, the asks, one line or record and a piece while an input is read, the candidates of all peers, the kept
+/// table with its tree and its changes, and the whole text. A check keeps the printed text, its routes, least table and
+/// certificate, and the runs of both tables.
 #[tactic(auto, using(crate::proofs::Completing::completes, crate::proofs::Running::sums_up, crate::proofs::Running::forwards, crate::proofs::Running::answers, crate::proofs::Running::least, crate::proofs::Running::follows, crate::proofs::Running::renewed, crate::proofs::Running::fewest, crate::proofs::Running::aggregated, crate::proofs::Running::sorted, crate::proofs::Running::certified, crate::proofs::Running::addressed, crate::proofs::Replies::decides, crate::proofs::Replies::yes_proves))]
 pub fn run_fib<I: Inputs, O: Sink, E: Sink>(
     alloc: Global,

@@ -4,7 +4,8 @@
 //! table; a record of a type that isn't read is skipped and counted. The first record that breaks a rule ends the
 //! reading for good, and none of its events is given.
 //!
-//! `feed` costs its piece, `take_events` the record. The memory is that of all that was fed, and of the peer table.
+//! `feed` costs its piece, `take_events` the record. The memory is that of the octets fed that no record has used up, and of the peer
+//! table.
 #![tactic(auto)]
 
 mod reader;

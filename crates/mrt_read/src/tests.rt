@@ -1,4 +1,4 @@
-//! An input of five records in pieces of several sizes, and inputs that end or break off wrongly.
+//! An input of six records in pieces of several sizes, and inputs that end or break off wrongly.
 ghost use Rattle.std.specs.Prelude.{OnOk};
 ghost use Rattle.mrt_read.specs.Standing.{ReaderIsUsedUp};
 
@@ -15,6 +15,12 @@ const PEERS: &[u8] = b"\x00\x00\x00\x00\x00\x0d\x00\x01\x00\x00\x00\x15\
 const ROUTE: &[u8] = b"\x00\x00\x00\x00\x00\x0d\x00\x02\x00\x00\x00\x24\
     \x00\x00\x00\x00\x08\x0a\x00\x01\x00\x00\x00\x00\x00\x00\x00\x14\
     \x40\x01\x01\x00\x40\x02\x06\x02\x01\x00\x00\xfb\xf4\x40\x03\x04\xc0\x00\x02\x01";
+
+/// 2001:db8::/32 by 192.0.2.1, its next hop alone in MP_REACH_NLRI (RFC 6396, section 4.3.4).
+const ROUTE_OF_IPV6: &[u8] = b"\x00\x00\x00\x00\x00\x0d\x00\x04\x00\x00\x00\x30\
+    \x00\x00\x00\x00\x20\x20\x01\x0d\xb8\x00\x01\x00\x00\x00\x00\x00\x00\x00\x1d\
+    \x40\x02\x06\x02\x01\x00\x00\xfb\xf4\
+    \x80\x0e\x11\x10\x20\x01\x0d\xb8\x00\x00\x00\x00\x00\x00\x00\x00\x00\x00\x00\x01";
 
 /// A record of another type.
 const OTHER: &[u8] = b"\x00\x00\x00\x00\x00\x20\x00\x00\x00\x00\x00\x03\x01\x02\x03";
@@ -58,15 +64,22 @@ fn tells_the_same_from_pieces_of_any_size(rt: HostRuntime) -> Result<(), Fail> {
     let addr = Addr::from_octets(Family::V4, &[192, 0, 2, 1]);
     let peer = Peer { addr, asn: 64500 };
     let ten = Prefix::from_front(Family::V4, 8, &[10]);
+    let long = Prefix::from_front(Family::V6, 32, &[0x20, 0x01, 0x0d, 0xb8]);
+    let hop = Addr {
+        family: Family::V6,
+        bits: 0x2001_0db8_0000_0000_0000_0000_0000_0001,
+    };
+    let via = Via { peer, id: 0 };
     let expected = [
-        Event::Announce(Via { peer, id: 0 }, ten, 1, addr),
+        Event::Announce(via, ten, 1, addr),
+        Event::Announce(via, long, 1, hop),
         Event::Down(peer),
     ];
     let mut input = Vec::from_slice(rt.alloc(), PEERS)?;
-    for record in [ROUTE, OTHER, LOST, OTHER_FAMILY] {
+    for record in [ROUTE, ROUTE_OF_IPV6, OTHER, LOST, OTHER_FAMILY] {
         input.extend_from_slice(record)?;
     }
-    for size in [1, 2, 3, 7, 1000] {
+    for size in [1, 2, 3, 7, 64, 1000] {
         let mut reader = Reader::new(rt.alloc());
         let mut events = Vec::new(rt.alloc());
         for piece in input.chunks(size) {
@@ -80,7 +93,7 @@ fn tells_the_same_from_pieces_of_any_size(rt: HostRuntime) -> Result<(), Fail> {
             expected.as_slice(),
             "in pieces of {size}"
         );
-        assert_eq!(rt; reader.records(), 5, "in pieces of {size}");
+        assert_eq!(rt; reader.records(), 6, "in pieces of {size}");
         assert_eq!(rt; reader.skipped(), 2, "in pieces of {size}");
     }
     for (name, pieces, number, rule) in [

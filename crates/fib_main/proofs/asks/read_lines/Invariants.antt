@@ -1,4 +1,4 @@
-use Rattle.std.specs.Prelude.{◌≡◌, length, map, ◌≤◌}
+use Rattle.std.specs.Prelude.{map}
 use Rattle.fib_addr.specs.Views.{addr_as}
 use Rattle.printed_model.specs.Texts.{line_texts}
 use Rattle.fib_main.proofs.AskLemmas.{Left}

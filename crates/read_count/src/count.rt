@@ -1,0 +1,139 @@
+//! The counts of an input.
+
+ghost use Rattle.std.specs.Prelude.{◌≡◌, ◌<◌, length, IfErr, IfOk, IfSome};
+ghost use Rattle.read_count.specs.Counted.{FaultRose, IsCounted, IsRefused, of_input, of_read};
+ghost use Rattle.read_count.specs.declared.count.CountError.TheVariants.{Malformed as IsMalformed, NoMemory as IsNoMemory};
+
+use fib_io::{Inputs, ReadError, piece_room, read_piece};
+use mrt_read::{EventsError, Malformed, Reader};
+use std::alloc::{AllocError, AllocFailed, Global};
+use thiserror::Error;
+
+/// What was counted of an input.
+#[derive(Clone, Copy, Debug, PartialEq, Eq)]
+pub struct Counts {
+    /// The records.
+    pub records: u64,
+    /// The skipped ones.
+    pub skipped: u64,
+    /// The events; 2^64 - 1 where there are more.
+    pub events: u64,
+    /// The messages treated as withdrawals (RFC 7606).
+    pub treated: u64,
+}
+
+/// Why an input wasn't counted.
+#[derive(Clone, Copy, Debug, PartialEq, Eq, Error)]
+pub enum CountError {
+    /// A record breaks a rule.
+    #[error("{0}")]
+    Malformed(Malformed),
+    /// Memory ran out.
+    #[error("no memory")]
+    NoMemory,
+    /// A read failed.
+    #[error("a read failed")]
+    Fault,
+    /// The input has more than 2^36 octets.
+    #[error("too large")]
+    TooLarge,
+}
+
+impl From<ReadError> for CountError {
+    ghost from_gives = { λ error e. e ≡ of_input error };
+
+    fn from(error: ReadError) -> CountError {
+        match error {
+            ReadError::Fault => CountError::Fault,
+            ReadError::TooLarge => CountError::TooLarge,
+            ReadError::NoMemory => CountError::NoMemory,
+        }
+    }
+}
+
+impl From<Malformed> for CountError {
+    ghost from_gives = { λ malformed e. e ≡ IsMalformed malformed };
+
+    fn from(malformed: Malformed) -> CountError {
+        CountError::Malformed(malformed)
+    }
+}
+
+impl From<EventsError> for CountError {
+    ghost from_gives = { λ error e. e ≡ of_read error };
+
+    fn from(error: EventsError) -> CountError {
+        match error {
+            EventsError::Malformed(malformed) => CountError::Malformed(malformed),
+            EventsError::NoMemory => CountError::NoMemory,
+        }
+    }
+}
+
+impl From<AllocError> for CountError {
+    ghost from_gives = { λ _ e. e ≡ IsNoMemory };
+
+    fn from(_e: AllocError) -> CountError {
+        CountError::NoMemory
+    }
+}
+
+impl<T: Drop> From<AllocFailed<T>> for CountError {
+    ghost from_gives = { λ _ e. e ≡ IsNoMemory };
+
+    fn from(_e: AllocFailed<T>) -> CountError {
+        CountError::NoMemory
+    }
+}
+
+/// Counts through this room.
+fn count_through<I: Inputs>(
+    alloc: Global,
+    inputs: &mut I,
+    name: &str,
+    room: &mut [u8],
+) -> Result<Counts, CountError>
+    requires { 0 < length room.old }
+    ensures counts { IfOk result (λ counts. IfSome (I.content inputs.old name.now)
+        (IsCounted counts)) }
+    ensures refused { IfErr result (λ error. IfSome (I.content inputs.old name.now)
+        (IsRefused error)) }
+    ensures same { I.content inputs.new ≡ I.content inputs.old }
+    ensures cause { FaultRose (I.faults inputs.old) (I.faults inputs.new) name.now result }
+{
+    let mut reader = Reader::new(alloc);
+    let mut more = Vec::new(alloc);
+    let mut at = 0;
+    let mut events: u64 = 0;
+    loop {
+        let n = read_piece(inputs, name, at, room)?;
+        if n == 0 {
+            reader.finish()?;
+            return Ok(Counts {
+                records: reader.records(),
+                skipped: reader.skipped(),
+                events,
+                treated: reader.treated(),
+            });
+        }
+        reader.feed(&room[..n])?;
+        at += n as u64;
+        while reader.read_events(&mut more)? {
+            events = events.saturating_add(more.len() as u64);
+        }
+    }
+}
+
+/// Counts what an input's records say. It is read in pieces, each record before the next read; in memory are one record, its
+/// events and the peer table.
+pub fn count<I: Inputs>(alloc: Global, inputs: &mut I, name: &str) -> Result<Counts, CountError>
+    ensures counts { IfOk result (λ counts. IfSome (I.content inputs.old name.now)
+        (IsCounted counts)) }
+    ensures refused { IfErr result (λ error. IfSome (I.content inputs.old name.now)
+        (IsRefused error)) }
+    ensures same { I.content inputs.new ≡ I.content inputs.old }
+    ensures cause { FaultRose (I.faults inputs.old) (I.faults inputs.new) name.now result }
+{
+    let mut room = piece_room(alloc)?;
+    count_through(alloc, inputs, name, &mut room)
+}
