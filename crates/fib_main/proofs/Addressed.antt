@@ -1,6 +1,6 @@
 -- Every number that is told is 0 or that of a hop.
 use Rattle.std.proofs.Common.{◌≡◌, ℕ, zero, suc, ◌+◌, ◌-◌, ◌≤◌, List, [], ◌∷◌, ◌++◌, Bool, true, false, cond, Option, Some, None, length, map, nat_eq, refl, sym, subst, arith}
-use Rattle.std.specs.Prelude.{fold, not, ◌||◌, IfSome, nat_lt, option_map, unwrap_or, flat_map}
+use Rattle.std.specs.Prelude.{fold, not, ◌||◌, IfSome, nat_lt, option_map, unwrap_or}
 use Rattle.std.specs.List.{AllByRecursion, filter, position_or_len}
 use Rattle.std.specs.Map.{keys_of}
 use Rattle.std.specs.declared.cmp.Ordering.{Ordering}

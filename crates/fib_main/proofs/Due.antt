@@ -1,12 +1,9 @@
 -- What is due, part by part.
-use Rattle.std.proofs.Common.{◌≡◌, ℕ, false, List, [], Option, Some, Result, Ok, Err, inr, map, refl, sym, ap, ◌∙◌, subst, append-nil, arith}
+use Rattle.std.proofs.Common.{◌≡◌, ℕ, false, List, [], Option, Some, Result, Ok, Err, inr, refl, sym, ap, subst, arith}
 use Rattle.std.specs.Prelude.{option_to_list}
-use Rattle.std.specs.List.{AllByRecursion}
 use Rattle.octet_fields.specs.Field.{◌>>=◌}
 use Rattle.address_model.specs.Address.{Address}
-use Rattle.route_model.specs.Events.{Elem}
-use Rattle.route_model.specs.Choice.{IsElem, after_elems, routes_of}
-use Rattle.feed_model.specs.Feed.{hops_after, full_at, changes_from}
+use Rattle.feed_model.specs.Feed.{full_at}
 use Rattle.fib_words.specs.Commands.{Named}
 use Rattle.fib_main.specs.declared.outcome.Outcome.{Outcome}
 use Rattle.fib_main.specs.declared.outcome.Outcome.TheVariants.{Done, CheckNo, Usage, ReadFault, WriteFault, NoMemory, TooLarge, Malformed, HopsFull, BadLine}
@@ -15,11 +12,8 @@ use Rattle.fib_main.specs.declared.state.State.{State}
 use Rattle.fib_main.specs.Stops.{Stop, Untold, Refused, IsDueIfTold, FailsDue}
 use Rattle.fib_main.specs.Due.{Feed, feed_at, printed, told_at, printed_text, with_text}
 use Rattle.fib_main.specs.Ends.{OneRose, ReadsBy, after, feeds_named}
-use Rattle.fib_addr.specs.declared.addr.Addr.{Addr}
-use Rattle.fib_addr.specs.declared.prefix.Prefix.{Prefix}
 use Rattle.fib_engine.specs.Held.{Held}
 use Rattle.fib_main.specs.declared.report.Fed.{Fed}
-use Rattle.fib_addr.specs.Views.{route_as}
 use Rattle.fib_main.specs.Views.{changes_as}
 use Rattle.fib_main.specs.Standing.{StateStands, StateHas, IsFed}
 

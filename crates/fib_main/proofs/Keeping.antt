@@ -1,9 +1,9 @@
 -- What the changes of a kept table come to on the way.
-use Rattle.std.proofs.Common.{◌≡◌, ℕ, zero, suc, ◌+◌, ◌<◌, ◌≤◌, List, [], ◌∷◌, ◌++◌, Bool, true, false, cond, Option, Some, None, length, map, refl, sym, ap, subst, ◌∙◌, arith, append_assoc, append-nil, length-append}
+use Rattle.std.proofs.Common.{◌≡◌, ℕ, suc, ◌+◌, ◌<◌, ◌≤◌, List, [], ◌∷◌, ◌++◌, Bool, true, false, cond, Some, None, length, refl, sym, ap, subst, ◌∙◌, arith, append_assoc, append-nil}
 use Rattle.std.specs.Prelude.{nat_le, if◌then◌else◌}
 use Rattle.std.specs.List.{AllByRecursion, filter}
 use Rattle.std.proofs.lemmas.Bool.{le-leb, lt-leb}
-use Rattle.address_model.specs.Address.{Address, Prefix, IsAddress, IsPrefix}
+use Rattle.address_model.specs.Address.{Address, Prefix, IsPrefix}
 use Rattle.address_model.specs.Width.{width}
 use Rattle.table_model.specs.Entries.{Entries, AlikeInBoth, of_family}
 use Rattle.table_model.specs.Changes.{Change, sum_of}
@@ -16,11 +16,9 @@ use Rattle.kept_model.specs.Patched.{after_repair, patch_of}
 use Rattle.kept_model.proofs.Patches.{family_table, patched_least}
 use Rattle.route_model.specs.Events.{Elem, elem_prefix}
 use Rattle.route_model.specs.Choice.{AreCandidates, Candidates, IsElem, after_elem, after_elems, chosen_for}
-use Rattle.route_model.proofs.Elems.{candidates_stay}
-use Rattle.route_model.proofs.Said.{candidates_after}
 use Rattle.feed_model.specs.Feed.{at_event, changes_in, entries_of, hops_after}
 use Rattle.feed_model.proofs.Tables.{at_prefix}
-use Rattle.kept_feed.specs.Kept.{AreNumberedAlong, changed_at, changes_by, is_due, is_other, kept_at_load, kept_by, kept_changes_from, kept_from, kept_load_changes, repaired_by, snapshot_if, snapshot_of}
+use Rattle.kept_feed.specs.Kept.{AreNumberedAlong, changed_at, changes_by, is_due, is_other, kept_at_load, kept_by, kept_changes_from, kept_from, kept_load_changes, repaired_by, snapshot_if}
 use Rattle.kept_feed.proofs.Alike.{kept_alike, loaded_alike, snapshot_least}
 use Rattle.kept_feed.proofs.Sums.{all, by_placed, renewed_placed, snapshot_placed}
 use Rattle.kept_feed.proofs.Stays.{kept_changes_stay, kept_stays, load_stays}

@@ -1,8 +1,8 @@
 -- What a run prints is a text that a check says yes to.
 use Rattle.std.proofs.Common.{◌≡◌, ℕ, ◌≤◌, List, [], ◌∷◌, ◌++◌, Option, Result, Ok, Err, length, map, sym, ap, subst, ◌∙◌, append_assoc}
-use Rattle.std.specs.Prelude.{flat_map, unwrap_or}
-use Rattle.std.specs.List.{AllByRecursion, IsDistinct}
-use Rattle.address_model.specs.Address.{Address, Prefix, same_address}
+use Rattle.std.specs.Prelude.{flat_map}
+use Rattle.std.specs.List.{AllByRecursion}
+use Rattle.address_model.specs.Address.{Address}
 use Rattle.table_model.specs.Changes.{Change, Add, Replace, Remove}
 use Rattle.table_model.specs.Entries.{Entries}
 use Rattle.least_model.specs.Both.{aggregate_in_both}
@@ -69,9 +69,9 @@ all_elems : (xs ys : List Elem) → AllByRecursion IsElem xs → AllByRecursion 
 all_elems [] ys a b = b
 all_elems (x ∷ xs) ys a b = (a.0, all_elems xs ys a.1 b)
 
-pub checks_yes : (every : ℕ) (load updates : Feed) (fed : Fed) (state : State) (asks : List Address) (run : Told) (text : List ℕ) → IsFed every load updates fed state → run ≡ (printed every load updates asks).told
-    → AllByRecursion IsRow (printed_rows state.engine.hops run) → text ≡ printed_text (printed every load updates asks) → ChecksYes text
-checks_yes every load updates fed state asks run text f r proper e =
+pub checks_yes : (every : ℕ) (load updates : Feed) (fed : Fed) (state : State) (asks numbered : List Address) (run : Told) (text : List ℕ) → IsFed every load updates fed state → run ≡ (printed every load updates asks).told
+    → numbered ≡ state.engine.hops → AllByRecursion IsRow (printed_rows numbered run) → text ≡ printed_text (printed every load updates asks) → ChecksYes text
+checks_yes every load updates fed state asks numbered run text f r n proper e =
     let elems : List Elem = load.elems ++ updates.elems in
     let hops : List Address = hops_after [] elems in
     let held : Candidates = after_elems [] elems in
@@ -91,7 +91,7 @@ checks_yes every load updates fed state asks run text f r proper e =
     parted (flat_map (of_route hops) R) (map (of_change hops) told.changes) (map (of_answer hops) told.answers) (map (table_entry_row hops) told.table) (map (of_least hops) T) (map (of_cert hops) C) after
     in
     let all : AllByRecursion IsRow (rows_with hops R T C between after) =
-    subst (AllByRecursion IsRow) same (subst (λ h. AllByRecursion IsRow (printed_rows h told)) s.engine.hops (subst (λ x. AllByRecursion IsRow (printed_rows state.engine.hops x)) r proper))
+    subst (AllByRecursion IsRow) same (subst (λ h. AllByRecursion IsRow (printed_rows h told)) (n ∙ s.engine.hops) (subst (λ x. AllByRecursion IsRow (printed_rows numbered x)) r proper))
     in
     let right : Proves (used_of (rows_with hops R T C between after)) =
     printed_proves hops R T C between after (hops_distinct elems) (entries_have elems) others (tt, (tt, (tt, (tt, (tt, (tt, tt)))))) cert

@@ -1,5 +1,5 @@
 -- One elementary event after another.
-use Rattle.std.proofs.Common.{◌≡◌, ℕ, suc, ◌+◌, ◌<◌, ◌≤◌, List, [], ◌∷◌, ◌++◌, true, false, cond, Option, Some, None, Result, Ok, Err, length, map, take, drop, refl, sym, ap, ◌∙◌, arith, subst, append_assoc, append-nil, length-append, inl, inr}
+use Rattle.std.proofs.Common.{◌≡◌, ℕ, suc, ◌+◌, ◌<◌, ◌≤◌, List, [], ◌∷◌, ◌++◌, cond, Some, None, Ok, Err, length, map, take, drop, refl, sym, ap, ◌∙◌, arith, subst, append_assoc, append-nil, length-append}
 use Rattle.std.specs.Prelude.{option_map, get_or, IsErrOf}
 use Rattle.std.proofs.Math.Seq.{drop-cons}
 use Rattle.std.proofs.lemmas.List.{take_all, take_more, take-append-drop, map-append}
@@ -7,33 +7,17 @@ use Rattle.fib_main.specs.declared.state.FeedError.{FeedError}
 use Rattle.fib_main.specs.declared.state.FeedError.TheVariants.{Malformed, HopsFull, NoMemory, Fault, TooLarge}
 use Rattle.std.proofs.lemmas.Bool.{lt-ltb, le-ltb}
 use Rattle.std.proofs.lemmas.List.{map_push}
-use Rattle.std.specs.List.{AllByRecursion}
-use Rattle.address_model.specs.Address.{IsAddress}
-use Rattle.address_model.specs.Width.{width}
-use Rattle.address_model.proofs.BitLaws.{length-bits_of}
 use Rattle.std.proofs.lemmas.List.Sums.{fold-append}
 use Rattle.address_model.specs.Address.{Address}
-use Rattle.fib_addr.proofs.Parts.{length_prefix}
 use Rattle.table_model.specs.Changes.{Change}
 use Rattle.route_model.specs.Events.{Elem, Event}
-use Rattle.route_model.specs.Choice.{Candidates, IsElem, after_elem, after_elems, elems_of, elems_after}
+use Rattle.route_model.specs.Choice.{Candidates, after_elem, after_elems, elems_of, elems_after}
 use Rattle.route_model.proofs.Elems.{elems_more}
 use Rattle.delta_model.specs.Between.{between}
 use Rattle.feed_model.specs.Feed.{hops_after, full_at, at_event}
 use Rattle.feed_model.proofs.Numbers.{hops_more, full_in_front, full_behind}
 use Rattle.kept_feed.specs.Kept.{changes_by, kept_at_load, kept_changes_from, kept_load_changes}
 use Rattle.fib_addr.specs.Hops.{most_hops}
-use Rattle.fib_addr.specs.Views.{addr_as}
-use Rattle.fib_addr.specs.declared.addr.Addr.{Addr}
-use Rattle.fib_addr.proofs.HopLemmas.{new_is_not}
-use Rattle.fib_delta.specs.declared.change.Change as code_change
-use Rattle.fib_delta.specs.Views.{change_as}
-use Rattle.fib_addr.specs.Views.{prefix_as}
-use Rattle.fib_prefix.specs.Views.{elem_as}
-use Rattle.fib_prefix.specs.declared.event.Via as code_via
-use Rattle.fib_addr.specs.declared.prefix.Prefix as code_prefix
-use Rattle.fib_prefix.specs.declared.event.Elem as code_elem
-use Rattle.fib_prefix.specs.declared.event.Elem.TheVariants as code_variant
 use Rattle.fib_main.specs.declared.outcome.MrtInput.{MrtInput}
 use Rattle.fib_main.specs.declared.outcome.MrtInput.TheVariants.{Dump, Updates}
 use Rattle.fib_main.specs.declared.state.State.{State}

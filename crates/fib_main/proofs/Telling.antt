@@ -54,6 +54,6 @@ told_is every load updates fed state asks routes table least cert answers report
     let report_is : report ≡ counts load updates R T = told ∙ counted load updates fed R T routes table n m f.counted f.has.counted routes_are table_is len long in
     rw (routes_are, changes, answered, table_is, least_is, cert_is, report_is) refl
 
-pub text_is : (every : ℕ) (load updates : Feed) (fed : Fed) (state : State) (asks : List Address) (run : Told) (old new : List ℕ) → IsFed every load updates fed state → run ≡ (printed every load updates asks).told → new ≡ old ++ run_text state.engine.hops run → old ≡ [] → new ≡ printed_text (printed every load updates asks)
-text_is every load updates fed state asks run old new f r grown empty =
-    grown ∙ (ap (λ o. o ++ run_text state.engine.hops run) empty ∙ (ap (λ h. run_text h run) f.has.stands.engine.hops ∙ ap (run_text (hops_after [] (load.elems ++ updates.elems))) r))
+pub text_is : (every : ℕ) (load updates : Feed) (fed : Fed) (state : State) (asks hops : List Address) (run : Told) (old new : List ℕ) → IsFed every load updates fed state → run ≡ (printed every load updates asks).told → hops ≡ state.engine.hops → new ≡ old ++ run_text hops run → old ≡ [] → new ≡ printed_text (printed every load updates asks)
+text_is every load updates fed state asks hops run old new f r h grown empty =
+    grown ∙ (ap (λ o. o ++ run_text hops run) empty ∙ (ap (λ h. run_text h run) (h ∙ f.has.stands.engine.hops) ∙ ap (run_text (hops_after [] (load.elems ++ updates.elems))) r))
