@@ -1,28 +1,37 @@
 -- Every number that is told is 0 or that of a hop.
-use Rattle.std.proofs.Common.{◌≡◌, ℕ, zero, suc, ◌+◌, ◌-◌, ◌≤◌, List, [], ◌∷◌, ◌++◌, Bool, true, false, cond, Option, Some, None, length, map, nat_eq, refl, subst, arith}
-use Rattle.std.specs.Prelude.{◌||◌, IfSome, nat_lt, option_map, unwrap_or}
-use Rattle.std.specs.List.{AllByRecursion, position_or_len}
+use Rattle.std.proofs.Common.{◌≡◌, ℕ, zero, suc, ◌+◌, ◌-◌, ◌≤◌, List, [], ◌∷◌, ◌++◌, Bool, true, false, cond, Option, Some, None, length, map, nat_eq, refl, sym, subst, arith}
+use Rattle.std.specs.Prelude.{fold, not, ◌||◌, IfSome, nat_lt, option_map, unwrap_or}
+use Rattle.std.specs.List.{AllByRecursion, filter, position_or_len}
+use Rattle.std.specs.Map.{keys_of}
+use Rattle.std.specs.declared.cmp.Ordering.{Ordering}
+use Rattle.std.specs.declared.cmp.Ordering.TheVariants.{Less, Equal, Greater}
+use Rattle.std.proofs.lemmas.List.{map-append}
+use Rattle.std.specs.Ordering.{match_ordering}
 use Rattle.std.proofs.lemmas.Bool.{eqb-true, ltb-true}
 use Rattle.address_model.specs.Width.{width}
 use Rattle.address_model.specs.Address.{Address, Prefix, same_address, same_family}
-use Rattle.address_model.specs.Regions.{half_at}
+use Rattle.address_model.specs.Regions.{half_at, is_within}
 use Rattle.address_model.specs.declared.family.Family.{Family}
 use Rattle.address_model.specs.declared.family.Family.TheVariants.{V4, V6}
 use Rattle.table_model.specs.Table.{Table, lpm, cut, half, inherit, root, here}
-use Rattle.table_model.specs.Entries.{Entries, of_family, of_table}
-use Rattle.table_model.specs.Changes.{Change, Replace, additions}
+use Rattle.address_model.specs.Address.{same_prefix}
+use Rattle.address_model.specs.Order.{prefix_cmp}
+use Rattle.table_model.specs.Entries.{Entries, in_order, of_family, of_table, with_entry}
+use Rattle.table_model.specs.Changes.{Change, Replace}
 use Rattle.least_model.specs.Least.{aggregate, candidates}
-use Rattle.least_model.specs.Regions.{lift, join}
+use Rattle.least_model.specs.Regions.{above, lift, join}
 use Rattle.least_model.specs.Sets.{is_in, common, or_else, side, set_of, smallest, pick, own, agg, answers}
 use Rattle.least_model.specs.Both.{aggregate_in, aggregate_in_both}
 use Rattle.least_model.proofs.Laws.{lpm_candidate}
 use Rattle.cert_model.specs.Rows.{CertRow, same_hop, one_answer, leaf_or, region_rows, family_rows, certificate_of}
-use Rattle.route_model.specs.Events.{Elem, elem_prefix}
-use Rattle.route_model.specs.Choice.{Candidates, after_elem, after_elems, chosen_for, routes_of}
-use Rattle.feed_model.specs.Feed.{at_event, change_by, change_of, changes_from, entries_of, hops_after, load_changes, number_in}
+use Rattle.route_model.specs.Events.{Elem}
+use Rattle.route_model.specs.Choice.{Candidates, after_elem, after_elems, routes_of}
+use Rattle.delta_model.specs.Between.{between, change_at, changes_at, hop_at}
+use Rattle.kept_model.specs.Patched.{after_repair, entries_outside, patch_of, region_aggregate}
+use Rattle.kept_feed.specs.Kept.{changed_at, changes_by, is_due, kept_at_load, kept_by, kept_changes_from, kept_from, kept_load_changes, repaired_by, snapshot_if, snapshot_of}
+use Rattle.feed_model.specs.Feed.{at_event, entries_of, hops_after, number_in}
 use Rattle.feed_model.proofs.Numbers.{hops_distinct, entries_have}
-use Rattle.printed_model.specs.Numbered.{HaveHops}
-use Rattle.fib_main.specs.Due.{Feed, answers_to, printed}
+use Rattle.fib_main.specs.Due.{Feed, answers_to, kept_of, printed}
 use Rattle.fib_main.specs.Runs.{ChangeHasHop, HasHops, RowHasHop}
 
 -- ---- numbers up to n
@@ -186,49 +195,142 @@ number_at_most hops a = by_test (nat_lt place (length hops)) refl
     by_test true e = let l = ltb-true place (length hops) e in omega (arith, l)
     by_test false e = omega arith
 
+numbered_at_most : (hops : List Address) (routes : List (Prefix × Address)) → EntriesAtMost (length hops) (map (λ (r : Prefix × Address). (r.0, number_in hops r.1)) routes)
+numbered_at_most hops [] = tt
+numbered_at_most hops (r ∷ routes) = (number_at_most hops r.1, numbered_at_most hops routes)
+
+-- those of the routes
+routes_at_most : (hops : List Address) (held : Candidates) → EntriesAtMost (length hops) (entries_of hops held)
+routes_at_most hops held = numbered_at_most hops (routes_of held)
+
+-- ---- kept tables
+
+with_at_most : (n : ℕ) (L : Entries) (e : Prefix × ℕ) → EntriesAtMost n L → e.1 ≤ n → EntriesAtMost n (with_entry L e)
+with_at_most n [] e a le = (le, tt)
+with_at_most n (x ∷ L) e a le = by_order (prefix_cmp e.0 x.0) (with_at_most n L e a.1 le)
+  where
+    by_order : (o : Ordering) → EntriesAtMost n (with_entry L e) → EntriesAtMost n (match_ordering o ((e.0, e.1) ∷ x ∷ L) ((x.0, e.1) ∷ L) (x ∷ with_entry L e))
+    by_order Less more = (le, a)
+    by_order Equal more = (le, a.1)
+    by_order Greater more = (a.0, more)
+
+folded_at_most : (n : ℕ) (L M : Entries) → EntriesAtMost n L → EntriesAtMost n M → EntriesAtMost n (fold with_entry M L)
+folded_at_most n [] M a b = b
+folded_at_most n (e ∷ L) M a b = folded_at_most n L (with_entry M e) a.1 (with_at_most n M e b a.0)
+
+kept_at_most : (n : ℕ) (t : Prefix × ℕ → Bool) (L : Entries) → EntriesAtMost n L → EntriesAtMost n (filter t L)
+kept_at_most n t [] a = tt
+kept_at_most n t (e ∷ L) a = by_test (t e) (kept_at_most n t L a.1)
+  where
+    by_test : (b : Bool) → EntriesAtMost n (filter t L) → EntriesAtMost n (cond b (e ∷ filter t L) (filter t L))
+    by_test true more = (a.0, more)
+    by_test false more = more
+
+region_at_most : (n : ℕ) (R T : Entries) (p : Prefix) → EntriesAtMost n R → EntriesAtMost n (region_aggregate R p T)
+region_at_most n R T p l =
+    of_table_at_most n p.family (aggregate (width p.family) (of_family p.family R) p.bits (above p.bits (of_family p.family T) 0) (of_family p.family T))
+    (lift_at_most n p.bits (agg (width p.family - length p.bits) (answers (of_family p.family R) p.bits) (cut p.bits (of_family p.family T)) (above p.bits (of_family p.family T) 0))
+    (agg_at_most n (width p.family - length p.bits) (answers (of_family p.family R) p.bits) (cut p.bits (of_family p.family T)) (above p.bits (of_family p.family T) 0) (λ a. lpm_at_most n p.family R (p.bits ++ a) l)))
+
+patch_at_most : (n : ℕ) (R T : Entries) (p : Prefix) → EntriesAtMost n R → EntriesAtMost n T → EntriesAtMost n (patch_of R p T)
+unfolding patch_of
+patch_at_most n R T p l t =
+    let outside = entries_outside p T in
+    folded_at_most n (outside ++ region_aggregate R p T) [] (both (λ (e : Prefix × ℕ). e.1 ≤ n) outside (region_aggregate R p T) (kept_at_most n (λ e. not (is_within e.0 p)) T t) (region_at_most n R T p l)) tt
+
+repaired_at_most : (n : ℕ) (R T : Entries) (at : Option Prefix) → EntriesAtMost n R → EntriesAtMost n T → EntriesAtMost n (after_repair R at T)
+repaired_at_most n R T None l t = t
+repaired_at_most n R T (Some p) l t = patch_at_most n R T p l t
+
+snapshot_at_most : (n : ℕ) (R T : Entries) → EntriesAtMost n R → EntriesAtMost n (snapshot_of R T)
+snapshot_at_most n R T l = folded_at_most n (aggregate_in_both R T) [] (least_at_most n R T l) tt
+
+renewed_at_most : (n : ℕ) (b : Bool) (R T : Entries) → EntriesAtMost n R → EntriesAtMost n T → EntriesAtMost n (snapshot_if b R T)
+renewed_at_most n false R T l t = t
+renewed_at_most n true R T l t = snapshot_at_most n R T l
+
+module _ (every : ℕ) (hops : List Address) where
+  repaired_has : (held : Candidates) (T : Entries) (elem : Elem) → EntriesAtMost (length hops) T → EntriesAtMost (length hops) (repaired_by hops held T elem)
+  repaired_has held T elem t = repaired_at_most (length hops) (entries_of hops (after_elem held elem)) T (changed_at held elem) (routes_at_most hops (after_elem held elem)) t
+
+  by_has : (n : ℕ) (held : Candidates) (T : Entries) (elem : Elem) → EntriesAtMost (length hops) T → EntriesAtMost (length hops) (kept_by every hops n held T elem)
+  by_has n held T elem t = renewed_at_most (length hops) (is_due every n) (entries_of hops (after_elem held elem)) (repaired_by hops held T elem) (routes_at_most hops (after_elem held elem)) (repaired_has held T elem t)
+
+  table_has : (n : ℕ) (held : Candidates) (T : Entries) (elems : List Elem) → EntriesAtMost (length hops) T → EntriesAtMost (length hops) (kept_from every hops n held T elems)
+  unfolding kept_from
+  table_has n held T [] t = t
+  table_has n held T (elem ∷ elems) t = table_has (n + 1) (after_elem held elem) (kept_by every hops n held T elem) elems (by_has n held T elem t)
+
+loaded_has : (hops : List Address) (held : Candidates) → EntriesAtMost (length hops) (kept_at_load hops held)
+loaded_has hops held = snapshot_at_most (length hops) (entries_of hops held) [] (routes_at_most hops held)
+
+-- ---- their changes
+
 abbrev ChangesHave : List Address → List (ℕ × Change) → Type 0
 ChangesHave hops cs = AllByRecursion (λ (c : ℕ × Change). ChangeHasHop hops c.1) cs
 
-change_has : (hops : List Address) (n : ℕ) (p : Prefix) (old new : Option Address) → ChangesHave hops (at_event n (change_of hops p old new))
-change_has hops n p None None = tt
-change_has hops n p None (Some hop) = (number_at_most hops hop, tt)
-change_has hops n p (Some old) None = (tt, tt)
-change_has hops n p (Some old) (Some hop) = by_test (same_address old hop)
+hop_at_most : (n : ℕ) (p : Prefix) (L : Entries) → EntriesAtMost n L → IfSome (hop_at p L) (λ h. h ≤ n)
+hop_at_most n p [] a = tt
+hop_at_most n p (e ∷ L) a = by_test (same_prefix p e.0) (hop_at_most n p L a.1)
   where
-    by_test : (t : Bool) → ChangesHave hops (at_event n (cond t [] (Replace p (number_in hops hop) ∷ [])))
+    by_test : (b : Bool) → IfSome (hop_at p L) (λ h. h ≤ n) → IfSome (cond b (Some e.1) (hop_at p L)) (λ h. h ≤ n)
+    by_test true more = a.0
+    by_test false more = more
+
+change_has : (hops : List Address) (n : ℕ) (p : Prefix) (old new : Option ℕ) → IfSome new (λ h. h ≤ length hops) → ChangesHave hops (at_event n (change_at p old new))
+change_has hops n p None None a = tt
+change_has hops n p None (Some h) a = (a, tt)
+change_has hops n p (Some g) None a = (tt, tt)
+change_has hops n p (Some g) (Some h) a = by_test (nat_eq g h)
+  where
+    by_test : (t : Bool) → ChangesHave hops (at_event n (cond t [] (Replace p h ∷ [])))
     by_test true = tt
-    by_test false = (number_at_most hops hop, tt)
+    by_test false = (a, tt)
 
-changes_have : (hops : List Address) (n : ℕ) (held : Candidates) (elems : List Elem) → ChangesHave hops (changes_from hops n held elems)
-unfolding changes_from
-changes_have hops n held [] = tt
-changes_have hops n held (elem ∷ elems) =
-    both (λ (c : ℕ × Change). ChangeHasHop hops c.1) (at_event n (change_by hops held elem)) (changes_from hops (n + 1) (after_elem held elem) elems)
-    (change_has hops n (elem_prefix elem) (chosen_for held (elem_prefix elem)) (chosen_for (after_elem held elem) (elem_prefix elem))) (changes_have hops (n + 1) (after_elem held elem) elems)
+at_both : (n : ℕ) (cs ds : List Change) → at_event n (cs ++ ds) ≡ at_event n cs ++ at_event n ds
+at_both n cs ds = map-append (λ c. (n, c)) cs ds
 
-added_have : (hops : List Address) (routes : List (Prefix × Address)) → ChangesHave hops (at_event 0 (additions (map (λ (r : Prefix × Address). (r.0, number_in hops r.1)) routes)))
-added_have hops [] = tt
-added_have hops (r ∷ routes) = (number_at_most hops r.1, added_have hops routes)
+places_have : (hops : List Address) (n : ℕ) (ps : List Prefix) (old new : Entries) → EntriesAtMost (length hops) new → ChangesHave hops (at_event n (changes_at ps old new))
+places_have hops n [] old new a = tt
+places_have hops n (p ∷ ps) old new a =
+    subst (ChangesHave hops) (sym (at_both n (change_at p (hop_at p old) (hop_at p new)) (changes_at ps old new)))
+    (both (λ (c : ℕ × Change). ChangeHasHop hops c.1) (at_event n (change_at p (hop_at p old) (hop_at p new))) (at_event n (changes_at ps old new)) (change_has hops n p (hop_at p old) (hop_at p new) (hop_at_most (length hops) p new a)) (places_have hops n ps old new a))
+
+between_have : (hops : List Address) (n : ℕ) (old new : Entries) → EntriesAtMost (length hops) new → ChangesHave hops (at_event n (between old new))
+unfolding between
+between_have hops n old new a = places_have hops n (keys_of (in_order (old ++ new))) old new a
+
+by_changes_have : (every : ℕ) (hops : List Address) (n : ℕ) (held : Candidates) (T : Entries) (elem : Elem) → EntriesAtMost (length hops) T → ChangesHave hops (at_event n (changes_by every hops n held T elem))
+by_changes_have every hops n held T elem t =
+    let N = repaired_by hops held T elem in
+    let M = kept_by every hops n held T elem in
+    subst (ChangesHave hops) (sym (at_both n (between T N) (between N M)))
+    (both (λ (c : ℕ × Change). ChangeHasHop hops c.1) (at_event n (between T N)) (at_event n (between N M)) (between_have hops n T N (repaired_has every hops held T elem t)) (between_have hops n N M (by_has every hops n held T elem t)))
+
+changes_have : (every : ℕ) (hops : List Address) (n : ℕ) (held : Candidates) (T : Entries) (elems : List Elem) → EntriesAtMost (length hops) T → ChangesHave hops (kept_changes_from every hops n held T elems)
+unfolding kept_changes_from
+changes_have every hops n held T [] t = tt
+changes_have every hops n held T (elem ∷ elems) t =
+    let M = kept_by every hops n held T elem in
+    both (λ (c : ℕ × Change). ChangeHasHop hops c.1) (at_event n (changes_by every hops n held T elem)) (kept_changes_from every hops (n + 1) (after_elem held elem) M elems) (by_changes_have every hops n held T elem t) (changes_have every hops (n + 1) (after_elem held elem) M elems (by_has every hops n held T elem t))
 
 -- ---- all that is told
 
-few_of : (hops : List Address) (R : Entries) → HaveHops hops R → EntriesAtMost (length hops) R
-few_of hops [] h = tt
-few_of hops (e ∷ R) h = (h.0.1, few_of hops R h.1)
-
-pub has_hops : (load updates : Feed) (asks : List Address) → HasHops (printed load updates asks)
-has_hops load updates asks =
+pub has_hops : (every : ℕ) (load updates : Feed) (asks : List Address) → HasHops (printed every load updates asks)
+has_hops every load updates asks =
     let elems : List Elem = load.elems ++ updates.elems in
     let hops : List Address = hops_after [] elems in
+    let held : Candidates = after_elems [] load.elems in
     let R : Entries = entries_of hops (after_elems [] elems) in
-    let routes : HaveHops hops R = entries_have elems in
-    let few : EntriesAtMost (length hops) R = few_of hops R routes in
+    let T : Entries = kept_at_load hops held in
+    let few : EntriesAtMost (length hops) R = routes_at_most hops (after_elems [] elems) in
+    let first : EntriesAtMost (length hops) T = loaded_has hops held in
     record {
       distinct = hops_distinct elems;
-      routes = routes;
-      changes = both (λ (c : ℕ × Change). ChangeHasHop hops c.1) (load_changes hops (after_elems [] load.elems)) (changes_from hops 1 (after_elems [] load.elems) updates.elems) (added_have hops (routes_of (after_elems [] load.elems))) (changes_have hops 1 (after_elems [] load.elems) updates.elems);
+      routes = entries_have elems;
+      changes = both (λ (c : ℕ × Change). ChangeHasHop hops c.1) (kept_load_changes hops held) (kept_changes_from every hops 1 held T updates.elems) (between_have hops 0 [] T first) (changes_have every hops 1 held T updates.elems first);
       answers = answers_at_most (length hops) R asks few;
-      table = routes;
-      least = least_at_most (length hops) R R few;
+      table = table_has every hops 1 held T updates.elems first;
+      least = least_at_most (length hops) R (kept_of every hops load.elems updates.elems) few;
       cert = cert_have hops R few;
     }

@@ -1,9 +1,8 @@
 -- The certificate of the least table.
-use Rattle.std.proofs.Common.{◌≡◌, ◌≢◌, List, [], ◌∷◌, ◌++◌, Bool, true, false, refl, ap, ◌∙◌, map}
+use Rattle.std.proofs.Common.{◌≡◌, ◌≢◌, List, [], ◌∷◌, ◌++◌, Bool, true, false, refl, sym, ap, subst}
 use Rattle.std.specs.List.{AllByRecursion, IsDistinct}
 use Rattle.std.specs.List.Sorted.{IsStrictlySortedBy}
 use Rattle.std.specs.Map.{keys_of}
-use Rattle.std.proofs.lemmas.List.{map-append}
 use Rattle.address_model.specs.Address.{Prefix, same_prefix}
 use Rattle.address_model.specs.Order.{prefix_cmp}
 use Rattle.address_model.specs.Width.{width}
@@ -13,18 +12,19 @@ use Rattle.address_model.proofs.Same.{same_prefix_is}
 use Rattle.table_model.specs.Table.{Entry as Row, Table, Distinct}
 use Rattle.table_model.specs.Entries.{Entries, of_family, of_table}
 use Rattle.table_model.proofs.Once.{once_sorted}
-use Rattle.least_model.specs.Both.{aggregate_in_both}
-use Rattle.least_model.specs.Least.{aggregate, bound}
-use Rattle.least_model.specs.Sets.{answers}
+use Rattle.least_model.specs.Both.{LeastInBoth, aggregate_in_both}
+use Rattle.least_model.specs.Least.{Least, aggregate}
+use Rattle.least_model.proofs.Both.{own_table}
 use Rattle.least_model.proofs.Laws.{fresh_law}
-use Rattle.cert_model.specs.Rows.{CertRow, bound_row, certificate_of, family_rows, region_rows, whole_prefix}
+use Rattle.cert_model.specs.Rows.{certificate_of}
 use Rattle.cert_model.specs.Right.{IsCertificate}
 use Rattle.cert_model.proofs.Postorder.{completeness_law}
-use Rattle.cert_rows.specs.Views.{row_as}
-use Rattle.cert_rows.specs.declared.row.Row as code
-use Rattle.fib_main.specs.declared.trees.Trees.{Trees}
-use Rattle.fib_main.specs.Held.{AreBoth, Hold, tree_of}
-use Rattle.fib_main.proofs.Looking.{least_in_both}
+
+-- ---- the least table
+
+pub least_in_both : (R old : Entries) → LeastInBoth R (aggregate_in_both R old)
+least_in_both R old f =
+    subst (λ (T : Table). Least (width f) (of_family f R) T) (sym (own_table f (λ g. aggregate (width g) (of_family g R) [] 0 (of_family g old)))) (fresh_law (width f) (of_family f R) (of_family f old)).1
 
 -- ---- no prefix stands twice
 
@@ -62,17 +62,3 @@ pub certified_least : (R old : Entries) → IsStrictlySortedBy prefix_cmp (keys_
 certified_least R old s =
     let once = once_both (aggregate (width V4) (of_family V4 R) [] 0 (of_family V4 old)) (aggregate (width V6) (of_family V6 R) [] 0 (of_family V6 old)) (fresh_law (width V4) (of_family V4 R) (of_family V4 old)).0.0 (fresh_law (width V6) (of_family V6 R) (of_family V6 old)).0.0 in
     completeness_law R (aggregate_in_both R old) (once_sorted (keys_of R) s) once (least_in_both R old)
-
--- ---- the certificate from the trees of both families
-
--- the rows of a family's tree
-proved : (f : Family) (E : Entries) (trees : Trees) (W : List CertRow) → (tree_of f trees).family ≡ f → W ≡ family_rows (tree_of f trees).family (tree_of f trees).routes → Hold E trees → W ≡ family_rows f E
-proved f E trees W s w h =
-    w ∙ (ap (λ g. family_rows g (tree_of f trees).routes) s ∙ ap (λ T. region_rows (width f) (answers T []) (whole_prefix f) ++ (bound_row f (bound (width f) T) ∷ [])) (h f).0)
-
-pub both_proved : (E : Entries) (trees : Trees) (four six all : List code.Row) → AreBoth trees
-    → map row_as four ≡ family_rows trees.v4.family trees.v4.routes → map row_as six ≡ family_rows trees.v6.family trees.v6.routes → all ≡ four ++ six → Hold E trees
-    → map row_as all ≡ certificate_of E
-both_proved E trees four six all b v w a h =
-    ap (map row_as) a ∙ (map-append row_as four six
-    ∙ (ap (λ L. L ++ map row_as six) (proved V4 E trees (map row_as four) b.0 v h) ∙ ap (λ L. family_rows V4 E ++ L) (proved V6 E trees (map row_as six) b.1 w h)))

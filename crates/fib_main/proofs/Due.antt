@@ -1,12 +1,9 @@
 -- What is due, part by part.
-use Rattle.std.proofs.Common.{◌≡◌, ℕ, List, [], Option, Some, Result, Ok, Err, inr, map, refl, sym, ap, ◌∙◌, subst, append-nil, arith}
+use Rattle.std.proofs.Common.{◌≡◌, ℕ, false, List, [], Option, Some, Result, Ok, Err, inr, refl, sym, ap, subst, arith}
 use Rattle.std.specs.Prelude.{option_to_list}
-use Rattle.std.specs.List.{AllByRecursion}
 use Rattle.octet_fields.specs.Field.{◌>>=◌}
 use Rattle.address_model.specs.Address.{Address}
-use Rattle.route_model.specs.Events.{Elem}
-use Rattle.route_model.specs.Choice.{IsElem, after_elems, routes_of}
-use Rattle.feed_model.specs.Feed.{hops_after, full_at, changes_from}
+use Rattle.feed_model.specs.Feed.{full_at}
 use Rattle.fib_words.specs.Commands.{Named}
 use Rattle.fib_main.specs.declared.outcome.Outcome.{Outcome}
 use Rattle.fib_main.specs.declared.outcome.Outcome.TheVariants.{Done, CheckNo, Usage, ReadFault, WriteFault, NoMemory, TooLarge, Malformed, HopsFull, BadLine}
@@ -15,10 +12,8 @@ use Rattle.fib_main.specs.declared.state.State.{State}
 use Rattle.fib_main.specs.Stops.{Stop, Untold, Refused, IsDueIfTold, FailsDue}
 use Rattle.fib_main.specs.Due.{Feed, feed_at, printed, told_at, printed_text, with_text}
 use Rattle.fib_main.specs.Ends.{OneRose, ReadsBy, after, feeds_named}
-use Rattle.fib_addr.specs.declared.addr.Addr.{Addr}
-use Rattle.fib_addr.specs.declared.prefix.Prefix.{Prefix}
+use Rattle.fib_engine.specs.Held.{Held}
 use Rattle.fib_main.specs.declared.report.Fed.{Fed}
-use Rattle.fib_addr.specs.Views.{route_as}
 use Rattle.fib_main.specs.Views.{changes_as}
 use Rattle.fib_main.specs.Standing.{StateStands, StateHas, IsFed}
 
@@ -89,21 +84,21 @@ pub load_fails : (content : Content) (named : Named) (asks : List Address) (o : 
 unfolding told_at
 load_fails content named asks o f =
     fails_first o (told_at content named asks) (λ p. Ok (printed_text p))
-    (fails_first o (feed_at content Dump [] (Some named.dump)) (λ load. feed_at content Updates load.elems named.updates >>= λ updates. Ok (printed load updates asks)) f)
+    (fails_first o (feed_at content Dump [] (Some named.dump)) (λ load. feed_at content Updates load.elems named.updates >>= λ updates. Ok (printed named.every load updates asks)) f)
 
 pub updates_fail : (content : Content) (named : Named) (asks : List Address) (o : Outcome) (load : Feed) → IsDueIfTold (feed_at content Dump [] (Some named.dump)) (Ok load) → FailsDue o (feed_at content Updates load.elems named.updates) → FailsDue o (with_text (told_at content named asks))
 unfolding told_at
 updates_fail content named asks o load i f =
     fails_first o (told_at content named asks) (λ p. Ok (printed_text p))
-    (fails_then o (feed_at content Dump [] (Some named.dump)) (λ load. feed_at content Updates load.elems named.updates >>= λ updates. Ok (printed load updates asks)) load i
-    (fails_first o (feed_at content Updates load.elems named.updates) (λ updates. Ok (printed load updates asks)) f))
+    (fails_then o (feed_at content Dump [] (Some named.dump)) (λ load. feed_at content Updates load.elems named.updates >>= λ updates. Ok (printed named.every load updates asks)) load i
+    (fails_first o (feed_at content Updates load.elems named.updates) (λ updates. Ok (printed named.every load updates asks)) f))
 
-pub all_due : (content : Content) (named : Named) (asks : List Address) (load updates : Feed) (text : List ℕ) → IsDueIfTold (feed_at content Dump [] (Some named.dump)) (Ok load) → IsDueIfTold (feed_at content Updates load.elems named.updates) (Ok updates) → text ≡ printed_text (printed load updates asks) → IsDueIfTold (with_text (told_at content named asks)) (Ok text)
+pub all_due : (content : Content) (named : Named) (asks : List Address) (load updates : Feed) (text : List ℕ) → IsDueIfTold (feed_at content Dump [] (Some named.dump)) (Ok load) → IsDueIfTold (feed_at content Updates load.elems named.updates) (Ok updates) → text ≡ printed_text (printed named.every load updates asks) → IsDueIfTold (with_text (told_at content named asks)) (Ok text)
 unfolding told_at
 all_due content named asks load updates text i j e =
-    is_then (told_at content named asks) (λ p. Ok (printed_text p)) (printed load updates asks) text
-    (is_then (feed_at content Dump [] (Some named.dump)) (λ load. feed_at content Updates load.elems named.updates >>= λ updates. Ok (printed load updates asks)) load (printed load updates asks) i
-    (is_then (feed_at content Updates load.elems named.updates) (λ updates. Ok (printed load updates asks)) updates (printed load updates asks) j refl))
+    is_then (told_at content named asks) (λ p. Ok (printed_text p)) (printed named.every load updates asks) text
+    (is_then (feed_at content Dump [] (Some named.dump)) (λ load. feed_at content Updates load.elems named.updates >>= λ updates. Ok (printed named.every load updates asks)) load (printed named.every load updates asks) i
+    (is_then (feed_at content Updates load.elems named.updates) (λ updates. Ok (printed named.every load updates asks)) updates (printed named.every load updates asks) j refl))
     (ap fine (sym e))
 
 -- ---- the inputs that are read
@@ -134,20 +129,15 @@ updates_read content named load before mid now o i same r =
 
 -- ---- where the inputs begin
 
-pub stands_new : (state : State) → state.candidates.candidates ≡ [] → state.hops.list ≡ [] → state.changes.items ≡ [] → StateStands Dump [] [] state
+pub stands_new : (every : ℕ) (state : State) → state.engine ≡ record { every = every; candidates = []; hops = []; table = []; loaded = false; events = 0 } → state.changes.items ≡ [] → StateStands Dump every [] [] state
 unfolding full_at
-stands_new state c h n = record { candidates = c; hops = h; few = rw h (omega arith); fits = refl; proper = tt; changes = λ more. ap changes_as n }
-
-pub stands_updates : (elems : List Elem) (state : State) → StateStands Dump [] elems state → StateStands Updates elems [] state
-unfolding full_at changes_from
-stands_updates elems state s = record {
-  candidates = s.candidates ∙ ap (after_elems []) (sym (append-nil elems));
-  hops = s.hops ∙ ap (hops_after []) (sym (append-nil elems));
-  few = s.few;
+stands_new every state e n = record {
+  engine = rw e (record { candidates = refl; hops = refl; proper = tt; table = refl; loaded = refl; events = refl });
+  every_is = ap (λ (h : Held). h.every) e;
+  few = rw e (omega arith);
   fits = refl;
-  proper = subst (AllByRecursion IsElem) (sym (append-nil elems)) s.proper;
-  changes = λ more. s.changes more;
+  changes = ap changes_as n;
 }
 
-pub fed_all : (load updates : Feed) (chosen : List (Prefix × Addr)) (fed : Fed) (before state : State) → map route_as chosen ≡ routes_of before.candidates.candidates → fed.loaded.now ≡ chosen → StateHas Dump [] load fed.load before → StateHas Updates load.elems updates fed.updates state → IsFed load updates fed state
-fed_all load updates chosen fed before state r e h u = record { loaded = ap (map route_as) e ∙ (r ∙ ap routes_of h.stands.candidates); counted = h.counted; has = u }
+pub fed_all : (every : ℕ) (load updates : Feed) (fed : Fed) (before state : State) → StateHas Dump every [] load fed.load before → StateHas Updates every load.elems updates fed.updates state → IsFed every load updates fed state
+fed_all every load updates fed before state h u = record { counted = h.counted; has = u }

@@ -31,11 +31,11 @@ use Rattle.fib_main.specs.Due.{Feed, read_part, elems_in, feed_in, feed_of}
 use Rattle.fib_main.specs.Standing.{StateStands, IsFull, StateTakesAll, next_elems, refusal_of}
 
 -- this much of the input was read, and the state has what it brings
-pub record Going (which : MrtInput) (before : List Elem) (octets : List ℕ) (reader : Reader) (state : State) (events : ℕ) : Type 0 where
+pub record Going (which : MrtInput) (every : ℕ) (before : List Elem) (octets : List ℕ) (reader : Reader) (state : State) (events : ℕ) : Type 0 where
   pub read : Progress
   pub stands : reading.ReaderStands octets read reader
   pub counted : events ≡ length (elems_in before read)
-  pub held : StateStands which before (elems_in before read) state
+  pub held : StateStands which every before (elems_in before read) state
 
 -- ---- the elementary events of more events
 
@@ -45,19 +45,19 @@ in_more before read next events e =
     ap (λ h. elems_in before read ++ elems_after h events) (fold-append after_elem [] before (elems_in before read))
     ∙ (sym (elems_more held read.events events) ∙ ap (elems_after held) (sym e))
 
-pub going_start : (which : MrtInput) (before : List Elem) (octets : List ℕ) (reader : Reader) (state : State) → reading.ReaderStands octets start reader → StateStands which before [] state → Going which before octets reader state 0
+pub going_start : (which : MrtInput) (every : ℕ) (before : List Elem) (octets : List ℕ) (reader : Reader) (state : State) → reading.ReaderStands octets start reader → StateStands which every before [] state → Going which every before octets reader state 0
 unfolding elems_after
-going_start which before octets reader state r s = record { read = start; stands = r; counted = refl; held = s }
+going_start which every before octets reader state r s = record { read = start; stands = r; counted = refl; held = s }
 
 -- ---- one record more
 
-pub going_next : (which : MrtInput) (before : List Elem) (octets : List ℕ) (old new : Reader) (mid state : State) (events n : ℕ) (more : List Event) → Going which before octets old mid events → reading.TakesEvents old more new
-    → ((done : List Elem) → events ≡ length done → StateStands which before done mid → (n ≡ length (done ++ next_elems before done more)) × StateStands which before (done ++ next_elems before done more) state) → Going which before octets new state n
-going_next which before octets old new mid state events n more g t taken =
+pub going_next : (which : MrtInput) (every : ℕ) (before : List Elem) (octets : List ℕ) (old new : Reader) (mid state : State) (events n : ℕ) (more : List Event) → Going which every before octets old mid events → reading.TakesEvents old more new
+    → ((done : List Elem) → events ≡ length done → StateStands which every before done mid → (n ≡ length (done ++ next_elems before done more)) × StateStands which every before (done ++ next_elems before done more) state) → Going which every before octets new state n
+going_next which every before octets old new mid state events n more g t taken =
     let next : Progress = record { peers = reading.peers new; events = g.read.events ++ more; records = new.records; skipped = new.skipped; treated = new.treated } in
     let now = taken (elems_in before g.read) g.counted g.held in
     let same = in_more before g.read next more refl in
-    record { read = next; stands = t.stands octets g.read g.stands; counted = now.0 ∙ ap length same; held = subst (λ es. StateStands which before es state) same now.1 }
+    record { read = next; stands = t.stands octets g.read g.stands; counted = now.0 ∙ ap length same; held = subst (λ es. StateStands which every before es state) same now.1 }
 
 -- ---- what is read grows
 
@@ -135,18 +135,18 @@ full_due which before c left read n r full =
 
 -- ---- refusals
 
-pub refused_hops : (which : MrtInput) (before : List Elem) (o : Option (List ℕ)) (fed : List ℕ) (at : ℕ) (old new : Reader) (mid state : State) (events : ℕ) (more : List Event) (error : FeedError) → IfSome o (Comes fed at) → Going which before fed old mid events → reading.TakesEvents old more new → StateTakesAll which events more mid (Err error) state
+pub refused_hops : (which : MrtInput) (every : ℕ) (before : List Elem) (o : Option (List ℕ)) (fed : List ℕ) (at : ℕ) (old new : Reader) (mid state : State) (events : ℕ) (more : List Event) (error : FeedError) → IfSome o (Comes fed at) → Going which every before fed old mid events → reading.TakesEvents old more new → StateTakesAll which events more mid (Err error) state
     → FailsDue (refusal_of which error) (due_of which before o)
-refused_hops which before None fed at old new mid state events more (HopsFull n) comes g t taken = tt
-refused_hops which before (Some c) fed at old new mid state events more (HopsFull n) comes g t taken =
+refused_hops which every before None fed at old new mid state events more (HopsFull n) comes g t taken = tt
+refused_hops which every before (Some c) fed at old new mid state events more (HopsFull n) comes g t taken =
     let next : Progress = record { peers = reading.peers new; events = g.read.events ++ more; records = new.records; skipped = new.skipped; treated = new.treated } in
-    let full = subst (λ es. IsFull before es n) (in_more before g.read next more refl) (taken before (elems_in before g.read) g.counted g.held) in
+    let full = subst (λ es. IsFull before es n) (in_more before g.read next more refl) (taken every before (elems_in before g.read) g.counted g.held) in
     let reads = reads_all c fed (octets_from at c) (reading.reader_left new) next comes (reads_on fed next new t.refuses (t.stands fed g.read g.stands)) in
     refused_is (feed_of which before c) (outcome.HopsFull (event_in which n)) (full_due which before c (reading.reader_left new ++ octets_from at c) next n reads full)
-refused_hops which before o fed at old new mid state events more (Malformed malformed) comes g t taken = absurd taken
-refused_hops which before o fed at old new mid state events more Fault comes g t taken = absurd taken
-refused_hops which before o fed at old new mid state events more TooLarge comes g t taken = absurd taken
-refused_hops which before o fed at old new mid state events more NoMemory comes g t taken = tt
+refused_hops which every before o fed at old new mid state events more (Malformed malformed) comes g t taken = absurd taken
+refused_hops which every before o fed at old new mid state events more Fault comes g t taken = absurd taken
+refused_hops which every before o fed at old new mid state events more TooLarge comes g t taken = absurd taken
+refused_hops which every before o fed at old new mid state events more NoMemory comes g t taken = tt
 
 feeds_bad : (which : MrtInput) (o : Option ℕ) (b : Bool) (stopped : Stopped) (f : Progress → Result Feed Stop) → o ≡ None → b ≡ false → few_hops which o (bad_record which b stopped >>= f) ≡ Err (Refused (outcome.Malformed (input_of which) stopped.read.records (rule_number stopped.rule)))
 feeds_bad which None false stopped f o b = refl
@@ -176,32 +176,32 @@ due_is : (which : MrtInput) (before : List Elem) (c : List ℕ) (r : Result Prog
 unfolding feed_of
 due_is which before c r e = ap (due_in which before c) e
 
-pub fault_due : (which : MrtInput) (before : List Elem) (c : List ℕ) (read : Progress) (malformed : code_malformed.Malformed) (state : State) → StateStands which before (elems_in before read) state → malformed.number ≡ read.records → input (octets_read c) ≡ Err (record { read = read; rule = malformed.rule }) → (not (is_small c) && is_cut (octets_read c) read.records) ≡ false
+pub fault_due : (which : MrtInput) (every : ℕ) (before : List Elem) (c : List ℕ) (read : Progress) (malformed : code_malformed.Malformed) (state : State) → StateStands which every before (elems_in before read) state → malformed.number ≡ read.records → input (octets_read c) ≡ Err (record { read = read; rule = malformed.rule }) → (not (is_small c) && is_cut (octets_read c) read.records) ≡ false
     → feed_of which before c ≡ Err (Refused (outcome.Malformed (input_of which) malformed.number (rule_number malformed.rule)))
-fault_due which before c read malformed state s n e cut =
+fault_due which every before c read malformed state s n e cut =
     due_is which before c (Err (record { read = read; rule = malformed.rule })) e
     ∙ feeds_bad which (full_at (hops_after [] before) (elems_in before read)) (not (is_small c) && is_cut (octets_read c) read.records) (record { read = read; rule = malformed.rule }) (λ read. Ok (feed_in before read)) s.fits cut
     ∙ ap (λ k. Err (Refused (outcome.Malformed (input_of which) k (rule_number malformed.rule)))) (sym n)
 
-pub going_still : (which : MrtInput) (before : List Elem) (octets : List ℕ) (old new : Reader) (state : State) (events : ℕ) → Going which before octets old state events → reading.ReaderTakesNothing old new → Going which before octets new state events
-going_still which before octets old new state events g nothing = record { read = g.read; stands = nothing.stands octets g.read g.stands; counted = g.counted; held = g.held }
+pub going_still : (which : MrtInput) (every : ℕ) (before : List Elem) (octets : List ℕ) (old new : Reader) (state : State) (events : ℕ) → Going which every before octets old state events → reading.ReaderTakesNothing old new → Going which every before octets new state events
+going_still which every before octets old new state events g nothing = record { read = g.read; stands = nothing.stands octets g.read g.stands; counted = g.counted; held = g.held }
 
-pub going_feeds : (which : MrtInput) (before : List Elem) (octets piece : List ℕ) (old new : Reader) (state : State) (events : ℕ) → Going which before octets old state events → reading.ReaderFeeds old piece new → Going which before (octets ++ piece) new state events
-going_feeds which before octets piece old new state events g feeds = record { read = g.read; stands = feeds.stands octets g.read g.stands; counted = g.counted; held = g.held }
+pub going_feeds : (which : MrtInput) (every : ℕ) (before : List Elem) (octets piece : List ℕ) (old new : Reader) (state : State) (events : ℕ) → Going which every before octets old state events → reading.ReaderFeeds old piece new → Going which every before (octets ++ piece) new state events
+going_feeds which every before octets piece old new state events g feeds = record { read = g.read; stands = feeds.stands octets g.read g.stands; counted = g.counted; held = g.held }
 
 -- ---- the end
 
-pub whole_due : (which : MrtInput) (before : List Elem) (c : List ℕ) (read : Progress) (state : State) → StateStands which before (elems_in before read) state → input (octets_read c) ≡ Ok read → is_small c ≡ true → feed_of which before c ≡ Ok (feed_in before read)
-whole_due which before c read state s e small =
+pub whole_due : (which : MrtInput) (every : ℕ) (before : List Elem) (c : List ℕ) (read : Progress) (state : State) → StateStands which every before (elems_in before read) state → input (octets_read c) ≡ Ok read → is_small c ≡ true → feed_of which before c ≡ Ok (feed_in before read)
+whole_due which every before c read state s e small =
     due_is which before c (Ok read) e
     ∙ feeds_all which (full_at (hops_after [] before) (elems_in before read)) (is_small c) read (λ read. Ok (feed_in before read)) s.fits small
 
-pub past_due : (which : MrtInput) (before : List Elem) (c : List ℕ) (read : Progress) (state : State) → StateStands which before (elems_in before read) state → input (octets_read c) ≡ Ok read → is_small c ≡ false → feed_of which before c ≡ Err (Refused (outcome.TooLarge (input_of which)))
-past_due which before c read state s e large =
+pub past_due : (which : MrtInput) (every : ℕ) (before : List Elem) (c : List ℕ) (read : Progress) (state : State) → StateStands which every before (elems_in before read) state → input (octets_read c) ≡ Ok read → is_small c ≡ false → feed_of which before c ≡ Err (Refused (outcome.TooLarge (input_of which)))
+past_due which every before c read state s e large =
     due_is which before c (Ok read) e
     ∙ feeds_past which (full_at (hops_after [] before) (elems_in before read)) (is_small c) read (λ read. Ok (feed_in before read)) s.fits large
 
-pub cut_due : (which : MrtInput) (before : List Elem) (c : List ℕ) (read : Progress) (rule : Rule) (state : State) → StateStands which before (elems_in before read) state → input (octets_read c) ≡ Err (record { read = read; rule = rule }) → (not (is_small c) && is_cut (octets_read c) read.records) ≡ true → feed_of which before c ≡ Err (Refused (outcome.TooLarge (input_of which)))
-cut_due which before c read rule state s e cut =
+pub cut_due : (which : MrtInput) (every : ℕ) (before : List Elem) (c : List ℕ) (read : Progress) (rule : Rule) (state : State) → StateStands which every before (elems_in before read) state → input (octets_read c) ≡ Err (record { read = read; rule = rule }) → (not (is_small c) && is_cut (octets_read c) read.records) ≡ true → feed_of which before c ≡ Err (Refused (outcome.TooLarge (input_of which)))
+cut_due which every before c read rule state s e cut =
     due_is which before c (Err (record { read = read; rule = rule })) e
     ∙ feeds_large which (full_at (hops_after [] before) (elems_in before read)) (not (is_small c) && is_cut (octets_read c) read.records) (record { read = read; rule = rule }) (λ read. Ok (feed_in before read)) s.fits cut

@@ -11,7 +11,7 @@ pub mod Feeding
 pub mod FewElems
 pub mod FewEvents
 pub mod Fitting
-pub mod Looking
+pub mod Keeping
 pub mod Printing
 pub mod Replies
 pub mod Reporting

@@ -10,11 +10,12 @@ use Rattle.cert_model.specs.Rows.{CertRow, certificate_of}
 use Rattle.cert_model.specs.Right.{IsCertificate}
 use Rattle.cert_model.proofs.Verdicts.{verdict_from}
 use Rattle.route_model.specs.Events.{Elem}
-use Rattle.route_model.specs.Choice.{Candidates, after_elems}
+use Rattle.route_model.specs.Choice.{Candidates, IsElem, after_elems}
 use Rattle.route_model.proofs.Elems.{candidates_stay}
 use Rattle.route_model.proofs.Said.{none_yet}
 use Rattle.feed_model.specs.Feed.{entries_of, hops_after}
 use Rattle.feed_model.proofs.Numbers.{hops_distinct, entries_have}
+use Rattle.feed_model.proofs.Tables.{entries_sorted}
 use Rattle.fib_addr.specs.Hops.{most_hops}
 use Rattle.printed_model.specs.Rows.{PrintedRow, IsRow, text_of as rows_text}
 use Rattle.printed_model.specs.Numbered.{of_route, of_least, of_cert, IsOther, Proves, rows_with}
@@ -26,12 +27,12 @@ use Rattle.fib_report.specs.Rows.{change_row, of_answer, of_change, table_entry_
 use Rattle.fib_words.specs.Commands.{Named, Asked, Run}
 use Rattle.fib_main.specs.declared.report.Fed.{Fed}
 use Rattle.fib_main.specs.declared.state.State.{State}
-use Rattle.fib_main.specs.Due.{Feed, Printed, output_at, printed, ran, run_at, printed_text, with_text}
+use Rattle.fib_main.specs.Due.{Feed, Printed, kept_of, output_at, printed, ran, run_at, printed_text, with_text}
 use Rattle.fib_main.specs.Proves.{ChecksYes, IfRan, PrintsYes}
 use Rattle.fib_main.specs.Standing.{IsFed}
 use Rattle.fib_main.specs.Stops.{Stop, Untold, Refused, IsDueIfTold}
 use Rattle.fib_main.proofs.Certifying.{certified_least}
-use Rattle.fib_main.proofs.Telling.{entries_sorted}
+
 
 -- ---- the rows
 
@@ -64,27 +65,33 @@ between_other hops told =
 
 -- ---- the text
 
-pub checks_yes : (load updates : Feed) (fed : Fed) (state : State) (asks : List Address) (run : Told) (text : List ℕ) → IsFed load updates fed state → run ≡ (printed load updates asks).told
-    → AllByRecursion IsRow (printed_rows state.hops.list run) → text ≡ printed_text (printed load updates asks) → ChecksYes text
-checks_yes load updates fed state asks run text f r proper e =
+all_elems : (xs ys : List Elem) → AllByRecursion IsElem xs → AllByRecursion IsElem ys → AllByRecursion IsElem (xs ++ ys)
+all_elems [] ys a b = b
+all_elems (x ∷ xs) ys a b = (a.0, all_elems xs ys a.1 b)
+
+pub checks_yes : (every : ℕ) (load updates : Feed) (fed : Fed) (state : State) (asks numbered : List Address) (run : Told) (text : List ℕ) → IsFed every load updates fed state → run ≡ (printed every load updates asks).told
+    → numbered ≡ state.engine.hops → AllByRecursion IsRow (printed_rows numbered run) → text ≡ printed_text (printed every load updates asks) → ChecksYes text
+checks_yes every load updates fed state asks numbered run text f r n proper e =
     let elems : List Elem = load.elems ++ updates.elems in
     let hops : List Address = hops_after [] elems in
     let held : Candidates = after_elems [] elems in
-    let told : Told = (printed load updates asks).told in
+    let told : Told = (printed every load updates asks).told in
     let R : Entries = entries_of hops held in
-    let T : Entries = aggregate_in_both R R in
+    let K : Entries = kept_of every hops load.elems updates.elems in
+    let T : Entries = aggregate_in_both R K in
     let C : List CertRow = certificate_of R in
     let between : List PrintedRow = map (of_change hops) told.changes ++ map (of_answer hops) told.answers ++ map (table_entry_row hops) told.table in
     let after : List PrintedRow = report_rows told.report in
     let s = f.has.stands in
-    let few : length hops ≤ most_hops = subst (λ h. length h ≤ most_hops) s.hops s.few in
-    let cert : IsCertificate R T C = certified_least R R (entries_sorted hops held (candidates_stay [] elems none_yet s.proper)) in
+    let few : length hops ≤ most_hops = subst (λ h. length h ≤ most_hops) s.engine.hops s.few in
+    let proper_all : AllByRecursion IsElem elems = all_elems load.elems updates.elems s.engine.proper.0 s.engine.proper.1 in
+    let cert : IsCertificate R T C = certified_least R K (entries_sorted hops held (candidates_stay [] elems none_yet proper_all)) in
     let others = between_other hops told in
     let same : printed_rows hops told ≡ rows_with hops R T C between after =
     parted (flat_map (of_route hops) R) (map (of_change hops) told.changes) (map (of_answer hops) told.answers) (map (table_entry_row hops) told.table) (map (of_least hops) T) (map (of_cert hops) C) after
     in
     let all : AllByRecursion IsRow (rows_with hops R T C between after) =
-    subst (AllByRecursion IsRow) same (subst (λ h. AllByRecursion IsRow (printed_rows h told)) s.hops (subst (λ x. AllByRecursion IsRow (printed_rows state.hops.list x)) r proper))
+    subst (AllByRecursion IsRow) same (subst (λ h. AllByRecursion IsRow (printed_rows h told)) (n ∙ s.engine.hops) (subst (λ x. AllByRecursion IsRow (printed_rows numbered x)) r proper))
     in
     let right : Proves (used_of (rows_with hops R T C between after)) =
     printed_proves hops R T C between after (hops_distinct elems) (entries_have elems) others (tt, (tt, (tt, (tt, (tt, (tt, tt)))))) cert

@@ -1,10 +1,11 @@
 -- What holds of all that a run may print.
-use Rattle.std.proofs.Common.{◌≡◌, ℕ, List, [], ◌∷◌, ◌++◌, Option, Some, None, Result, Ok, Err, refl, sym, ap, ◌∙◌, subst}
+use Rattle.std.proofs.Common.{◌≡◌, ℕ, ◌+◌, ◌≤◌, List, [], ◌∷◌, ◌++◌, Option, Some, None, Result, Ok, Err, length, refl, sym, ap, ◌∙◌, subst, append_assoc, length-append}
 use Rattle.std.proofs.lemmas.List.Sums.{fold-append}
 use Rattle.std.specs.List.{AllByRecursion}
 use Rattle.octet_fields.specs.Field.{◌>>=◌}
 use Rattle.address_model.specs.Address.{Address}
-use Rattle.table_model.specs.Entries.{Entries, match_in}
+use Rattle.table_model.specs.Changes.{sum_of}
+use Rattle.table_model.specs.Entries.{AlikeInBoth, Entries, match_in, of_family}
 use Rattle.route_model.specs.Events.{Elem}
 use Rattle.route_model.specs.Choice.{AreCandidates, Candidates, IsElem, after_elem, after_elems}
 use Rattle.route_model.proofs.Elems.{candidates_stay, elems_of_events}
@@ -12,8 +13,15 @@ use Rattle.route_model.proofs.Said.{none_yet}
 use Rattle.reading_model.specs.Input.{Progress, Stopped, input}
 use Rattle.reading_model.proofs.Told.{read_events}
 use Rattle.least_model.proofs.Both.{aggregates_are, aggregates_sorted}
+use Rattle.address_model.specs.Width.{width}
+use Rattle.table_model.specs.Table.{Alike}
+use Rattle.least_model.specs.Both.{LeastInBoth}
+use Rattle.delta_model.proofs.Held.{Placed}
 use Rattle.feed_model.specs.Feed.{hops_after, full_at, entries_of}
-use Rattle.feed_model.proofs.Tables.{all}
+use Rattle.feed_model.proofs.Tables.{entries_sorted}
+use Rattle.kept_feed.specs.Kept.{kept_at_load, kept_by}
+use Rattle.kept_feed.proofs.Steps.{kept_step}
+use Rattle.kept_feed.proofs.Sums.{all}
 use Rattle.fib_words.specs.Commands.{Named, Asked, Run, Check, command_of}
 use Rattle.printed_model.specs.Used.{Used}
 use Rattle.fib_main.specs.declared.outcome.MrtInput.{MrtInput}
@@ -21,13 +29,13 @@ use Rattle.fib_main.specs.declared.outcome.MrtInput.TheVariants.{Dump, Updates}
 use Rattle.std.specs.Prelude.{Bool, true, false, not, ◌&&◌}
 use Rattle.fib_io.specs.Pieces.{octets_read}
 use Rattle.fib_main.specs.Stops.{Stop, bad_record, few_hops, is_cut, is_small, records_due, told_content, whole_records}
-use Rattle.fib_main.specs.Due.{Feed, Printed, printed, asks_at, feed_at, feed_of, feed_in, elems_in, read_part, told_at, run_at, used_at, output_at, ran, checked, due, usage, answers_to}
+use Rattle.fib_main.specs.Due.{Feed, Printed, printed, asks_at, feed_at, feed_of, feed_in, elems_in, read_part, changes_of, kept_of, told_at, run_at, used_at, output_at, ran, checked, due, usage, answers_to}
 use Rattle.fib_main.specs.Proves.{IfRan}
-use Rattle.fib_main.specs.Runs.{IfDue, SumsUp, Forwards, Answers, HasLeast, HasAggregate, Certified, IsInOrder, HasHops}
+use Rattle.fib_main.specs.Runs.{IfDue, SumsUp, Forwards, Answers, HasLeast, HasAggregate, Certified, InPrefixOrder, IsInOrder, HasHops}
+use Rattle.fib_main.specs.Keeps.{Follows, HasTable, RenewsLeast, RepairsFewest, changes_to}
 use Rattle.fib_main.proofs.Addressed.{has_hops}
-use Rattle.fib_main.proofs.Certifying.{certified_least}
-use Rattle.fib_main.proofs.Looking.{least_in_both}
-use Rattle.fib_main.proofs.Telling.{entries_sorted}
+use Rattle.fib_main.proofs.Certifying.{certified_least, least_in_both}
+use Rattle.fib_main.proofs.Keeping.{alike_after, fewest_by, kept_placed, least_after, loaded_placed, table_is}
 
 -- ---- what an input brings is of prefixes and peers that there are
 
@@ -66,17 +74,17 @@ named_proper content which before (Some name) feed p e = by_octets (told_content
 
 -- a property of what is printed of each dump and each list of updates and of asks
 abbrev pub OfEach : (Printed → Type 0) → Type 0
-OfEach P = (load updates : Feed) (asks : List Address) → AllByRecursion IsElem load.elems → AllByRecursion IsElem updates.elems → P (printed load updates asks)
+OfEach P = (every : ℕ) (load updates : Feed) (asks : List Address) → AllByRecursion IsElem load.elems → AllByRecursion IsElem updates.elems → P (printed every load updates asks)
 
 told_due : (P : Printed → Type 0) → OfEach P → (content : List ℕ → Option (List ℕ)) (named : Named) (asks : List Address) → IfRan (ran (told_at content named asks)) P
 unfolding told_at
 told_due P each content named asks = by_load (feed_at content Dump [] (Some named.dump)) refl
   where
-    by_updates : (load : Feed) → AllByRecursion IsElem load.elems → (u : Result Feed Stop) → feed_at content Updates load.elems named.updates ≡ u → IfRan (ran (u >>= λ updates. Ok (printed load updates asks))) P
-    by_updates load p (Ok updates) e = each load updates asks p (named_proper content Updates load.elems named.updates updates p e)
+    by_updates : (load : Feed) → AllByRecursion IsElem load.elems → (u : Result Feed Stop) → feed_at content Updates load.elems named.updates ≡ u → IfRan (ran (u >>= λ updates. Ok (printed named.every load updates asks))) P
+    by_updates load p (Ok updates) e = each named.every load updates asks p (named_proper content Updates load.elems named.updates updates p e)
     by_updates load p (Err stop) e = tt
 
-    by_load : (l : Result Feed Stop) → feed_at content Dump [] (Some named.dump) ≡ l → IfRan (ran (l >>= λ load. feed_at content Updates load.elems named.updates >>= λ updates. Ok (printed load updates asks))) P
+    by_load : (l : Result Feed Stop) → feed_at content Dump [] (Some named.dump) ≡ l → IfRan (ran (l >>= λ load. feed_at content Updates load.elems named.updates >>= λ updates. Ok (printed named.every load updates asks))) P
     by_load (Ok load) e = by_updates load (named_proper content Dump [] (Some named.dump) load tt e) (feed_at content Updates load.elems named.updates) refl
     by_load (Err stop) e = tt
 
@@ -98,51 +106,113 @@ each_due : (P : Printed → Type 0) → OfEach P → (words : List (List ℕ)) (
 unfolding due
 each_due P each words content = words_due P each content (command_of words)
 
-pub sums_up : (words : List (List ℕ)) (content : List ℕ → Option (List ℕ)) → IfDue (due words content) SumsUp
-sums_up = each_due (λ p. SumsUp p.told) (λ load updates asks p q.
-    let hops : List Address = hops_after [] (load.elems ++ updates.elems) in
-    all hops (after_elems [] load.elems) updates.elems (candidates_stay [] load.elems none_yet p) q ∙ ap (λ held. Some (entries_of hops held)) (sym (fold-append after_elem [] load.elems updates.elems)))
+-- ---- what is told at the end
 
-pub forwards : (words : List (List ℕ)) (content : List ℕ → Option (List ℕ)) → IfDue (due words content) Forwards
-forwards = each_due (λ p. Forwards p.told) (λ load updates asks p q a is. refl)
+abbrev Words : Type 0
+Words = List (List ℕ)
+
+abbrev Content : Type 0
+Content = List ℕ → Option (List ℕ)
+
+-- the candidates after the load are candidates
+held_first : (load : Feed) → AllByRecursion IsElem load.elems → AreCandidates (after_elems [] load.elems)
+held_first load p = candidates_stay [] load.elems none_yet p
+
+-- those after both inputs are those after the updates behind the load
+held_all : (load updates : Feed) → after_elems [] (load.elems ++ updates.elems) ≡ after_elems (after_elems [] load.elems) updates.elems
+held_all load updates = fold-append after_elem [] load.elems updates.elems
+
+pub sums_up : (words : Words) (content : Content) → IfDue (due words content) SumsUp
+sums_up = each_due (λ p. SumsUp p.told) (λ every load updates asks p q. all every (hops_after [] (load.elems ++ updates.elems)) (after_elems [] load.elems) updates.elems q)
+
+pub forwards : (words : Words) (content : Content) → IfDue (due words content) Forwards
+forwards = each_due (λ p. Forwards p.told) (λ every load updates asks p q.
+    let hops : List Address = hops_after [] (load.elems ++ updates.elems) in
+    subst (λ held. AlikeInBoth (kept_of every hops load.elems updates.elems) (entries_of hops held)) (sym (held_all load updates)) (alike_after every hops (after_elems [] load.elems) updates.elems (held_first load p) q))
 
 all_answer : (routes : Entries) (asks : List Address) → AllByRecursion (λ (a : Address × ℕ). a.1 ≡ match_in routes a.0) (answers_to routes asks)
 all_answer routes [] = tt
 all_answer routes (a ∷ asks) = (refl, all_answer routes asks)
 
-pub answers : (words : List (List ℕ)) (content : List ℕ → Option (List ℕ)) → IfDue (due words content) Answers
-answers = each_due (λ p. Answers p.told) (λ load updates asks p q. all_answer (entries_of (hops_after [] (load.elems ++ updates.elems)) (after_elems [] (load.elems ++ updates.elems))) asks)
+pub answers : (words : Words) (content : Content) → IfDue (due words content) Answers
+answers = each_due (λ p. Answers p.told) (λ every load updates asks p q. all_answer (entries_of (hops_after [] (load.elems ++ updates.elems)) (after_elems [] (load.elems ++ updates.elems))) asks)
 
-pub least : (words : List (List ℕ)) (content : List ℕ → Option (List ℕ)) → IfDue (due words content) HasLeast
-least = each_due (λ p. HasLeast p.told) (λ load updates asks p q.
-    let routes : Entries = entries_of (hops_after [] (load.elems ++ updates.elems)) (after_elems [] (load.elems ++ updates.elems)) in
-    least_in_both routes routes)
+-- the routes, and the kept table
+abbrev routes_of_both : Feed → Feed → Entries
+routes_of_both load updates = entries_of (hops_after [] (load.elems ++ updates.elems)) (after_elems [] (load.elems ++ updates.elems))
 
-pub aggregated : (words : List (List ℕ)) (content : List ℕ → Option (List ℕ)) → IfDue (due words content) HasAggregate
-aggregated = each_due (λ p. HasAggregate p.told) (λ load updates asks p q.
-    let routes : Entries = entries_of (hops_after [] (load.elems ++ updates.elems)) (after_elems [] (load.elems ++ updates.elems)) in
-    aggregates_are routes routes)
+abbrev kept_of_both : ℕ → Feed → Feed → Entries
+kept_of_both every load updates = kept_of every (hops_after [] (load.elems ++ updates.elems)) load.elems updates.elems
 
--- the candidates after both inputs are candidates
-held_after : (load updates : Feed) → AllByRecursion IsElem load.elems → AllByRecursion IsElem updates.elems → AreCandidates (after_elems [] (load.elems ++ updates.elems))
-held_after load updates p q = subst AreCandidates (sym (fold-append after_elem [] load.elems updates.elems)) (candidates_stay (after_elems [] load.elems) updates.elems (candidates_stay [] load.elems none_yet p) q)
+pub least : (words : Words) (content : Content) → IfDue (due words content) HasLeast
+least = each_due (λ p. HasLeast p.told) (λ every load updates asks p q. least_in_both (routes_of_both load updates) (kept_of_both every load updates))
 
-pub sorted : (words : List (List ℕ)) (content : List ℕ → Option (List ℕ)) → IfDue (due words content) IsInOrder
-sorted = each_due (λ p. IsInOrder p.told) (λ load updates asks p q.
+pub aggregated : (words : Words) (content : Content) → IfDue (due words content) HasAggregate
+aggregated = each_due (λ p. HasAggregate p.told) (λ every load updates asks p q. aggregates_are (routes_of_both load updates) (kept_of_both every load updates))
+
+routes_in_order : (load updates : Feed) → AllByRecursion IsElem load.elems → AllByRecursion IsElem updates.elems → InPrefixOrder (routes_of_both load updates)
+routes_in_order load updates p q =
+    entries_sorted (hops_after [] (load.elems ++ updates.elems)) (after_elems [] (load.elems ++ updates.elems)) (subst AreCandidates (sym (held_all load updates)) (candidates_stay (after_elems [] load.elems) updates.elems (held_first load p) q))
+
+pub sorted : (words : Words) (content : Content) → IfDue (due words content) IsInOrder
+sorted = each_due (λ p. IsInOrder p.told) (λ every load updates asks p q.
     let hops : List Address = hops_after [] (load.elems ++ updates.elems) in
-    let held : Candidates = after_elems [] (load.elems ++ updates.elems) in
-    let routes : Entries = entries_of hops held in
+    let held : Candidates = after_elems [] load.elems in
     record {
-      routes = entries_sorted hops held (held_after load updates p q);
-      table = entries_sorted hops held (held_after load updates p q);
-      least = aggregates_sorted routes routes;
+      routes = routes_in_order load updates p q;
+      table = (kept_placed every hops 1 held (kept_at_load hops held) updates.elems q (loaded_placed hops held)).1;
+      least = aggregates_sorted (routes_of_both load updates) (kept_of_both every load updates);
     })
 
-pub certified : (words : List (List ℕ)) (content : List ℕ → Option (List ℕ)) → IfDue (due words content) Certified
-certified = each_due (λ p. Certified p.told) (λ load updates asks p q.
-    let hops : List Address = hops_after [] (load.elems ++ updates.elems) in
-    let held : Candidates = after_elems [] (load.elems ++ updates.elems) in
-    certified_least (entries_of hops held) (entries_of hops held) (entries_sorted hops held (held_after load updates p q)))
+pub certified : (words : Words) (content : Content) → IfDue (due words content) Certified
+certified = each_due (λ p. Certified p.told) (λ every load updates asks p q. certified_least (routes_of_both load updates) (kept_of_both every load updates) (routes_in_order load updates p q))
 
-pub addressed : (words : List (List ℕ)) (content : List ℕ → Option (List ℕ)) → IfRan (due words content) HasHops
-addressed = each_due HasHops (λ load updates asks p q. has_hops load updates asks)
+pub addressed : (words : Words) (content : Content) → IfRan (due words content) HasHops
+addressed = each_due HasHops (λ every load updates asks p q. has_hops every load updates asks)
+
+-- ---- on the way
+
+front_of : (xs ys : List Elem) → AllByRecursion IsElem (xs ++ ys) → AllByRecursion IsElem xs
+front_of [] ys a = tt
+front_of (x ∷ xs) ys a = (a.0, front_of xs ys a.1)
+
+one_of : (xs : List Elem) (x : Elem) (ys : List Elem) → AllByRecursion IsElem (xs ++ x ∷ ys) → IsElem x
+one_of [] x ys a = a.0
+one_of (y ∷ xs) x ys a = one_of xs x ys a.1
+
+-- the table that the changes so far add up to
+table_at : (every : ℕ) (load updates : Feed) (asks : List Address) (done rest : List Elem) (T : Entries) → AllByRecursion IsElem updates.elems → updates.elems ≡ done ++ rest → HasTable (printed every load updates asks) (length done) T
+    → T ≡ kept_of every (hops_after [] (load.elems ++ updates.elems)) load.elems done
+table_at every load updates asks done rest T q e h =
+    let hops : List Address = hops_after [] (load.elems ++ updates.elems) in
+    let held : Candidates = after_elems [] load.elems in
+    table_is every hops held done rest T (front_of done rest (subst (AllByRecursion IsElem) e q)) (subst (λ es. sum_of (changes_to (length done) (changes_of every hops load.elems es)) ≡ Some T) e h)
+
+proper_front : (updates : Feed) (done rest : List Elem) → AllByRecursion IsElem updates.elems → updates.elems ≡ done ++ rest → AllByRecursion IsElem done
+proper_front updates done rest q e = front_of done rest (subst (AllByRecursion IsElem) e q)
+
+pub follows : (words : Words) (content : Content) → IfRan (due words content) Follows
+follows = each_due Follows (λ every load updates asks p q done rest T e h.
+    let hops : List Address = hops_after [] (load.elems ++ updates.elems) in
+    let held : Candidates = after_elems [] load.elems in
+    subst (λ L. AlikeInBoth L (entries_of hops (after_elems held done))) (sym (table_at every load updates asks done rest T q e h)) (alike_after every hops held done (held_first load p) (proper_front updates done rest q e)))
+
+pub renewed : (words : Words) (content : Content) → IfRan (due words content) RenewsLeast
+renewed = each_due RenewsLeast (λ every load updates asks p q done rest T e snapshot h.
+    let hops : List Address = hops_after [] (load.elems ++ updates.elems) in
+    let held : Candidates = after_elems [] load.elems in
+    subst (λ L. LeastInBoth (entries_of hops (after_elems held done)) L) (sym (table_at every load updates asks done rest T q e h)) (least_after every hops held done snapshot))
+
+pub fewest : (words : Words) (content : Content) → IfRan (due words content) RepairsFewest
+fewest = each_due RepairsFewest (λ every load updates asks p q done rest elem at T U L e changed h k d.
+    let hops : List Address = hops_after [] (load.elems ++ updates.elems) in
+    let held : Candidates = after_elems [] load.elems in
+    let before : T ≡ kept_of every hops load.elems done = table_at every load updates asks done (elem ∷ rest) T q e h in
+    let all_one : updates.elems ≡ (done ++ elem ∷ []) ++ rest = e ∙ sym (append_assoc done (elem ∷ []) rest) in
+    let counted : length done + 1 ≡ length (done ++ elem ∷ []) = sym (length-append done (elem ∷ [])) in
+    let after : U ≡ kept_of every hops load.elems (done ++ elem ∷ []) = table_at every load updates asks (done ++ elem ∷ []) rest U q all_one (subst (λ n. sum_of (changes_to n (changes_of every hops load.elems updates.elems)) ≡ Some U) counted k) in
+    let step : U ≡ kept_by every hops (length done + 1) (after_elems held done) T elem = after ∙ (kept_step every hops elem held (kept_at_load hops held) done ∙ ap (λ K. kept_by every hops (length done + 1) (after_elems held done) K elem) (sym before)) in
+    let placed : Placed T = subst Placed (sym before) (kept_placed every hops 1 held (kept_at_load hops held) done (proper_front updates done (elem ∷ rest) q e) (loaded_placed hops held)) in
+    let alike : Alike (width at.family) (of_family at.family (entries_of hops (after_elem (after_elems held done) elem))) (of_family at.family L) = subst (λ c. Alike (width at.family) (of_family at.family (entries_of hops c)) (of_family at.family L)) (fold-append after_elem held done (elem ∷ [])) d.alike in
+    subst (λ K. length (of_family at.family K) ≤ length (of_family at.family L)) (sym step)
+    (fewest_by every hops (length done + 1) (after_elems held done) T L elem at (one_of done elem rest (subst (AllByRecursion IsElem) e q)) placed changed d.entries alike d.outside))

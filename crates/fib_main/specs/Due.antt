@@ -9,7 +9,8 @@ use Rattle.cert_model.specs.Rows.{certificate_of}
 use Rattle.route_model.specs.Events.{Elem}
 use Rattle.route_model.specs.Choice.{after_elems, elems_after}
 use Rattle.reading_model.specs.Input.{Progress, Stopped, input}
-use Rattle.feed_model.specs.Feed.{hops_after, full_at, entries_of, load_changes, changes_from}
+use Rattle.feed_model.specs.Feed.{hops_after, full_at, entries_of}
+use Rattle.kept_feed.specs.Kept.{kept_at_load, kept_changes_from, kept_from, kept_load_changes}
 use Rattle.fib_report.specs.Views.{Told}
 use Rattle.fib_report.specs.Rows.{run_text}
 use Rattle.fib_report.specs.declared.run.Report.{Report}
@@ -92,42 +93,55 @@ feed_at content which before (Some name) = do
 abbrev pub answers_to : Entries → List Address → List (Address × ℕ)
 answers_to routes asks = map (λ a. (a, match_in routes a)) asks
 
-abbrev pub counts : Feed → Feed → Entries → Report
-counts load updates routes = record {
+abbrev pub counts : Feed → Feed → Entries → Entries → Report
+counts load updates routes kept = record {
   records = load.records + updates.records;
   skipped = load.skipped + updates.skipped;
   events = length load.elems + length updates.elems;
   routes = length routes;
-  entries = length routes;
+  entries = length kept;
   treated = load.treated + updates.treated;
 }
 
--- of these routes: themselves, the changes that led to them, each address with its answer, the table, the aggregate with the routes as the old table, the certificate that it is least, and the counts
-abbrev pub run_of : Entries → List (ℕ × Change) → List Address → Feed → Feed → Told
-run_of routes changes asks load updates = record { routes = routes; changes = changes; answers = answers_to routes asks; table = routes; least = aggregate_in_both routes routes; cert = certificate_of routes; report = counts load updates routes }
+-- the kept table after the last event, with these numbers of hops and a snapshot after each so many elementary events of the updates; 0 is never
+abbrev pub kept_of : ℕ → List Address → List Elem → List Elem → Entries
+kept_of every hops load updates = kept_from every hops 1 (after_elems [] load) (kept_at_load hops (after_elems [] load)) updates
 
--- the changes of the load and those of the updates, with these numbers of hops
-abbrev pub changes_of : List Address → Feed → Feed → List (ℕ × Change)
-changes_of hops load updates = load_changes hops (after_elems [] load.elems) ++ changes_from hops 1 (after_elems [] load.elems) updates.elems
+-- its changes: those of the load, event 0, and those of each elementary event of the updates
+abbrev pub changes_of : ℕ → List Address → List Elem → List Elem → List (ℕ × Change)
+changes_of every hops load updates = kept_load_changes hops (after_elems [] load) ++ kept_changes_from every hops 1 (after_elems [] load) (kept_at_load hops (after_elems [] load)) updates
 
--- what is to be printed: the rows, and the hops that their numbers stand for
+-- of these routes, and of a kept table and its changes: the routes, the changes, each address with its answer, the table, the aggregate of the routes with the kept table as the old one, the certificate that it is least, and the counts
+abbrev pub run_of : Entries → Entries → List (ℕ × Change) → List Address → Feed → Feed → Told
+run_of routes kept changes asks load updates = record { routes = routes; changes = changes; answers = answers_to routes asks; table = kept; least = aggregate_in_both routes kept; cert = certificate_of routes; report = counts load updates routes kept }
+
+-- what is to be printed: the rows, and the hops that their numbers stand for; and what they come from: the elementary events of the load and of the updates, and how many of these each snapshot follows
 pub record Printed : Type 0 where
   pub told : Told
   pub hops : List Address
+  pub every : ℕ
+  pub load : List Elem
+  pub updates : List Elem
 
 -- the numbers are those after all elementary events
-abbrev pub printed_by : List Address → Feed → Feed → List Address → Printed
-printed_by hops load updates asks = record { told = run_of (entries_of hops (after_elems [] (load.elems ++ updates.elems))) (changes_of hops load updates) asks load updates; hops = hops }
+abbrev pub printed_by : List Address → ℕ → Feed → Feed → List Address → Printed
+printed_by hops every load updates asks = record {
+  told = run_of (entries_of hops (after_elems [] (load.elems ++ updates.elems))) (kept_of every hops load.elems updates.elems) (changes_of every hops load.elems updates.elems) asks load updates;
+  hops = hops;
+  every = every;
+  load = load.elems;
+  updates = updates.elems;
+}
 
-abbrev pub printed : Feed → Feed → List Address → Printed
-printed load updates asks = printed_by (hops_after [] (load.elems ++ updates.elems)) load updates asks
+abbrev pub printed : ℕ → Feed → Feed → List Address → Printed
+printed every load updates asks = printed_by (hops_after [] (load.elems ++ updates.elems)) every load updates asks
 
--- of the dump and the updates that are named, with these asks
+-- of the dump and the updates that are named, with these asks and as many events to a snapshot as are asked for
 unfoldable pub told_at : (List ℕ → Option (List ℕ)) → Named → List Address → Result Printed Stop
 told_at content named asks = do
   load ← feed_at content Dump [] (Some named.dump)
   updates ← feed_at content Updates load.elems named.updates
-  Ok (printed load updates asks)
+  Ok (printed named.every load updates asks)
 
 -- what is to be printed of a run, or the first refusal: of the asks, the dump, the updates
 unfoldable pub run_at : (List ℕ → Option (List ℕ)) → Named → Result Printed Stop

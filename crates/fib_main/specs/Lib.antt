@@ -5,11 +5,11 @@ pub mod Checks
 pub mod Counts
 pub mod Due
 pub mod Views
-pub mod Held
 pub mod Standing
 pub mod Ends
 pub mod Reads
 pub mod Runs
+pub mod Keeps
 pub mod Proves
 pub mod Owned
 pub mod Untold

@@ -37,9 +37,9 @@ Answers told = AllByRecursion (λ (a : Address × ℕ). a.1 ≡ match_in told.ro
 abbrev pub HasLeast : Told → Type 0
 HasLeast told = LeastInBoth told.routes told.least
 
--- In either family the least table is the aggregate of the whole space: at each prefix it has an entry exactly where what is inherited there is no best hop, and the entry's hop is best: the routes' own there where that is best, else the least.
+-- In either family the least table is the aggregate of the whole space: at each prefix it has an entry exactly where what is inherited there is no best hop, and the entry's hop is best: the table's own there where that is best, else the least.
 abbrev pub HasAggregate : Told → Type 0
-HasAggregate told = AggregateInBoth told.routes told.routes told.least
+HasAggregate told = AggregateInBoth told.routes told.table told.least
 
 -- The rows of the certificate prove the least table least for the routes, to whoever trusts the rules of certificates alone.
 abbrev pub Certified : Told → Type 0
@@ -71,12 +71,15 @@ RowHasHop hops (leaf_row p n) = HasHop hops n
 RowHasHop hops (join_row p k) = Unit {0}
 RowHasHop hops (bound_row f n) = Unit {0}
 
+abbrev pub EntryHasHop : List Address → Prefix × ℕ → Type 0
+EntryHasHop hops e = HasHop hops e.1
+
 -- No two hops are one, so different numbers have different addresses. Each route has a hop, and so has its row; every other number that is told is 0 or has a hop.
 pub record HasHops (p : Printed) : Type 0 where
   pub distinct : IsDistinct same_address p.hops
   pub routes : HaveHops p.hops p.told.routes
   pub changes : AllByRecursion (λ (c : ℕ × Change). ChangeHasHop p.hops c.1) p.told.changes
   pub answers : AllByRecursion (λ (a : Address × ℕ). HasHop p.hops a.1) p.told.answers
-  pub table : HaveHops p.hops p.told.table
-  pub least : AllByRecursion (λ (e : Prefix × ℕ). HasHop p.hops e.1) p.told.least
+  pub table : AllByRecursion (EntryHasHop p.hops) p.told.table
+  pub least : AllByRecursion (EntryHasHop p.hops) p.told.least
   pub cert : AllByRecursion (RowHasHop p.hops) p.told.cert

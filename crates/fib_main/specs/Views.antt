@@ -1,12 +1,10 @@
 -- What a clause sees of this crate's values.
 use Rattle.std.specs.Prelude.{ℕ, ◌+◌, List, map, option_map}
-use Rattle.address_model.specs.Address.{Address, Prefix}
+use Rattle.address_model.specs.Address.{Address}
 use Rattle.table_model.specs.Changes.{Change}
-use Rattle.feed_model.specs.Feed.{number_in}
 use Rattle.fib_addr.specs.declared.addr.Addr as code_addr
-use Rattle.fib_addr.specs.declared.prefix.Prefix as code_prefix
 use Rattle.fib_addr.specs.declared.entry.Hop as code_hop
-use Rattle.fib_addr.specs.Views.{addr_as, prefix_as}
+use Rattle.fib_addr.specs.Views.{addr_as}
 use Rattle.fib_delta.specs.declared.change.Change as code_change
 use Rattle.fib_report.specs.declared.run.Report.{Report}
 use Rattle.fib_delta.specs.Views.{change_as}
@@ -27,17 +25,13 @@ answers_as answers = map (λ a. (addr_as a.0, a.1.0)) answers
 abbrev pub reply_as : code_reply.Reply → Reply
 reply_as reply = record { text = reply.text.items; wrong = option_map no_as reply.no }
 
--- a route with the number of its hop
-abbrev pub numbered : List Address → code_prefix.Prefix × code_addr.Addr → Prefix × ℕ
-numbered hops r = (prefix_as r.0, number_in hops (addr_as r.1))
-
--- the counts of two inputs and of the routes
-abbrev pub totals : Counts → Counts → ℕ → Report
-totals load updates routes = record {
+-- the counts of two inputs, of the routes and of the table's entries
+abbrev pub totals : Counts → Counts → ℕ → ℕ → Report
+totals load updates routes entries = record {
   records = load.records + updates.records;
   skipped = load.skipped + updates.skipped;
   events = load.events + updates.events;
   routes = routes;
-  entries = routes;
+  entries = entries;
   treated = load.treated + updates.treated;
 }

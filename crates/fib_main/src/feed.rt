@@ -1,10 +1,10 @@
 //! What an input of records brings.
 
-ghost use Rattle.std.specs.Prelude.{◌≡◌, List, [], ◌^◌, ◌<◌, ◌≤◌, length, IfOk, Some};
+ghost use Rattle.std.specs.Prelude.{◌≡◌, ℕ, List, [], ◌^◌, ◌<◌, ◌≤◌, length, IfOk, Some};
 ghost use Rattle.route_model.specs.Events.{Elem};
 ghost use Rattle.fib_main.specs.Counts.{AreFew};
 ghost use Rattle.fib_main.specs.Due.{feed_at};
-ghost use Rattle.fib_main.specs.Standing.{FeedsFrom, StateBrings, StateStands};
+ghost use Rattle.fib_main.specs.Standing.{FeedsFrom, IsReady, StateBrings, StateStands};
 
 use crate::outcome::MrtInput;
 use crate::state::{FeedError, State, take_events};
@@ -36,12 +36,14 @@ fn feed_through<I: Inputs>(
     room: &mut [u8],
 ) -> Result<Counts, FeedError>
     requires some { 0 < length room.old }
-    requires few { length state.old.candidates.candidates ≤ 2 ^ 40 }
-    ensures brings { (before : List Elem) → StateStands which before [] state.old → StateBrings
-        which before result state.new
+    requires ready { IsReady which 0 state.old.engine }
+    requires few { length state.old.engine.candidates ≤ 2 ^ 40 }
+    ensures brings { (every : ℕ) (before : List Elem) → StateStands which every before [] state.old
+        → StateBrings which every before result state.new
         (feed_at (I.content inputs.old) which before (Some name.now)) }
-    ensures few { IfOk result (λ counts. AreFew (2 ^ 36) state.old.candidates.candidates
-        counts state.new.candidates.candidates) }
+    ensures ready { IfOk result (λ counts. IsReady which counts.events state.new.engine) }
+    ensures few { IfOk result (λ counts. AreFew (2 ^ 36) state.old.engine.candidates
+        counts state.new.engine.candidates) }
     ensures same { I.content inputs.new ≡ I.content inputs.old }
     ensures cause { FeedsFrom (I.faults inputs.old) (I.faults inputs.new) name.now result }
 {
@@ -77,12 +79,14 @@ pub fn feed<I: Inputs>(
     which: MrtInput,
     name: &str,
 ) -> Result<Counts, FeedError>
-    requires { length state.old.candidates.candidates ≤ 2 ^ 40 }
-    ensures brings { (before : List Elem) → StateStands which before [] state.old → StateBrings
-        which before result state.new
+    requires ready { IsReady which 0 state.old.engine }
+    requires few { length state.old.engine.candidates ≤ 2 ^ 40 }
+    ensures brings { (every : ℕ) (before : List Elem) → StateStands which every before [] state.old
+        → StateBrings which every before result state.new
         (feed_at (I.content inputs.old) which before (Some name.now)) }
-    ensures few { IfOk result (λ counts. AreFew (2 ^ 36) state.old.candidates.candidates
-        counts state.new.candidates.candidates) }
+    ensures ready { IfOk result (λ counts. IsReady which counts.events state.new.engine) }
+    ensures few { IfOk result (λ counts. AreFew (2 ^ 36) state.old.engine.candidates
+        counts state.new.engine.candidates) }
     ensures same { I.content inputs.new ≡ I.content inputs.old }
     ensures cause { FeedsFrom (I.faults inputs.old) (I.faults inputs.new) name.now result }
 {

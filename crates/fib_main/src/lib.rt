@@ -1,7 +1,7 @@
 //! The compiler's top call, and what stands behind it.
 //!
 //! `run_fib` reads the words. Of a run it reads the asks, the dump and the updates, chooses among the candidates of all peers,
-//! and writes the rows. Of a check it reads a printed text, and writes whether its certificate proves its least table least.
+//! keeps a table for the chosen routes, and writes the rows. Of a check it reads a printed text, and writes whether its certificate proves its least table least.
 //! What is due is a definition over the words and the octets of the inputs; the contract of `run_fib` ties its outcome, what
 //! it wrote and its faults to it.
 #![tactic(auto)]
@@ -14,7 +14,6 @@ mod report;
 mod run;
 mod state;
 mod top_call;
-mod trees;
 
 pub use cert_check::No;
 pub use outcome::{MOST_LINE, Outcome, Which};

@@ -1,6 +1,6 @@
 //! From the words and the inputs to the text that is due.
 
-ghost use Rattle.std.specs.Prelude.{◌≡◌, ◌≤◌, ◌^◌, List, [], Some, None, length, map, IfErr, IfOk, IsSome, OnErr, OnOk, option_to_list};
+ghost use Rattle.std.specs.Prelude.{◌≡◌, ◌≤◌, ◌^◌, ℕ, List, [], Some, None, length, map, IfErr, IfOk, IsSome, OnErr, OnOk, option_to_list};
 ghost use Rattle.fib_addr.specs.Views.{addr_as};
 ghost use Rattle.fib_main.specs.Asking.{ask_refusal};
 ghost use Rattle.fib_main.specs.Counts.{AreFew};
@@ -9,7 +9,7 @@ ghost use Rattle.fib_main.specs.Ends.{feeds_named, reads_asked, reads_named, Rea
 ghost use Rattle.fib_main.specs.Owned.{IsOf, Owns, StopsAt, StopsIn};
 ghost use Rattle.fib_main.specs.Proves.{ChecksYes, IfRan, IsRun, PrintsYes};
 ghost use Rattle.fib_main.specs.Views.{reply_as};
-ghost use Rattle.fib_main.specs.Standing.{StateFeeds, refusal_of, StateStands};
+ghost use Rattle.fib_main.specs.Standing.{IsReady, StateFeeds, refusal_of, StateStands};
 ghost use Rattle.fib_main.specs.Stops.{GivesDue, event_in, input_of};
 ghost use Rattle.fib_main.specs.Untold.{GivesSome, ReplyOfSome, TextOfSome};
 ghost use Rattle.fib_main.specs.Words.{asked_by, due_by, read_by, texts_of};
@@ -129,13 +129,15 @@ fn feed_of<I: Inputs>(
     which: MrtInput,
     name: &str,
 ) -> Result<Counts, Outcome>
-    requires { length state.old.candidates.candidates ≤ 2 ^ 40 }
-    ensures due { (before : List Elem) → StateStands which before [] state.old
-        → StateFeeds which before result state.new
+    requires ready { IsReady which 0 state.old.engine }
+    requires few { length state.old.engine.candidates ≤ 2 ^ 40 }
+    ensures due { (every : ℕ) (before : List Elem) → StateStands which every before [] state.old
+        → StateFeeds which every before result state.new
         (feed_at (I.content inputs.old) which before (Some name.now)) }
     ensures stops { IfErr result (StopsAt (input_of which)) }
-    ensures few { IfOk result (λ counts. AreFew (2 ^ 36) state.old.candidates.candidates
-        counts state.new.candidates.candidates) }
+    ensures ready { IfOk result (λ counts. IsReady which counts.events state.new.engine) }
+    ensures few { IfOk result (λ counts. AreFew (2 ^ 36) state.old.engine.candidates
+        counts state.new.engine.candidates) }
     ensures same { I.content inputs.new ≡ I.content inputs.old }
     ensures cause { ReadsName name.now (I.faults inputs.old) (I.faults inputs.new) result }
 {
@@ -150,14 +152,17 @@ fn updates_of<I: Inputs>(
     state: &mut State,
     command: &RunWords<'_>,
 ) -> Result<Counts, Outcome>
-    requires { length state.old.candidates.candidates ≤ 2 ^ 40 }
-    ensures due { (before : List Elem) → StateStands MrtInput.Updates before [] state.old
-        → StateFeeds MrtInput.Updates before result state.new
+    requires ready { IsReady MrtInput.Updates 0 state.old.engine }
+    requires few { length state.old.engine.candidates ≤ 2 ^ 40 }
+    ensures due { (every : ℕ) (before : List Elem)
+        → StateStands MrtInput.Updates every before [] state.old
+        → StateFeeds MrtInput.Updates every before result state.new
         (feed_at (I.content inputs.old) MrtInput.Updates before (named_as command.now).updates) }
     ensures stops { IfErr result (StopsAt Which.Updates) }
     ensures named { OnErr result (IsSome (named_as command.now).updates) }
-    ensures few { IfOk result (λ counts. AreFew (2 ^ 36) state.old.candidates.candidates
-        counts state.new.candidates.candidates) }
+    ensures ready { IfOk result (λ counts. IsReady MrtInput.Updates counts.events state.new.engine) }
+    ensures few { IfOk result (λ counts. AreFew (2 ^ 36) state.old.engine.candidates
+        counts state.new.engine.candidates) }
     ensures same { I.content inputs.new ≡ I.content inputs.old }
     ensures cause { ReadsNames (option_to_list (named_as command.now).updates) (I.faults inputs.old)
         (I.faults inputs.new) result }
@@ -189,18 +194,13 @@ fn text_of<I: Inputs>(
     ensures cause { ReadsNames (feeds_named (I.content inputs.old) (named_as command.now))
         (I.faults inputs.old) (I.faults inputs.new) result }
 {
-    let mut state = State::new(alloc);
+    let mut state = State::new(alloc, command.every);
     let load = feed_of(alloc, inputs, &mut state, MrtInput::Dump, command.dump)?;
-    let Ok(loaded) = state.candidates.routes() else {
+    let Ok(()) = state.finish_load() else {
         return Err(Outcome::NoMemory);
     };
     let updates = updates_of(alloc, inputs, &mut state, command)?;
-    let fed = Fed {
-        loaded: &loaded,
-        load,
-        updates,
-    };
-    match write_text(alloc, &state, &fed, asks) {
+    match write_text(alloc, state, &Fed { load, updates }, asks) {
         Ok(text) => Ok(text),
         Err(_) => Err(Outcome::NoMemory),
     }

@@ -1,25 +1,27 @@
-//! What the inputs bring: candidates, the numbers of next hops, and the changes that updates make.
+//! What the inputs bring: candidates, the numbers of next hops, and the kept table with its changes.
 
-ghost use Rattle.std.specs.Prelude.{◌≡◌, ◌≤◌, ◌<◌, ◌∷◌, [], length, map, option_map, IfOk, OnOk, IsErrOf, option_to_list};
-ghost use Rattle.fib_addr.specs.Views.{addr_as, prefix_as};
-ghost use Rattle.fib_prefix.specs.Views.{elem_as, event_as};
-ghost use Rattle.route_model.specs.Choice.{after_elem};
-ghost use Rattle.route_choice.specs.Held.{IsChoice};
-ghost use Rattle.feed_model.specs.Feed.{change_of, hops_after, number_in};
-ghost use Rattle.fib_addr.specs.Hops.{most_hops};
+ghost use Rattle.std.specs.Prelude.{◌≡◌, ◌≤◌, ◌-◌, ◌++◌, ◌∷◌, [], ℕ, List, map, IfOk, OnOk};
 ghost use Rattle.fib_delta.specs.Views.{change_as};
+ghost use Rattle.fib_prefix.specs.Views.{elem_as, event_as};
+ghost use Rattle.route_model.specs.Events.{Elem as model_elem};
+ghost use Rattle.route_model.specs.Choice.{after_elem};
+ghost use Rattle.feed_model.specs.Feed.{at_event};
 ghost use Rattle.fib_main.specs.Counts.{CountsFit, CountsOn};
-ghost use Rattle.fib_main.specs.Standing.{of_input, of_read, StateTakes, StateTakesAll};
+ghost use Rattle.fib_main.specs.Standing.{IsReady, of_input, of_read, refused_by, StateStands, StateTakes, StateTakesAll};
+ghost use Rattle.fib_main.specs.Views.{changes_as};
 ghost use Rattle.fib_main.specs.declared.state.FeedError.TheVariants.{Malformed as IsMalformed, NoMemory as IsNoMemory};
 
 use crate::outcome::MrtInput;
 use fib_delta::Change;
+use fib_engine::{Engine, EngineError, Limits};
 use fib_io::ReadError;
-use fib_prefix::{Addr, Elem, Event, Hop, HopError, HopTable};
+use fib_prefix::{Elem, Event};
 use mrt_read::{EventsError, Malformed};
-use route_choice::{Candidates, Choice};
 use std::alloc::{AllocError, AllocFailed, Global};
 use thiserror::Error;
+
+/// The event of the load.
+const LOAD: u64 = 0;
 
 /// Why an input brought nothing.
 #[derive(Clone, Copy, Debug, PartialEq, Eq, Error)]
@@ -91,94 +93,90 @@ impl<T: Drop> From<AllocFailed<T>> for FeedError {
 /// What was brought so far.
 #[derive(Drop)]
 pub struct State {
-    /// The candidates of all peers.
-    pub candidates: Candidates,
-    /// The hops with their numbers.
-    pub hops: HopTable,
-    /// The changes that updates made, each with its event's number.
+    /// The candidates of all peers, the numbers of next hops, and the kept table.
+    pub engine: Engine,
+    /// The changes of the kept table, each with its event's number: those of the load, and those that updates make.
     pub changes: Vec<(u64, Change)>,
 }
 
+/// Adds the changes of the event of this number.
+fn push_changes(
+    all: &mut Vec<(u64, Change)>,
+    event: u64,
+    changes: &[Change],
+) -> Result<(), AllocError>
+    ensures { OnOk result (changes_as all.new.items
+        ≡ changes_as all.old.items ++ at_event event (map change_as changes.now)) }
+{
+    all.reserve(changes.len())?;
+    for change in changes {
+        all.push((event, *change))?;
+    }
+    Ok(())
+}
+
 impl State {
-    /// Nothing was brought.
-    pub fn new(alloc: Global) -> State
-        ensures candidates { result.candidates.candidates ≡ [] }
-        ensures hops { result.hops.list ≡ [] }
-        ensures changes { result.changes.items ≡ [] }
+    /// Nothing was brought; a snapshot will follow each so many elementary events of the updates, none where that is 0.
+    pub fn new(alloc: Global, every: u32) -> State
+        ensures stands { StateStands MrtInput.Dump every [] [] result }
+        ensures ready { IsReady MrtInput.Dump 0 result.engine }
+        ensures none { result.engine.candidates ≡ [] }
     {
         State {
-            candidates: Candidates::new(alloc),
-            hops: HopTable::new(alloc),
+            engine: Engine::new(alloc, Limits { every }),
             changes: Vec::new(alloc),
         }
     }
-}
 
-/// The number of a hop, none's where it has no number.
-pub fn number(hops: &HopTable, hop: &Addr) -> Hop
-    ensures { result.0 ≡ number_in hops.now.list (addr_as hop.now) }
-{
-    hops.find(hop).unwrap_or(Hop::NONE)
-}
-
-/// The change that a choice makes, if it makes one.
-fn change_of(hops: &HopTable, choice: Choice) -> Option<Change>
-    ensures { option_to_list (option_map change_as result) ≡ change_of hops.now.list
-        (prefix_as choice.prefix) (option_map addr_as choice.before)
-        (option_map addr_as choice.after) }
-{
-    match (choice.before, choice.after) {
-        (None, None) => None,
-        (None, Some(hop)) => Some(Change::Add(choice.prefix, number(hops, &hop))),
-        (Some(_), None) => Some(Change::Remove(choice.prefix)),
-        (Some(old), Some(hop)) => {
-            if old == hop {
-                None
-            } else {
-                Some(Change::Replace(choice.prefix, number(hops, &hop)))
-            }
-        }
+    /// Ends the load: the kept table is made, and what adds its entries are the changes of event 0.
+    pub fn finish_load(&mut self) -> Result<(), AllocError>
+        requires { IsReady MrtInput.Dump 0 self.old.engine }
+        ensures stands { OnOk result ((every : ℕ) (load : List model_elem)
+            → StateStands MrtInput.Dump every [] load self.old
+            → StateStands MrtInput.Updates every load [] self.new) }
+        ensures candidates { OnOk result (self.new.engine.candidates
+            ≡ self.old.engine.candidates) }
+        ensures ready { OnOk result (IsReady MrtInput.Updates 0 self.new.engine) }
+    {
+        let changes = self.engine.finish_load()?;
+        push_changes(&mut self.changes, LOAD, &changes)?;
+        Ok(())
     }
 }
 
-/// Gives the next hop of an elementary event a number.
-fn number_hop(hops: &mut HopTable, elem: &Elem) -> Result<(), HopError>
-    ensures hops { OnOk result (hops.new.list ≡ hops_after hops.old.list (elem_as elem.now ∷ [])) }
-    ensures few { OnOk result (length hops.old.list ≤ most_hops
-        → length hops.new.list ≤ most_hops) }
-    ensures full { IsErrOf result HopError.HopsFull
-        → most_hops < length (hops_after hops.old.list (elem_as elem.now ∷ [])) }
-    ensures room { most_hops < length (hops_after hops.old.list (elem_as elem.now ∷ []))
-        → length hops.old.list ≤ most_hops → IsErrOf result HopError.HopsFull }
+/// Why an elementary event of this number wasn't taken.
+fn refused(event: u64, error: EngineError) -> FeedError
+    ensures { result ≡ refused_by event error }
 {
-    if let Elem::Put(_, _, _, hop) = elem {
-        hops.number(hop)?;
+    match error {
+        EngineError::HopsFull => FeedError::HopsFull(event),
+        EngineError::NoMemory => FeedError::NoMemory,
     }
-    Ok(())
 }
 
-/// Takes the elementary event of this number: its hop gets a number, and the candidates change. Of updates it keeps the change
-/// that it makes; of a dump nobody asks for it.
+/// Takes the elementary event of this number: its hop gets a number, and the candidates change. One of updates changes the kept
+/// table, and its changes are added.
 fn step(state: &mut State, which: MrtInput, event: u64, elem: &Elem) -> Result<(), FeedError>
+    requires ready { IsReady which (event - 1) state.old.engine }
+    requires first { 1 ≤ event }
     ensures takes { StateTakes which event (elem_as elem.now ∷ []) state.old result state.new }
-    ensures candidates { OnOk result (state.new.candidates.candidates
-        ≡ after_elem state.old.candidates.candidates (elem_as elem.now)) }
+    ensures candidates { OnOk result (state.new.engine.candidates
+        ≡ after_elem state.old.engine.candidates (elem_as elem.now)) }
+    ensures ready { OnOk result (IsReady which event state.new.engine) }
 {
-    match number_hop(&mut state.hops, elem) {
-        Ok(()) => {}
-        Err(HopError::HopsFull) => return Err(FeedError::HopsFull(event)),
-        Err(HopError::NoMemory) => return Err(FeedError::NoMemory),
-    }
     match which {
-        MrtInput::Dump => state.candidates.load(elem)?,
-        MrtInput::Updates => {
-            let choice = state.candidates.apply(elem)?;
-            if let Some(change) = change_of(&state.hops, choice) {
-                state.changes.push((event, change))?;
+        MrtInput::Dump => match state.engine.load(elem) {
+            Ok(()) => Ok(()),
+            Err(error) => Err(refused(event, error)),
+        },
+        MrtInput::Updates => match state.engine.apply(elem) {
+            Ok(changes) => {
+                push_changes(&mut state.changes, event, &changes)?;
+                Ok(())
             }
-        }
+            Err(error) => Err(refused(event, error)),
+        },
     }
-    Ok(())
 }
 
 /// Takes an event after so many elementary events, and gives how many there are then.
@@ -188,13 +186,15 @@ fn take_event(
     before: u64,
     event: &Event,
 ) -> Result<u64, FeedError>
-    requires { CountsFit state.old.candidates.candidates (event_as event.now ∷ []) before }
+    requires ready { IsReady which before state.old.engine }
+    requires few { CountsFit state.old.engine.candidates (event_as event.now ∷ []) before }
     ensures takes { StateTakesAll which before (event_as event.now ∷ [])
         state.old result state.new }
-    ensures counts { IfOk result (λ after. CountsOn state.old.candidates.candidates
-        (event_as event.now ∷ []) before after state.new.candidates.candidates) }
+    ensures ready { IfOk result (λ after. IsReady which after state.new.engine) }
+    ensures counts { IfOk result (λ after. CountsOn state.old.engine.candidates
+        (event_as event.now ∷ []) before after state.new.engine.candidates) }
 {
-    let elems = state.candidates.elementary(event)?;
+    let elems = state.engine.elementary(event)?;
     let mut count = before;
     for elem in &elems {
         count += 1;
@@ -210,11 +210,13 @@ pub fn take_events(
     before: u64,
     events: &[Event],
 ) -> Result<u64, FeedError>
-    requires { CountsFit state.old.candidates.candidates (map event_as events.now) before }
+    requires ready { IsReady which before state.old.engine }
+    requires few { CountsFit state.old.engine.candidates (map event_as events.now) before }
     ensures takes { StateTakesAll which before (map event_as events.now)
         state.old result state.new }
-    ensures counts { IfOk result (λ after. CountsOn state.old.candidates.candidates
-        (map event_as events.now) before after state.new.candidates.candidates) }
+    ensures ready { IfOk result (λ after. IsReady which after state.new.engine) }
+    ensures counts { IfOk result (λ after. CountsOn state.old.engine.candidates
+        (map event_as events.now) before after state.new.engine.candidates) }
 {
     let mut count = before;
     for event in events {

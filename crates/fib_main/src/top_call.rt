@@ -4,6 +4,7 @@ ghost use Rattle.std.specs.Prelude.{◌≡◌, ℕ, ◌<◌, List, option_map};
 ghost use Rattle.fib_io.specs.Causes.{Rose};
 ghost use Rattle.cert_check.specs.Views.{no_as};
 ghost use Rattle.fib_main.specs.Ends.{Completes, EndsBy, Meets, OneRose, ReadsFrom, TellsOf, text_due, Writes, WritesBy};
+ghost use Rattle.fib_main.specs.Keeps.{Follows, RenewsLeast, RepairsFewest};
 ghost use Rattle.fib_main.specs.Owned.{IsOf};
 ghost use Rattle.fib_main.specs.Proves.{AddsFrontOfYes, AddsYes, Decides, IfChecked, IfRan, IsRun, PrintsYes, YesProves};
 ghost use Rattle.fib_main.specs.Runs.{Answers, Certified, Forwards, HasAggregate, HasHops, HasLeast, IfDue, IsInOrder, SumsUp};
@@ -110,10 +111,10 @@ fn run_and_tell<I: Inputs, O: Sink, E: Sink>(
 /// to `out` before all is accepted. Every outcome but Done is told by one line to `err`, and a fault of `err` changes nothing.
 ///
 /// It costs n log n in the octets read and the rows written, and the routes' number times the lengths of their prefixes. In
-/// memory are, at most, the asks, one line or record and a piece while an input is read, the candidates of all peers, the trees
-/// of the routes while they are looked up, and the whole text. A check keeps the printed text until it is read, its routes,
-/// least table and certificate, and then the runs of both tables.
-#[tactic(auto, using(crate::proofs::Completing::completes, crate::proofs::Running::sums_up, crate::proofs::Running::forwards, crate::proofs::Running::answers, crate::proofs::Running::least, crate::proofs::Running::aggregated, crate::proofs::Running::sorted, crate::proofs::Running::certified, crate::proofs::Running::addressed, crate::proofs::Replies::decides, crate::proofs::Replies::yes_proves))]
+/// memory are, at most, the asks, one line or record and a piece while an input is read, the candidates of all peers, the kept
+/// table with its tree and its changes, and the whole text. A check keeps the printed text until it is read, its routes, least
+/// table and certificate, and then the runs of both tables.
+#[tactic(auto, using(crate::proofs::Completing::completes, crate::proofs::Running::sums_up, crate::proofs::Running::forwards, crate::proofs::Running::answers, crate::proofs::Running::least, crate::proofs::Running::follows, crate::proofs::Running::renewed, crate::proofs::Running::fewest, crate::proofs::Running::aggregated, crate::proofs::Running::sorted, crate::proofs::Running::certified, crate::proofs::Running::addressed, crate::proofs::Replies::decides, crate::proofs::Replies::yes_proves))]
 pub fn run_fib<I: Inputs, O: Sink, E: Sink>(
     alloc: Global,
     words: &[String],
@@ -167,7 +168,15 @@ pub fn run_fib<I: Inputs, O: Sink, E: Sink>(
     ensures answers { IfDue (due_by words.now (I.content inputs.old)) Answers }
     ensures least { IfDue (due_by words.now (I.content inputs.old)) HasLeast }
 
-    // Of the least tables it is the one that the best hops fix, whatever finds them; and all tables stand in the order of prefixes.
+    // On the way: what the changes add up to after each event sends every address where the routes send it then, after the load
+    // and after each snapshot it is a least table, and after any other event that changes a chosen hop no table that differs
+    // from the one before only within the prefix has fewer entries.
+    ensures follows { IfRan (due_by words.now (I.content inputs.old)) Follows }
+    ensures renewed { IfRan (due_by words.now (I.content inputs.old)) RenewsLeast }
+    ensures fewest { IfRan (due_by words.now (I.content inputs.old)) RepairsFewest }
+
+    // Of the least tables it is the one that the best hops fix, with the kept table as the old one, whatever finds them; and all
+    // tables stand in the order of prefixes.
     ensures aggregate { IfDue (due_by words.now (I.content inputs.old)) HasAggregate }
     ensures order { IfDue (due_by words.now (I.content inputs.old)) IsInOrder }
 

@@ -57,6 +57,16 @@ pub const TEN_ONE: &[&str] = &[
     HOP_B,
 ];
 
+/// 10.1.0.0/16 by 192.0.2.1.
+pub const TEN_ONE_BY_A: &[&str] = &[
+    "00000000 000d 0002 00000025",
+    "00000000 10 0a01 0001",
+    FIRST_ENTRY,
+    ORIGIN,
+    PATH,
+    HOP_A,
+];
+
 /// 2001:db8::/32 by 2001:db8::1.
 pub const SIX: &[&str] = &[
     "00000000 000d 0004 00000039",
@@ -247,6 +257,9 @@ pub const SEVEN_EIGHTHS: &[&str] = &[
     PATH,
     HOP_A,
 ];
+
+/// 0.0.0.0/1 by 192.0.2.1.
+pub const LOWER_HALF: &[&str] = &[RIB, "00000000 01 00 0001", FIRST_ENTRY, ORIGIN, PATH, HOP_A];
 
 /// 0.0.0.0/1 and 128.0.0.0/1, both by 192.0.2.1.
 pub const HALVES: &[&str] = &[

@@ -1,17 +1,17 @@
 //! Rows over inputs and sinks in memory: what goes in, and the outcome, the status and all that comes out.
 
 use crate::records::{
-    ALL_TWICE, GONE_AND_BACK, HALVES, LONG_HEADER, LONGER, LOST, OTHER, PATH_CUT, PATH_WITHDRAWN,
-    PEERS, PREFIX_OF_33, QUARTERS, SET_OF_THREE, SEVEN_EIGHTHS, SHORT_HOP, SIX, TEN, TEN_ONE,
-    TEN_TWICE, TEN_WRONG_SEGMENT, TOO_WIDE, TWO_PATHS, TWO_PEERS, UPPER_HALF, WIDE_WITHDRAWN,
-    WITH_A_GAP, WRONG_LENGTH, WRONG_SEGMENT, WRONG_SEGMENT_AND_FLAGS,
+    ALL_TWICE, GONE_AND_BACK, HALVES, LONG_HEADER, LONGER, LOST, LOWER_HALF, OTHER, PATH_CUT,
+    PATH_WITHDRAWN, PEERS, PREFIX_OF_33, QUARTERS, SET_OF_THREE, SEVEN_EIGHTHS, SHORT_HOP, SIX,
+    TEN, TEN_ONE, TEN_ONE_BY_A, TEN_TWICE, TEN_WRONG_SEGMENT, TOO_WIDE, TWO_PATHS, TWO_PEERS,
+    UPPER_HALF, WIDE_WITHDRAWN, WITH_A_GAP, WRONG_LENGTH, WRONG_SEGMENT, WRONG_SEGMENT_AND_FLAGS,
 };
 use crate::texts::{
     CERTIFICATE_OF_NONE, PRINTED_TIE, ROWS_OF_BOTH, ROWS_OF_DROP, ROWS_OF_DROP_BEFORE_HOP,
     ROWS_OF_GONE_AND_BACK, ROWS_OF_KEPT_HOP, ROWS_OF_LONGER, ROWS_OF_LOST, ROWS_OF_LOST_PATHS,
-    ROWS_OF_MEET, ROWS_OF_NO_SUCH_PATH, ROWS_OF_OTHER_PATH, ROWS_OF_SET, ROWS_OF_SIX, ROWS_OF_TEN,
-    ROWS_OF_TIE, ROWS_OF_TREATED, TIE_BOUNDS, TIE_LEAST, TIE_LEAVES, TIE_ROUTES, WRONG_JOIN,
-    WRONG_LEAST,
+    ROWS_OF_MEET, ROWS_OF_NO_SUCH_PATH, ROWS_OF_OTHER_PATH, ROWS_OF_REDUNDANT, ROWS_OF_REPAIR,
+    ROWS_OF_SET, ROWS_OF_SIX, ROWS_OF_SNAPSHOT, ROWS_OF_TEN, ROWS_OF_TIE, ROWS_OF_TREATED,
+    TIE_BOUNDS, TIE_LEAST, TIE_LEAVES, TIE_ROUTES, WRONG_JOIN, WRONG_LEAST,
 };
 use fib_addr::{Addr, Family, Hop, Prefix};
 use fib_io::{MemInputs, MemSink};
@@ -61,6 +61,8 @@ const WORDS: &[&str] = &["fib", "run", "dump", "--ask", "asks"];
 const CHECK_WORDS: &[&str] = &["fib", "check", "printed"];
 
 const WITH_UPDATES: &[&str] = &["fib", "run", "--updates=updates", "dump"];
+
+const WITH_SNAPSHOTS: &[&str] = &["fib", "run", "dump", "--updates", "updates", "--every", "1"];
 
 /// No limit to a length.
 const ALL: usize = usize::MAX;
@@ -309,7 +311,7 @@ fn rows_of_routes_and_updates(rt: HostRuntime) -> Result<(), Fail> {
 }
 
 #[test]
-fn rows_of_least_tables(rt: HostRuntime) -> Result<(), Fail> {
+fn rows_of_kept_and_least_tables(rt: HostRuntime) -> Result<(), Fail> {
     let given = Given {
         words: WITH_UPDATES,
         ..FIRST
@@ -338,6 +340,33 @@ fn rows_of_least_tables(rt: HostRuntime) -> Result<(), Fail> {
                 ..given
             },
             ROWS_OF_MEET,
+        ),
+        (
+            "a redundant prefix",
+            Given {
+                dump: &[PEERS, TEN, TEN_ONE_BY_A],
+                ..given
+            },
+            ROWS_OF_REDUNDANT,
+        ),
+        (
+            "a repair stays within its prefix",
+            Given {
+                dump: &[TWO_PEERS, LOWER_HALF],
+                updates: &[UPPER_HALF],
+                ..given
+            },
+            ROWS_OF_REPAIR,
+        ),
+        (
+            "a snapshot after each event",
+            Given {
+                words: WITH_SNAPSHOTS,
+                dump: &[TWO_PEERS, LOWER_HALF],
+                updates: &[UPPER_HALF],
+                ..given
+            },
+            ROWS_OF_SNAPSHOT,
         ),
         (
             "the old hop is kept",

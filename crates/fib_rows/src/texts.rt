@@ -284,13 +284,11 @@ pub const ROWS_OF_TIE: &[&[&str]] = &[&[
     "route,64.0.0.0/2,192.0.2.2",
     "route,128.0.0.0/2,192.0.2.1",
     "route,192.0.0.0/2,192.0.2.2",
-    "change,0,+,0.0.0.0/2,192.0.2.1",
+    "change,0,+,0.0.0.0/0,192.0.2.1",
     "change,0,+,64.0.0.0/2,192.0.2.2",
-    "change,0,+,128.0.0.0/2,192.0.2.1",
     "change,0,+,192.0.0.0/2,192.0.2.2",
-    "table,0.0.0.0/2,192.0.2.1",
+    "table,0.0.0.0/0,192.0.2.1",
     "table,64.0.0.0/2,192.0.2.2",
-    "table,128.0.0.0/2,192.0.2.1",
     "table,192.0.0.0/2,192.0.2.2",
     "least,0.0.0.0/0,192.0.2.1",
     "least,64.0.0.0/2,192.0.2.2",
@@ -309,7 +307,7 @@ pub const ROWS_OF_TIE: &[&[&str]] = &[&[
     "report,skipped,0",
     "report,events,4",
     "report,routes,4",
-    "report,entries,4",
+    "report,entries,3",
     "report,treated,0",
 ]];
 
@@ -322,20 +320,10 @@ pub const ROWS_OF_DROP: &[&[&str]] = &[&[
     "route,128.0.0.0/3,192.0.2.1",
     "route,160.0.0.0/3,192.0.2.1",
     "route,192.0.0.0/3,192.0.2.1",
-    "change,0,+,0.0.0.0/3,192.0.2.1",
-    "change,0,+,32.0.0.0/3,192.0.2.1",
-    "change,0,+,64.0.0.0/3,192.0.2.1",
-    "change,0,+,96.0.0.0/3,192.0.2.1",
-    "change,0,+,128.0.0.0/3,192.0.2.1",
-    "change,0,+,160.0.0.0/3,192.0.2.1",
-    "change,0,+,192.0.0.0/3,192.0.2.1",
-    "table,0.0.0.0/3,192.0.2.1",
-    "table,32.0.0.0/3,192.0.2.1",
-    "table,64.0.0.0/3,192.0.2.1",
-    "table,96.0.0.0/3,192.0.2.1",
-    "table,128.0.0.0/3,192.0.2.1",
-    "table,160.0.0.0/3,192.0.2.1",
-    "table,192.0.0.0/3,192.0.2.1",
+    "change,0,+,0.0.0.0/0,192.0.2.1",
+    "change,0,+,224.0.0.0/3,drop",
+    "table,0.0.0.0/0,192.0.2.1",
+    "table,224.0.0.0/3,drop",
     "least,0.0.0.0/0,192.0.2.1",
     "least,224.0.0.0/3,drop",
     "cert,leaf,0.0.0.0/1,192.0.2.1",
@@ -352,7 +340,7 @@ pub const ROWS_OF_DROP: &[&[&str]] = &[&[
     "report,skipped,0",
     "report,events,7",
     "report,routes,7",
-    "report,entries,7",
+    "report,entries,2",
     "report,treated,0",
 ]];
 
@@ -360,10 +348,8 @@ pub const ROWS_OF_DROP: &[&[&str]] = &[&[
 pub const ROWS_OF_MEET: &[&[&str]] = &[&[
     "route,0.0.0.0/1,192.0.2.1",
     "route,128.0.0.0/1,192.0.2.1",
-    "change,0,+,0.0.0.0/1,192.0.2.1",
-    "change,0,+,128.0.0.0/1,192.0.2.1",
-    "table,0.0.0.0/1,192.0.2.1",
-    "table,128.0.0.0/1,192.0.2.1",
+    "change,0,+,0.0.0.0/0,192.0.2.1",
+    "table,0.0.0.0/0,192.0.2.1",
     "least,0.0.0.0/0,192.0.2.1",
     "cert,leaf,0.0.0.0/0,192.0.2.1",
     "cert,bound,4,1",
@@ -373,9 +359,85 @@ pub const ROWS_OF_MEET: &[&[&str]] = &[&[
     "report,skipped,0",
     "report,events,2",
     "report,routes,2",
-    "report,entries,2",
+    "report,entries,1",
     "report,treated,0",
 ]];
+
+/// 10.0.0.0/8 and 10.1.0.0/16 by one next hop: the kept table needs the first alone.
+pub const ROWS_OF_REDUNDANT: &[&[&str]] = &[
+    &[
+        "route,10.0.0.0/8,192.0.2.1",
+        "route,10.1.0.0/16,192.0.2.1",
+        "change,0,+,10.0.0.0/8,192.0.2.1",
+        "table,10.0.0.0/8,192.0.2.1",
+        "least,10.0.0.0/8,192.0.2.1",
+    ],
+    CERT_OF_TEN,
+    &[
+        "report,records,3",
+        "report,skipped,0",
+        "report,events,2",
+        "report,routes,2",
+        "report,entries,1",
+        "report,treated,0",
+    ],
+];
+
+/// The other half comes by the same next hop: without a snapshot the kept table has both halves.
+pub const ROWS_OF_REPAIR: &[&[&str]] = &[
+    HALVES_ROUTES,
+    &[
+        "change,1,+,128.0.0.0/1,192.0.2.1",
+        "table,0.0.0.0/1,192.0.2.1",
+        "table,128.0.0.0/1,192.0.2.1",
+    ],
+    CERT_OF_HALVES,
+    &[
+        "report,records,3",
+        "report,skipped,0",
+        "report,events,2",
+        "report,routes,2",
+        "report,entries,2",
+        "report,treated,0",
+    ],
+];
+
+/// A snapshot after that makes the kept table least: its changes come behind those of the repair.
+pub const ROWS_OF_SNAPSHOT: &[&[&str]] = &[
+    HALVES_ROUTES,
+    &[
+        "change,1,+,128.0.0.0/1,192.0.2.1",
+        "change,1,+,0.0.0.0/0,192.0.2.1",
+        "change,1,-,0.0.0.0/1",
+        "change,1,-,128.0.0.0/1",
+        "table,0.0.0.0/0,192.0.2.1",
+    ],
+    CERT_OF_HALVES,
+    &[
+        "report,records,3",
+        "report,skipped,0",
+        "report,events,2",
+        "report,routes,2",
+        "report,entries,1",
+        "report,treated,0",
+    ],
+];
+
+/// Two halves by one next hop, of which the load had the first.
+const HALVES_ROUTES: &[&str] = &[
+    "route,0.0.0.0/1,192.0.2.1",
+    "route,128.0.0.0/1,192.0.2.1",
+    "change,0,+,0.0.0.0/1,192.0.2.1",
+];
+
+/// Their least table and its certificate.
+const CERT_OF_HALVES: &[&str] = &[
+    "least,0.0.0.0/0,192.0.2.1",
+    "cert,leaf,0.0.0.0/0,192.0.2.1",
+    "cert,bound,4,1",
+    "cert,leaf,::/0,none",
+    "cert,bound,6,0",
+];
 
 /// The old entry's hop is best, and stays, though the other was seen first.
 pub const ROWS_OF_KEPT_HOP: &[&[&str]] = &[&[
@@ -406,11 +468,11 @@ pub const ROWS_OF_DROP_BEFORE_HOP: &[&[&str]] = &[&[
     "route,0.0.0.0/1,192.0.2.1",
     "route,128.0.0.0/2,192.0.2.1",
     "route,224.0.0.0/3,192.0.2.2",
-    "change,0,+,0.0.0.0/1,192.0.2.1",
-    "change,0,+,128.0.0.0/2,192.0.2.1",
+    "change,0,+,0.0.0.0/0,192.0.2.1",
+    "change,0,+,192.0.0.0/2,drop",
     "change,0,+,224.0.0.0/3,192.0.2.2",
-    "table,0.0.0.0/1,192.0.2.1",
-    "table,128.0.0.0/2,192.0.2.1",
+    "table,0.0.0.0/0,192.0.2.1",
+    "table,192.0.0.0/2,drop",
     "table,224.0.0.0/3,192.0.2.2",
     "least,0.0.0.0/0,192.0.2.1",
     "least,192.0.0.0/2,drop",

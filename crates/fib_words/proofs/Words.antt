@@ -1,5 +1,5 @@
 -- What clap answers, and the definition of the command line.
-use Rattle.std.proofs.Common.{◌≡◌, true, false, cond, List, [], ◌∷◌, Option, Some, None, Err, refl, sym, ap, ◌∙◌, subst, inl, inr, codes}
+use Rattle.std.proofs.Common.{◌≡◌, ℕ, true, false, cond, List, [], ◌∷◌, Option, Some, None, Err, refl, sym, ap, ◌∙◌, subst, inl, inr, codes}
 use Rattle.std.specs.Prelude.{◌≢◌, option_map, Box}
 use Rattle.std.specs.Option.{option_and_then}
 use Rattle.std.specs.Str.{bytes_eq}
@@ -17,7 +17,7 @@ use Rattle.clap.proofs.WalkLemmas.{first_value-rows}
 use Rattle.clap.proofs.OnLiterals.{clap_on_literals}
 use Rattle.fib_words.specs.declared.WordsError.{WordsError}
 use Rattle.fib_words.specs.declared.WordsError.TheVariants.{Usage, NoMemory}
-use Rattle.fib_words.specs.Commands.{fib_app, takes, is_empty, Run, Check, asked_in, named_by, command_of, IsCommand}
+use Rattle.fib_words.specs.Commands.{fib_app, takes, is_empty, Run, Check, asked_in, every_by, named_by, named_with, command_of, IsCommand}
 
 fib_free : is_simple_and_free fib_app ≡ true
 unfolding clap_on_literals
@@ -78,5 +78,13 @@ check_is m check printed e f g =
 
 -- ---- the names in the matches of a run
 
-pub names_is : (m : ArgMatches) (d u a : Option Text) → d ≡ first_value (found_of m) (codes "dump") → u ≡ first_value (found_of m) (codes "updates") → a ≡ first_value (found_of m) (codes "ask") → option_map (λ dump. record { dump = dump; updates = u; asks = a }) d ≡ named_by (rows_of (found_of m))
-names_is m d u a e f g = rw (e, f, g, first_value-rows (found_of m) (codes "dump"), first_value-rows (found_of m) (codes "updates"), first_value-rows (found_of m) (codes "ask")) refl
+pub names_is : (m : ArgMatches) (d u a k : Option Text) → d ≡ first_value (found_of m) (codes "dump") → u ≡ first_value (found_of m) (codes "updates") → a ≡ first_value (found_of m) (codes "ask") → k ≡ first_value (found_of m) (codes "every") → named_with d u a k ≡ named_by (rows_of (found_of m))
+names_is m d u a k e f g h = rw (e, f, g, h, first_value-rows (found_of m) (codes "dump"), first_value-rows (found_of m) (codes "updates"), first_value-rows (found_of m) (codes "ask"), first_value-rows (found_of m) (codes "every")) refl
+
+-- the word after `--every` is no number, or it is
+
+pub no_number : (d : Text) (u a k : Option Text) → every_by k ≡ None → named_with (Some d) u a k ≡ None
+no_number d u a k e = ap (option_map (λ (n : ℕ). record { dump = d; updates = u; asks = a; every = n })) e
+
+pub a_number : (d : Text) (u a k : Option Text) (n : ℕ) → every_by k ≡ Some n → named_with (Some d) u a k ≡ Some (record { dump = d; updates = u; asks = a; every = n })
+a_number d u a k n e = ap (option_map (λ (n : ℕ). record { dump = d; updates = u; asks = a; every = n })) e

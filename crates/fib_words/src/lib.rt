@@ -9,14 +9,15 @@ ghost use Rattle.std.specs.Option.{option_and_then};
 ghost use Rattle.std.specs.String.{string_bytes};
 ghost use Rattle.clap.specs.Words.{app_of, found_of, rows_of, subcommand_rows_of, with_rule};
 ghost use Rattle.clap.specs.Values.{kind_of};
-ghost use Rattle.fib_words.specs.Commands.{asked_as, asked_in, check_app, command_of, fib_app, HasApp, IsCommand, IsLocal, named_as, named_by, option_rule, run_app, word_rule};
+ghost use Rattle.fib_words.specs.Commands.{asked_as, asked_in, check_app, command_of, every_by, fib_app, HasApp, IsCommand, IsLocal, named_as, named_by, option_rule, run_app, word_rule};
 ghost use Rattle.fib_words.specs.declared.WordsError.TheVariants.{NoMemory};
 
 use clap::error::ErrorKind;
 use clap::{Arg, ArgMatches, Command, Error};
+use fib_addr::read_number;
 use std::alloc::{AllocError, Global};
 
-/// The inputs of a run, as the words name them.
+/// A run, as the words ask for it.
 #[derive(Clone, Copy, Debug)]
 pub struct RunWords<'a> {
     /// The dump.
@@ -25,12 +26,14 @@ pub struct RunWords<'a> {
     pub updates: Option<&'a str>,
     /// The addresses that are asked for, if any are.
     pub asks: Option<&'a str>,
+    /// How many elementary events of the updates a snapshot follows; 0 is never.
+    pub every: u32,
 }
 
 /// What the words ask for.
 #[derive(Clone, Copy, Debug)]
 pub enum CommandWords<'a> {
-    /// A run over these inputs.
+    /// A run.
     Run(RunWords<'a>),
     /// A check of the printed text of this name.
     Check(&'a str),
@@ -83,13 +86,14 @@ fn with_word<'a>(
     command.arg(word)
 }
 
-/// `run DUMP [--updates F] [--ask F]`.
+/// `run DUMP [--updates F] [--ask F] [--every K]`.
 fn run_command<'a>(alloc: Global) -> Result<Command<'a>, AllocError>
     ensures { IfOk result (λ c. HasApp c run_app) }
 {
     let command = with_word(alloc, Command::new(alloc, "run"), "dump")?;
     let command = with_option(alloc, command, "updates")?;
-    with_option(alloc, command, "ask")
+    let command = with_option(alloc, command, "ask")?;
+    with_option(alloc, command, "every")
 }
 
 /// `check PRINTED`.
@@ -111,7 +115,21 @@ fn fib_command<'a>(alloc: Global) -> Result<Command<'a>, AllocError>
         .subcommand(check)
 }
 
-/// The names in the matches of `run`.
+/// The number that the word after `--every` writes, 0 where there is none. `None` exactly where the word isn't a number from 0
+/// to 4,294,967,295 in plain decimal.
+fn every_of(word: Option<&str>) -> Option<u32>
+    ensures { result ≡ every_by (option_map (λ w. w.now) word.entry) }
+{
+    match word {
+        Some(word) => {
+            let number = read_number(word.as_bytes(), u64::from(u32::MAX))?;
+            Some(number as u32)
+        }
+        None => Some(0),
+    }
+}
+
+/// What the matches of `run` name.
 fn run_words<'a>(matches: &ArgMatches<'a>) -> Option<RunWords<'a>>
     ensures { option_map named_as result ≡ named_by (rows_of (found_of matches.now)) }
 {
@@ -120,6 +138,7 @@ fn run_words<'a>(matches: &ArgMatches<'a>) -> Option<RunWords<'a>>
         dump,
         updates: matches.get_str("updates"),
         asks: matches.get_str("ask"),
+        every: every_of(matches.get_str("every"))?,
     })
 }
 
@@ -151,7 +170,7 @@ fn command_in<'a>(matches: &ArgMatches<'a>) -> Option<CommandWords<'a>>
 /// Reads the words of the command line, the program's name first.
 ///
 /// Unless memory runs out, `Usage` comes exactly where the words are no command: where clap's definition of the command
-/// line doesn't take them, or what it takes names no command with its word.
+/// line doesn't take them, what it takes names no command with its word, or the word after `--every` is no such number.
 pub fn read_words<'a>(alloc: Global, words: &'a [String]) -> Result<CommandWords<'a>, WordsError>
     ensures { IsCommand result (command_of (map string_bytes words.now)) }
 {

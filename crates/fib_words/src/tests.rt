@@ -3,41 +3,59 @@
 use super::*;
 use std::test::Fail;
 
-/// The words, and the names of the dump, the updates and the asks that they ask for, if they are a command.
+/// The words, and the names of the dump, the updates and the asks that they ask for and how many events a snapshot follows, if
+/// they are a command.
 type Case<'a> = (
     &'a [&'a str],
-    Option<(&'a str, Option<&'a str>, Option<&'a str>)>,
+    Option<(&'a str, Option<&'a str>, Option<&'a str>, u32)>,
 );
 
-const CASES: [Case<'static>; 26] = [
-    (&["fib", "run", "D"], Some(("D", None, None))),
+const CASES: [Case<'static>; 34] = [
+    (&["fib", "run", "D"], Some(("D", None, None, 0))),
     (
         &["fib", "run", "D", "--ask", "A"],
-        Some(("D", None, Some("A"))),
+        Some(("D", None, Some("A"), 0)),
     ),
     (
         &["fib", "run", "D", "--ask=A"],
-        Some(("D", None, Some("A"))),
+        Some(("D", None, Some("A"), 0)),
     ),
     (
         &["fib", "run", "--ask", "A", "D"],
-        Some(("D", None, Some("A"))),
+        Some(("D", None, Some("A"), 0)),
     ),
     (
         &["any", "run", "D", "--updates", "U"],
-        Some(("D", Some("U"), None)),
+        Some(("D", Some("U"), None, 0)),
     ),
     (
         &["fib", "run", "--ask", "A", "--updates", "U", "D"],
-        Some(("D", Some("U"), Some("A"))),
+        Some(("D", Some("U"), Some("A"), 0)),
     ),
-    (&["fib", "run", "--", "-D"], Some(("-D", None, None))),
-    (&["fib", "run", "-"], Some(("-", None, None))),
+    (&["fib", "run", "--", "-D"], Some(("-D", None, None, 0))),
+    (&["fib", "run", "-"], Some(("-", None, None, 0))),
     (
         &["fib", "run", "D", "--ask", "-"],
-        Some(("D", None, Some("-"))),
+        Some(("D", None, Some("-"), 0)),
     ),
-    (&["fib", "run", "help"], Some(("help", None, None))),
+    (&["fib", "run", "help"], Some(("help", None, None, 0))),
+    (
+        &["fib", "run", "D", "--every", "1000"],
+        Some(("D", None, None, 1000)),
+    ),
+    (
+        &["fib", "run", "--every=4294967295", "D", "--ask", "A"],
+        Some(("D", None, Some("A"), 4_294_967_295)),
+    ),
+    (
+        &["fib", "run", "D", "--every", "0"],
+        Some(("D", None, None, 0)),
+    ),
+    (&["fib", "run", "D", "--every", "4294967296"], None),
+    (&["fib", "run", "D", "--every", "01"], None),
+    (&["fib", "run", "D", "--every", "+1"], None),
+    (&["fib", "run", "D", "--every", ""], None),
+    (&["fib", "run", "D", "--every"], None),
     (&[], None),
     (&["fib"], None),
     (&["fib", "run"], None),
@@ -72,7 +90,10 @@ fn takes_what_the_definition_takes(rt: HostRuntime) -> Result<(), Fail> {
         let words = words_of(alloc, texts)?;
         match read_words(alloc, &words) {
             Ok(CommandWords::Run(run)) => {
-                assert_eq!(rt; Some((run.dump, run.updates, run.asks)), expected);
+                assert_eq!(rt;
+                    Some((run.dump, run.updates, run.asks, run.every)),
+                    expected
+                );
             }
             Ok(CommandWords::Check(_)) => assert!(rt; false, "no check is asked for"),
             Err(error) => {

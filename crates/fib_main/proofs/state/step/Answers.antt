@@ -1,23 +1,18 @@
-use Rattle.std.proofs.Common.{ap, Err}
-use Rattle.fib_main.proofs.Steps.{full_here, stands_after, stands_next, adds_nothing, adds_change, no_change, none_kept, is_elem}
+use Rattle.std.proofs.Common.{refl, ap, map, ◌∙◌}
+use Rattle.fib_delta.specs.Views.{change_as}
+use Rattle.fib_main.proofs.Steps.{loads_one, not_taken, takes_one, took_it}
 use Rattle.fib_main.proofs.state.step.Goals as goal
 
-pub returns-in-Err-HopsFull-clause-takes : goal.returns-in-Err-HopsFull-clause-takes
-returns-in-Err-HopsFull-clause-takes c = λ before done counted s. full_here _ before done _ _ _ counted s (c.in-Err-HopsFull.ensures.full (ap Err c.in-Err-HopsFull.field-0-is))
+pub returns-in-Ok-clause-takes : goal.returns-in-Ok-clause-takes
+returns-in-Ok-clause-takes c = rw c.in-Dump.is (loads_one _ _ c.args.state.now _ c.in-Ok.ensures.loads c.in-Ok.ensures.loading (took_it c.in-Ok.field-0 _ c.args.state.now c.in-Ok.ensures.full.1) refl)
 
-pub returns-in_ok-load-in-Dump-clause-takes : goal.returns-in_ok-load-in-Dump-clause-takes
-returns-in_ok-load-in-Dump-clause-takes c = λ before done counted s.
-    let e = c.in-Ok.ensures in
-    stands_after _ before done _ c.args.state.now _ _ (is_elem c.args.elem.now) counted s c.in_ok-load-in-Dump.ensures.candidates e.hops e.few (adds_nothing _ _ _ _ (none_kept _ _ _ c.in-Dump.is))
+pub returns-in-Err-clause-takes : goal.returns-in-Err-clause-takes
+returns-in-Err-clause-takes c = not_taken c.args.which c.args.event _ c.args.state.now _ c.in-Err.error c.refused.result c.refused.ensures c.in-Err.ensures.full.0
 
-pub returns-in_ok-push-in-Updates-clause-takes : goal.returns-in_ok-push-in-Updates-clause-takes
-returns-in_ok-push-in-Updates-clause-takes c = λ before done counted s.
-    let e = c.in-Ok.ensures in
-    let chosen = c.in_ok-choice-in-Updates.ensures in
-    stands_next _ before done _ c.args.state.now _ _ c.in_ok-choice-in-Updates.choice (is_elem c.args.elem.now) counted s chosen.candidates e.hops e.few chosen.choice (adds_change _ _ _ c.in-Some.change _ _ c.in-Updates.is c.in-Some.ensures c.in_ok-push-in-Updates.ensures.items)
+pub returns-in_ok-push_changes-in-Ok-apply-clause-takes : goal.returns-in_ok-push_changes-in-Ok-apply-clause-takes
+returns-in_ok-push_changes-in-Ok-apply-clause-takes c =
+    let told = c.in-Ok-apply.ensures in
+    rw c.in-Updates.is (takes_one _ _ c.args.state.now _ _ told.takes told.stands (took_it c.in-Ok-apply.changes _ c.args.state.now told.full.1) (ap (map change_as) c.deref.ensures.value ∙ told.changes) c.in_ok-push_changes-in-Ok-apply.ensures)
 
-pub returns-in_default-clause-takes : goal.returns-in_default-clause-takes
-returns-in_default-clause-takes c = λ before done counted s.
-    let e = c.in-Ok.ensures in
-    let chosen = c.in_ok-choice-in-Updates.ensures in
-    stands_next _ before done _ c.args.state.now _ _ c.in_ok-choice-in-Updates.choice (is_elem c.args.elem.now) counted s chosen.candidates e.hops e.few chosen.choice (adds_nothing _ _ _ _ (no_change _ _ _ c.in-Updates.is c.in_default.ensures))
+pub returns-in-Err-apply-clause-takes : goal.returns-in-Err-apply-clause-takes
+returns-in-Err-apply-clause-takes c = not_taken c.args.which c.args.event _ c.args.state.now _ c.in-Err-apply.error c.refused-in-Err-apply.result c.refused-in-Err-apply.ensures c.in-Err-apply.ensures.full.0

@@ -1,0 +1,227 @@
+-- What the changes of a kept table come to on the way.
+use Rattle.std.proofs.Common.{◌≡◌, ℕ, suc, ◌+◌, ◌<◌, ◌≤◌, List, [], ◌∷◌, ◌++◌, Bool, true, false, cond, Some, None, length, refl, sym, ap, subst, ◌∙◌, arith, append_assoc, append-nil}
+use Rattle.std.specs.Prelude.{nat_le, if◌then◌else◌}
+use Rattle.std.specs.List.{AllByRecursion, filter}
+use Rattle.std.proofs.lemmas.Bool.{le-leb, lt-leb}
+use Rattle.address_model.specs.Address.{Address, Prefix, IsPrefix}
+use Rattle.address_model.specs.Width.{width}
+use Rattle.table_model.specs.Entries.{Entries, AlikeInBoth, of_family}
+use Rattle.table_model.specs.Changes.{Change, sum_of}
+use Rattle.table_model.specs.Table.{Alike}
+use Rattle.least_model.specs.Regions.{SameOutside}
+use Rattle.least_model.specs.Both.{LeastInBoth}
+use Rattle.delta_model.specs.Between.{AreEntries, between}
+use Rattle.delta_model.proofs.Held.{Placed}
+use Rattle.kept_model.specs.Patched.{after_repair, patch_of}
+use Rattle.kept_model.proofs.Patches.{family_table, patched_least}
+use Rattle.route_model.specs.Events.{Elem, elem_prefix}
+use Rattle.route_model.specs.Choice.{AreCandidates, Candidates, IsElem, after_elem, after_elems, chosen_for}
+use Rattle.feed_model.specs.Feed.{at_event, changes_in, entries_of, hops_after}
+use Rattle.feed_model.proofs.Tables.{at_prefix}
+use Rattle.kept_feed.specs.Kept.{AreNumberedAlong, changed_at, changes_by, is_due, is_other, kept_at_load, kept_by, kept_changes_from, kept_from, kept_load_changes, repaired_by, snapshot_if}
+use Rattle.kept_feed.proofs.Alike.{kept_alike, loaded_alike, snapshot_least}
+use Rattle.kept_feed.proofs.Sums.{all, by_placed, renewed_placed, snapshot_placed}
+use Rattle.kept_feed.proofs.Stays.{kept_changes_stay, kept_stays, load_stays}
+use Rattle.kept_feed.proofs.Steps.{changes_step, numbered_along, numbered_later}
+use Rattle.fib_main.specs.Due.{changes_of, kept_of}
+use Rattle.fib_main.specs.Keeps.{changes_to, has_snapshot}
+
+-- ---- one list of elementary events after another
+
+pub kept_append : (every : ℕ) (hops : List Address) (n : ℕ) (held : Candidates) (T : Entries) (xs ys : List Elem)
+    → kept_from every hops n held T (xs ++ ys) ≡ kept_from every hops (n + length xs) (after_elems held xs) (kept_from every hops n held T xs) ys
+unfolding kept_from
+kept_append every hops n held T [] ys = ap (λ m. kept_from every hops m held T ys) (omega arith)
+kept_append every hops n held T (x ∷ xs) ys =
+    let m : n + 1 + length xs ≡ n + suc (length xs) = omega arith in
+    kept_append every hops (n + 1) (after_elem held x) (kept_by every hops n held T x) xs ys
+    ∙ ap (λ m. kept_from every hops m (after_elems (after_elem held x) xs) (kept_from every hops (n + 1) (after_elem held x) (kept_by every hops n held T x) xs) ys) m
+
+pub changes_append : (every : ℕ) (hops : List Address) (n : ℕ) (held : Candidates) (T : Entries) (xs ys : List Elem)
+    → kept_changes_from every hops n held T (xs ++ ys) ≡ kept_changes_from every hops n held T xs ++ kept_changes_from every hops (n + length xs) (after_elems held xs) (kept_from every hops n held T xs) ys
+unfolding kept_from kept_changes_from
+changes_append every hops n held T [] ys = ap (λ m. kept_changes_from every hops m held T ys) (omega arith)
+changes_append every hops n held T (x ∷ xs) ys =
+    let m : n + 1 + length xs ≡ n + suc (length xs) = omega arith in
+    let first = at_event n (changes_by every hops n held T x) in
+    let M = kept_by every hops n held T x in
+    ap (λ cs. first ++ cs)
+    (changes_append every hops (n + 1) (after_elem held x) M xs ys
+    ∙ ap (λ m. kept_changes_from every hops (n + 1) (after_elem held x) M xs ++ kept_changes_from every hops m (after_elems (after_elem held x) xs) (kept_from every hops (n + 1) (after_elem held x) M xs) ys) m)
+    ∙ sym (append_assoc first (kept_changes_from every hops (n + 1) (after_elem held x) M xs) (kept_changes_from every hops (n + suc (length xs)) (after_elems (after_elem held x) xs) (kept_from every hops (n + 1) (after_elem held x) M xs) ys))
+
+-- ---- the numbers of events
+
+abbrev Numbered : Type 0
+Numbered = List (ℕ × Change)
+
+all_both : (P : ℕ × Change → Type 0) (xs ys : Numbered) → AllByRecursion P xs → AllByRecursion P ys → AllByRecursion P (xs ++ ys)
+all_both P [] ys a b = b
+all_both P (x ∷ xs) ys a b = (a.0, all_both P xs ys a.1 b)
+
+all_weaker : (P Q : ℕ × Change → Type 0) (xs : Numbered) → ((c : ℕ × Change) → P c → Q c) → AllByRecursion P xs → AllByRecursion Q xs
+all_weaker P Q [] f a = tt
+all_weaker P Q (x ∷ xs) f a = (f x a.0, all_weaker P Q xs f a.1)
+
+event_is : (P : ℕ × Change → Type 0) (n : ℕ) (cs : List Change) → ((c : Change) → P (n, c)) → AllByRecursion P (at_event n cs)
+event_is P n [] f = tt
+event_is P n (c ∷ cs) f = (f c, event_is P n cs f)
+
+-- from here on
+numbers_from : (every : ℕ) (hops : List Address) (n : ℕ) (held : Candidates) (T : Entries) (elems : List Elem) → AllByRecursion (λ (c : ℕ × Change). n ≤ c.0) (kept_changes_from every hops n held T elems)
+unfolding kept_changes_from
+numbers_from every hops n held T [] = tt
+numbers_from every hops n held T (x ∷ elems) =
+    let M = kept_by every hops n held T x in
+    all_both (λ (c : ℕ × Change). n ≤ c.0) (at_event n (changes_by every hops n held T x)) (kept_changes_from every hops (n + 1) (after_elem held x) M elems)
+    (event_is (λ (c : ℕ × Change). n ≤ c.0) n (changes_by every hops n held T x) (λ c. omega arith))
+    (all_weaker (λ (c : ℕ × Change). n + 1 ≤ c.0) (λ (c : ℕ × Change). n ≤ c.0) (kept_changes_from every hops (n + 1) (after_elem held x) M elems) (λ c le. omega (arith, le)) (numbers_from every hops (n + 1) (after_elem held x) M elems))
+
+-- up to here
+numbers_to : (every : ℕ) (hops : List Address) (n m : ℕ) (held : Candidates) (T : Entries) (elems : List Elem) → n + length elems ≤ m + 1 → AllByRecursion (λ (c : ℕ × Change). c.0 ≤ m) (kept_changes_from every hops n held T elems)
+unfolding kept_changes_from
+numbers_to every hops n m held T [] le = tt
+numbers_to every hops n m held T (x ∷ elems) le =
+    let M = kept_by every hops n held T x in
+    let here : n ≤ m = omega arith in
+    all_both (λ (c : ℕ × Change). c.0 ≤ m) (at_event n (changes_by every hops n held T x)) (kept_changes_from every hops (n + 1) (after_elem held x) M elems)
+    (event_is (λ (c : ℕ × Change). c.0 ≤ m) n (changes_by every hops n held T x) (λ c. here))
+    (numbers_to every hops (n + 1) m (after_elem held x) M elems (omega arith))
+
+abbrev is_to : ℕ → ℕ × Change → Bool
+is_to m c = nat_le c.0 m
+
+kept_all : (m : ℕ) (cs : Numbered) → AllByRecursion (λ (c : ℕ × Change). c.0 ≤ m) cs → filter (is_to m) cs ≡ cs
+kept_all m [] a = refl
+kept_all m (c ∷ cs) a = ap (λ b. cond b (c ∷ filter (is_to m) cs) (filter (is_to m) cs)) (le-leb c.0 m a.0) ∙ ap (λ ds. c ∷ ds) (kept_all m cs a.1)
+
+dropped_all : (m : ℕ) (cs : Numbered) → AllByRecursion (λ (c : ℕ × Change). m + 1 ≤ c.0) cs → filter (is_to m) cs ≡ []
+dropped_all m [] a = refl
+dropped_all m (c ∷ cs) a = let gt : m < c.0 = omega (arith, a.0) in ap (λ b. cond b (c ∷ filter (is_to m) cs) (filter (is_to m) cs)) (lt-leb c.0 m gt) ∙ dropped_all m cs a.1
+
+filter_both : (m : ℕ) (xs ys : Numbered) → filter (is_to m) (xs ++ ys) ≡ filter (is_to m) xs ++ filter (is_to m) ys
+filter_both m [] ys = refl
+filter_both m (x ∷ xs) ys = by_test (is_to m x) (filter_both m xs ys)
+  where
+    by_test : (b : Bool) → filter (is_to m) (xs ++ ys) ≡ filter (is_to m) xs ++ filter (is_to m) ys → cond b (x ∷ filter (is_to m) (xs ++ ys)) (filter (is_to m) (xs ++ ys)) ≡ cond b (x ∷ filter (is_to m) xs) (filter (is_to m) xs) ++ filter (is_to m) ys
+    by_test true e = ap (λ cs. x ∷ cs) e
+    by_test false e = e
+
+-- ---- the table after the events so far
+
+module _ (every : ℕ) (hops : List Address) (held : Candidates) where
+  -- the kept table
+  abbrev pub table_after : List Elem → Entries
+  table_after done = kept_from every hops 1 held (kept_at_load hops held) done
+
+  abbrev pub all_changes : List Elem → List (ℕ × Change)
+  all_changes elems = kept_load_changes hops held ++ kept_changes_from every hops 1 held (kept_at_load hops held) elems
+
+  changes_are : (done rest : List Elem) → filter (is_to (length done)) (all_changes (done ++ rest)) ≡ all_changes done
+  changes_are done rest =
+      let m = length done in
+      let T = kept_at_load hops held in
+      let front = kept_changes_from every hops 1 held T done in
+      let back = kept_changes_from every hops (1 + m) (after_elems held done) (table_after done) rest in
+      let later : filter (is_to m) back ≡ [] =
+      dropped_all m back (all_weaker (λ (c : ℕ × Change). 1 + m ≤ c.0) (λ (c : ℕ × Change). m + 1 ≤ c.0) back (λ c le. omega (arith, le)) (numbers_from every hops (1 + m) (after_elems held done) (table_after done) rest))
+      in
+      ap (λ cs. filter (is_to m) (kept_load_changes hops held ++ cs)) (changes_append every hops 1 held T done rest)
+      ∙ (filter_both m (kept_load_changes hops held) (front ++ back)
+      ∙ (ap (λ cs. filter (is_to m) (kept_load_changes hops held) ++ cs) (filter_both m front back ∙ (ap (λ cs. filter (is_to m) front ++ cs) later ∙ (append-nil (filter (is_to m) front) ∙ kept_all m front (numbers_to every hops 1 m held T done (omega arith)))))
+      ∙ ap (λ cs. cs ++ front) (kept_all m (kept_load_changes hops held) (event_is (λ (c : ℕ × Change). c.0 ≤ m) 0 _ (λ c. omega arith)))))
+
+  same_some : (T U : Entries) → Some T ≡ Some U → T ≡ U
+  same_some T U e = cc
+
+  -- what the changes so far add up to is the kept table
+  pub table_is : (done rest : List Elem) (T : Entries) → AllByRecursion IsElem done → sum_of (changes_to (length done) (all_changes (done ++ rest))) ≡ Some T → T ≡ table_after done
+  table_is done rest T p e = same_some T (table_after done) (sym e ∙ (ap (λ cs. sum_of (changes_in cs)) (changes_are done rest) ∙ all every hops held done p))
+
+-- every kept table is in order
+pub kept_placed : (every : ℕ) (hops : List Address) (n : ℕ) (held : Candidates) (T : Entries) (elems : List Elem) → AllByRecursion IsElem elems → Placed T → Placed (kept_from every hops n held T elems)
+unfolding kept_from
+kept_placed every hops n held T [] p t = t
+kept_placed every hops n held T (x ∷ elems) p t =
+    kept_placed every hops (n + 1) (after_elem held x) (kept_by every hops n held T x) elems p.1 (renewed_placed (is_due every n) (entries_of hops (after_elem held x)) (repaired_by hops held T x) (by_placed hops held T x p.0 t))
+
+pub loaded_placed : (hops : List Address) (held : Candidates) → Placed (kept_at_load hops held)
+loaded_placed hops held = snapshot_placed (entries_of hops held) []
+
+-- ---- after a snapshot
+
+renewed_least : (b : Bool) (R T : Entries) → b ≡ true → LeastInBoth R (snapshot_if b R T)
+renewed_least true R T e = snapshot_least R T
+renewed_least false R T e = absurd cc
+
+least_last : (every : ℕ) (hops : List Address) (n : ℕ) (held : Candidates) (T : Entries) (x : Elem) (elems : List Elem) → is_due every (n + length elems) ≡ true → LeastInBoth (entries_of hops (after_elems (after_elem held x) elems)) (kept_from every hops n held T (x ∷ elems))
+unfolding kept_from
+least_last every hops n held T x [] e = renewed_least (is_due every n) (entries_of hops (after_elem held x)) (repaired_by hops held T x) (ap (is_due every) (omega arith) ∙ e)
+least_last every hops n held T x (y ∷ elems) e = least_last every hops (n + 1) (after_elem held x) (kept_by every hops n held T x) y elems (ap (is_due every) (omega arith) ∙ e)
+
+pub least_after : (every : ℕ) (hops : List Address) (held : Candidates) (done : List Elem) → has_snapshot every (length done) ≡ true → LeastInBoth (entries_of hops (after_elems held done)) (table_after every hops held done)
+unfolding kept_from
+least_after every hops held [] e = snapshot_least (entries_of hops held) []
+least_after every hops held (x ∷ done) e = least_last every hops 1 held (kept_at_load hops held) x done (ap (is_due every) (omega arith) ∙ e)
+
+-- ---- after a repair
+
+pub alike_after : (every : ℕ) (hops : List Address) (held : Candidates) (done : List Elem) → AreCandidates held → AllByRecursion IsElem done → AlikeInBoth (table_after every hops held done) (entries_of hops (after_elems held done))
+alike_after every hops held done a p = λ b is. sym (kept_alike every hops 1 held (kept_at_load hops held) done a p (loaded_placed hops held) (loaded_alike hops held) b is)
+
+-- a repair, and a snapshot after it if there is one
+by_fewest : (b : Bool) (R T L : Entries) (q : Prefix) → IsPrefix q → Placed T → AreEntries L → Alike (width q.family) (of_family q.family R) (of_family q.family L) → SameOutside q.bits (of_family q.family L) (of_family q.family T)
+    → length (of_family q.family (snapshot_if b R (patch_of R q T))) ≤ length (of_family q.family L)
+by_fewest false R T L q is t l a o = patched_least R T q is t L l a o
+by_fewest true R T L q is t l a o = (snapshot_least R (patch_of R q T) q.family).1 (of_family q.family L) (family_table q.family L l) a
+
+changed_is : (b : Bool) (p q : Prefix) → (if b then Some p else None) ≡ Some q → p ≡ q
+changed_is true p q e = cc
+changed_is false p q e = absurd cc
+
+pub fewest_by : (every : ℕ) (hops : List Address) (n : ℕ) (held : Candidates) (T L : Entries) (elem : Elem) (q : Prefix) → IsElem elem → Placed T → changed_at held elem ≡ Some q → AreEntries L
+    → Alike (width q.family) (of_family q.family (entries_of hops (after_elem held elem))) (of_family q.family L) → SameOutside q.bits (of_family q.family L) (of_family q.family T)
+    → length (of_family q.family (kept_by every hops n held T elem)) ≤ length (of_family q.family L)
+fewest_by every hops n held T L elem q e t c l a o =
+    let R = entries_of hops (after_elem held elem) in
+    let same : elem_prefix elem ≡ q = changed_is (is_other (chosen_for held (elem_prefix elem)) (chosen_for (after_elem held elem) (elem_prefix elem))) (elem_prefix elem) q c in
+    let repaired : repaired_by hops held T elem ≡ patch_of R q T = ap (λ at. after_repair R at T) c in
+    subst (λ (N : Entries). length (of_family q.family (snapshot_if (is_due every n) R N)) ≤ length (of_family q.family L)) (sym repaired)
+    (by_fewest (is_due every n) R T L q (subst IsPrefix same (at_prefix elem e)) t l a o)
+
+-- ---- one elementary event more
+
+-- the changes stay what they are as more hops get numbers
+changes_stay : (every : ℕ) (before elems more : List Elem) → changes_of every (hops_after (hops_after [] (before ++ elems)) more) before elems ≡ changes_of every (hops_after [] (before ++ elems)) before elems
+changes_stay every before elems more =
+    let hops = hops_after [] (before ++ elems) in
+    let held = after_elems [] before in
+    let along : AreNumberedAlong hops held elems = subst (λ es. AreNumberedAlong (hops_after [] (before ++ es)) held elems) (append-nil elems) (numbered_along before elems []) in
+    let load = load_stays hops more held (numbered_later before elems) in
+    ap (λ T. at_event 0 (between [] T) ++ kept_changes_from every (hops_after hops more) 1 held T elems) load
+    ∙ ap (λ cs. kept_load_changes hops held ++ cs) (kept_changes_stay every hops more 1 held (kept_at_load hops held) elems along)
+
+-- the table does
+table_stays : (every : ℕ) (before elems more : List Elem) → kept_of every (hops_after (hops_after [] (before ++ elems)) more) before elems ≡ kept_of every (hops_after [] (before ++ elems)) before elems
+table_stays every before elems more =
+    let hops = hops_after [] (before ++ elems) in
+    let held = after_elems [] before in
+    let along : AreNumberedAlong hops held elems = subst (λ es. AreNumberedAlong (hops_after [] (before ++ es)) held elems) (append-nil elems) (numbered_along before elems []) in
+    ap (λ T. kept_from every (hops_after hops more) 1 held T elems) (load_stays hops more held (numbered_later before elems))
+    ∙ kept_stays every hops more 1 held (kept_at_load hops held) elems along
+
+pub changes_grow : (every : ℕ) (before done : List Elem) (elem : Elem) (hops : List Address) (held : Candidates) (T : Entries) (n : ℕ) → hops ≡ hops_after [] (before ++ done) → held ≡ after_elems (after_elems [] before) done → T ≡ kept_of every hops before done → n ≡ length done
+    → changes_of every hops before done ++ at_event (n + 1) (changes_by every (hops_after hops (elem ∷ [])) (n + 1) held T elem) ≡ changes_of every (hops_after hops (elem ∷ [])) before (done ++ elem ∷ [])
+changes_grow every before done elem hops held T n h c t e =
+    let now = hops_after hops (elem ∷ []) in
+    let first = after_elems [] before in
+    let table : T ≡ kept_of every now before done = t ∙ (ap (λ hs. kept_of every hs before done) h ∙ (sym (table_stays every before done (elem ∷ [])) ∙ ap (λ hs. kept_of every (hops_after hs (elem ∷ [])) before done) (sym h))) in
+    let changes : changes_of every hops before done ≡ changes_of every now before done = ap (λ hs. changes_of every hs before done) h ∙ (sym (changes_stay every before done (elem ∷ [])) ∙ ap (λ hs. changes_of every (hops_after hs (elem ∷ [])) before done) (sym h)) in
+    let last : at_event (n + 1) (changes_by every now (n + 1) held T elem) ≡ at_event (length done + 1) (changes_by every now (length done + 1) (after_elems first done) (kept_of every now before done) elem) =
+    ap (λ m. at_event (m + 1) (changes_by every now (m + 1) held T elem)) e
+    ∙ (ap (λ h. at_event (length done + 1) (changes_by every now (length done + 1) h T elem)) c ∙ ap (λ K. at_event (length done + 1) (changes_by every now (length done + 1) (after_elems first done) K elem)) table)
+    in
+    ap (λ cs. cs ++ at_event (n + 1) (changes_by every now (n + 1) held T elem)) changes
+    ∙ (ap (λ cs. changes_of every now before done ++ cs) last
+    ∙ (append_assoc (kept_load_changes now first) (kept_changes_from every now 1 first (kept_at_load now first) done) (at_event (length done + 1) (changes_by every now (length done + 1) (after_elems first done) (kept_of every now before done) elem))
+    ∙ ap (λ cs. kept_load_changes now first ++ cs) (sym (changes_step every now elem first (kept_at_load now first) done))))

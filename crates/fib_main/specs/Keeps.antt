@@ -1,0 +1,58 @@
+-- What the printed changes come to on the way, event by event: the load is event 0, and the elementary events of the updates are numbered from 1.
+use Rattle.std.specs.Prelude.{◌≡◌, ◌≤◌, ℕ, zero, suc, ◌+◌, List, [], ◌∷◌, ◌++◌, Bool, true, Some, length, nat_le}
+use Rattle.std.specs.List.{filter}
+use Rattle.address_model.specs.Address.{Prefix}
+use Rattle.address_model.specs.Width.{width}
+use Rattle.table_model.specs.Table.{Alike}
+use Rattle.table_model.specs.Entries.{Entries, AlikeInBoth, of_family}
+use Rattle.table_model.specs.Changes.{Change, sum_of}
+use Rattle.least_model.specs.Regions.{SameOutside}
+use Rattle.least_model.specs.Both.{LeastInBoth}
+use Rattle.delta_model.specs.Between.{AreEntries}
+use Rattle.route_model.specs.Events.{Elem}
+use Rattle.route_model.specs.Choice.{Candidates, after_elems}
+use Rattle.feed_model.specs.Feed.{changes_in, entries_of}
+use Rattle.kept_feed.specs.Kept.{changed_at, is_due}
+use Rattle.fib_main.specs.Due.{Printed}
+
+-- the changes up to the event of this number
+abbrev pub changes_to : ℕ → List (ℕ × Change) → List Change
+changes_to n changes = changes_in (filter (λ c. nat_le c.0 n) changes)
+
+-- T is what the changes up to the event of this number add up to, begun at the empty table
+abbrev pub HasTable : Printed → ℕ → Entries → Type 0
+HasTable p n T = sum_of (changes_to n p.told.changes) ≡ Some T
+
+-- the candidates after the load and these elementary events
+abbrev pub held_after : Printed → List Elem → Candidates
+held_after p done = after_elems (after_elems [] p.load) done
+
+-- their routes
+abbrev pub routes_after : Printed → List Elem → Entries
+routes_after p done = entries_of p.hops (held_after p done)
+
+-- a snapshot follows the event of this number: the load, and each so many-th event of the updates
+abbrev pub has_snapshot : ℕ → ℕ → Bool
+has_snapshot every zero = true
+has_snapshot every (suc n) = is_due every (suc n)
+
+-- After each event the table sends every address where the routes send it then.
+abbrev pub Follows : Printed → Type 0
+Follows p = (done rest : List Elem) (T : Entries) → p.updates ≡ done ++ rest → HasTable p (length done) T → AlikeInBoth T (routes_after p done)
+
+-- After each snapshot no table that does so has fewer entries, in either family.
+abbrev pub RenewsLeast : Printed → Type 0
+RenewsLeast p = (done rest : List Elem) (T : Entries) → p.updates ≡ done ++ rest → has_snapshot p.every (length done) ≡ true → HasTable p (length done) T → LeastInBoth (routes_after p done) T
+
+-- The table L, in this prefix's family, sends every address where these routes send it, and has T's entries outside the prefix.
+pub record DoesWithin (q : Prefix) (R T L : Entries) : Type 0 where
+  pub entries : AreEntries L
+  pub alike : Alike (width q.family) (of_family q.family R) (of_family q.family L)
+  pub outside : SameOutside q.bits (of_family q.family L) (of_family q.family T)
+
+-- After each event that changes the chosen hop of a prefix, no table that sends every address of the family where the routes send it then, and has the entries of the table before outside the prefix, has fewer entries of the family.
+abbrev pub RepairsFewest : Printed → Type 0
+RepairsFewest p =
+    (done rest : List Elem) (elem : Elem) (q : Prefix) (T U L : Entries) → p.updates ≡ done ++ elem ∷ rest → changed_at (held_after p done) elem ≡ Some q
+    → HasTable p (length done) T → HasTable p (length done + 1) U → DoesWithin q (routes_after p (done ++ elem ∷ [])) T L
+    → length (of_family q.family U) ≤ length (of_family q.family L)
