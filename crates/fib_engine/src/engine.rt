@@ -95,7 +95,8 @@ fn number_hop(hops: &mut HopTable, elem: &Elem)
 
 /// The number of a hop once an elementary event was taken: the one that it has, or the one that the event gives.
 fn number_after(hops: &HopTable, own: Option<Hop>, hop: &Addr) -> Hop
-    ensures { (after : List Address) (elem : model_elem) → after ≡ hops_after hops.now.list (elem ∷ [])
+    ensures { (after : List Address) (elem : model_elem)
+        → after ≡ hops_after hops.now.list (elem ∷ [])
         → IsNewNumber hops.now.list after own → HasNumber after (Some (addr_as hop.now))
         → result.0 ≡ number_in after (addr_as hop.now) }
 {
@@ -115,8 +116,9 @@ fn is_same(before: &Option<Addr>, after: &Option<Addr>) -> bool
 
 /// The route of a choice that changes its hop, with the number of the hop after; `Hop::NONE` where there is none.
 fn changed_route(hops: &HopTable, own: Option<Hop>, choice: &Choice) -> Option<(Prefix, Hop)>
-    ensures { (after : List Address) (elem : model_elem) → after ≡ hops_after hops.now.list (elem ∷ [])
-        → IsNewNumber hops.now.list after own → HasNumber after (option_map addr_as choice.now.after)
+    ensures { (after : List Address) (elem : model_elem)
+        → after ≡ hops_after hops.now.list (elem ∷ []) → IsNewNumber hops.now.list after own
+        → HasNumber after (option_map addr_as choice.now.after)
         → IsRouteOf after choice.now result }
 {
     if is_same(&choice.before, &choice.after) {

@@ -8,10 +8,13 @@ use Rattle.fib_engine.proofs.engine.changed_route.Goals as goal
 use Rattle.fib_engine.proofs.engine.changed_route.Goals.{in-Some, in-None}
 
 pub returns : goal.returns
-returns c = λ after elem e own has. (c.is_same.ensures ∙ ap not c.if-is_same.false, refl,
+returns c = λ after elem e own has. (
+  c.is_same.ensures ∙ ap not c.if-is_same.false,
+  refl,
   elim c.match-choice.branch [
-    in-Some w ↦
-      ap (λ (h : Hop). h.0) w.hop-is
-      ∙ (w.number_after-hop.ensures after elem e own (subst (λ (o : Option Addr). HasNumber after (option_map addr_as o)) w.in-Some.is has) ∙ ap (λ (o : Option Addr). number_or_none after (option_map addr_as o)) (sym w.in-Some.is))
+    | in-Some w ↦
+        ap (λ (h : Hop). h.0) w.hop-is
+        ∙ (w.number_after-hop.ensures after elem e own (subst (λ (o : Option Addr). HasNumber after (option_map addr_as o)) w.in-Some.is has) ∙ ap (λ (o : Option Addr). number_or_none after (option_map addr_as o)) (sym w.in-Some.is))
     | in-None w ↦ ap (λ (h : Hop). h.0) w.hop-is ∙ ap (λ (o : Option Addr). number_or_none after (option_map addr_as o)) (sym w.in-None.is)
-  ])
+  ],
+)
