@@ -1,28 +1,25 @@
 -- The routes of one family, and the tables of both families as one.
-use Rattle.std.proofs.Common.{◌≡◌, ℕ, zero, suc, ◌<◌, ◌≤◌, get_or, List, [], ◌∷◌, ◌++◌, Bool, true, false, cond, Option, Some, None, refl, sym, ap, subst, ◌∙◌, append-nil, map, arith, length}
-use Rattle.std.specs.Prelude.{◌&&◌, option_map}
+use Rattle.std.proofs.Common.{◌≡◌, ℕ, zero, suc, ◌<◌, get_or, List, [], ◌∷◌, ◌++◌, Bool, true, false, cond, Option, Some, None, refl, sym, ap, subst, ◌∙◌, append-nil, map, arith, length}
 use Rattle.std.specs.Option.{option_and_then}
 use Rattle.std.specs.List.{AllByRecursion}
-use Rattle.std.specs.List.Sorted.{IsStrictlySortedBy}
 use Rattle.std.specs.Map.{keys_of}
 use Rattle.address_model.specs.Width.{width}
 use Rattle.address_model.specs.Address.{Prefix, IsPrefix, same_family, same_prefix}
 use Rattle.address_model.specs.Order.{prefix_cmp}
 use Rattle.address_model.specs.declared.family.Family.{Family}
 use Rattle.address_model.specs.declared.family.Family.TheVariants.{V4, V6}
-use Rattle.address_model.proofs.Same.{same_prefix_is, same_family_itself}
+use Rattle.address_model.proofs.Same.{same_prefix_is}
 use Rattle.table_model.specs.Table.{Table}
 use Rattle.table_model.specs.Entries.{Entries, of_family, of_table}
-use Rattle.table_model.specs.Changes.{Change}
 use Rattle.table_model.proofs.Cut.{entry}
 use Rattle.least_model.specs.Least.{aggregate}
 use Rattle.least_model.specs.Both.{aggregate_in, aggregate_in_both}
 use Rattle.route_model.proofs.Keyed.{same_entries, all_filter, sorted_filter, lookup-filter, lookup-put, lookup-cut, all_put, all_cut, sorted_put, sorted_cut}
 use Rattle.route_model.proofs.Places.{prefix_key}
 use Rattle.delta_model.specs.Between.{between, hop_at}
-use Rattle.kept_model.specs.Patched.{with_route, patch_of, after_repair, after_snapshot}
-use Rattle.kept_model.proofs.Families.{AllOf, between_both, patched_low, patched_high, patched_of, table_of}
-use Rattle.kept_feed.specs.Kept.{snapshot_of, snapshot_if}
+use Rattle.kept_model.specs.Patched.{with_route, patch_of, after_snapshot}
+use Rattle.kept_model.proofs.Families.{AllOf, between_both, patched_low, patched_high, patched_of}
+use Rattle.kept_feed.specs.Kept.{snapshot_if}
 use Rattle.kept_feed.proofs.Steps.{snapshot_is}
 use Rattle.orig_tree.specs.Views.{InPlace}
 use Rattle.smalta_keep.proofs.Tables.{renewed_placed, renewed_family, patched_placed}

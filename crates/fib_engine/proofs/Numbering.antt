@@ -1,14 +1,10 @@
 -- The numbers of hops while an elementary event is planned.
-use Rattle.std.proofs.Common.{◌≡◌, ℕ, zero, suc, ◌+◌, ◌<◌, ◌≤◌, List, [], ◌∷◌, ◌++◌, Bool, true, false, cond, Option, Some, None, Result, Ok, Err, length, map, refl, sym, ap, subst, ◌∙◌, arith, length-append}
+use Rattle.std.proofs.Common.{◌≡◌, ℕ, ◌<◌, ◌≤◌, List, [], ◌∷◌, ◌++◌, Bool, true, false, cond, Option, Some, None, length, refl, sym, ap, ◌∙◌, arith, length-append}
 use Rattle.std.specs.Prelude.{option_map, unwrap_or, ◌||◌, not}
 use Rattle.std.specs.List.{list_any, AllByRecursion}
 use Rattle.address_model.specs.Address.{Address, Prefix, same_address}
 use Rattle.address_model.proofs.Same.{same_address_is}
-use Rattle.table_model.specs.Entries.{Entries}
-use Rattle.route_model.specs.Events.{Elem}
-use Rattle.route_model.specs.Choice.{routes_of, after_elems}
-use Rattle.feed_model.specs.Feed.{IsNumbered, AreNumbered, number_in, hops_after}
-use Rattle.feed_model.proofs.Numbers.{stays}
+use Rattle.feed_model.specs.Feed.{IsNumbered, number_in, hops_after}
 use Rattle.fib_addr.specs.Hops.{number_of, with_hop, most_hops}
 use Rattle.fib_addr.specs.Views.{addr_as}
 use Rattle.fib_addr.specs.declared.addr.Addr.{Addr}
@@ -20,7 +16,7 @@ use Rattle.fib_prefix.specs.declared.event.Via as code_via
 use Rattle.fib_prefix.specs.declared.event.Elem as code_elem
 use Rattle.fib_prefix.specs.declared.event.Elem.TheVariants as code_variant
 use Rattle.kept_feed.specs.Kept.{is_other}
-use Rattle.fib_engine.specs.Numbers.{IsNewNumber, number_or_none, HasNumber, numbered}
+use Rattle.fib_engine.specs.Numbers.{IsNewNumber, numbered}
 
 -- ---- one hop too many
 

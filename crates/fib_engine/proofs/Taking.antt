@@ -1,11 +1,11 @@
 -- What an engine holds after one elementary event more.
-use Rattle.std.proofs.Common.{◌≡◌, ℕ, zero, suc, ◌+◌, ◌<◌, ◌≤◌, List, [], ◌∷◌, ◌++◌, Bool, true, false, cond, Option, Some, None, length, map, refl, sym, ap, subst, ◌∙◌, arith, append-nil, append_assoc, length-append}
-use Rattle.std.specs.Prelude.{option_map, if◌then◌else◌, not}
+use Rattle.std.proofs.Common.{◌≡◌, ℕ, zero, suc, ◌+◌, ◌<◌, ◌≤◌, List, [], ◌∷◌, ◌++◌, Bool, true, false, cond, Option, Some, None, length, refl, sym, ap, subst, ◌∙◌, arith, append-nil, append_assoc, length-append}
+use Rattle.std.specs.Prelude.{option_map, if◌then◌else◌}
 use Rattle.std.specs.List.{AllByRecursion}
 use Rattle.std.specs.List.Sorted.{IsStrictlySortedBy}
-use Rattle.std.specs.Map.{keys_of, lookup}
+use Rattle.std.specs.Map.{keys_of}
 use Rattle.address_model.specs.Width.{width}
-use Rattle.address_model.specs.Address.{Address, Prefix, IsAddress, IsPrefix, same_address, same_family, same_prefix}
+use Rattle.address_model.specs.Address.{Address, Prefix, IsAddress, same_address, same_family, same_prefix}
 use Rattle.address_model.specs.declared.family.Family.{Family}
 use Rattle.address_model.specs.declared.family.Family.TheVariants.{V4, V6}
 use Rattle.address_model.proofs.BitLaws.{length-bits_of}
@@ -36,7 +36,6 @@ use Rattle.kept_feed.proofs.Alike.{kept_alike, loaded_alike}
 use Rattle.fib_addr.specs.Hops.{most_hops}
 use Rattle.fib_addr.specs.Views.{addr_as, prefix_as}
 use Rattle.fib_addr.specs.declared.addr.Addr.{Addr}
-use Rattle.fib_addr.specs.declared.prefix.Prefix as code_prefix
 use Rattle.fib_addr.specs.declared.entry.Hop as code_hop
 use Rattle.fib_delta.proofs.Held.{is_prefix}
 use Rattle.fib_prefix.specs.Views.{elem_as}
@@ -54,7 +53,7 @@ use Rattle.smalta_keep.proofs.Tables.{renewed_placed, renewed_family}
 use Rattle.fib_engine.specs.Tables.{Both, Route, AreBoth, AreOfRoutes, AreTold, ArePut, KeepRoutes, KeepTables, MadeBy, gathered, labels_of, only, route_in, table_of as both_tables}
 use Rattle.fib_engine.specs.Held.{Held, IsKept, IsSound, routes_in}
 use Rattle.fib_engine.specs.Numbers.{IsNewNumber, IsRouteOf, HasNumber, number_or_none}
-use Rattle.fib_engine.specs.Stands.{EndsLoad, IsLoading, Stands, Takes}
+use Rattle.fib_engine.specs.Stands.{IsLoading, Stands, Takes}
 use Rattle.fib_engine.proofs.Holding.{Fine, some_of, turned, stays_out, stays_all, both_repaired, both_repaired_high, both_snapshots, both_changes, both_aggregates, fine_repaired, fine_renewed, low_part, high_part, of_only, only_placed}
 use Rattle.fib_engine.proofs.Numbering.{number_least}
 

@@ -1,5 +1,5 @@
 -- What an engine holds after elementary events: those of the load, and those since.
-use Rattle.std.specs.Prelude.{◌≡◌, ℕ, ◌+◌, ◌<◌, List, [], ◌∷◌, ◌++◌, length, true, false}
+use Rattle.std.specs.Prelude.{◌≡◌, ◌+◌, ◌<◌, List, [], ◌∷◌, ◌++◌, length, true, false}
 use Rattle.std.specs.List.{AllByRecursion}
 use Rattle.table_model.specs.Changes.{Change}
 use Rattle.route_model.specs.Events.{Elem}

@@ -1,4 +1,4 @@
-use Rattle.std.proofs.Common.{sym, ◌∙◌}
+use Rattle.std.proofs.Common.{◌∙◌}
 use Rattle.fib_addr.proofs.HopLemmas.{same_is}
 use Rattle.fib_engine.proofs.Numbering.{same_told}
 use Rattle.fib_engine.proofs.engine.is_same.Goals as goal

@@ -11,7 +11,7 @@ use Rattle.route_choice.specs.declared.choice.Choice.{Choice}
 use Rattle.fib_engine.specs.Held.{Held, IsSound}
 use Rattle.fib_engine.specs.Stands.{Takes, changes_of}
 use Rattle.fib_engine.specs.Tables.{table_of}
-use Rattle.fib_engine.proofs.Taking.{IsTaken, applied, is_elem, not_over, stands_more}
+use Rattle.fib_engine.proofs.Taking.{applied, is_elem, not_over, stands_more}
 use Rattle.fib_engine.proofs.engine.Engine.apply.Goals as goal
 
 pub invariant_of-self-2 : goal.invariant_of-self-2

@@ -1,11 +1,6 @@
-use Rattle.std.proofs.Common.{◌≡◌, ◌++◌, List, [], Bool, true, false, map, refl, sym, ap, subst, ◌∙◌}
-use Rattle.table_model.specs.Entries.{Entries}
-use Rattle.table_model.specs.Changes.{Change}
-use Rattle.delta_model.specs.Between.{between}
-use Rattle.fib_delta.specs.Views.{change_as}
+use Rattle.std.proofs.Common.{Bool, true, refl, sym, ap, subst, ◌∙◌}
 use Rattle.kept_feed.specs.Kept.{kept_at_load}
 use Rattle.fib_engine.specs.Held.{Held, IsSound, routes_in}
-use Rattle.fib_engine.specs.Stands.{EndsLoad}
 use Rattle.fib_engine.specs.Tables.{AreOfRoutes, table_of}
 use Rattle.fib_engine.proofs.Taking.{sound_end, table_end, changes_end, stands_end}
 use Rattle.fib_engine.proofs.engine.Engine.finish_load.Goals as goal

@@ -1,7 +1,6 @@
-use Rattle.std.proofs.Common.{◌≡◌, ◌++◌, List, Bool, true, map, sym, ap, subst, ◌∙◌}
+use Rattle.std.proofs.Common.{◌≡◌, ◌++◌, true, map, ap, ◌∙◌}
 use Rattle.std.proofs.lemmas.Result.{IfOk-weaker}
 use Rattle.address_model.specs.declared.family.Family.TheVariants.{V4, V6}
-use Rattle.table_model.specs.Entries.{Entries}
 use Rattle.least_model.specs.Both.{aggregate_in, aggregate_in_both}
 use Rattle.cert_model.specs.Rows.{certificate_of, family_rows}
 use Rattle.fib_addr.specs.Views.{entry_as}

@@ -1,5 +1,4 @@
-use Rattle.std.proofs.Common.{refl, ap, ◌∙◌}
-use Rattle.orig_tree.specs.Views.{Labels}
+use Rattle.std.proofs.Common.{ap}
 use Rattle.route_choice.specs.Held.{Held}
 use Rattle.fib_engine.specs.Tables.{Both}
 use Rattle.fib_engine.proofs.Taking.{sound_start}
