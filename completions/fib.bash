@@ -5,10 +5,11 @@ _fib() {
     COMPREPLY=()
     if [ "$COMP_CWORD" -eq 1 ]; then
         words="run check"
-    elif [[ ${COMP_WORDS[1]} == run && $word == -* && $before != --updates && $before != --ask ]]; then
+    elif [[ ${COMP_WORDS[1]} == run && $word == -* && $before != --updates && $before != --ask && $before != --every ]]; then
         # An option may be given once.
         [[ " ${COMP_WORDS[*]} " == *" --updates "* ]] || words="--updates"
         [[ " ${COMP_WORDS[*]} " == *" --ask "* ]] || words="$words --ask"
+        [[ " ${COMP_WORDS[*]} " == *" --every "* ]] || words="$words --every"
     fi
     if [ -n "$words" ]; then
         mapfile -t COMPREPLY < <(compgen -W "$words" -- "$word")

@@ -33,7 +33,6 @@ use Rattle.fib_main.specs.Standing.{IsFed}
 use Rattle.fib_main.specs.Stops.{Stop, Untold, Refused, IsDueIfTold}
 use Rattle.fib_main.proofs.Certifying.{certified_least}
 
-
 -- ---- the rows
 
 -- rows of routes, others, those of the least table and of its certificate, and others at the end

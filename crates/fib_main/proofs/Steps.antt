@@ -27,7 +27,7 @@ use Rattle.fib_engine.specs.declared.error.EngineError.{EngineError}
 use Rattle.fib_engine.specs.declared.error.EngineError.TheVariants as engine
 use Rattle.fib_main.specs.Due.{changes_of, kept_of}
 use Rattle.fib_main.proofs.Keeping.{changes_grow}
-use Rattle.fib_main.specs.Standing.{refused_by, StateStands, IsFull, StateTakes, StateTakesAll, next_elems}
+use Rattle.fib_main.specs.Standing.{refusal_at, StateStands, IsFull, StateTakes, StateTakesAll, next_elems}
 
 -- ---- one hop too many
 
@@ -60,7 +60,7 @@ full_here which every before done elem state event counted s over =
     full_behind (hops_after [] before) done (elem ∷ []) s.fits ∙ (ap (option_map (λ n. length done + n)) one ∙ ap Some n)
 
 -- an elementary event that the engine didn't take
-pub not_taken : {X : Type 0} (which : MrtInput) (event : ℕ) (elem : Elem) (old new : State) (error : EngineError) (r : FeedError) → r ≡ refused_by event error → (IsErrOf {T = X} (Err error) engine.HopsFull → IsTooMany elem old.engine) → StateTakes {T = Unit {0}} which event (elem ∷ []) old (Err r) new
+pub not_taken : {X : Type 0} (which : MrtInput) (event : ℕ) (elem : Elem) (old new : State) (error : EngineError) (r : FeedError) → r ≡ refusal_at event error → (IsErrOf {T = X} (Err error) engine.HopsFull → IsTooMany elem old.engine) → StateTakes {T = Unit {0}} which event (elem ∷ []) old (Err r) new
 not_taken which event elem old new engine.HopsFull r e full = rw e (λ every before done counted s. full_here which every before done elem old event counted s (full refl))
 not_taken which event elem old new engine.NoMemory r e full = rw e tt
 
@@ -91,23 +91,23 @@ few_push elem old new n h = rw h (few_after old.engine.hops elem n)
 pub loads_one : (event : ℕ) (elem : Elem) (old new : State) → Loads elem old.engine new.engine → ((load : List Elem) → IsLoading load old.engine → IsLoading (load ++ elem ∷ []) new.engine) → (IsTooMany elem old.engine → ⊥) → new.changes.items ≡ old.changes.items
     → StateTakes {T = Unit {0}} Dump event (elem ∷ []) old (Ok tt) new
 loads_one event elem old new l loading n same = λ every before done counted s. record {
-      engine = subst (λ es. IsLoading es new.engine) (sym (elems_push before done elem)) (loading (before ++ done) s.engine);
-      every_is = l.every ∙ s.every_is;
-      few = few_push elem old new n l.hops;
-      fits = fits_push Dump every before done elem old s n;
-      changes = ap changes_as same ∙ s.changes;
-    }
+  engine = subst (λ es. IsLoading es new.engine) (sym (elems_push before done elem)) (loading (before ++ done) s.engine);
+  every_is = l.every ∙ s.every_is;
+  few = few_push elem old new n l.hops;
+  fits = fits_push Dump every before done elem old s n;
+  changes = ap changes_as same ∙ s.changes;
+}
 
 -- an elementary event of updates
 pub takes_one : (event : ℕ) (elem : Elem) (old new : State) (changes : List Change) → Takes elem old.engine new.engine → ((load elems : List Elem) → Stands load elems old.engine → Stands load (elems ++ elem ∷ []) new.engine) → (IsTooMany elem old.engine → ⊥)
     → changes ≡ engine_changes elem old.engine → changes_as new.changes.items ≡ changes_as old.changes.items ++ at_event event changes → StateTakes {T = Unit {0}} Updates event (elem ∷ []) old (Ok tt) new
 takes_one event elem old new changes t stands n c grown = λ every before done counted s. record {
-      engine = stands before done s.engine;
-      every_is = t.every ∙ s.every_is;
-      few = few_push elem old new n t.hops;
-      fits = fits_push Updates every before done elem old s n;
-      changes = all every before done counted s;
-    } where
+  engine = stands before done s.engine;
+  every_is = t.every ∙ s.every_is;
+  few = few_push elem old new n t.hops;
+  fits = fits_push Updates every before done elem old s n;
+  changes = all every before done counted s;
+} where
   all : (every : ℕ) (before done : List Elem) → event ≡ length (done ++ elem ∷ []) → StateStands Updates every before done old → changes_as new.changes.items ≡ changes_of every new.engine.hops before (done ++ elem ∷ [])
   all every before done counted s =
       let n : event ≡ old.engine.events + 1 = omega (arith, counted, s.engine.events, length-append done (elem ∷ [])) in

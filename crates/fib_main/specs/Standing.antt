@@ -79,9 +79,9 @@ StateTakesAll which count events old (Err TooLarge) new = ⊥
 StateTakesAll which count events old (Err NoMemory) new = Unit {0}
 
 -- an elementary event of this number that the engine didn't take, as a refusal of an input
-abbrev pub refused_by : ℕ → EngineError → FeedError
-refused_by event engine.HopsFull = HopsFull event
-refused_by event engine.NoMemory = NoMemory
+abbrev pub refusal_at : ℕ → EngineError → FeedError
+refusal_at event engine.HopsFull = HopsFull event
+refusal_at event engine.NoMemory = NoMemory
 
 -- the counts are those of what an input brings
 pub record IsCounted (feed : Feed) (counts : Counts) : Type 0 where

@@ -7,7 +7,7 @@ ghost use Rattle.route_model.specs.Events.{Elem as model_elem};
 ghost use Rattle.route_model.specs.Choice.{after_elem};
 ghost use Rattle.feed_model.specs.Feed.{at_event};
 ghost use Rattle.fib_main.specs.Counts.{CountsFit, CountsOn};
-ghost use Rattle.fib_main.specs.Standing.{IsReady, of_input, of_read, refused_by, StateStands, StateTakes, StateTakesAll};
+ghost use Rattle.fib_main.specs.Standing.{IsReady, of_input, of_read, refusal_at, StateStands, StateTakes, StateTakesAll};
 ghost use Rattle.fib_main.specs.Views.{changes_as};
 ghost use Rattle.fib_main.specs.declared.state.FeedError.TheVariants.{Malformed as IsMalformed, NoMemory as IsNoMemory};
 
@@ -145,8 +145,8 @@ impl State {
 }
 
 /// Why an elementary event of this number wasn't taken.
-fn refused(event: u64, error: EngineError) -> FeedError
-    ensures { result ≡ refused_by event error }
+fn refusal_at(event: u64, error: EngineError) -> FeedError
+    ensures { result ≡ refusal_at event error }
 {
     match error {
         EngineError::HopsFull => FeedError::HopsFull(event),
@@ -167,14 +167,14 @@ fn step(state: &mut State, which: MrtInput, event: u64, elem: &Elem) -> Result<(
     match which {
         MrtInput::Dump => match state.engine.load(elem) {
             Ok(()) => Ok(()),
-            Err(error) => Err(refused(event, error)),
+            Err(error) => Err(refusal_at(event, error)),
         },
         MrtInput::Updates => match state.engine.apply(elem) {
             Ok(changes) => {
                 push_changes(&mut state.changes, event, &changes)?;
                 Ok(())
             }
-            Err(error) => Err(refused(event, error)),
+            Err(error) => Err(refusal_at(event, error)),
         },
     }
 }
