@@ -16,5 +16,3 @@ mod rows;
 pub use flat::Flat;
 pub use keys::{Candidate, Offer, Rank, Seat};
 
-#[cfg(test)]
-mod tests;
