@@ -15,4 +15,3 @@ mod rows;
 
 pub use flat::Flat;
 pub use keys::{Candidate, Offer, Rank, Seat};
-

@@ -25,82 +25,115 @@ fn hop(n: u8) -> Addr {
     Addr::v4(0xc000_0200 + u32::from(n))
 }
 
+fn wide() -> Prefix {
+    Prefix::new(&Addr::v4(0x0a00_0000), 8)
+}
+
+fn narrow() -> Prefix {
+    Prefix::new(&Addr::v4(0x0a00_0000), 16)
+}
+
+/// Loads the events one by one.
+fn load_all(held: &mut Candidates, elems: &[Elem]) -> Result<(), AllocError> {
+    for elem in elems {
+        held.load(elem)?;
+    }
+    Ok(())
+}
+
 #[test]
 fn the_shortest_path_is_chosen(rt: HostRuntime) -> Result<(), AllocError> {
     let mut held = Candidates::new(rt.alloc());
-    let wide = Prefix::new(&Addr::v4(0x0a00_0000), 8);
-    let narrow = Prefix::new(&Addr::v4(0x0a00_0000), 16);
     for (elem, before, after) in [
         // a cut of what isn't there
-        (Elem::Cut(via(1), wide), None, None),
-        (Elem::Put(via(2), wide, 3, hop(2)), None, Some(hop(2))),
+        (Elem::Cut(via(1), wide()), None, None),
+        (Elem::Put(via(2), wide(), 3, hop(2)), None, Some(hop(2))),
         // a longer path, then a tie that the lesser peer wins
         (
-            Elem::Put(via(1), wide, 4, hop(1)),
+            Elem::Put(via(1), wide(), 4, hop(1)),
             Some(hop(2)),
             Some(hop(2)),
         ),
         (
-            Elem::Put(via(1), wide, 3, hop(1)),
+            Elem::Put(via(1), wide(), 3, hop(1)),
             Some(hop(2)),
             Some(hop(1)),
         ),
         // the same path once more with another hop
         (
-            Elem::Put(via(1), wide, 3, hop(6)),
+            Elem::Put(via(1), wide(), 3, hop(6)),
             Some(hop(1)),
             Some(hop(6)),
         ),
         (
-            Elem::Put(via(3), wide, 2, hop(3)),
+            Elem::Put(via(3), wide(), 2, hop(3)),
             Some(hop(6)),
             Some(hop(3)),
         ),
         // the next one comes after a cut
-        (Elem::Cut(via(3), wide), Some(hop(3)), Some(hop(6))),
-        (Elem::Put(via(2), narrow, 9, hop(5)), None, Some(hop(5))),
+        (Elem::Cut(via(3), wide()), Some(hop(3)), Some(hop(6))),
         // the chosen one's path gets longer
         (
-            Elem::Put(via(1), wide, 5, hop(1)),
+            Elem::Put(via(1), wide(), 5, hop(1)),
             Some(hop(6)),
             Some(hop(2)),
         ),
     ] {
-        held.plan(&Elem::Put(via(9), wide, 0, hop(9)))?;
         let choice = held.apply(&elem)?;
         assert_eq!(rt; (choice.before, choice.after), (before, after));
-        assert_eq!(rt; held.chosen(&choice.prefix), after);
     }
-    assert_eq!(rt;
-        held.routes()?.as_slice(),
-        [(wide, hop(2)), (narrow, hop(5))].as_slice()
-    );
+    assert_eq!(rt; held.chosen(&wide()), Some(hop(2)));
+    Ok(())
+}
+
+#[test]
+fn a_lost_session_cuts_its_routes(rt: HostRuntime) -> Result<(), AllocError> {
+    let mut held = Candidates::new(rt.alloc());
+    load_all(
+        &mut held,
+        &[
+            Elem::Put(via(2), narrow(), 9, hop(5)),
+            Elem::Put(via(2), wide(), 3, hop(2)),
+            Elem::Put(via(1), wide(), 5, hop(1)),
+        ],
+    )?;
     let cuts = held.elementary(&Event::Down(peer(2)))?;
     assert_eq!(rt;
         cuts.as_slice(),
-        [Elem::Cut(via(2), wide), Elem::Cut(via(2), narrow)].as_slice()
+        [Elem::Cut(via(2), wide()), Elem::Cut(via(2), narrow())].as_slice()
     );
-    for cut in &cuts {
-        held.apply(cut)?;
-    }
-    assert_eq!(rt; held.routes()?.as_slice(), [(wide, hop(1))].as_slice());
-    let put = held.elementary(&Event::Announce(via(4), narrow, 1, hop(4)))?;
-    assert_eq!(rt;
-        put.as_slice(),
-        [Elem::Put(via(4), narrow, 1, hop(4))].as_slice()
-    );
-    let pick = held.plan(&put[0])?;
+    load_all(&mut held, &cuts)?;
+    assert_eq!(rt; held.routes()?.as_slice(), [(wide(), hop(1))].as_slice());
+    Ok(())
+}
+
+#[test]
+fn a_plan_is_carried_out(rt: HostRuntime) -> Result<(), AllocError> {
+    let mut held = Candidates::new(rt.alloc());
+    let put = Elem::Put(via(4), narrow(), 1, hop(4));
+    let elems = held.elementary(&Event::Announce(via(4), narrow(), 1, hop(4)))?;
+    assert_eq!(rt; elems.as_slice(), [put].as_slice());
+    let pick = held.plan(&put)?;
     assert_eq!(rt; pick.choice().after, Some(hop(4)));
     assert_eq!(rt; held.commit(pick).before, None);
-    assert_eq!(rt; held.chosen(&narrow), Some(hop(4)));
-    // what is loaded is held as what is applied
-    held.load(&Elem::Put(via(1), wide, 1, hop(7)))?;
-    held.load(&Elem::Put(via(1), wide, 8, hop(8)))?;
-    held.load(&Elem::Put(via(2), wide, 7, hop(2)))?;
-    held.load(&Elem::Cut(via(4), narrow))?;
-    assert_eq!(rt; held.routes()?.as_slice(), [(wide, hop(2))].as_slice());
-    held.load(&Elem::Cut(via(2), wide))?;
-    assert_eq!(rt; held.chosen(&wide), Some(hop(8)));
+    assert_eq!(rt; held.chosen(&narrow()), Some(hop(4)));
+    Ok(())
+}
+
+#[test]
+fn what_is_loaded_is_held(rt: HostRuntime) -> Result<(), AllocError> {
+    let mut held = Candidates::new(rt.alloc());
+    load_all(
+        &mut held,
+        &[
+            Elem::Put(via(1), wide(), 1, hop(7)),
+            Elem::Put(via(1), wide(), 8, hop(8)),
+            Elem::Put(via(2), wide(), 7, hop(2)),
+        ],
+    )?;
+    assert_eq!(rt; held.routes()?.as_slice(), [(wide(), hop(2))].as_slice());
+    held.load(&Elem::Cut(via(2), wide()))?;
+    assert_eq!(rt; held.chosen(&wide()), Some(hop(8)));
     Ok(())
 }
 
