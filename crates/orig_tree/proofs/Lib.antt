@@ -16,3 +16,12 @@ pub mod Settling
 pub mod Dropping
 pub mod Branching
 pub mod Within
+pub mod Standing
+pub mod Mending
+pub mod Growing
+pub mod Halving
+pub mod Laying
+pub mod Regions
+pub mod Counting
+pub mod Undoing
+pub mod Loading

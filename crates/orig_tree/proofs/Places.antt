@@ -99,10 +99,11 @@ pub entries_without : (f g : Family) (p : List Bool) (L M : Table) (E : Entries)
 entries_without f g p L M E s e v =
     ap (of_table f) e ∙ (sym (without_is f p L) ∙ (ap (remove_entry (same_prefix (prefix_of f p))) v ∙ ap (λ k. remove_entry (same_prefix (prefix_of k p)) E) (sym s)))
 
-pub labels_are : (f g : Family) (R S E D : Entries) (m n : List (List Bool)) → f ≡ g → R ≡ S → E ≡ D → m ≡ n →
-    (let a : Labels = record { family = f; routes = R; entries = E; nodes = m } in a) ≡ record { family = g; routes = S; entries = D; nodes = n }
-labels_are f g R S E D m n a b c d =
-    ap (λ x. let l : Labels = record { family = x; routes = R; entries = E; nodes = m } in l) a
-    ∙ (ap (λ x. let l : Labels = record { family = g; routes = x; entries = E; nodes = m } in l) b
-    ∙ (ap (λ x. let l : Labels = record { family = g; routes = S; entries = x; nodes = m } in l) c
-    ∙ ap (λ x. let l : Labels = record { family = g; routes = S; entries = D; nodes = x } in l) d))
+pub labels_are : (f g : Family) (R S E D B C : Entries) (m n : List (List Bool)) → f ≡ g → R ≡ S → E ≡ D → m ≡ n → B ≡ C →
+    (let a : Labels = record { family = f; routes = R; entries = E; nodes = m; before = B } in a) ≡ record { family = g; routes = S; entries = D; nodes = n; before = C }
+labels_are f g R S E D B C m n a b c d e =
+    ap (λ x. let l : Labels = record { family = x; routes = R; entries = E; nodes = m; before = B } in l) a
+    ∙ (ap (λ x. let l : Labels = record { family = g; routes = x; entries = E; nodes = m; before = B } in l) b
+    ∙ (ap (λ x. let l : Labels = record { family = g; routes = S; entries = x; nodes = m; before = B } in l) c
+    ∙ (ap (λ x. let l : Labels = record { family = g; routes = S; entries = D; nodes = x; before = B } in l) d
+    ∙ ap (λ x. let l : Labels = record { family = g; routes = S; entries = D; nodes = n; before = x } in l) e)))

@@ -267,6 +267,12 @@ or_true false = refl
 high_there : (n : Node) (kids : ℕ) → (n.low || n.high ≡ true → kids ≡ n.kids) → half_place (with_half n kids false) true ≡ half_place n true
 high_there n kids h = (elim n.high as (λ t. n.high ≡ t → cond t (Some (kids + 1)) None ≡ cond t (Some (n.kids + 1)) None) [ true ↦ λ e. ap (λ k. Some (k + 1)) (h (ap (λ t. n.low || t) e ∙ or_true n.low)) | false ↦ λ e. refl ]) refl
 
+with_other : (n : Node) (kids : ℕ) (b c : Bool) → (n.low || n.high ≡ true → kids ≡ n.kids) → b ≢ c → half_place (with_half n kids b) c ≡ half_place n c
+with_other n kids true true h ne = absurd (ne refl)
+with_other n kids true false h ne = low_there n kids h
+with_other n kids false true h ne = high_there n kids h
+with_other n kids false false h ne = absurd (ne refl)
+
 module _ (e i kids free : ℕ) (old mid : List Node) (n : Node) (name : ℕ → Place) (p : List Bool) (b : Bool) (at : n ≡ node_at old i) (gone : half_place n b ≡ None) (g : GivesPair p old n mid free name kids) where
   -- the array with the new node, before its parent tells of it
   abbrev mid2 : List Node
@@ -364,6 +370,15 @@ module _ (e i kids free : ℕ) (old mid : List Node) (n : Node) (name : ℕ → 
         };
         walks = λ r. roomier_trans _ _ _ _ (roomier_same _ _ _ (ap (walks_by W0) at)) (roomier_trans _ _ _ _ (made.0 r) (roomier_same _ _ _ x.0));
         half = ap (λ y. half_place y b) (get_or-set_same mid2 i m blank within) ∙ half_with n kids b;
+        blank = get_or-set_other mid2 i (side_at kids b) m blank (apart g.name' (side_at kids b) i (At (p ++ (b ∷ []))) (At p) side here.1 (λ u. let z : true ≡ false = sym (begins_self (p ++ (b ∷ []))) ∙ ap (begins (p ++ (b ∷ []))) (at_same (p ++ (b ∷ [])) p u) ∙ begins_self_not p b in cc))
+            ∙ get_or-set_same mid (side_at kids b) blank blank (side_inside (length mid) g.name' p kids b g.pair);
+        mine = λ q f. at_same q (p ++ (b ∷ [])) (sym (g.same (side_at kids b) q f).1 ∙ side);
+        other = λ c ne. ap (λ y. half_place y c) (get_or-set_same mid2 i m blank within) ∙ (with_other n kids b c g.had ne ∙ ap (λ y. half_place y c) at);
+        rest = λ x r c ne f h.
+            same x (At r) (g.same x r f).1
+            (λ u. let z : true ≡ false = sym h ∙ ap (begins (p ++ (c ∷ []))) (at_same r p u) ∙ begins_self_not p c in cc)
+            (λ u. both_not p (p ++ (b ∷ [])) b c ne (begins_self (p ++ (b ∷ []))) (ap (begins (p ++ (c ∷ []))) (sym (at_same r (p ++ (b ∷ [])) u)) ∙ h))
+            ∙ (g.same x r f).0;
       }
 
 half_some : (n : Node) (b : Bool) (j : ℕ) → half_place n b ≡ Some j → (j ≡ side_at n.kids b) × (n.low || n.high ≡ true)

@@ -71,8 +71,8 @@ pub same_whole : (f : Family) (q len free free' : ℕ) (old new : List Node) →
 same_whole f q len free free' old new a e g = (roomier_same _ _ _ (ap (whole f) e), ap (whole f) e, subst (λ (x : List Node). IsArena f x free') (sym e) (subst (λ (x : ℕ). IsArena f old x) (sym g) a))
 
 pub bare_labels : (f : Family) (w : Walks) → w ≡ walks_of None None no_walks no_walks →
-    (let a : Labels = record { family = f; routes = of_table f w.routes; entries = of_table f w.entries; nodes = w.nodes } in a) ≡ record { family = f; routes = []; entries = []; nodes = [] ∷ [] }
-bare_labels f w e = ap (λ (x : Walks). let a : Labels = record { family = f; routes = of_table f x.routes; entries = of_table f x.entries; nodes = x.nodes } in a) e
+    (let a : Labels = record { family = f; routes = of_table f w.routes; entries = of_table f w.entries; nodes = w.nodes; before = of_table f w.routes } in a) ≡ record { family = f; routes = []; entries = []; nodes = [] ∷ []; before = [] }
+bare_labels f w e = ap (λ (x : Walks). let a : Labels = record { family = f; routes = of_table f x.routes; entries = of_table f x.entries; nodes = x.nodes; before = of_table f x.routes } in a) e
 
 pub told_root : (f : Family) (p : code.Prefix) (cells : List Node) (label : Label) (E D : Entries) → prefix_as p ≡ record { family = f; bits = [] } → E ≡ [] → Fits (width f) (rows_of label (whole f cells)) →
     ((d : ℕ) → width p.family - p.len < d → Fits (width p.family - p.len) (rows_of label (walks_at d cells 0)) → D ≡ E ++ of_table p.family (lift (prefix_as p).bits (rows_of label (walks_at d cells 0)))) →

@@ -1,5 +1,5 @@
 -- What a place in the array of nodes stands for, and which places are whose.
-use Rattle.std.specs.Prelude.{◌≡◌, ◌≢◌, ℕ, zero, suc, ◌+◌, ◌<◌, ◌≤◌, List, [], ◌∷◌, ◌++◌, length, ◌||◌, Bool, true, false, cond, Option, Some, None, slice_index_or}
+use Rattle.std.specs.Prelude.{◌≡◌, ◌≢◌, ◌⊎◌, ℕ, zero, suc, ◌+◌, ◌<◌, ◌≤◌, List, [], ◌∷◌, ◌++◌, length, ◌||◌, Bool, true, false, cond, Option, Some, None, slice_index_or}
 use Rattle.address_model.specs.Bits.{begins}
 use Rattle.address_model.specs.Width.{width}
 use Rattle.address_model.specs.declared.family.Family.{Family}
@@ -88,6 +88,10 @@ pub record Keeps (p : List Bool) (old new : List Node) (name : ℕ → Place) : 
   pub long : length new ≡ length old
   pub same : (j : ℕ) → is_in p (name j) ≡ false → node_at new j ≡ node_at old j
 
+-- the halves of nodes are where they were, or are none any more
+abbrev pub HalvesStay : List Node → List Node → Type 0
+HalvesStay old new = (j : ℕ) (b : Bool) → (half_place (node_at new j) b ≡ half_place (node_at old j) b) ⊎ (half_place (node_at new j) b ≡ None)
+
 -- one label of a node, with the cover that it gets from those of the halves
 abbrev pub retold : Label → Option ℕ → Cover → Cover → Node → Node
 retold Route hop low high n = record { kids = n.kids; low = n.low; high = n.high; route = slot_of hop (covered hop low high); entry = n.entry }
@@ -161,6 +165,10 @@ pub record IsSplit (d : ℕ) (b : Bool) (old new : List Node) (free : ℕ) (name
   pub keeps : KeepsOthers p old new name name'
   pub walks : (r : List Bool) → IsRoomier (b ∷ r) (walks_at d old i) (walks_at d new i)
   pub half : half_place (node_at new i) b ≡ Some j
+  pub blank : node_at new j ≡ blank
+  pub mine : (q : List Bool) → name j ≡ At q → q ≡ p ++ (b ∷ [])
+  pub other : (c : Bool) → b ≢ c → half_place (node_at new i) c ≡ half_place (node_at old i) c
+  pub rest : (x : ℕ) (r : List Bool) (c : Bool) → b ≢ c → name x ≡ At r → begins (p ++ (c ∷ [])) r ≡ true → node_at new x ≡ node_at old x
 
 -- the array after the path q from place i on got nodes
 pub record HasRoom (d : ℕ) (q : List Bool) (old new : List Node) (free : ℕ) (name : ℕ → Place) (i : ℕ) (p : List Bool) : Type 0 where

@@ -8,3 +8,7 @@ pub mod Trims
 pub mod Packed
 pub mod Arena
 pub mod Drops
+pub mod Bests
+pub mod Spots
+pub mod Within
+pub mod Undos

@@ -1,9 +1,10 @@
 //! Nodes that nothing uses are given back, in pairs.
 
-ghost use Rattle.std.specs.Prelude.{◌≡◌, ◌≤◌, ◌+◌, ◌||◌, ℕ, List, Bool, true, false, []};
+ghost use Rattle.std.specs.Prelude.{◌≡◌, ◌≤◌, ◌+◌, ◌||◌, ℕ, List, Bool, true, false, [], vec_len};
 ghost use Rattle.std.specs.Option.{is_some};
 ghost use Rattle.address_model.specs.Bits.{bits_of};
-ghost use Rattle.orig_tree.specs.Arena.{cells_of, Place, At, IsTree, IsHeld, IfHalf};
+ghost use Rattle.orig_tree.specs.Arena.{cells_of, node_at, Place, At, IsTree, IsHeld, IfHalf, HalvesStay};
+ghost use Rattle.orig_tree.specs.declared.node.Node.{Node};
 ghost use Rattle.orig_tree.specs.Drops.{with_halves, spare_node, is_given, MaySettle, IsSettled, NodeTrimmed, HalfTrimmed};
 
 use crate::node::{Node, Nodes, leaf, put, read};
@@ -39,10 +40,14 @@ fn gives(node: Node, low: bool, high: bool) -> bool
 
 /// Tells a node which of its halves are still nodes, and gives its pair of places back where none is.
 fn settle(nodes: &mut Nodes, i: usize, node: Node, low: bool, high: bool)
-    ensures { (d : ℕ) (name : ℕ → Place) (spares : ℕ) (p : List Bool)
+    ensures settled { (d : ℕ) (name : ℕ → Place) (spares : ℕ) (p : List Bool)
         → MaySettle d (cells_of nodes.old) nodes.old.free name spares i p node low high
         → IsSettled d (cells_of nodes.old) (cells_of nodes.new) nodes.new.free name i p (with_halves
         node low high) }
+    ensures halves { (old : List Node) → node ≡ node_at old i → (low ≡ true → node.low ≡ true)
+        → (high ≡ true → node.high ≡ true) → HalvesStay old (cells_of nodes.old)
+        → HalvesStay old (cells_of nodes.new) }
+    ensures len { vec_len nodes.new.pairs ≡ vec_len nodes.old.pairs }
 {
     put(nodes, i, keep_halves(node, low, high));
     if gives(node, low, high) {
@@ -61,10 +66,12 @@ fn any(low: bool, high: bool, own: bool) -> bool
 /// changes no table.
 #[cycle(prune)]
 fn prune(nodes: &mut Nodes, i: usize, depth: u8) -> bool
-    ensures { (d : ℕ) (name : ℕ → Place) (spares : ℕ) (p : List Bool) → d ≤ depth + 1 → name 0
+    ensures trimmed { (d : ℕ) (name : ℕ → Place) (spares : ℕ) (p : List Bool) → d ≤ depth + 1 → name 0
         ≡ At [] → IsTree d (cells_of nodes.old) name i p → IsHeld (cells_of nodes.old)
         nodes.old.free name spares → NodeTrimmed d [] (cells_of nodes.old) (cells_of nodes.new)
         nodes.new.free name i p result }
+    ensures halves { HalvesStay (cells_of nodes.old) (cells_of nodes.new) }
+    ensures len { vec_len nodes.new.pairs ≡ vec_len nodes.old.pairs }
 {
     let node = read(nodes, i);
     let low = prune_half(nodes, node.half(false), depth);
@@ -75,11 +82,14 @@ fn prune(nodes: &mut Nodes, i: usize, depth: u8) -> bool
 
 #[cycle(prune)]
 fn prune_half(nodes: &mut Nodes, half: Option<usize>, depth: u8) -> bool
-    ensures { (d : ℕ) (name : ℕ → Place) (spares : ℕ) (p : List Bool) → d ≤ depth → name 0
+    ensures trimmed { (d : ℕ) (name : ℕ → Place) (spares : ℕ) (p : List Bool) → d ≤ depth → name 0
         ≡ At [] → IfHalf (λ j. IsTree d (cells_of nodes.old) name j p) half
         → IsHeld (cells_of nodes.old) nodes.old.free name spares
         → HalfTrimmed d [] (cells_of nodes.old) (cells_of nodes.new) nodes.new.free name half p
         result }
+    ensures halves { HalvesStay (cells_of nodes.old) (cells_of nodes.new) }
+    ensures len { vec_len nodes.new.pairs ≡ vec_len nodes.old.pairs }
+    ensures some { result ≡ true → is_some half ≡ true }
 {
     match half {
         None => false,
@@ -97,10 +107,12 @@ fn prune_half(nodes: &mut Nodes, half: Option<usize>, depth: u8) -> bool
 #[cycle(trim)]
 pub(crate) fn trim(nodes: &mut Nodes, i: usize, q: u128, left: u8, depth: u8) -> bool
     requires { left ≤ 128 }
-    ensures { (d : ℕ) (name : ℕ → Place) (spares : ℕ) (p : List Bool) → d ≤ depth + 1 → name 0
+    ensures trimmed { (d : ℕ) (name : ℕ → Place) (spares : ℕ) (p : List Bool) → d ≤ depth + 1 → name 0
         ≡ At [] → IsTree d (cells_of nodes.old) name i p → IsHeld (cells_of nodes.old)
         nodes.old.free name spares → NodeTrimmed d (bits_of left q) (cells_of nodes.old) (cells_of
         nodes.new) nodes.new.free name i p result }
+    ensures halves { HalvesStay (cells_of nodes.old) (cells_of nodes.new) }
+    ensures len { vec_len nodes.new.pairs ≡ vec_len nodes.old.pairs }
 {
     if left == 0 {
         return prune(nodes, i, depth);
@@ -120,11 +132,14 @@ pub(crate) fn trim(nodes: &mut Nodes, i: usize, q: u128, left: u8, depth: u8) ->
 #[cycle(trim)]
 fn trim_half(nodes: &mut Nodes, half: Option<usize>, q: u128, left: u8, depth: u8) -> bool
     requires { left ≤ 128 }
-    ensures { (d : ℕ) (name : ℕ → Place) (spares : ℕ) (p : List Bool) → d ≤ depth → name 0
+    ensures trimmed { (d : ℕ) (name : ℕ → Place) (spares : ℕ) (p : List Bool) → d ≤ depth → name 0
         ≡ At [] → IfHalf (λ j. IsTree d (cells_of nodes.old) name j p) half
         → IsHeld (cells_of nodes.old) nodes.old.free name spares
         → HalfTrimmed d (bits_of left q) (cells_of nodes.old) (cells_of nodes.new) nodes.new.free
         name half p result }
+    ensures halves { HalvesStay (cells_of nodes.old) (cells_of nodes.new) }
+    ensures len { vec_len nodes.new.pairs ≡ vec_len nodes.old.pairs }
+    ensures some { result ≡ true → is_some half ≡ true }
 {
     match half {
         None => false,

@@ -4,22 +4,31 @@
 //! A look-up, a change, the making of room and the question whether a whole prefix gets one hop walk down the prefix's bits,
 //! 129 nodes at most, the root among them. Contracts see two lists of entries in the order of prefixes. All nodes
 //! of a tree lie in one array, the halves of a node side by side; a node takes 24 octets, and one that is dropped is taken again.
+//! Beside them lies what each node keeps of its region, 24 octets too: the hops that are best there, and what the region costs
+//! under one of them. That is mended where a route changes, on the way to its prefix and within it, and can be put back.
 #![tactic(auto)]
 
 mod answers;
+mod best;
+mod count;
 mod cover;
 mod drops;
+mod load;
+mod mend;
 mod node;
 mod node_ref;
 mod parts;
 mod path;
+mod region;
 mod tree;
+mod undo;
 mod whole;
 
 pub use answers::{EntriesOf, RoutesOf};
 pub use node::Label;
 pub use node_ref::NodeRef;
 pub use path::path_bits;
+pub use region::Region;
 pub use tree::Tree;
 
 #[cfg(test)]

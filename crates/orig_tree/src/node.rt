@@ -12,8 +12,10 @@ ghost use Rattle.orig_tree.specs.Walk.{rows_of, edited, Allowed, labelled, has_n
 ghost use Rattle.table_model.specs.Entries.{of_table};
 ghost use Rattle.orig_tree.specs.Views.{Fits};
 ghost use Rattle.orig_tree.specs.Uniform.{IsUniform};
-ghost use Rattle.orig_tree.specs.Arena.{cells_of, Place, blank, node_at, half_place, walks_at, IsTree, IsSet, retold, cover_at, cover_of, from_half, IsHeld, OwnsPair, GivesPair, IsSplit, HasRoom, with_half, side_at};
+ghost use Rattle.orig_tree.specs.Arena.{cells_of, Place, blank, node_at, half_place, walks_at, IsTree, IsSet, retold, cover_at, cover_of, from_half, IsHeld, OwnsPair, GivesPair, IsSplit, HasRoom, HalvesStay, with_half, side_at};
+ghost use Rattle.orig_tree.specs.Bests.{best_in, AreBest, IsGrown, laid};
 
+use crate::best::{Bests, exchange, fresh, lengthen};
 use crate::cover::{Cover, Slot};
 use fib_addr::{Entry, Prefix, bit_at, push_entry};
 use std::alloc::{AllocError, Global};
@@ -200,6 +202,8 @@ fn retell(nodes: &Nodes, node: Node, label: Label, hop: Option<u16>) -> Node
 /// Sets the hop of a path that has a node, or takes the path's hop away.
 pub(crate) fn assign(nodes: &mut Nodes, i: usize, label: Label, q: u128, left: u8, hop: Option<u16>)
     requires few { left ≤ 128 }
+    ensures len { vec_len nodes.new.pairs ≡ vec_len nodes.old.pairs }
+    ensures halves { HalvesStay (cells_of nodes.old) (cells_of nodes.new) }
     ensures free { nodes.new.free ≡ nodes.old.free }
     ensures set { (d : ℕ) (name : ℕ → Place) (p : List Bool) → left < d
         → IsTree d (cells_of nodes.old) name i p → Allowed (bits_of left q) hop (walks_at d
@@ -386,15 +390,33 @@ fn join_half(node: Node, kids: u32, bit: bool) -> Node
     }
 }
 
-/// Makes nodes down to a path. It changes no table.
-fn grow(nodes: &mut Nodes, i: usize, q: u128, left: u8)
+/// Makes nodes down to a path, below a node that inherits the hop. It changes no table. The new ones keep what stands for
+/// their regions once the path has the route that is given, if it is.
+pub(crate) fn grow(
+    nodes: &mut Nodes,
+    bests: &mut Bests,
+    i: usize,
+    q: u128,
+    left: u8,
+    inherited: u16,
+    set: Option<u16>,
+)
     requires bits { left ≤ 128 }
     requires room { vec_len nodes.old.pairs + 2 * left ≤ vec_capacity nodes.old.pairs }
     requires few { vec_len nodes.old.pairs + 2 * left < 2 ^ 32 }
-    ensures { (d : ℕ) (name : ℕ → Place) (n : ℕ) (p : List Bool) → left < d
+    requires long { vec_len nodes.old.pairs + 2 * left ≤ vec_len bests.old.pairs }
+    ensures long { vec_len nodes.new.pairs ≤ vec_len bests.new.pairs }
+    ensures nodes { (d : ℕ) (name : ℕ → Place) (n : ℕ) (p : List Bool) → left < d
         → IsTree d (cells_of nodes.old) name i p → IsHeld (cells_of nodes.old) nodes.old.free name n
         → HasRoom d (bits_of left q) (cells_of nodes.old) (cells_of nodes.new) nodes.new.free name i
         p }
+    ensures best { (d : ℕ) (name : ℕ → Place) (n : ℕ) (p : List Bool) → left < d
+        → IsTree d (cells_of nodes.old) name i p → IsHeld (cells_of nodes.old) nodes.old.free name n
+        → AreBest d (cells_of nodes.old) (best_in bests.old) (λ a. lpm (laid set (bits_of left q)
+        (walks_at d (cells_of nodes.old) i).routes) a inherited) i
+        → IsGrown d (cells_of nodes.new) name i p (λ a. lpm (laid set (bits_of left q)
+        (walks_at d (cells_of nodes.old) i).routes) a inherited) (best_in bests.old)
+        (best_in bests.new) }
 {
     if left == 0 {
         return;
@@ -402,11 +424,14 @@ fn grow(nodes: &mut Nodes, i: usize, q: u128, left: u8)
     let at = left - 1;
     let bit = bit_at(q, at);
     let node = read(nodes, i);
+    let hop = node.route.hop.unwrap_or(inherited);
     match node.half(bit) {
-        Some(j) => grow(nodes, j, q, at),
+        Some(j) => grow(nodes, bests, j, q, at, hop, set),
         None => {
             let j = split(nodes, i, node, bit);
-            grow(nodes, j, q, at);
+            let mut best = fresh(at, hop, set);
+            exchange(bests, j, &mut best);
+            grow(nodes, bests, j, q, at, hop, set);
         }
     }
 }
@@ -414,46 +439,26 @@ fn grow(nodes: &mut Nodes, i: usize, q: u128, left: u8)
 /// The most places of halves there may be; with the root's it is 2^31 - 1.
 const MOST: usize = 0x7fff_fffe;
 
-/// Whether so many more places take no memory.
-fn has_space(nodes: &Nodes, more: usize) -> bool
-    requires { more ≤ 256 }
-    ensures { result ≡ true
-        → (vec_len nodes.now.pairs + more ≤ vec_capacity nodes.now.pairs)
-        × (vec_len nodes.now.pairs + more < 2 ^ 32) }
-{
-    let pairs = &nodes.pairs;
-    pairs.len() <= MOST - more && more <= pairs.capacity() - pairs.len()
-}
-
-/// Makes the path from the root on a node. It changes no table.
+/// Makes sure that so many more places take no memory.
 ///
 /// # Errors
 ///
-/// No memory, which comes too where there would be 2^31 nodes or more; then nothing has changed.
-pub(crate) fn room(nodes: &mut Nodes, q: u128, left: u8) -> Result<(), AllocError>
-    requires { left ≤ 128 }
-    ensures err { OnErr result ((cells_of nodes.new ≡ cells_of nodes.old) × (nodes.new.free
-        ≡ nodes.old.free)) }
-    ensures held { (d : ℕ) → left < d → has_node (bits_of left q) (walks_at d (cells_of nodes.old)
-        0).nodes ≡ true → IsOk result }
-    ensures room { OnOk result ((d : ℕ) (name : ℕ → Place) (n : ℕ) (p : List Bool) → left < d
-        → IsTree d (cells_of nodes.old) name 0 p → IsHeld (cells_of nodes.old) nodes.old.free name n
-        → HasRoom d (bits_of left q) (cells_of nodes.old) (cells_of nodes.new) nodes.new.free name 0
-        p) }
+/// No memory, which comes too where there would be 2^31 nodes or more.
+pub(crate) fn reserve(nodes: &mut Nodes, bests: &mut Bests, more: usize) -> Result<(), AllocError>
+    requires { more ≤ 256 }
+    ensures cells { (cells_of nodes.new ≡ cells_of nodes.old) × (nodes.new.free ≡ nodes.old.free) }
+    ensures len { vec_len nodes.new.pairs ≡ vec_len nodes.old.pairs }
+    ensures kept { (j : ℕ) → best_in bests.new j ≡ best_in bests.old j }
+    ensures longer { vec_len bests.old.pairs ≤ vec_len bests.new.pairs }
+    ensures room { OnOk result ((vec_len nodes.new.pairs + more ≤ vec_capacity nodes.new.pairs)
+        × (vec_len nodes.new.pairs + more < 2 ^ 32)
+        × (vec_len nodes.new.pairs + more ≤ vec_len bests.new.pairs)) }
 {
-    let more = 2 * left as usize;
-    if has_space(nodes, more) {
-        grow(nodes, 0, q, left);
-        return Ok(());
-    }
-    if is_node(nodes, 0, q, left) {
-        return Ok(());
-    }
     if nodes.pairs.len() > MOST - more {
         return Err(AllocError);
     }
+    lengthen(bests, nodes.pairs.len() + more)?;
     nodes.pairs.reserve(more)?;
-    grow(nodes, 0, q, left);
     Ok(())
 }
 
@@ -461,6 +466,7 @@ pub(crate) fn room(nodes: &mut Nodes, q: u128, left: u8) -> Result<(), AllocErro
 pub(crate) fn root_alone(alloc: Global) -> Nodes
     ensures cells { cells_of result ≡ blank ∷ [] }
     ensures free { result.free ≡ 0 }
+    ensures len { vec_len result.pairs ≡ 0 }
 {
     Nodes {
         pairs: Vec::new(alloc),

@@ -1,17 +1,49 @@
 //! Routes and entries come and go.
 
-ghost use Rattle.std.specs.Prelude.{◌≡◌, ◌≤◌};
+ghost use Rattle.std.specs.Prelude.{◌≡◌, ◌≤◌, IfOk};
 ghost use Rattle.address_model.specs.declared.family.Family.TheVariants.{V4};
 
 use super::*;
 use fib_addr::{Addr, Answers, Entry, Family, Hop, Prefix};
-use std::alloc::AllocError;
+use std::alloc::{AllocError, Global};
 
 fn prefix(bits: u32, len: u8) -> Prefix
     requires { len ≤ 32 }
     ensures { result.family ≡ V4 }
 {
     Prefix::new(&Addr::v4(bits), len)
+}
+
+/// 10/8.
+fn wide() -> Prefix
+    ensures { result.family ≡ V4 }
+{
+    prefix(0x0a00_0000, 8)
+}
+
+/// 10.1/16.
+fn narrow() -> Prefix
+    ensures { result.family ≡ V4 }
+{
+    prefix(0x0a01_0000, 16)
+}
+
+/// 10.2/16.
+fn beside() -> Prefix
+    ensures { result.family ≡ V4 }
+{
+    prefix(0x0a02_0000, 16)
+}
+
+/// Routes at 10/8 and 10.1/16, and an entry at 10/8.
+fn filled(alloc: Global) -> Result<Tree, AllocError>
+    ensures { IfOk result (λ t. t.family ≡ V4) }
+{
+    let mut tree = Tree::new(alloc, Family::V4);
+    tree.set_route(&narrow(), Hop(2))?;
+    tree.set_route(&wide(), Hop(1))?;
+    tree.set_entry(&wide(), Hop(3))?;
+    Ok(tree)
 }
 
 /// What a table answers about a whole prefix, asked as any such table is.
@@ -22,53 +54,78 @@ fn uniform<A: Answers>(table: &A, prefix: &Prefix) -> Option<Hop>
 }
 
 #[test]
-fn routes_and_entries_are_apart(rt: HostRuntime) -> Result<(), AllocError> {
-    let mut tree = Tree::new(rt.alloc(), Family::V4);
-    let wide = prefix(0x0a00_0000, 8);
-    let narrow = prefix(0x0a01_0000, 16);
-    tree.set_route(&narrow, Hop(2))?;
-    tree.set_route(&wide, Hop(1))?;
-    tree.set_entry(&wide, Hop(3))?;
-    let beside = prefix(0x0a02_0000, 16);
-    assert!(rt; tree.room(&beside).is_ok());
+fn routes_are_told_in_order(rt: HostRuntime) -> Result<(), AllocError> {
+    let tree = filled(rt.alloc())?;
     let routes = [
         Entry {
-            prefix: wide,
+            prefix: wide(),
             hop: Hop(1),
         },
         Entry {
-            prefix: narrow,
+            prefix: narrow(),
             hop: Hop(2),
         },
     ];
     assert_eq!(rt; tree.routes()?.as_slice(), routes.as_slice());
-    tree.trim(&prefix(0, 0));
-    assert_eq!(rt; tree.routes()?.as_slice(), routes.as_slice());
+    assert_eq!(rt; tree.entries()?.len(), 1);
     assert_eq!(rt; RoutesOf(&tree).family(), Family::V4);
     assert_eq!(rt; EntriesOf(&tree).family(), Family::V4);
-    assert_eq!(rt; uniform(&RoutesOf(&tree), &narrow), Some(Hop(2)));
-    assert_eq!(rt; uniform(&RoutesOf(&tree), &wide), None);
-    assert_eq!(rt; uniform(&RoutesOf(&tree), &beside), Some(Hop(1)));
-    assert_eq!(rt; uniform(&EntriesOf(&tree), &wide), Some(Hop(3)));
+    Ok(())
+}
+
+#[test]
+fn whole_prefixes_get_one_hop_or_none(rt: HostRuntime) -> Result<(), AllocError> {
+    let tree = filled(rt.alloc())?;
+    assert_eq!(rt; uniform(&RoutesOf(&tree), &narrow()), Some(Hop(2)));
+    assert_eq!(rt; uniform(&RoutesOf(&tree), &wide()), None);
+    assert_eq!(rt; uniform(&RoutesOf(&tree), &beside()), Some(Hop(1)));
+    assert_eq!(rt; uniform(&EntriesOf(&tree), &wide()), Some(Hop(3)));
     assert_eq!(rt; uniform(&EntriesOf(&tree), &prefix(0, 0)), None);
-    assert_eq!(rt;
-        uniform(&EntriesOf(&tree), &prefix(0x0b00_0000, 8)),
-        Some(Hop::NONE)
-    );
+    Ok(())
+}
+
+#[test]
+fn addresses_and_prefixes_are_asked(rt: HostRuntime) -> Result<(), AllocError> {
+    let tree = filled(rt.alloc())?;
     assert_eq!(rt; tree.answer_route(&Addr::v4(0x0a01_0001)), Hop(2));
     assert_eq!(rt; tree.answer_entry(&Addr::v4(0x0a01_0001)), Hop(3));
-    assert_eq!(rt; tree.inherited(&narrow), Hop(3));
-    assert_eq!(rt; tree.route(&narrow), Some(Hop(2)));
-    assert_eq!(rt; tree.route(&beside), None);
-    assert_eq!(rt; tree.entries_within(&wide)?.len(), 1);
-    assert_eq!(rt; tree.entries_within(&narrow)?.len(), 0);
-    assert_eq!(rt; tree.inherited(&wide), Hop::NONE);
-    tree.clear_route(&narrow);
-    tree.clear_entry(&wide);
+    assert_eq!(rt; tree.inherited(&narrow()), Hop(3));
+    assert_eq!(rt; tree.inherited(&wide()), Hop::NONE);
+    assert_eq!(rt; tree.route(&narrow()), Some(Hop(2)));
+    assert_eq!(rt; tree.entries_within(&wide())?.len(), 1);
+    Ok(())
+}
+
+#[test]
+fn what_is_taken_away_is_gone(rt: HostRuntime) -> Result<(), AllocError> {
+    let mut tree = filled(rt.alloc())?;
+    tree.clear_route(&narrow())?;
+    tree.clear_entry(&wide());
     assert_eq!(rt; tree.answer_route(&Addr::v4(0x0a01_0001)), Hop(1));
-    assert_eq!(rt; tree.entries()?.len(), 0);
-    assert_eq!(rt; tree.uniform_route(&wide), Some(Hop(1)));
+    assert_eq!(rt; tree.uniform_route(&wide()), Some(Hop(1)));
     assert_eq!(rt; tree.uniform_entry(&prefix(0, 0)), Some(Hop::NONE));
+    Ok(())
+}
+
+#[test]
+fn a_change_is_put_back(rt: HostRuntime) -> Result<(), AllocError> {
+    let mut tree = filled(rt.alloc())?;
+    assert_eq!(rt; tree.region(&prefix(0, 0)).k(), 2);
+    tree.clear_route(&narrow())?;
+    assert_eq!(rt; tree.region(&prefix(0, 0)).k(), 1);
+    tree.put_back();
+    assert_eq!(rt; tree.region(&prefix(0, 0)).k(), 2);
+    assert_eq!(rt; tree.route(&narrow()), Some(Hop(2)));
+    Ok(())
+}
+
+#[test]
+fn routes_are_loaded_at_once(rt: HostRuntime) -> Result<(), AllocError> {
+    let routes = filled(rt.alloc())?.routes()?;
+    let tree = Tree::load(rt.alloc(), Family::V4, &routes)?;
+    assert_eq!(rt; tree.routes()?.as_slice(), routes.as_slice());
+    assert_eq!(rt; tree.region(&prefix(0, 0)).k(), 2);
+    assert_eq!(rt; tree.nodes_within(&wide()), 9);
     Ok(())
 }
 

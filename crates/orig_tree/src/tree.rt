@@ -1,12 +1,15 @@
 //! The tree of a family.
 
-ghost use Rattle.std.specs.Prelude.{◌≡◌, [], ◌∷◌, true, List, Bool, OnOk, OnErr, IsOk, IfOk, IfSome, IfNone, map, filter, option_map};
+ghost use Rattle.std.specs.Prelude.{◌≡◌, ◌+◌, [], ◌∷◌, true, List, Bool, OnOk, OnErr, IsOk, IfOk, IfSome, IfNone, map, filter, option_map};
 ghost use Rattle.std.specs.List.{AllByRecursion};
 ghost use Rattle.std.specs.Map.{keys_of, lookup, remove_entry};
-ghost use Rattle.address_model.specs.Address.{same_prefix};
+ghost use Rattle.address_model.specs.Address.{same_family, same_prefix};
 ghost use Rattle.address_model.specs.Regions.{is_within};
-ghost use Rattle.table_model.specs.Entries.{with_entry, match_in, of_family, of_table};
+ghost use Rattle.table_model.specs.Entries.{with_entry, in_order, match_in, of_family, of_table};
 ghost use Rattle.table_model.specs.Uniform.{AllGet, TwoDiffer};
+ghost use Rattle.table_model.specs.Table.{cut};
+ghost use Rattle.least_model.specs.Sets.{answers};
+ghost use Rattle.orig_tree.specs.Spots.{answers_in};
 ghost use Rattle.least_model.specs.Regions.{above};
 ghost use Rattle.fib_addr.specs.Views.{addr_as, prefix_as, entry_as};
 ghost use Rattle.address_model.specs.Width.{width};
@@ -14,12 +17,18 @@ ghost use Rattle.orig_tree.specs.Walk.{AreMadeTo, has_node, rows_of};
 ghost use Rattle.orig_tree.specs.Views.{InPlace, Fits};
 ghost use Rattle.orig_tree.specs.Arena.{cells_of, whole};
 ghost use Rattle.orig_tree.specs.Trims.{AreTrimmed};
+ghost use Rattle.orig_tree.specs.Within.{nodes_in, told};
 
-use crate::node::{Label, Nodes, answer, inherited, tell, uniform};
+use crate::best::{Bests, root_best};
+use crate::count::count_within;
+use crate::load::{lay_all, settle_all};
+use crate::node::{Label, Nodes, answer, inherited, is_node, tell, uniform};
 use crate::node_ref::NodeRef;
 use crate::parts::{route_at, tell_within};
 use crate::path::path_bits;
-use crate::whole::{change, drop_unused, empty, make_room};
+use crate::region::{Region, below};
+use crate::undo::{Undo, keep_if};
+use crate::whole::{alter, change, drop_unused, empty, lay, make_room, take_back};
 use fib_addr::{Addr, Entry, Family, Hop, Prefix};
 use std::alloc::{AllocError, Global};
 use std::marker::Model;
@@ -31,6 +40,8 @@ pub struct Tree {
     alloc: Global,
     family: Family,
     nodes: Nodes,
+    bests: Bests,
+    undo: Option<Undo>,
 }
 
 impl Model for Tree {
@@ -39,11 +50,14 @@ impl Model for Tree {
 
     ghost Value = { Labels };
 
+    ghost use Rattle.std.specs.Prelude.{◌≤◌, vec_len};
     ghost use Rattle.orig_tree.specs.Arena.{cells_of, whole, IsArena};
+    ghost use Rattle.orig_tree.specs.Bests.{best_in, KeepsBest};
+    ghost use Rattle.orig_tree.specs.Undos.{routes_before, CanUndo};
 
-    ghost view = { λ t. record { family = t.family; routes = of_table t.family (whole t.family (cells_of t.nodes)).routes; entries = of_table t.family (whole t.family (cells_of t.nodes)).entries; nodes = (whole t.family (cells_of t.nodes)).nodes } };
+    ghost view = { λ t. record { family = t.family; routes = of_table t.family (whole t.family (cells_of t.nodes)).routes; entries = of_table t.family (whole t.family (cells_of t.nodes)).entries; nodes = (whole t.family (cells_of t.nodes)).nodes; before = of_table t.family (routes_before t.undo (whole t.family (cells_of t.nodes)).routes) } };
 
-    ghost invariant = { λ t. IsArena t.family (cells_of t.nodes) t.nodes.free × InPlace (of_table t.family (whole t.family (cells_of t.nodes)).routes) × InPlace (of_table t.family (whole t.family (cells_of t.nodes)).entries) };
+    ghost invariant = { λ t. IsArena t.family (cells_of t.nodes) t.nodes.free × InPlace (of_table t.family (whole t.family (cells_of t.nodes)).routes) × InPlace (of_table t.family (whole t.family (cells_of t.nodes)).entries) × KeepsBest t.family (cells_of t.nodes) (best_in t.bests) × (vec_len t.nodes.pairs ≤ vec_len t.bests.pairs) × CanUndo t.family (cells_of t.nodes) (best_in t.bests) t.undo };
 }
 
 /// The table of one label from the root on, in the order of prefixes.
@@ -65,13 +79,47 @@ fn list_label(
 impl Tree {
     /// A tree with no routes and no entries.
     pub fn new(alloc: Global, family: Family) -> Tree
-        ensures { result ≡ record { family = family; routes = []; entries = []; nodes = [] ∷ [] } }
+        ensures { result ≡ record {
+          family = family;
+          routes = [];
+          entries = [];
+          nodes = [] ∷ [];
+          before = [];
+        } }
     {
         Tree {
             alloc,
             family,
             nodes: empty(alloc, family),
+            bests: root_best(alloc),
+            undo: None,
         }
+    }
+
+    /// A tree with those of the routes that are of its family, the last at each prefix. What the nodes keep is told once, when
+    /// all are set: it costs the routes' lengths, and the nodes.
+    ///
+    /// # Errors
+    ///
+    /// No memory, which comes too where there would be 2^31 nodes or more.
+    pub fn load(alloc: Global, family: Family, routes: &[Entry]) -> Result<Tree, AllocError>
+        ensures family { IfOk result (λ t. t.family ≡ family) }
+        ensures routes { IfOk result (λ t. t.routes ≡ in_order (filter (λ e. same_family family
+            e.0.family) (map entry_as routes.now))) }
+        ensures entries { IfOk result (λ t. t.entries ≡ []) }
+        ensures before { IfOk result (λ t. t.before ≡ t.routes) }
+    {
+        let mut nodes = empty(alloc, family);
+        let mut bests = root_best(alloc);
+        lay_all(family, &mut nodes, &mut bests, routes)?;
+        settle_all(alloc, family, &nodes, &mut bests)?;
+        Ok(Tree {
+            alloc,
+            family,
+            nodes,
+            bests,
+            undo: None,
+        })
     }
 
     /// The routes.
@@ -112,6 +160,35 @@ impl Tree {
         }
     }
 
+    /// The region of a prefix, to ask what is best for it.
+    pub fn region(&self, prefix: &Prefix) -> Region<'_>
+        requires { prefix.now.family ≡ self.now.family }
+        ensures bits { result.bits + prefix.now.len ≡ width self.now.family }
+        ensures answers { (a : List Bool) → answers_in result a ≡ answers
+            (of_family self.now.family self.now.routes) (prefix_as prefix.now).bits a }
+        ensures entries { result.entries ≡ cut (prefix_as prefix.now).bits
+            (of_family self.now.family self.now.entries) }
+    {
+        let whole = Region {
+            nodes: &self.nodes,
+            bests: &self.bests,
+            place: Some(0),
+            bits: self.family.width(),
+            hop: 0,
+        };
+        below(whole, path_bits(prefix), prefix.len)
+    }
+
+    /// How many nodes there are at the prefix and within it; 2^64 - 1 stands for all numbers that are greater. It takes no
+    /// memory, and costs the prefix's length and those nodes.
+    pub fn nodes_within(&self, prefix: &Prefix) -> u64
+        requires { prefix.now.family ≡ self.now.family }
+        ensures { result ≡ told (nodes_in (prefix_as prefix.now).bits self.now.nodes) }
+    {
+        let depth = self.family.width();
+        count_within(&self.nodes, 0, path_bits(prefix), prefix.len, depth)
+    }
+
     /// Makes the prefix a node, so that `set_route` and `set_entry` take no memory at it. New nodes are the prefix's and those
     /// on the way to it.
     ///
@@ -129,14 +206,22 @@ impl Tree {
         ensures ok { OnOk result (has_node (prefix_as prefix.now).bits self.new.nodes ≡ true) }
         ensures err { OnErr result (self.new ≡ self.old) }
         ensures held { has_node (prefix_as prefix.now).bits self.old.nodes ≡ true → IsOk result }
+        ensures same { has_node (prefix_as prefix.now).bits self.old.nodes ≡ true → self.new ≡ self.old }
     {
         let q = path_bits(prefix);
-        make_room(self.family, &mut self.nodes, q, prefix.len)
+        make_room(
+            self.family,
+            &mut self.nodes,
+            &mut self.bests,
+            &mut self.undo,
+            q,
+            prefix.len,
+        )
     }
 
     /// Drops the nodes at the prefix and within it that have no route and no entry at them or within them, and those on the
     /// way to it that then have none of their own and nothing below them: a node beside the way keeps those above it, whether
-    /// it is used or not. The node of the whole space stays.
+    /// it is used or not. The node of the whole space stays. The last change of a route can't be put back any more.
     pub fn trim(&mut self, prefix: &Prefix)
         requires { prefix.now.family ≡ self.old.family }
         ensures family { self.new.family ≡ self.old.family }
@@ -147,6 +232,7 @@ impl Tree {
             self.old.nodes self.new.nodes }
     {
         let q = path_bits(prefix);
+        self.undo = None;
         drop_unused(self.family, &mut self.nodes, q, prefix.len);
     }
 
@@ -246,27 +332,54 @@ impl Tree {
         Ok(list)
     }
 
-    /// Takes the prefix's route away, if it has one.
-    pub fn clear_route(&mut self, prefix: &Prefix)
+    /// Takes the prefix's route away, if it has one. It costs the nodes on the way to the prefix, and those within it that no
+    /// route of their own keeps from it, with their sets of hops. Where the prefix is a node, `put_back` takes it back.
+    ///
+    /// # Errors
+    ///
+    /// No memory; then nothing has changed.
+    pub fn clear_route(&mut self, prefix: &Prefix) -> Result<(), AllocError>
         requires { prefix.now.family ≡ self.old.family }
-        ensures { self.new ≡ record {
-          family = self.old.family;
-          routes = remove_entry
-              (same_prefix (prefix_as prefix.now)) self.old.routes;
-          entries = self.old.entries;
-          nodes
-              = self.old.nodes;
-        } }
+        ensures family { self.new.family ≡ self.old.family }
+        ensures routes { OnOk result (self.new.routes ≡ remove_entry
+            (same_prefix (prefix_as prefix.now)) self.old.routes) }
+        ensures entries { self.new.entries ≡ self.old.entries }
+        ensures nodes { self.new.nodes ≡ self.old.nodes }
+        ensures before { has_node (prefix_as prefix.now).bits self.old.nodes ≡ true
+            → OnOk result (self.new.before ≡ self.old.routes) }
+        ensures err { OnErr result (self.new ≡ self.old) }
     {
         let q = path_bits(prefix);
-        change(
+        let was_node = is_node(&self.nodes, 0, q, prefix.len);
+        let undo = alter(
+            self.alloc,
             self.family,
             &mut self.nodes,
-            Label::Route,
+            &mut self.bests,
             q,
             prefix.len,
             None,
-        )
+        )?;
+        self.undo = keep_if(was_node, undo);
+        Ok(())
+    }
+
+    /// Puts the routes back as they were before the last call of `set_route` or `clear_route`, with all that nodes keep, where
+    /// its prefix was a node before it, and no node was made or dropped since; else it changes nothing. It takes no memory, and
+    /// costs what that call did.
+    pub fn put_back(&mut self)
+        ensures { self.new ≡ record {
+          family = self.old.family;
+          routes = self.old.before;
+          entries = self.old.entries;
+          nodes = self.old.nodes;
+          before = self.old.before;
+        } }
+    {
+        match self.undo.take() {
+            None => {}
+            Some(undo) => take_back(self.family, &mut self.nodes, &mut self.bests, undo),
+        }
     }
 
     /// Takes the prefix's entry away, if it has one.
@@ -277,26 +390,20 @@ impl Tree {
           routes = self.old.routes;
           entries =
               remove_entry (same_prefix (prefix_as prefix.now)) self.old.entries;
-          nodes =
-              self.old.nodes;
+          nodes = self.old.nodes;
+          before = self.old.before;
         } }
     {
         let q = path_bits(prefix);
-        change(
-            self.family,
-            &mut self.nodes,
-            Label::Entry,
-            q,
-            prefix.len,
-            None,
-        )
+        change(self.family, &mut self.nodes, q, prefix.len, None)
     }
 
-    /// Sets the hop of the prefix's route.
+    /// Sets the hop of the prefix's route. It costs the nodes on the way to the prefix, and those within it that no route of
+    /// their own keeps from it, with their sets of hops. Where the prefix is a node, `put_back` takes it back.
     ///
     /// # Errors
     ///
-    /// No memory, which comes only where the prefix isn't a node; then nothing has changed.
+    /// No memory; then nothing has changed.
     pub fn set_route(&mut self, prefix: &Prefix, hop: Hop) -> Result<(), AllocError>
         requires { prefix.now.family ≡ self.old.family }
         ensures family { self.new.family ≡ self.old.family }
@@ -307,19 +414,34 @@ impl Tree {
             → has_node p self.new.nodes ≡ true }
         ensures made { AreMadeTo (prefix_as prefix.now).bits self.old.nodes self.new.nodes }
         ensures ok { OnOk result (has_node (prefix_as prefix.now).bits self.new.nodes ≡ true) }
+        ensures before { has_node (prefix_as prefix.now).bits self.old.nodes ≡ true
+            → OnOk result (self.new.before ≡ self.old.routes) }
         ensures err { OnErr result (self.new ≡ self.old) }
-        ensures held { has_node (prefix_as prefix.now).bits self.old.nodes ≡ true → IsOk result }
     {
         let q = path_bits(prefix);
-        make_room(self.family, &mut self.nodes, q, prefix.len)?;
-        change(
+        if is_node(&self.nodes, 0, q, prefix.len) {
+            let undo = alter(
+                self.alloc,
+                self.family,
+                &mut self.nodes,
+                &mut self.bests,
+                q,
+                prefix.len,
+                Some(hop.0),
+            )?;
+            self.undo = Some(undo);
+            return Ok(());
+        }
+        lay(
+            self.alloc,
             self.family,
             &mut self.nodes,
-            Label::Route,
+            &mut self.bests,
             q,
             prefix.len,
-            Some(hop.0),
-        );
+            hop.0,
+        )?;
+        self.undo = None;
         Ok(())
     }
 
@@ -338,19 +460,21 @@ impl Tree {
             → has_node p self.new.nodes ≡ true }
         ensures made { AreMadeTo (prefix_as prefix.now).bits self.old.nodes self.new.nodes }
         ensures ok { OnOk result (has_node (prefix_as prefix.now).bits self.new.nodes ≡ true) }
+        ensures before { has_node (prefix_as prefix.now).bits self.old.nodes ≡ true
+            → self.new.before ≡ self.old.before }
         ensures err { OnErr result (self.new ≡ self.old) }
         ensures held { has_node (prefix_as prefix.now).bits self.old.nodes ≡ true → IsOk result }
     {
         let q = path_bits(prefix);
-        make_room(self.family, &mut self.nodes, q, prefix.len)?;
-        change(
+        make_room(
             self.family,
             &mut self.nodes,
-            Label::Entry,
+            &mut self.bests,
+            &mut self.undo,
             q,
             prefix.len,
-            Some(hop.0),
-        );
+        )?;
+        change(self.family, &mut self.nodes, q, prefix.len, Some(hop.0));
         Ok(())
     }
 }

@@ -1,14 +1,21 @@
 //! The array as one tree from its root on.
 
-ghost use Rattle.std.specs.Prelude.{◌≡◌, ◌≤◌, OnOk, OnErr, IsOk, IfOk, true, None};
+ghost use Rattle.std.specs.Prelude.{◌≡◌, ◌≤◌, ℕ, OnOk, OnErr, IsOk, IfOk, true, None, Some, vec_len, ◌∷◌, []};
 ghost use Rattle.address_model.specs.Bits.{bits_of};
 ghost use Rattle.address_model.specs.Width.{width};
 ghost use Rattle.orig_tree.specs.Walk.{walks_of, no_walks, edited, Allowed, has_node};
 ghost use Rattle.orig_tree.specs.Trims.{IsTrimmed};
-ghost use Rattle.orig_tree.specs.Arena.{cells_of, whole, IsArena, IsRoomier};
+ghost use Rattle.orig_tree.specs.Arena.{blank, cells_of, whole, IsArena, IsRoomier, HalvesStay};
+ghost use Rattle.orig_tree.specs.Bests.{best_in, KeepsBest, IsLaid};
+ghost use Rattle.orig_tree.specs.Undos.{TakesBack, CanUndo};
+ghost use Rattle.orig_tree.specs.declared.node.Label.TheVariants.{Route, Entry};
 
+use crate::best::{Bests, commit, no_changes, revert};
 use crate::drops::trim;
-use crate::node::{Label, Nodes, assign, room, root_alone};
+use crate::mend::plan;
+use crate::node::{Label, Nodes, assign, grow, is_node, reserve, root_alone};
+use crate::parts::route_at;
+use crate::undo::Undo;
 use fib_addr::Family;
 use std::alloc::{AllocError, Global};
 
@@ -16,12 +23,15 @@ use std::alloc::{AllocError, Global};
 pub(crate) fn empty(alloc: Global, family: Family) -> Nodes
     ensures arena { IsArena family (cells_of result) result.free }
     ensures bare { whole family (cells_of result) ≡ walks_of None None no_walks no_walks }
+    ensures alone { cells_of result ≡ blank ∷ [] }
+    ensures len { vec_len result.pairs ≡ 0 }
 {
     let _ = family;
     root_alone(alloc)
 }
 
-/// Makes a path a node. It changes no table.
+/// Makes a path a node. It changes no table. Where it is one already, nothing changes; else the last change of a route can't
+/// be taken back any more.
 ///
 /// # Errors
 ///
@@ -29,44 +39,161 @@ pub(crate) fn empty(alloc: Global, family: Family) -> Nodes
 pub(crate) fn make_room(
     family: Family,
     nodes: &mut Nodes,
+    bests: &mut Bests,
+    undo: &mut Option<Undo>,
     q: u128,
     len: u8,
 ) -> Result<(), AllocError>
     requires few { len ≤ width family }
     requires arena { IsArena family (cells_of nodes.old) nodes.old.free }
+    requires best { KeepsBest family (cells_of nodes.old) (best_in bests.old) }
+    requires long { vec_len nodes.old.pairs ≤ vec_len bests.old.pairs }
+    requires undo { CanUndo family (cells_of nodes.old) (best_in bests.old) undo.old }
     ensures arena { IsArena family (cells_of nodes.new) nodes.new.free }
+    ensures best { KeepsBest family (cells_of nodes.new) (best_in bests.new) }
+    ensures long { vec_len nodes.new.pairs ≤ vec_len bests.new.pairs }
+    ensures undo { CanUndo family (cells_of nodes.new) (best_in bests.new) undo.new }
     ensures walks { IsRoomier (bits_of len q) (whole family (cells_of nodes.old)) (whole family
         (cells_of nodes.new)) }
     ensures ok { OnOk result (has_node (bits_of len q) (whole family (cells_of nodes.new)).nodes
         ≡ true) }
-    ensures err { OnErr result (whole family (cells_of nodes.new)
-        ≡ whole family (cells_of nodes.old)) }
+    ensures err { OnErr result ((whole family (cells_of nodes.new)
+        ≡ whole family (cells_of nodes.old)) × (undo.new ≡ undo.old)) }
     ensures held { has_node (bits_of len q) (whole family (cells_of nodes.old)).nodes ≡ true
-        → IsOk result }
+        → IsOk result × (whole family (cells_of nodes.new) ≡ whole family (cells_of nodes.old))
+        × (undo.new ≡ undo.old) }
 {
     let _ = family;
-    room(nodes, q, len)?;
+    if is_node(nodes, 0, q, len) {
+        return Ok(());
+    }
+    reserve(nodes, bests, 2 * len as usize)?;
+    grow(nodes, bests, 0, q, len, 0, None);
+    *undo = None;
     Ok(())
 }
 
-/// Sets the hop of a path that has a node, or takes the path's hop away.
-pub(crate) fn change(
+/// Makes a path a node and sets its route, with what is kept for the regions that it changes.
+///
+/// # Errors
+///
+/// No memory; then nothing has changed.
+pub(crate) fn lay(
+    alloc: Global,
     family: Family,
     nodes: &mut Nodes,
-    label: Label,
+    bests: &mut Bests,
     q: u128,
     len: u8,
-    hop: Option<u16>,
-)
+    hop: u16,
+) -> Result<(), AllocError>
+    requires few { len ≤ width family }
+    requires arena { IsArena family (cells_of nodes.old) nodes.old.free }
+    requires best { KeepsBest family (cells_of nodes.old) (best_in bests.old) }
+    requires long { vec_len nodes.old.pairs ≤ vec_len bests.old.pairs }
+    ensures arena { IsArena family (cells_of nodes.new) nodes.new.free }
+    ensures best { KeepsBest family (cells_of nodes.new) (best_in bests.new) }
+    ensures long { vec_len nodes.new.pairs ≤ vec_len bests.new.pairs }
+    ensures laid { OnOk result (IsLaid (bits_of len q) hop (whole family (cells_of nodes.old)) (whole
+        family (cells_of nodes.new))) }
+    ensures err { OnErr result ((cells_of nodes.new ≡ cells_of nodes.old)
+        × ((j : ℕ) → best_in bests.new j ≡ best_in bests.old j)) }
+{
+    reserve(nodes, bests, 2 * len as usize)?;
+    let depth = family.width();
+    let mut changes = no_changes(alloc, depth)?;
+    plan(
+        alloc,
+        nodes,
+        bests,
+        0,
+        q,
+        len,
+        depth,
+        0,
+        Some(hop),
+        &mut changes,
+    )?;
+    commit(bests, &mut changes);
+    grow(nodes, bests, 0, q, len, 0, Some(hop));
+    assign(nodes, 0, Label::Route, q, len, Some(hop));
+    Ok(())
+}
+
+/// Sets the route of a path that has a node, or takes the path's route away, with what is kept for the regions that it
+/// changes. How that is taken back is given.
+///
+/// # Errors
+///
+/// No memory; then nothing has changed.
+pub(crate) fn alter(
+    alloc: Global,
+    family: Family,
+    nodes: &mut Nodes,
+    bests: &mut Bests,
+    q: u128,
+    len: u8,
+    set: Option<u16>,
+) -> Result<Undo, AllocError>
+    requires few { len ≤ width family }
+    requires arena { IsArena family (cells_of nodes.old) nodes.old.free }
+    requires best { KeepsBest family (cells_of nodes.old) (best_in bests.old) }
+    requires long { vec_len nodes.old.pairs ≤ vec_len bests.old.pairs }
+    requires allowed { Allowed (bits_of len q) set (whole family (cells_of nodes.old)).nodes }
+    ensures arena { IsArena family (cells_of nodes.new) nodes.new.free }
+    ensures best { KeepsBest family (cells_of nodes.new) (best_in bests.new) }
+    ensures long { vec_len nodes.new.pairs ≤ vec_len bests.new.pairs }
+    ensures walks { OnOk result (whole family (cells_of nodes.new) ≡ edited Route (bits_of len q) set
+        (whole family (cells_of nodes.old))) }
+    ensures back { IfOk result (λ u. has_node (bits_of len q) (whole family (cells_of
+        nodes.old)).nodes ≡ true → TakesBack family (whole family (cells_of nodes.old)).routes
+        (cells_of nodes.new) (best_in bests.new) u) }
+    ensures err { OnErr result ((cells_of nodes.new ≡ cells_of nodes.old)
+        × ((j : ℕ) → best_in bests.new j ≡ best_in bests.old j)) }
+{
+    let hop = route_at(nodes, 0, q, len);
+    let depth = family.width();
+    let mut changes = no_changes(alloc, depth)?;
+    plan(alloc, nodes, bests, 0, q, len, depth, 0, set, &mut changes)?;
+    commit(bests, &mut changes);
+    assign(nodes, 0, Label::Route, q, len, set);
+    Ok(Undo {
+        q,
+        changes,
+        hop,
+        len,
+    })
+}
+
+/// Takes a change of a route back, with what was kept before. It takes no memory.
+pub(crate) fn take_back(family: Family, nodes: &mut Nodes, bests: &mut Bests, undo: Undo)
+    requires arena { IsArena family (cells_of nodes.old) nodes.old.free }
+    requires long { vec_len nodes.old.pairs ≤ vec_len bests.old.pairs }
+    requires undo { CanUndo family (cells_of nodes.old) (best_in bests.old) (Some undo) }
+    ensures arena { IsArena family (cells_of nodes.new) nodes.new.free }
+    ensures best { KeepsBest family (cells_of nodes.new) (best_in bests.new) }
+    ensures long { vec_len nodes.new.pairs ≤ vec_len bests.new.pairs }
+    ensures walks { whole family (cells_of nodes.new) ≡ edited Route (bits_of undo.len undo.q)
+        undo.hop (whole family (cells_of nodes.old)) }
+{
+    let _ = family;
+    revert(bests, undo.changes);
+    assign(nodes, 0, Label::Route, undo.q, undo.len, undo.hop);
+}
+
+/// Sets the entry of a path that has a node, or takes the path's entry away.
+pub(crate) fn change(family: Family, nodes: &mut Nodes, q: u128, len: u8, hop: Option<u16>)
     requires few { len ≤ width family }
     requires arena { IsArena family (cells_of nodes.old) nodes.old.free }
     requires allowed { Allowed (bits_of len q) hop (whole family (cells_of nodes.old)).nodes }
     ensures arena { IsArena family (cells_of nodes.new) nodes.new.free }
-    ensures walks { whole family (cells_of nodes.new) ≡ edited label (bits_of len q) hop (whole
+    ensures walks { whole family (cells_of nodes.new) ≡ edited Entry (bits_of len q) hop (whole
         family (cells_of nodes.old)) }
+    ensures halves { HalvesStay (cells_of nodes.old) (cells_of nodes.new) }
+    ensures len { vec_len nodes.new.pairs ≡ vec_len nodes.old.pairs }
 {
     let _ = family;
-    assign(nodes, 0, label, q, len, hop);
+    assign(nodes, 0, Label::Entry, q, len, hop);
 }
 
 /// Drops the nodes of a path and below it that nothing uses. It changes no table.
@@ -80,6 +207,8 @@ pub(crate) fn drop_unused(family: Family, nodes: &mut Nodes, q: u128, len: u8)
         ≡ (whole family (cells_of nodes.old)).entries }
     ensures trimmed { IsTrimmed (bits_of len q) (whole family (cells_of nodes.old)) (whole family
         (cells_of nodes.new)) }
+    ensures halves { HalvesStay (cells_of nodes.old) (cells_of nodes.new) }
+    ensures len { vec_len nodes.new.pairs ≡ vec_len nodes.old.pairs }
 {
     trim(nodes, 0, q, len, family.width());
 }

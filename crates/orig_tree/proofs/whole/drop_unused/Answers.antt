@@ -4,13 +4,13 @@ use Rattle.orig_tree.proofs.Roots.{trim_whole}
 use Rattle.orig_tree.proofs.whole.drop_unused.Goals as goal
 
 pub returns-clause-routes : goal.returns-clause-routes
-returns-clause-routes c = (trim_whole c.args.family (bits_of c.args.len c.args.q) c.width.result c.args.nodes.now.free c.trim.new.nodes.free (cells_of c.args.nodes.now) (cells_of c.trim.new.nodes) c.trim.result c.width.ensures c.requires.arena c.trim.ensures).0
+returns-clause-routes c = (trim_whole c.args.family (bits_of c.args.len c.args.q) c.width.result c.args.nodes.now.free c.trim.new.nodes.free (cells_of c.args.nodes.now) (cells_of c.trim.new.nodes) c.trim.result c.width.ensures c.requires.arena c.trim.ensures.trimmed).0
 
 pub returns-clause-entries : goal.returns-clause-entries
-returns-clause-entries c = (trim_whole c.args.family (bits_of c.args.len c.args.q) c.width.result c.args.nodes.now.free c.trim.new.nodes.free (cells_of c.args.nodes.now) (cells_of c.trim.new.nodes) c.trim.result c.width.ensures c.requires.arena c.trim.ensures).1
+returns-clause-entries c = (trim_whole c.args.family (bits_of c.args.len c.args.q) c.width.result c.args.nodes.now.free c.trim.new.nodes.free (cells_of c.args.nodes.now) (cells_of c.trim.new.nodes) c.trim.result c.width.ensures c.requires.arena c.trim.ensures.trimmed).1
 
 pub returns-clause-trimmed : goal.returns-clause-trimmed
-returns-clause-trimmed c = (trim_whole c.args.family (bits_of c.args.len c.args.q) c.width.result c.args.nodes.now.free c.trim.new.nodes.free (cells_of c.args.nodes.now) (cells_of c.trim.new.nodes) c.trim.result c.width.ensures c.requires.arena c.trim.ensures).2
+returns-clause-trimmed c = (trim_whole c.args.family (bits_of c.args.len c.args.q) c.width.result c.args.nodes.now.free c.trim.new.nodes.free (cells_of c.args.nodes.now) (cells_of c.trim.new.nodes) c.trim.result c.width.ensures c.requires.arena c.trim.ensures.trimmed).2
 
 pub returns-clause-arena : goal.returns-clause-arena
-returns-clause-arena c = (trim_whole c.args.family (bits_of c.args.len c.args.q) c.width.result c.args.nodes.now.free c.trim.new.nodes.free (cells_of c.args.nodes.now) (cells_of c.trim.new.nodes) c.trim.result c.width.ensures c.requires.arena c.trim.ensures).3
+returns-clause-arena c = (trim_whole c.args.family (bits_of c.args.len c.args.q) c.width.result c.args.nodes.now.free c.trim.new.nodes.free (cells_of c.args.nodes.now) (cells_of c.trim.new.nodes) c.trim.result c.width.ensures c.requires.arena c.trim.ensures.trimmed).3

@@ -1,26 +1,115 @@
-use Rattle.std.proofs.Common.{◌≡◌, ◌≤◌, sym, ap, ◌∙◌, arith, length}
+use Rattle.std.proofs.Common.{◌≡◌, ◌≤◌, List, suc, refl, sym, ap, ◌∙◌, arith, length}
 use Rattle.address_model.specs.Bits.{bits_of}
 use Rattle.address_model.specs.Width.{width}
 use Rattle.address_model.specs.Address.{Prefix}
 use Rattle.address_model.proofs.BitLaws.{length-bits_of}
-use Rattle.table_model.specs.Entries.{with_entry}
-use Rattle.orig_tree.specs.Walk.{Walks}
+use Rattle.table_model.specs.Entries.{with_entry, of_table}
+use Rattle.orig_tree.specs.Walk.{Walks, has_node}
 use Rattle.orig_tree.specs.Views.{Labels}
 use Rattle.orig_tree.specs.Arena.{cells_of, whole}
+use Rattle.orig_tree.specs.Bests.{best_in}
+use Rattle.fib_addr.specs.Views.{prefix_as}
+use Rattle.orig_tree.specs.declared.node.Node.{Node}
 use Rattle.orig_tree.proofs.Places.{in_place_put, same_rows, entries_put}
+use Rattle.orig_tree.proofs.Undoing.{can_same, can_undo, few_bits, true_not}
 use Rattle.orig_tree.proofs.tree.Tree.set_route.Goals as goal
+
+pub alter-requires-clause-allowed : goal.alter-requires-clause-allowed
+alter-requires-clause-allowed c =
+    let f = c.self.inside.family in
+    let few = few_bits c.args.prefix.now f (c.requires ∙ sym (ap (λ (s : Labels). s.family) c.self.view_is)) in
+    sym (c.is_node.ensures (suc (width f)) (omega (arith, few))) ∙ c.if-is_node.true
+
+pub invariant_of-self : goal.invariant_of-self
+invariant_of-self c =
+    let f = c.self.inside.family in
+    let old = cells_of c.self.inside.nodes in
+    let new = cells_of c.alter.new.nodes in
+    let e = c.in_err-undo.ensures.err in (
+      c.alter.ensures.arena,
+      same_rows f (whole f old).routes (whole f new).routes (ap (λ (cs : List Node). (whole f cs).routes) e.0) c.self.invariant.1,
+      same_rows f (whole f old).entries (whole f new).entries (ap (λ (cs : List Node). (whole f cs).entries) e.0) c.self.invariant.2,
+      c.alter.ensures.best,
+      c.alter.ensures.long,
+      can_same f old new (best_in c.self.inside.bests) (best_in c.alter.new.bests) c.self.inside.undo e.0 e.1 c.self.invariant.5,
+    )
+
+pub invariant_of-self-then-is_node : goal.invariant_of-self-then-is_node
+invariant_of-self-then-is_node c =
+    let f = c.self.inside.family in
+    let p = c.args.prefix.now in
+    let fam : p.family ≡ f = c.requires ∙ sym (ap (λ (s : Labels). s.family) c.self.view_is) in
+    let few = few_bits p f fam in
+    let l : length (bits_of p.len c.path_bits-q.result) ≤ width f = omega (arith, length-bits_of p.len c.path_bits-q.result, few) in
+    let old = whole f (cells_of c.self.inside.nodes) in
+    let new = whole f (cells_of c.alter.new.nodes) in
+    let w = c.in_ok-undo.ensures.walks in
+    let has = sym (c.is_node.ensures (suc (width f)) (omega (arith, few))) ∙ c.if-is_node.true in (
+      c.alter.ensures.arena,
+      in_place_put f (bits_of p.len c.path_bits-q.result) c.args.hop.0 old.routes new.routes l (ap (λ (n : Walks). n.routes) w) c.self.invariant.1,
+      same_rows f old.entries new.entries (ap (λ (n : Walks). n.entries) w) c.self.invariant.2,
+      c.alter.ensures.best,
+      c.alter.ensures.long,
+      can_undo f old.routes (cells_of c.alter.new.nodes) (best_in c.alter.new.bests) c.in_ok-undo.undo (c.in_ok-undo.ensures.back has) c.self.invariant.1,
+    )
+
+pub returns-then-is_node-clause-routes : goal.returns-then-is_node-clause-routes
+returns-then-is_node-clause-routes c =
+    let p = c.args.prefix.now in
+    let f = c.self.inside.family in
+    let fam : p.family ≡ f = c.requires ∙ sym (ap (λ (s : Labels). s.family) c.self.view_is) in
+    let l : length (bits_of p.len c.path_bits-q.result) ≤ width f = omega (arith, length-bits_of p.len c.path_bits-q.result, few_bits p f fam) in
+    entries_put f p.family (bits_of p.len c.path_bits-q.result) c.args.hop.0 (whole f (cells_of c.self.inside.nodes)).routes (whole f (cells_of c.alter.new.nodes)).routes (whole f (cells_of c.self.inside.nodes)).routes c.args.self.now.routes l fam refl (ap (λ (n : Walks). n.routes) c.in_ok-undo.ensures.walks) (ap (λ (s : Labels). s.routes) c.self.view_is) c.self.invariant.1
+    ∙ ap (λ b. with_entry c.args.self.now.routes ((let x : Prefix = record { family = p.family; bits = b } in x), c.args.hop.0)) c.path_bits-q.ensures
+
+pub returns-then-is_node-clause-before : goal.returns-then-is_node-clause-before
+returns-then-is_node-clause-before c = λ there.
+    let f = c.self.inside.family in
+    let few = few_bits c.args.prefix.now f (c.requires ∙ sym (ap (λ (s : Labels). s.family) c.self.view_is)) in
+    ap (of_table f) (c.in_ok-undo.ensures.back (sym (c.is_node.ensures (suc (width f)) (omega (arith, few))) ∙ c.if-is_node.true)).routes ∙ ap (λ (s : Labels). s.routes) c.self.view_is
+
+pub invariant_of-self-in_err-lay : goal.invariant_of-self-in_err-lay
+invariant_of-self-in_err-lay c =
+    let f = c.self.inside.family in
+    let old = cells_of c.self.inside.nodes in
+    let new = cells_of c.lay.new.nodes in
+    let e = c.in_err-lay.ensures.err in (
+      c.lay.ensures.arena,
+      same_rows f (whole f old).routes (whole f new).routes (ap (λ (cs : List Node). (whole f cs).routes) e.0) c.self.invariant.1,
+      same_rows f (whole f old).entries (whole f new).entries (ap (λ (cs : List Node). (whole f cs).entries) e.0) c.self.invariant.2,
+      c.lay.ensures.best,
+      c.lay.ensures.long,
+      can_same f old new (best_in c.self.inside.bests) (best_in c.lay.new.bests) c.self.inside.undo e.0 e.1 c.self.invariant.5,
+    )
 
 pub invariant_of-self-2 : goal.invariant_of-self-2
 invariant_of-self-2 c =
     let p = c.args.prefix.now in
     let fam : p.family ≡ c.self.inside.family = c.requires ∙ sym (ap (λ (s : Labels). s.family) c.self.view_is) in
     let l : length (bits_of p.len c.path_bits-q.result) ≤ width c.self.inside.family = omega (arith, length-bits_of p.len c.path_bits-q.result, p.fits, ap width fam) in
-    (c.change.ensures.arena, in_place_put c.self.inside.family (bits_of p.len c.path_bits-q.result) c.args.hop.0 (whole c.self.inside.family (cells_of c.make_room.new.nodes)).routes (whole c.self.inside.family (cells_of c.change.new.nodes)).routes l (ap (λ (n : Walks). n.routes) c.change.ensures.walks) (same_rows c.self.inside.family (whole c.self.inside.family (cells_of c.self.inside.nodes)).routes (whole c.self.inside.family (cells_of c.make_room.new.nodes)).routes c.in_ok-make_room.ensures.walks.routes c.self.invariant.1), same_rows c.self.inside.family (whole c.self.inside.family (cells_of c.self.inside.nodes)).entries (whole c.self.inside.family (cells_of c.change.new.nodes)).entries (ap (λ (n : Walks). n.entries) c.change.ensures.walks ∙ c.in_ok-make_room.ensures.walks.entries) c.self.invariant.2)
+    let laid = c.in_ok-lay.ensures.laid in
+    let old = whole c.self.inside.family (cells_of c.self.inside.nodes) in
+    let new = whole c.self.inside.family (cells_of c.lay.new.nodes) in (
+      c.in_ok-lay.ensures.arena,
+      in_place_put c.self.inside.family (bits_of p.len c.path_bits-q.result) c.args.hop.0 laid.middle.routes new.routes l (ap (λ (n : Walks). n.routes) laid.set) (same_rows c.self.inside.family old.routes laid.middle.routes laid.room.routes c.self.invariant.1),
+      same_rows c.self.inside.family old.entries new.entries (ap (λ (n : Walks). n.entries) laid.set ∙ laid.room.entries) c.self.invariant.2,
+      c.in_ok-lay.ensures.best,
+      c.in_ok-lay.ensures.long,
+      tt,
+    )
 
 pub returns-clause-routes : goal.returns-clause-routes
 returns-clause-routes c =
     let p = c.args.prefix.now in
     let fam : p.family ≡ c.self.inside.family = c.requires ∙ sym (ap (λ (s : Labels). s.family) c.self.view_is) in
     let l : length (bits_of p.len c.path_bits-q.result) ≤ width c.self.inside.family = omega (arith, length-bits_of p.len c.path_bits-q.result, p.fits, ap width fam) in
-    entries_put c.self.inside.family p.family (bits_of p.len c.path_bits-q.result) c.args.hop.0 (whole c.self.inside.family (cells_of c.self.inside.nodes)).routes (whole c.self.inside.family (cells_of c.change.new.nodes)).routes (whole c.self.inside.family (cells_of c.make_room.new.nodes)).routes c.args.self.now.routes l fam c.in_ok-make_room.ensures.walks.routes (ap (λ (n : Walks). n.routes) c.change.ensures.walks) (ap (λ (s : Labels). s.routes) c.self.view_is) c.self.invariant.1
+    let laid = c.in_ok-lay.ensures.laid in
+    entries_put c.self.inside.family p.family (bits_of p.len c.path_bits-q.result) c.args.hop.0 (whole c.self.inside.family (cells_of c.self.inside.nodes)).routes (whole c.self.inside.family (cells_of c.lay.new.nodes)).routes laid.middle.routes c.args.self.now.routes l fam laid.room.routes (ap (λ (n : Walks). n.routes) laid.set) (ap (λ (s : Labels). s.routes) c.self.view_is) c.self.invariant.1
     ∙ ap (λ b. with_entry c.args.self.now.routes ((let x : Prefix = record { family = p.family; bits = b } in x), c.args.hop.0)) c.path_bits-q.ensures
+
+pub returns-clause-before : goal.returns-clause-before
+returns-clause-before c = λ there.
+    let f = c.self.inside.family in
+    let few = few_bits c.args.prefix.now f (c.requires ∙ sym (ap (λ (s : Labels). s.family) c.self.view_is)) in
+    let has = ap (λ b. has_node b (whole f (cells_of c.self.inside.nodes)).nodes) c.path_bits-q.ensures ∙ (ap (λ (s : Labels). has_node (prefix_as c.args.prefix.now).bits s.nodes) c.self.view_is ∙ there) in
+    absurd (true_not (sym (c.is_node.ensures (suc (width f)) (omega (arith, few)) ∙ has) ∙ c.if-is_node.false))

@@ -1,0 +1,110 @@
+-- The whole tree where a route is set or taken away, with what is kept.
+use Rattle.std.proofs.Common.{◌≡◌, ℕ, suc, ◌+◌, ◌<◌, ◌≤◌, List, [], ◌∷◌, length, Bool, true, false, refl, sym, ap, ◌∙◌, subst, arith, Option, Some, None}
+use Rattle.address_model.specs.Bits.{bits_of}
+use Rattle.address_model.specs.Width.{width}
+use Rattle.address_model.specs.declared.family.Family.{Family}
+use Rattle.table_model.specs.Table.{lpm}
+use Rattle.least_model.specs.Sets.{side}
+use Rattle.orig_tree.specs.Edits.{edit}
+use Rattle.orig_tree.specs.Walk.{Walks, no_walks, walks_of, edited, Allowed, has_node}
+use Rattle.orig_tree.specs.Arena.{Place, blank, node_at, half_place, IfHalf, walks_at, IsTree, IsHeld, IsSet, HasRoom, IsRoomier, HalvesStay, whole, IsArena}
+use Rattle.orig_tree.specs.Bests.{Stands, best_one, AreBest, changed, laid, Untouched, IsMended, IsGrown, KeepsBest, IsLaid}
+use Rattle.orig_tree.specs.declared.node.Node.{Node}
+use Rattle.orig_tree.specs.declared.node.Label.TheVariants.{Route}
+use Rattle.orig_tree.specs.declared.best.Best.{Best}
+use Rattle.orig_tree.specs.declared.best.Change.{Change}
+use Rattle.orig_tree.proofs.Roots.{same_whole, room_whole, set_whole}
+use Rattle.orig_tree.proofs.Standing.{stands_one, best_same, best_alike, best_fewer, best_carry}
+use Rattle.orig_tree.proofs.Growing.{within_it}
+use Rattle.orig_tree.proofs.Undoing.{Assigns, put_in}
+
+-- ---- the root alone
+
+pub root_keeps : (f : Family) (cells : List Node) (kept : ℕ → Best) → cells ≡ blank ∷ [] → whole f cells ≡ walks_of None None no_walks no_walks → ((i : ℕ) → kept i ≡ best_one 0) → KeepsBest f cells kept
+unfolding AreBest
+root_keeps f cells kept e w k = (
+  subst (λ (x : Best). Stands (width f) (λ a. lpm (whole f cells).routes a 0) x) (sym (k 0)) (stands_one (width f) 0 (λ a. lpm (whole f cells).routes a 0) (λ a l. ap (λ (x : Walks). lpm x.routes a 0) w)),
+  λ b. subst (λ (cs : List Node). IfHalf (λ j. AreBest (width f) cells kept (side b (λ a. lpm (whole f cells).routes a 0)) j) (half_place (node_at cs 0) b)) (sym e) (no_half b),
+)
+  where
+    no_half : (b : Bool) → IfHalf (λ j. AreBest (width f) cells kept (side b (λ a. lpm (whole f cells).routes a 0)) j) (half_place blank b)
+    no_half true = tt
+    no_half false = tt
+
+-- ---- room
+
+pub stays : (f : Family) (old new : List Node) (S S' : ℕ → Best) → new ≡ old → ((j : ℕ) → S' j ≡ S j) → KeepsBest f old S → KeepsBest f new S'
+stays f old new S S' e s k = subst (λ (cs : List Node). KeepsBest f cs S') (sym e) (best_same (suc (width f)) old S S' (λ a. lpm (whole f old).routes a 0) 0 s k)
+
+abbrev pub GrowsNodes : List Bool → ℕ → List Node → ℕ → List Node → ℕ → Type 0
+GrowsNodes p len old free new free' =
+    (d : ℕ) (name : ℕ → Place) (n : ℕ) (r : List Bool) → len < d → IsTree d old name 0 r → IsHeld old free name n → HasRoom d p old new free' name 0 r
+
+abbrev pub GrowsBest : Option ℕ → List Bool → ℕ → List Node → ℕ → List Node → (ℕ → Best) → (ℕ → Best) → Type 0
+GrowsBest set p len old free new S S' =
+    (d : ℕ) (name : ℕ → Place) (n : ℕ) (r : List Bool) → len < d → IsTree d old name 0 r → IsHeld old free name n →
+    AreBest d old S (λ a. lpm (laid set p (walks_at d old 0).routes) a 0) 0 → IsGrown d new name 0 r (λ a. lpm (laid set p (walks_at d old 0).routes) a 0) S S'
+
+module _ (f : Family) (q len : ℕ) (few : len ≤ width f) (old mid : List Node) (free free1 : ℕ) (S S1 : ℕ → Best) (a : IsArena f old free) (same : mid ≡ old) (frees : free1 ≡ free) (bests : (j : ℕ) → S1 j ≡ S j) (k : KeepsBest f old S) where
+  p : List Bool
+  p = bits_of len q
+
+  a1 : IsArena f mid free1
+  a1 = (same_whole f q len free free1 old mid a same frees).2
+
+  k1 : KeepsBest f mid S1
+  k1 = stays f old mid S S1 same bests k
+
+  pub made_room : (new : List Node) (free' : ℕ) (S' : ℕ → Best) → GrowsNodes (bits_of len q) len mid free1 new free' → GrowsBest None (bits_of len q) len mid free1 new S1 S' →
+      IsRoomier (bits_of len q) (whole f old) (whole f new) × (has_node (bits_of len q) (whole f new).nodes ≡ true) × IsArena f new free' × KeepsBest f new S'
+  made_room new free' S' gn gb =
+      let r = room_whole f q len free1 free' mid new few a1 gn in
+      let g = gb (suc (width f)) a1.name a1.spares [] (omega (arith, few)) a1.tree a1.held k1 in (
+        subst (λ (w : Walks). IsRoomier (bits_of len q) w (whole f new)) (ap (whole f) same) r.0,
+        r.1,
+        r.2,
+        best_alike (suc (width f)) new S' (λ a. lpm (whole f mid).routes a 0) (λ a. lpm (whole f new).routes a 0) 0 (λ a l. ap (λ R. lpm R a 0) (sym r.0.routes)) g.best,
+      )
+
+  -- ---- a route
+
+  abbrev Plans : Option ℕ → ℕ → List Change → List Change → Best → Type 0
+  Plans set depth O C x =
+      (name : ℕ → Place) (r : List Bool) → IsTree (suc depth) mid name 0 r → AreBest (suc depth) mid S1 (λ a. lpm (walks_at (suc depth) mid 0).routes a 0) 0 → Untouched r name S1 (changed O S1) →
+      IsMended depth mid name 0 r (λ a. lpm (edit (bits_of len q) set (walks_at (suc depth) mid 0).routes) a 0) (changed O S1) (changed C S1) x
+
+  after_plan : (set : Option ℕ) (depth n : ℕ) (O C : List Change) (x : Best) (S2 : ℕ → Best) → depth ≡ width f → O ≡ [] → length mid ≤ n + 1 → Plans set depth O C x → ((j : ℕ) → j ≤ n → S2 j ≡ changed C S1 j) →
+      AreBest (suc (width f)) mid S2 (λ a. lpm (edit (bits_of len q) set (whole f mid).routes) a 0) 0
+  after_plan set depth n O C x S2 w o l plan made =
+      let plan' = subst (λ (D : ℕ). Plans set D O C x) w plan in
+      let m = plan' a1.name [] a1.tree k1 (λ j r e b. ap (λ cs. changed cs S1 j) o) in
+      best_carry (suc (width f)) mid mid (changed C S1) S2 a1.name (λ a. lpm (edit (bits_of len q) set (whole f mid).routes) a 0) 0 [] a1.tree
+      (λ j r e b. (refl, made j (omega (arith, l, within_it mid free1 a1.spares j a1.name r a1.held e)))) m.best
+
+  pub is_laid : (hop depth n : ℕ) (O C : List Change) (x : Best) (S2 S3 : ℕ → Best) (m3 new : List Node) (free3 free' : ℕ) → depth ≡ width f → O ≡ [] → length mid ≤ n + 1 → Plans (Some hop) depth O C x → ((j : ℕ) → j ≤ n → S2 j ≡ changed C S1 j) →
+      GrowsNodes (bits_of len q) len mid free1 m3 free3 → GrowsBest (Some hop) (bits_of len q) len mid free1 m3 S2 S3 → free' ≡ free3 →
+      ((d : ℕ) (name : ℕ → Place) (r : List Bool) → len < d → IsTree d m3 name 0 r → Allowed (bits_of len q) (Some hop) (walks_at d m3 0).nodes → IsSet d Route (bits_of len q) (Some hop) m3 new name 0 r) →
+      HalvesStay m3 new → IsArena f new free' × KeepsBest f new S3 × IsLaid (bits_of len q) hop (whole f old) (whole f new)
+  is_laid hop depth n O C x S2 S3 m3 new free3 free' w o l plan made gn gb g set stay =
+      let F = λ (a : List Bool). lpm (edit (bits_of len q) (Some hop) (whole f mid).routes) a 0 in
+      let k2 = after_plan (Some hop) depth n O C x S2 w o l plan made in
+      let k3 = gb (suc (width f)) a1.name a1.spares [] (omega (arith, few)) a1.tree a1.held k2 in
+      let r = room_whole f q len free1 free3 mid m3 few a1 gn in
+      let s = set_whole f Route q len free3 free' (Some hop) m3 new few g r.2 r.1 set in (
+        s.1,
+        best_alike (suc (width f)) new S3 F (λ a. lpm (whole f new).routes a 0) 0
+            (λ a u. ap (λ R. lpm R a 0) (sym (ap (λ (y : Walks). y.routes) s.0 ∙ ap (edit (bits_of len q) (Some hop)) r.0.routes)))
+            (best_fewer (suc (width f)) m3 new S3 F 0 stay k3.best),
+        record { middle = whole f m3; room = subst (λ (y : Walks). IsRoomier (bits_of len q) y (whole f m3)) (ap (whole f) same) r.0; there = r.1; set = s.0 },
+      )
+
+  pub is_altered : (o : Option ℕ) (depth n : ℕ) (O C : List Change) (x : Best) (S2 : ℕ → Best) (new : List Node) (free' : ℕ) → Allowed (bits_of len q) o (whole f mid).nodes → depth ≡ width f → O ≡ [] → length mid ≤ n + 1 → Plans o depth O C x →
+      ((j : ℕ) → j ≤ n → S2 j ≡ changed C S1 j) → free' ≡ free1 → Assigns o len q mid new → HalvesStay mid new → IsArena f new free' × KeepsBest f new S2 × (whole f new ≡ edited Route (bits_of len q) o (whole f mid))
+  is_altered o depth n O C x S2 new free' w0 w z l plan made g assigned stay =
+      put_in f q len o free1 free' mid new S2 few g a1 w0 (after_plan o depth n O C x S2 w z l plan made) assigned stay
+
+-- ---- what changes no route
+
+pub stays_by : (f : Family) (old new : List Node) (S : ℕ → Best) → HalvesStay old new → (whole f new).routes ≡ (whole f old).routes → KeepsBest f old S → KeepsBest f new S
+stays_by f old new S h e k =
+    best_alike (suc (width f)) new S (λ a. lpm (whole f old).routes a 0) (λ a. lpm (whole f new).routes a 0) 0 (λ a l. ap (λ R. lpm R a 0) (sym e)) (best_fewer (suc (width f)) old new S (λ a. lpm (whole f old).routes a 0) 0 h k)

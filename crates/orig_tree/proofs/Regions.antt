@@ -1,0 +1,183 @@
+-- What a region keeps.
+use Rattle.std.proofs.Common.{◌≡◌, ◌≢◌, ℕ, zero, suc, ◌-◌, List, [], ◌∷◌, ◌++◌, length, Bool, true, false, cond, ◌||◌, refl, sym, ap, ◌∙◌, subst, arith, Option, Some, None, nat_eq}
+use Rattle.std.proofs.lemmas.Bool.{eqb-true}
+use Rattle.std.specs.Option.{unwrap_or}
+use Rattle.table_model.specs.Table.{root, half, inherit, lpm}
+use Rattle.least_model.specs.Sets.{side, set_of, k_of, is_in, smallest, apart, one_if_empty}
+use Rattle.least_model.proofs.Sets.{same_smallest, filled, in_first}
+use Rattle.least_model.proofs.Cost.{set_uniform, set_filled, k_uniform}
+use Rattle.hop_sets.specs.Hops.{SameHops}
+use Rattle.orig_tree.specs.Walk.{Walks}
+use Rattle.orig_tree.specs.Arena.{node_at, half_place, from_half, IfHalf, walks_at, walks_by}
+use Rattle.orig_tree.specs.Bests.{Stands, AreBest}
+use Rattle.orig_tree.specs.Spots.{Spot, answers_in, spot_at, IsSpot}
+use Rattle.orig_tree.specs.declared.node.Node.{Node}
+use Rattle.orig_tree.specs.declared.best.Best.{Best}
+use Rattle.orig_tree.proofs.Steps.{given_is, level_root, level_half}
+use Rattle.orig_tree.specs.declared.node.Label.TheVariants.{Route, Entry}
+use Rattle.orig_tree.proofs.Arena.{side_half}
+use Rattle.orig_tree.proofs.Mending.{own_route, half_gets}
+use Rattle.orig_tree.proofs.Standing.{best_alike}
+use Rattle.address_model.specs.Bits.{bits_of}
+use Rattle.address_model.specs.Width.{width}
+use Rattle.address_model.specs.declared.family.Family.{Family}
+use Rattle.std.specs.Int.{bit_at}
+use Rattle.table_model.specs.Table.{cut}
+use Rattle.table_model.specs.Entries.{Entries, of_table, of_family}
+use Rattle.table_model.proofs.Cut.{lpm_cut}
+use Rattle.least_model.specs.Sets.{answers}
+use Rattle.least_model.proofs.Both.{family_is}
+use Rattle.orig_tree.specs.Arena.{whole}
+use Rattle.orig_tree.specs.Bests.{KeepsBest}
+use Rattle.orig_tree.proofs.Paths.{no_bits, first_bit}
+
+-- ---- where a region costs nothing, its addresses get one hop
+
+same_one : (x y : ℕ) → apart (x ∷ []) (y ∷ []) ≡ 0 → y ≡ x
+same_one x y e = by_test (nat_eq y x) refl
+  where
+    by_test : (b : Bool) → nat_eq y x ≡ b → y ≡ x
+    by_test true q = eqb-true y x q
+    by_test false q = let z : 1 ≡ 0 = sym (ap (λ (b : Bool). one_if_empty (cond (b || false) (x ∷ []) [])) q) ∙ e in absurd (omega (arith, z))
+
+pub costs_nothing : (d : ℕ) (f : List Bool → ℕ) → k_of d f ≡ 0 → (x : ℕ) × ((a : List Bool) → length a ≡ d → f a ≡ x)
+unfolding k_of
+costs_nothing zero f e = (f [], λ a l. by_list a l)
+  where
+    by_list : (a : List Bool) → length a ≡ 0 → f a ≡ f []
+    by_list [] l = refl
+    by_list (b ∷ a) l = absurd (omega arith)
+costs_nothing (suc d) f e =
+    let low = costs_nothing d (side false f) (omega (arith, e)) in
+    let high = costs_nothing d (side true f) (omega (arith, e)) in
+    let gap : apart (set_of d (side false f)) (set_of d (side true f)) ≡ 0 = omega (arith, e) in
+    let one : high.0 ≡ low.0 = same_one low.0 high.0 (sym (ap (λ S. apart S (set_of d (side true f))) (set_uniform d (side false f) low.0 low.1) ∙ ap (apart (low.0 ∷ [])) (set_uniform d (side true f) high.0 high.1)) ∙ gap) in
+    (low.0, λ a l. by_bit low.0 high.0 one low.1 high.1 a l)
+  where
+    by_bit : (x y : ℕ) → y ≡ x → ((a : List Bool) → length a ≡ d → f (false ∷ a) ≡ x) → ((a : List Bool) → length a ≡ d → f (true ∷ a) ≡ y) → (a : List Bool) → length a ≡ suc d → f a ≡ x
+    by_bit x y e l h [] n = absurd (omega arith)
+    by_bit x y e l h (false ∷ a) n = l a (omega arith)
+    by_bit x y e l h (true ∷ a) n = h a (omega arith) ∙ e
+
+filled_same : (S T : List ℕ) → SameHops S T → filled T ≡ true → filled S ≡ true
+filled_same [] [] s f = cc
+filled_same [] (g ∷ T) s f = let e : false ≡ true = s g ∙ in_first g g T refl in cc
+filled_same (x ∷ S) T s f = refl
+
+pub least_is : (d : ℕ) (f : List Bool → ℕ) (x : Best) → Stands d f x → smallest x.hops ≡ smallest (set_of d f)
+least_is d f x s = same_smallest x.hops (set_of d f) (filled_same x.hops (set_of d f) s.hops (set_filled d f)) (set_filled d f) s.hops
+
+pub one_least : (d : ℕ) (f : List Bool → ℕ) (x : Best) → Stands d f x → x.k ≡ 0 → (a : List Bool) → length a ≡ d → f a ≡ smallest x.hops
+one_least d f x s z a l =
+    let one = costs_nothing d f (sym s.cost ∙ z) in
+    one.1 a l ∙ sym (least_is d f x s ∙ ap smallest (set_uniform d f one.0 one.1))
+
+-- ---- a region of the array
+
+pub spot_stands : (cells : List Node) (kept : ℕ → Best) (o : Option ℕ) (i bits hop : ℕ) → o ≡ Some i → IsSpot cells kept o bits hop → Stands bits (answers_in (spot_at cells o bits hop)) (kept i)
+unfolding AreBest
+spot_stands cells kept o i bits hop e k =
+    subst (λ (y : Option ℕ). Stands bits (answers_in (spot_at cells y bits hop)) (kept i)) (sym e)
+    (subst (λ (y : Option ℕ). IsSpot cells kept y bits hop) e k).0
+
+-- where there is no node
+pub bare_spot : (cells : List Node) (o : Option ℕ) (bits hop : ℕ) → o ≡ None → (a : List Bool) → answers_in (spot_at cells o bits hop) a ≡ hop
+bare_spot cells o bits hop e a = ap (λ y. answers_in (spot_at cells y bits hop) a) e
+
+pub bare_k : (cells : List Node) (o : Option ℕ) (bits hop : ℕ) → o ≡ None → k_of bits (answers_in (spot_at cells o bits hop)) ≡ 0
+bare_k cells o bits hop e = k_uniform bits (answers_in (spot_at cells o bits hop)) hop (λ a l. bare_spot cells o bits hop e a)
+
+pub bare_set : (cells : List Node) (o : Option ℕ) (bits hop : ℕ) → o ≡ None → set_of bits (answers_in (spot_at cells o bits hop)) ≡ hop ∷ []
+bare_set cells o bits hop e = set_uniform bits (answers_in (spot_at cells o bits hop)) hop (λ a l. bare_spot cells o bits hop e a)
+
+-- ---- one half
+
+half_nothing : (b : Bool) → half b [] ≡ []
+half_nothing b = refl
+
+module _ (cells : List Node) (o : Option ℕ) (bits m hop : ℕ) (z : suc m ≡ bits) (b : Bool) where
+  -- of a region that is no node
+  pub no_half : (w : ℕ) → o ≡ None → w ≡ m →
+      ((spot_at cells None w hop).routes ≡ half b (spot_at cells o bits hop).routes) × ((spot_at cells None w hop).entries ≡ half b (spot_at cells o bits hop).entries) × (hop ≡ inherit (root (spot_at cells o bits hop).routes) hop)
+  no_half w e y = (
+    sym (ap (λ y. half b (spot_at cells y bits hop).routes) e),
+    sym (ap (λ y. half b (spot_at cells y bits hop).entries) e),
+    sym (ap (λ y. inherit (root (spot_at cells y bits hop).routes) hop) e),
+  )
+
+  -- of a node
+  pub some_half : (w i hop' : ℕ) (n : Node) (h : Option ℕ) → o ≡ Some i → w ≡ m → n ≡ node_at cells i → h ≡ half_place n b → hop' ≡ unwrap_or n.route.hop hop →
+      ((spot_at cells h w hop').routes ≡ half b (spot_at cells o bits hop).routes) × ((spot_at cells h w hop').entries ≡ half b (spot_at cells o bits hop).entries) × (hop' ≡ inherit (root (spot_at cells o bits hop).routes) hop)
+  unfolding walks_at
+  some_half w i hop' n h e y at g k =
+      let F = walks_at (suc m) cells in
+      let nd = node_at cells i in
+      let there : from_half (walks_at (suc w) cells) h ≡ from_half F (half_place nd b) = ap (λ x. from_half (walks_at (suc x) cells) h) y ∙ ap (from_half F) (g ∙ ap (λ x. half_place x b) at) in
+      let is : from_half (walks_at (suc bits) cells) o ≡ walks_by F nd = ap (λ x. from_half (walks_at (suc x) cells) o) (sym z) ∙ ap (from_half (walks_at (suc (suc m)) cells)) e in
+      let side = there ∙ side_half F nd b in (
+        ap (λ (x : Walks). x.routes) side ∙ sym (level_half b Route nd.route.hop nd.entry.hop (from_half F (half_place nd false)) (from_half F (half_place nd true))) ∙ sym (ap (λ (x : Walks). half b x.routes) is),
+        ap (λ (x : Walks). x.entries) side ∙ sym (level_half b Entry nd.route.hop nd.entry.hop (from_half F (half_place nd false)) (from_half F (half_place nd true))) ∙ sym (ap (λ (x : Walks). half b x.entries) is),
+        k ∙ (sym (given_is n.route.hop hop) ∙ (ap (λ (x : Node). inherit x.route.hop hop) at ∙ sym (ap (λ (x : Walks). inherit (root x.routes) hop) is ∙ ap (λ y. inherit y hop) (own_route F nd)))),
+      )
+
+  pub half_spot : (kept : ℕ → Best) (w i hop' : ℕ) (n : Node) (h : Option ℕ) → o ≡ Some i → w ≡ m → n ≡ node_at cells i → h ≡ half_place n b → hop' ≡ unwrap_or n.route.hop hop → IsSpot cells kept o bits hop → IsSpot cells kept h w hop'
+  unfolding AreBest walks_at
+  half_spot kept w i hop' n h e y at g k s =
+      let nd = node_at cells i in
+      let s1 : AreBest (suc (suc m)) cells kept (λ a. lpm (walks_at (suc (suc m)) cells i).routes a hop) i = subst (λ (x : ℕ). AreBest (suc x) cells kept (λ a. lpm (walks_at (suc x) cells i).routes a hop) i) (sym z) (subst (λ (x : Option ℕ). IsSpot cells kept x bits hop) e s) in
+      let hop_is : inherit nd.route.hop hop ≡ hop' = ap (λ (x : Node). inherit x.route.hop hop) (sym at) ∙ (given_is n.route.hop hop ∙ sym k) in
+      subst (λ (x : ℕ). IsSpot cells kept h x hop') (sym y)
+      (subst (λ (x : Option ℕ). IsSpot cells kept x m hop') (sym (g ∙ ap (λ x. half_place x b) at)) (by_half (half_place nd b) hop_is refl (s1.1 b)))
+    where
+      by_half : (x : Option ℕ) → inherit (node_at cells i).route.hop hop ≡ hop' → x ≡ half_place (node_at cells i) b → IfHalf (λ j. AreBest (suc m) cells kept (side b (λ a. lpm (walks_by (walks_at (suc m) cells) (node_at cells i)).routes a hop)) j) x → IsSpot cells kept x m hop'
+      by_half None v q t = tt
+      by_half (Some j) v q t =
+          best_alike (suc m) cells kept (side b (λ a. lpm (walks_by (walks_at (suc m) cells) (node_at cells i)).routes a hop)) (λ a. lpm (walks_at (suc m) cells j).routes a hop') j
+          (λ a l. half_gets (walks_at (suc m) cells) (node_at cells i) b hop a ∙ (ap (λ h. lpm (from_half (walks_at (suc m) cells) (half_place (node_at cells i) b)).routes a h) v ∙ ap (λ y. lpm (from_half (walks_at (suc m) cells) y).routes a hop') (sym q))) t
+
+pub entry_root : (cells : List Node) (o : Option ℕ) (i bits hop : ℕ) (n : Node) → o ≡ Some i → n ≡ node_at cells i → n.entry.hop ≡ root (spot_at cells o bits hop).entries
+unfolding walks_at
+entry_root cells o i bits hop n e at =
+    let F = walks_at bits cells in
+    ap (λ (x : Node). x.entry.hop) at ∙ (sym (level_root Entry (node_at cells i).route.hop (node_at cells i).entry.hop (from_half F (half_place (node_at cells i) false)) (from_half F (half_place (node_at cells i) true))) ∙ ap (λ y. root (spot_at cells y bits hop).entries) (sym e))
+
+pub in_one : (g h : ℕ) (b : Bool) (S : List ℕ) → b ≡ nat_eq g h → S ≡ g ∷ [] → b ≡ is_in h S
+in_one g h b S e s = e ∙ (by_bit (nat_eq g h) ∙ ap (is_in h) (sym s))
+  where
+    by_bit : (t : Bool) → t ≡ (t || false)
+    by_bit true = refl
+    by_bit false = refl
+
+-- ---- down to a path
+
+pub below_end : (s : Spot) (left q : ℕ) → left ≡ 0 → ((a : List Bool) → answers_in s a ≡ answers_in s (bits_of left q ++ a)) × (s.entries ≡ cut (bits_of left q) s.entries)
+below_end s left q z = (λ a. ap (λ p. answers_in s (p ++ a)) (sym (no_bits left q z)), ap (λ p. cut p s.entries) (sym (no_bits left q z)))
+
+pub below_step : (s t r : Spot) (left q : ℕ) (b : Bool) → left ≢ 0 → b ≡ nat_eq (bit_at q (left - 1)) 1 → t.routes ≡ half b s.routes → t.entries ≡ half b s.entries → t.hop ≡ inherit (root s.routes) s.hop →
+    ((a : List Bool) → answers_in r a ≡ answers_in t (bits_of (left - 1) q ++ a)) → r.entries ≡ cut (bits_of (left - 1) q) t.entries →
+    ((a : List Bool) → answers_in r a ≡ answers_in s (bits_of left q ++ a)) × (r.entries ≡ cut (bits_of left q) s.entries)
+below_step s t r left q b z bit routes entries hop g e =
+    let P = bits_of (left - 1) q in (
+      λ a. g a ∙ (ap (λ R. lpm R (P ++ a) t.hop) routes ∙ (ap (lpm (half b s.routes) (P ++ a)) hop ∙ (sym (lpm_cut s.routes b (P ++ a) s.hop) ∙ ap (λ p. answers_in s (p ++ a)) (sym (first_bit left q b z bit))))),
+      e ∙ (ap (cut P) entries ∙ ap (λ p. cut p s.entries) (sym (first_bit left q b z bit))),
+    )
+
+pub whole_spot : (f : Family) (cells : List Node) (kept : ℕ → Best) (w : ℕ) → w ≡ width f → KeepsBest f cells kept → IsSpot cells kept (Some 0) w 0
+whole_spot f cells kept w e k = subst (λ (n : ℕ). IsSpot cells kept (Some 0) n 0) (sym e) k
+
+-- the region of a prefix of the tree
+pub region_is : (f : Family) (cells : List Node) (w : ℕ) (r : Spot) (p q : List Bool) (RS ES : Entries) → w ≡ width f → p ≡ q → of_table f (whole f cells).routes ≡ RS → of_table f (whole f cells).entries ≡ ES →
+    ((a : List Bool) → answers_in r a ≡ answers_in (spot_at cells (Some 0) w 0) (p ++ a)) → r.entries ≡ cut p (spot_at cells (Some 0) w 0).entries →
+    ((a : List Bool) → answers_in r a ≡ answers (of_family f RS) q a) × (r.entries ≡ cut q (of_family f ES))
+region_is f cells w r p q RS ES e b v k g h =
+    let R : (whole f cells).routes ≡ of_family f RS = sym (family_is f (whole f cells).routes) ∙ ap (of_family f) v in
+    let E : (whole f cells).entries ≡ of_family f ES = sym (family_is f (whole f cells).entries) ∙ ap (of_family f) k in (
+      λ a. g a ∙ (ap (λ n. lpm (walks_at (suc n) cells 0).routes (p ++ a) 0) e ∙ (ap (λ T. lpm T (p ++ a) 0) R ∙ ap (λ x. lpm (of_family f RS) (x ++ a) 0) b)),
+      h ∙ (ap (λ n. cut p (walks_at (suc n) cells 0).entries) e ∙ (ap (cut p) E ∙ ap (λ x. cut x (of_family f ES)) b)),
+    )
+
+pub region_of : (f g : Family) (cells : List Node) (w : ℕ) (r : Spot) (p q : List Bool) (RS ES : Entries) → f ≡ g → w ≡ width f → p ≡ q → of_table f (whole f cells).routes ≡ RS → of_table f (whole f cells).entries ≡ ES →
+    ((a : List Bool) → answers_in r a ≡ answers_in (spot_at cells (Some 0) w 0) (p ++ a)) → r.entries ≡ cut p (spot_at cells (Some 0) w 0).entries →
+    ((a : List Bool) → answers_in r a ≡ answers (of_family g RS) q a) × (r.entries ≡ cut q (of_family g ES))
+region_of f g cells w r p q RS ES m e b v k h i =
+    subst (λ (x : Family). ((a : List Bool) → answers_in r a ≡ answers (of_family x RS) q a) × (r.entries ≡ cut q (of_family x ES))) m (region_is f cells w r p q RS ES e b v k h i)

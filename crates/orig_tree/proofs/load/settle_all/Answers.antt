@@ -1,0 +1,10 @@
+use Rattle.std.proofs.Common.{ℕ, suc, [], subst, List, Bool}
+use Rattle.table_model.specs.Table.{lpm}
+use Rattle.orig_tree.specs.Arena.{cells_of, walks_at}
+use Rattle.orig_tree.specs.Bests.{best_in, AreBest}
+use Rattle.orig_tree.specs.Arena.{IsTree}
+use Rattle.orig_tree.proofs.Loading.{settled_whole}
+use Rattle.orig_tree.proofs.load.settle_all.Goals as goal
+
+pub returns-clause-best : goal.returns-clause-best
+returns-clause-best c = settled_whole c.args.family c.width-depth.result c.args.nodes.now.free (cells_of c.args.nodes.now) (best_in c.args.bests.now) (best_in c.settle.new.bests) c.width-depth.ensures c.requires.arena c.in_ok-settle.ensures.best

@@ -1,0 +1,199 @@
+//! What nodes keep of their regions, by places: the best hops, and what the region costs under one of them.
+
+ghost use Rattle.std.specs.Prelude.{◌≡◌, ◌≢◌, ◌+◌, ◌<◌, ◌≤◌, ℕ, suc, List, Bool, true, false, cond, IfOk, OnOk, [], ◌∷◌, length, vec_len};
+ghost use Rattle.address_model.specs.Bits.{bits_of};
+ghost use Rattle.table_model.specs.Table.{lpm};
+ghost use Rattle.least_model.specs.Sets.{side};
+ghost use Rattle.orig_tree.specs.Edits.{edit, put};
+ghost use Rattle.orig_tree.specs.Bests.{Stands, best_one, best_in, put_at, changed, back};
+
+use hop_sets::HopSet;
+use std::alloc::{AllocError, Global};
+use std::mem;
+
+/// What a node keeps of its region: the hops under which a least table of the region costs least, and that cost, in entries;
+/// under any other hop it is one more.
+#[derive(Drop)]
+pub struct Best {
+    /// The best hops.
+    pub hops: HopSet,
+    /// What the region costs under one of them.
+    pub k: u64,
+}
+
+/// What all nodes keep, by their places. There may be more places than nodes.
+#[derive(Drop)]
+pub(crate) struct Bests {
+    pub(crate) root: Best,
+    pub(crate) pairs: Vec<Best>,
+}
+
+/// What a place is to keep.
+#[derive(Drop)]
+pub(crate) struct Change {
+    pub(crate) place: usize,
+    pub(crate) best: Best,
+}
+
+/// The sum, or no memory where it passes 64 bits. No cost does: it is below the number of the region's addresses.
+fn sum(a: u64, b: u64) -> Result<u64, AllocError>
+    ensures { IfOk result (λ n. n ≡ a + b) }
+{
+    a.checked_add(b).ok_or(AllocError)
+}
+
+/// The cost of two halves, which is one more where no hop is best for both.
+fn joint_k(low: u64, high: u64, apart: bool) -> Result<u64, AllocError>
+    ensures { IfOk result (λ k. k ≡ low + high + cond apart 1 0) }
+{
+    let k = sum(low, high)?;
+    if apart { sum(k, 1) } else { Ok(k) }
+}
+
+impl Best {
+    /// What a region keeps whose addresses all get one hop.
+    pub(crate) fn one(hop: u16) -> Best
+        ensures { result ≡ best_one hop }
+    {
+        Best {
+            hops: HopSet::one(hop),
+            k: 0,
+        }
+    }
+
+    /// What a region keeps, from what its halves keep.
+    pub(crate) fn joined(alloc: Global, low: &Best, high: &Best) -> Result<Best, AllocError>
+        ensures { IfOk result (λ x. (d : ℕ) (f : List Bool → ℕ) → Stands d (side false f) low.now
+            → Stands d (side true f) high.now → Stands (suc d) f x) }
+    {
+        let joint = HopSet::joint(alloc, &low.hops, &high.hops)?;
+        let k = joint_k(low.k, high.k, joint.apart)?;
+        Ok(Best { hops: joint.set, k })
+    }
+
+    /// The same once more.
+    pub(crate) fn copied(&self, alloc: Global) -> Result<Best, AllocError>
+        ensures { IfOk result (λ x. x ≡ self.now) }
+    {
+        Ok(Best {
+            hops: self.hops.copied(alloc)?,
+            k: self.k,
+        })
+    }
+}
+
+/// What a region keeps that inherits a hop and has no route, but that of a path of `left` bits below it, if it is given.
+pub(crate) fn fresh(left: u8, inherited: u16, set: Option<u16>) -> Best
+    ensures { (d q : ℕ) → left ≤ d → Stands d (λ a. lpm (edit (bits_of left q) set []) a inherited)
+        result }
+{
+    match set {
+        None => Best::one(inherited),
+        Some(hop) => {
+            if hop == inherited {
+                return Best::one(inherited);
+            }
+            beside(left, inherited, hop)
+        }
+    }
+}
+
+/// The same, where the route is given and has another hop.
+fn beside(left: u8, inherited: u16, hop: u16) -> Best
+    requires { hop ≢ inherited }
+    ensures { (d q : ℕ) → left ≤ d → Stands d (λ a. lpm (put (bits_of left q) hop []) a inherited)
+        result }
+{
+    if left == 0 {
+        return Best::one(hop);
+    }
+    let hops = if left == 1 {
+        HopSet::two(inherited, hop)
+    } else {
+        HopSet::one(inherited)
+    };
+    Best { hops, k: 1 }
+}
+
+/// What a place keeps, or what is given for a place that there isn't.
+pub(crate) fn best_at<'a>(bests: &'a Bests, i: usize, none: &'a Best) -> &'a Best
+    requires { none.now ≡ best_one 0 }
+    ensures { result.now ≡ best_in bests.now i }
+{
+    if i == 0 {
+        return &bests.root;
+    }
+    match bests.pairs.get(i - 1) {
+        Some(best) => best,
+        None => none,
+    }
+}
+
+/// No changes yet, with room for those on a way of so many bits.
+pub(crate) fn no_changes(alloc: Global, depth: u8) -> Result<Vec<Change>, AllocError>
+    ensures { IfOk result (λ v. v.items ≡ []) }
+{
+    Vec::with_capacity(alloc, depth as usize + 1)
+}
+
+/// Exchanges what a place keeps.
+pub(crate) fn exchange(bests: &mut Bests, i: usize, best: &mut Best)
+    ensures kept { (j : ℕ) → j ≤ vec_len bests.old.pairs
+        → best_in bests.new j ≡ put_at (best_in bests.old) i best.old j }
+    ensures given { i ≤ vec_len bests.old.pairs → best.new ≡ best_in bests.old i }
+    ensures put { i ≤ vec_len bests.old.pairs → (j : ℕ)
+        → best_in bests.new j ≡ put_at (best_in bests.old) i best.old j }
+    ensures len { vec_len bests.new.pairs ≡ vec_len bests.old.pairs }
+{
+    if i == 0 {
+        mem::swap(&mut bests.root, best);
+    } else if i <= bests.pairs.len() {
+        mem::swap(&mut bests.pairs[i - 1], best);
+    }
+}
+
+/// Makes the changes, each in its turn. What the places kept is left in their stead.
+pub(crate) fn commit(bests: &mut Bests, changes: &mut Vec<Change>)
+    ensures kept { (j : ℕ) → j ≤ vec_len bests.old.pairs
+        → best_in bests.new j ≡ changed changes.old.items (best_in bests.old) j }
+    ensures back { (j : ℕ) → j ≤ vec_len bests.old.pairs
+        → back changes.new.items (best_in bests.new) j ≡ best_in bests.old j }
+    ensures len { vec_len bests.new.pairs ≡ vec_len bests.old.pairs }
+{
+    for change in changes.iter_mut() {
+        exchange(bests, change.place, &mut change.best);
+    }
+}
+
+/// Takes changes back, the last first. It takes no memory.
+pub(crate) fn revert(bests: &mut Bests, mut changes: Vec<Change>)
+    ensures kept { (j : ℕ) → j ≤ vec_len bests.old.pairs
+        → best_in bests.new j ≡ back changes.items (best_in bests.old) j }
+    ensures len { vec_len bests.new.pairs ≡ vec_len bests.old.pairs }
+{
+    while let Some(mut last) = changes.pop() {
+        exchange(bests, last.place, &mut last.best);
+    }
+}
+
+/// Makes more places, so many in all. None keeps anything else than before.
+pub(crate) fn lengthen(bests: &mut Bests, len: usize) -> Result<(), AllocError>
+    ensures kept { (j : ℕ) → best_in bests.new j ≡ best_in bests.old j }
+    ensures len { vec_len bests.old.pairs ≤ vec_len bests.new.pairs }
+    ensures ok { OnOk result (len ≤ vec_len bests.new.pairs) }
+{
+    while bests.pairs.len() < len {
+        bests.pairs.push(Best::one(0))?;
+    }
+    Ok(())
+}
+
+/// What is kept where there is the root alone, and all addresses get none.
+pub(crate) fn root_best(alloc: Global) -> Bests
+    ensures { (i : ℕ) → best_in result i ≡ best_one 0 }
+{
+    Bests {
+        root: Best::one(0),
+        pairs: Vec::new(alloc),
+    }
+}

@@ -1,0 +1,52 @@
+//! How many nodes there are within a prefix.
+
+ghost use Rattle.std.specs.Prelude.{◌≡◌, ◌≤◌, ◌^◌, ◌-◌, ℕ, suc, List, Bool, length, min};
+ghost use Rattle.address_model.specs.Bits.{bits_of};
+ghost use Rattle.orig_tree.specs.Arena.{cells_of, walks_at, from_half};
+ghost use Rattle.orig_tree.specs.Within.{nodes_in, told};
+
+use crate::node::{Nodes, read};
+use fib_addr::bit_at;
+
+/// The nodes from a node on, over `depth` levels below it.
+#[cycle(count)]
+fn count(nodes: &Nodes, i: usize, depth: u8) -> u64
+    ensures { result ≡ told (length (walks_at (suc depth) (cells_of nodes.now) i).nodes) }
+{
+    if depth == 0 {
+        return 1;
+    }
+    let node = read(nodes, i);
+    let low = count_half(nodes, node.half(false), depth - 1);
+    let high = count_half(nodes, node.half(true), depth - 1);
+    low.saturating_add(high).saturating_add(1)
+}
+
+/// The same from a half on, where it is a node or not.
+#[cycle(count)]
+fn count_half(nodes: &Nodes, half: Option<usize>, depth: u8) -> u64
+    ensures { result ≡ told (length (from_half (walks_at (suc depth) (cells_of nodes.now))
+        half).nodes) }
+{
+    match half {
+        None => 0,
+        Some(j) => count(nodes, j, depth),
+    }
+}
+
+/// The nodes within a path of `left` bits from a node on.
+pub(crate) fn count_within(nodes: &Nodes, i: usize, q: u128, left: u8, depth: u8) -> u64
+    requires few { left ≤ depth }
+    requires most { depth ≤ 128 }
+    ensures { result ≡ told (nodes_in (bits_of left q) (walks_at (suc depth) (cells_of nodes.now)
+        i).nodes) }
+{
+    if left == 0 {
+        return count(nodes, i, depth);
+    }
+    let at = left - 1;
+    match read(nodes, i).half(bit_at(q, at)) {
+        None => 0,
+        Some(j) => count_within(nodes, j, q, at, depth - 1),
+    }
+}

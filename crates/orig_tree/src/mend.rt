@@ -1,0 +1,197 @@
+//! What the nodes are to keep where a route changes: those on the way to its prefix, and those within it that no route of
+//! their own keeps from it.
+
+ghost use Rattle.std.specs.Prelude.{◌≡◌, ◌≢◌, ◌≤◌, ◌++◌, ℕ, suc, List, Bool, true, false, [], ◌∷◌, Option, IfOk, OnOk, not, vec_len};
+ghost use Rattle.std.specs.Option.{unwrap_or};
+ghost use Rattle.address_model.specs.Bits.{bits_of};
+ghost use Rattle.table_model.specs.Table.{lpm};
+ghost use Rattle.least_model.specs.Sets.{side};
+ghost use Rattle.orig_tree.specs.Edits.{edit};
+ghost use Rattle.orig_tree.specs.Arena.{cells_of, Place, IfHalf, IsTree, walks_at, from_half};
+ghost use Rattle.orig_tree.specs.Bests.{Stands, best_one, best_in, best_behind, changed, under, AreBest, Untouched, IsMended, HalfMended};
+
+use crate::best::{Best, Bests, Change, best_at, fresh};
+use crate::node::{Nodes, read};
+use fib_addr::bit_at;
+use std::alloc::{AllocError, Global};
+
+/// Notes what a place is to keep.
+fn note(alloc: Global, place: usize, best: &Best, out: &mut Vec<Change>) -> Result<(), AllocError>
+    ensures { OnOk result (out.new.items ≡ out.old.items ++ record { place = place; best = best.now } ∷ []) }
+{
+    let best = best.copied(alloc)?;
+    out.push(Change { place, best })?;
+    Ok(())
+}
+
+/// What a half keeps; where it is no node, what is given for that.
+fn half_best<'a>(bests: &'a Bests, half: Option<usize>, none: &'a Best, bare: &'a Best) -> &'a Best
+    requires { none.now ≡ best_one 0 }
+    ensures { result.now ≡ best_behind (best_in bests.now) half bare.now }
+{
+    match half {
+        Some(j) => best_at(bests, j, none),
+        None => bare,
+    }
+}
+
+/// What a region keeps, from what the half of a bit keeps and the other half.
+fn join_sides(alloc: Global, bit: bool, near: &Best, far: &Best) -> Result<Best, AllocError>
+    ensures { IfOk result (λ x. (d : ℕ) (f : List Bool → ℕ) → Stands d (side bit f) near.now
+        → Stands d (side (not bit) f) far.now → Stands (suc d) f x) }
+{
+    if bit {
+        Best::joined(alloc, far, near)
+    } else {
+        Best::joined(alloc, near, far)
+    }
+}
+
+/// The region of a node, of `depth` bits, where the node's own hop is this one, with the changes to what is kept there.
+#[cycle(mend)]
+fn mend(
+    alloc: Global,
+    nodes: &Nodes,
+    bests: &Bests,
+    i: usize,
+    hop: u16,
+    depth: u8,
+    out: &mut Vec<Change>,
+) -> Result<Best, AllocError>
+    ensures { IfOk result (λ x. (name : ℕ → Place) (p : List Bool) (h : ℕ)
+        → IsTree (suc depth) (cells_of nodes.now) name i p
+        → AreBest (suc depth) (cells_of nodes.now) (best_in bests.now) (λ a. lpm (walks_at (suc depth)
+        (cells_of nodes.now) i).routes a h) i
+        → Untouched p name (best_in bests.now) (changed out.old.items (best_in bests.now))
+        → IsMended depth (cells_of nodes.now) name i p (under hop (walks_at (suc depth) (cells_of
+        nodes.now) i).routes) (changed out.old.items (best_in bests.now)) (changed out.new.items
+        (best_in bests.now)) x) }
+{
+    if depth == 0 {
+        let best = Best::one(hop);
+        note(alloc, i, &best, out)?;
+        return Ok(best);
+    }
+    let node = read(nodes, i);
+    let low = mend_half(alloc, nodes, bests, node.half(false), hop, depth - 1, out)?;
+    let high = mend_half(alloc, nodes, bests, node.half(true), hop, depth - 1, out)?;
+    let best = Best::joined(alloc, &low, &high)?;
+    note(alloc, i, &best, out)?;
+    Ok(best)
+}
+
+/// The same of a half, which inherits the hop. A route of its own keeps all that is there from it.
+#[cycle(mend)]
+fn mend_half(
+    alloc: Global,
+    nodes: &Nodes,
+    bests: &Bests,
+    half: Option<usize>,
+    hop: u16,
+    depth: u8,
+    out: &mut Vec<Change>,
+) -> Result<Best, AllocError>
+    ensures { IfOk result (λ x. (name : ℕ → Place) (p : List Bool) (h : ℕ)
+        → IfHalf (λ j. IsTree (suc depth) (cells_of nodes.now) name j p) half
+        → IfHalf (λ j. AreBest (suc depth) (cells_of nodes.now) (best_in bests.now) (λ a. lpm (walks_at
+        (suc depth) (cells_of nodes.now) j).routes a h) j) half
+        → Untouched p name (best_in bests.now) (changed out.old.items (best_in bests.now))
+        → HalfMended depth (cells_of nodes.now) name half p (λ a. lpm (from_half (walks_at (suc depth)
+        (cells_of nodes.now)) half).routes a hop) (changed out.old.items (best_in bests.now))
+        (changed out.new.items (best_in bests.now)) x) }
+{
+    match half {
+        None => Ok(Best::one(hop)),
+        Some(j) => {
+            if read(nodes, j).route.hop.is_some() {
+                let none = Best::one(0);
+                return best_at(bests, j, &none).copied(alloc);
+            }
+            mend(alloc, nodes, bests, j, hop, depth, out)
+        }
+    }
+}
+
+/// The region of a node, of `depth` bits, that inherits the hop, where the route at the path `q` below it becomes this one,
+/// with the changes to what is kept there. The path needs no node.
+#[cycle(plan)]
+pub(crate) fn plan(
+    alloc: Global,
+    nodes: &Nodes,
+    bests: &Bests,
+    i: usize,
+    q: u128,
+    left: u8,
+    depth: u8,
+    inherited: u16,
+    set: Option<u16>,
+    out: &mut Vec<Change>,
+) -> Result<Best, AllocError>
+    requires few { left ≤ depth }
+    requires most { depth ≤ 128 }
+    ensures { IfOk result (λ x. (name : ℕ → Place) (p : List Bool)
+        → IsTree (suc depth) (cells_of nodes.now) name i p
+        → AreBest (suc depth) (cells_of nodes.now) (best_in bests.now) (λ a. lpm (walks_at (suc depth)
+        (cells_of nodes.now) i).routes a inherited) i
+        → Untouched p name (best_in bests.now) (changed out.old.items (best_in bests.now))
+        → IsMended depth (cells_of nodes.now) name i p (λ a. lpm (edit (bits_of left q) set (walks_at
+        (suc depth) (cells_of nodes.now) i).routes) a inherited) (changed out.old.items (best_in
+        bests.now)) (changed out.new.items (best_in bests.now)) x) }
+{
+    if left == 0 {
+        return mend(alloc, nodes, bests, i, set.unwrap_or(inherited), depth, out);
+    }
+    let node = read(nodes, i);
+    let hop = node.route.hop.unwrap_or(inherited);
+    let at = left - 1;
+    let bit = bit_at(q, at);
+    let near = plan_half(
+        alloc,
+        nodes,
+        bests,
+        node.half(bit),
+        q,
+        at,
+        depth - 1,
+        hop,
+        set,
+        out,
+    )?;
+    let none = Best::one(0);
+    let bare = Best::one(hop);
+    let far = half_best(bests, node.half(!bit), &none, &bare);
+    let best = join_sides(alloc, bit, &near, far)?;
+    note(alloc, i, &best, out)?;
+    Ok(best)
+}
+
+/// The same of a half.
+#[cycle(plan)]
+fn plan_half(
+    alloc: Global,
+    nodes: &Nodes,
+    bests: &Bests,
+    half: Option<usize>,
+    q: u128,
+    left: u8,
+    depth: u8,
+    inherited: u16,
+    set: Option<u16>,
+    out: &mut Vec<Change>,
+) -> Result<Best, AllocError>
+    requires few { left ≤ depth }
+    requires most { depth ≤ 128 }
+    ensures { IfOk result (λ x. (name : ℕ → Place) (p : List Bool)
+        → IfHalf (λ j. IsTree (suc depth) (cells_of nodes.now) name j p) half
+        → IfHalf (λ j. AreBest (suc depth) (cells_of nodes.now) (best_in bests.now) (λ a. lpm (walks_at
+        (suc depth) (cells_of nodes.now) j).routes a inherited) j) half
+        → Untouched p name (best_in bests.now) (changed out.old.items (best_in bests.now))
+        → HalfMended depth (cells_of nodes.now) name half p (λ a. lpm (edit (bits_of left q) set
+        (from_half (walks_at (suc depth) (cells_of nodes.now)) half).routes) a inherited) (changed
+        out.old.items (best_in bests.now)) (changed out.new.items (best_in bests.now)) x) }
+{
+    match half {
+        None => Ok(fresh(left, inherited, set)),
+        Some(j) => plan(alloc, nodes, bests, j, q, left, depth, inherited, set, out),
+    }
+}

@@ -1,0 +1,154 @@
+//! A region of a tree, which is asked for its best hops and what it costs.
+
+ghost use Rattle.std.specs.Prelude.{◌≡◌, ◌≢◌, ◌≤◌, ◌+◌, ◌++◌, ℕ, suc, List, Bool, Option, length, IfSome, IfNone, IsTrue};
+ghost use Rattle.address_model.specs.Bits.{bits_of};
+ghost use Rattle.table_model.specs.Table.{root, half, cut, inherit, lpm};
+ghost use Rattle.least_model.specs.Sets.{set_of, k_of, is_in, smallest};
+ghost use Rattle.orig_tree.specs.Spots.{answers_in};
+
+use crate::best::{Best, Bests, best_at};
+use crate::node::{Nodes, read};
+use fib_addr::bit_at;
+use std::marker::Model;
+
+/// A region of a tree: the addresses of a prefix. Contracts see the routes and the entries within it, and the hop that its
+/// addresses get from the routes above.
+#[derive(Drop)]
+pub struct Region<'a> {
+    pub(crate) nodes: &'a Nodes,
+    pub(crate) bests: &'a Bests,
+    /// The place of the prefix's node, if it is one.
+    pub(crate) place: Option<usize>,
+    /// How many bits addresses have behind the prefix.
+    pub(crate) bits: u8,
+    /// The hop from the routes above.
+    pub(crate) hop: u16,
+}
+
+impl<'a> Model for Region<'a> {
+    ghost use Rattle.std.specs.Prelude.{◌≤◌};
+    ghost use Rattle.orig_tree.specs.Arena.{cells_of};
+    ghost use Rattle.orig_tree.specs.Bests.{best_in};
+    ghost use Rattle.orig_tree.specs.Spots.{Spot, spot_at, IsSpot};
+
+    ghost Value = { Spot };
+
+    ghost view = { λ r. spot_at (cells_of r.nodes.now) r.place r.bits r.hop };
+
+    ghost invariant = { λ r. IsSpot (cells_of r.nodes.now) (best_in r.bests.now) r.place r.bits r.hop × (r.bits ≤ 128) };
+}
+
+impl<'a> Region<'a> {
+    /// The one hop that all addresses of the region get from the routes, or `None` where two get different ones.
+    pub fn leaf(&self) -> Option<u16>
+        ensures one { IfSome result (λ h. (a : List Bool) → length a ≡ self.now.bits
+            → answers_in self.now a ≡ h) }
+        ensures more { IfNone result (k_of self.now.bits (answers_in self.now) ≢ 0) }
+    {
+        match self.place {
+            None => Some(self.hop),
+            Some(i) => {
+                let none = Best::one(0);
+                let best = best_at(self.bests, i, &none);
+                if best.k == 0 {
+                    return Some(best.hops.least());
+                }
+                None
+            }
+        }
+    }
+
+    /// What the region costs under a best hop, in entries: how many a least table of it has there.
+    pub fn k(&self) -> u64
+        ensures { result ≡ k_of self.now.bits (answers_in self.now) }
+    {
+        match self.place {
+            None => 0,
+            Some(i) => {
+                let none = Best::one(0);
+                best_at(self.bests, i, &none).k
+            }
+        }
+    }
+
+    /// Whether a hop is best for the region: one under which it costs least.
+    pub fn is_best(&self, hop: u16) -> bool
+        ensures { result ≡ is_in hop (set_of self.now.bits (answers_in self.now)) }
+    {
+        match self.place {
+            None => self.hop == hop,
+            Some(i) => {
+                let none = Best::one(0);
+                best_at(self.bests, i, &none).hops.contains(hop)
+            }
+        }
+    }
+
+    /// The least of the best hops.
+    pub fn least(&self) -> u16
+        ensures { result ≡ smallest (set_of self.now.bits (answers_in self.now)) }
+    {
+        match self.place {
+            None => self.hop,
+            Some(i) => {
+                let none = Best::one(0);
+                best_at(self.bests, i, &none).hops.least()
+            }
+        }
+    }
+
+    /// The hop of the entry at the region's prefix, if there is one.
+    pub fn entry(&self) -> Option<u16>
+        ensures { result ≡ root self.now.entries }
+    {
+        match self.place {
+            None => None,
+            Some(i) => read(self.nodes, i).entry.hop,
+        }
+    }
+
+    /// The region of one half.
+    pub fn half(&self, bit: bool) -> Region<'a>
+        requires { self.now.bits ≢ 0 }
+        ensures bits { suc result.bits ≡ self.now.bits }
+        ensures routes { result.routes ≡ half bit self.now.routes }
+        ensures entries { result.entries ≡ half bit self.now.entries }
+        ensures hop { result.hop ≡ inherit (root self.now.routes) self.now.hop }
+    {
+        match self.place {
+            None => Region {
+                nodes: self.nodes,
+                bests: self.bests,
+                place: None,
+                bits: self.bits - 1,
+                hop: self.hop,
+            },
+            Some(i) => {
+                let node = read(self.nodes, i);
+                Region {
+                    nodes: self.nodes,
+                    bests: self.bests,
+                    place: node.half(bit),
+                    bits: self.bits - 1,
+                    hop: node.route.hop.unwrap_or(self.hop),
+                }
+            }
+        }
+    }
+}
+
+/// The region of a path of `left` bits below a region.
+pub(crate) fn below<'a>(region: Region<'a>, q: u128, left: u8) -> Region<'a>
+    requires few { left ≤ region.bits }
+    requires most { left ≤ 128 }
+    ensures bits { result.bits + left ≡ region.entry.bits }
+    ensures answers { (a : List Bool) → answers_in result a
+        ≡ answers_in region.entry (bits_of left q ++ a) }
+    ensures entries { result.entries ≡ cut (bits_of left q) region.entry.entries }
+{
+    if left == 0 {
+        return region;
+    }
+    let at = left - 1;
+    below(region.half(bit_at(q, at)), q, at)
+}
