@@ -1,34 +1,31 @@
 -- The downward pass.
-use Rattle.std.proofs.Common.{◌≡◌, ℕ, zero, suc, ◌-◌, List, [], ◌∷◌, ◌++◌, Bool, true, false, cond, Option, Some, None, length, nat_eq, refl, sym, ap, ◌∙◌, arith, subst, append_assoc, inl, inr, ◌||◌, map}
+use Rattle.std.proofs.Common.{◌≡◌, ◌≢◌, ◌+◌, ℕ, zero, suc, ◌-◌, List, [], ◌∷◌, ◌++◌, Bool, true, false, cond, Option, Some, None, length, nat_eq, refl, sym, ap, ◌∙◌, arith, subst, append_assoc, inl, inr, ◌||◌, map}
 use Rattle.std.proofs.lemmas.Bool.{ne_eqb, eqb-true, eq-eqb, cases_Bool}
 use Rattle.std.specs.List.Sorted.{IsStrictlySortedBy}
 use Rattle.std.specs.Map.{keys_of}
 use Rattle.std.specs.Option.{option_to_list}
 use Rattle.address_model.specs.Order.{prefix_cmp}
 use Rattle.address_model.specs.Address.{Prefix}
-use Rattle.address_model.specs.Bits.{bits_of}
 use Rattle.address_model.specs.Width.{width}
 use Rattle.address_model.specs.Regions.{half_at}
 use Rattle.address_model.specs.declared.family.Family.{Family}
 use Rattle.fib_addr.specs.Views.{prefix_as}
 use Rattle.fib_addr.proofs.Parts.{length_prefix}
 use Rattle.fib_addr.specs.declared.prefix.Prefix as code
-use Rattle.table_model.specs.Table.{Table, root, half, here, inherit, lpm, cut}
+use Rattle.table_model.specs.Table.{Table, root, half, here, inherit, cut}
 use Rattle.table_model.specs.Entries.{Entries, of_family, of_table}
 use Rattle.table_model.proofs.Cut.{entry}
 use Rattle.least_model.specs.Regions.{lift, join}
-use Rattle.least_model.specs.Sets.{side, set_of, k_of, own, pick, agg, answers}
-use Rattle.cert_model.specs.Rows.{one_answer}
+use Rattle.least_model.specs.Sets.{side, set_of, own, pick, agg, answers}
 use Rattle.least_model.specs.Least.{aggregate, IsAggregate, Least, LeastWithin}
-use Rattle.least_model.proofs.Sets.{filled, in_first, in_single, in_pick, same_own}
-use Rattle.least_model.proofs.Cost.{set_uniform, set_filled}
+use Rattle.least_model.proofs.Sets.{in_first, in_single, in_pick}
+use Rattle.least_model.proofs.Cost.{set_uniform}
 use Rattle.least_model.proofs.Laws.{fresh_law, aggregate_least}
 use Rattle.least_model.proofs.Patch.{aggregate_is}
 use Rattle.least_model.proofs.Both.{family_is, sorted_aggregate}
 use Rattle.orig_tree.proofs.Telling as telling
-use Rattle.ortc.specs.declared.region.Region.{Region}
-use Rattle.ortc.specs.Hops.{SameHops}
-use Rattle.ortc.specs.Stands.{RegionStands}
+use Rattle.orig_tree.specs.Spots.{Spot, answers_in}
+use Rattle.ortc.proofs.Alike.{agg_alike, half_answers}
 
 -- ---- a uniform region
 
@@ -83,86 +80,68 @@ told_leaf p d f L x h o X Y u e y = y ∙ ap (λ z. X ++ z) (telling.told_own (p
 
 -- ---- a region of two halves
 
-same_filled : (S T : List ℕ) → SameHops S T → filled T ≡ true → filled S ≡ true
-same_filled [] [] s f = cc
-same_filled [] (g ∷ T) s f = let e : false ≡ true = s g ∙ in_first g g T refl in cc
-same_filled (x ∷ S) T s f = refl
-
-agg_suc : (e : ℕ) (f : List Bool → ℕ) (L : Table) (h hop : ℕ) (o : Option ℕ) → o ≡ own (set_of (suc e) f) (root L) h → hop ≡ inherit o h
-    → agg (suc e) f L h ≡ join o (agg e (side false f) (half false L) hop) (agg e (side true f) (half true L) hop)
+agg_level : (e : ℕ) (f : List Bool → ℕ) (L : Table) (h : ℕ) → (let o = own (set_of (suc e) f) (root L) h in agg (suc e) f L h ≡ join o (agg e (side false f) (half false L) (inherit o h)) (agg e (side true f) (half true L) (inherit o h)))
 unfolding agg
-agg_suc e f L h hop o k i =
-    sym (ap (λ x. join o (agg e (side false f) (half false L) x) (agg e (side true f) (half true L) x)) i
-    ∙ ap (λ y. join y (agg e (side false f) (half false L) (inherit y h)) (agg e (side true f) (half true L) (inherit y h))) k)
+agg_level e f L h = refl
 
-pub told_join : (p q r : code.Prefix) (f : List Bool → ℕ) (L : Table) (h hop : ℕ) (X Y Z W : Entries) (o old : Option ℕ) (S : List ℕ) (n : ℕ) (low high l k : Region)
-    → (e : ℕ) × (width p.family - p.len ≡ suc e) × (root L ≡ old) × SameHops S (set_of (suc e) f) × RegionStands low e (side false f) (half false L) × RegionStands high e (side true f) (half true L)
-    × (n ≡ k_of (suc e) f) × (one_answer (suc e) f ≡ None)
-    → l ≡ low → k ≡ high → o ≡ own S old h → hop ≡ inherit o h
+agg_suc : (d e : ℕ) (f : List Bool → ℕ) (L : Table) (h hop : ℕ) (o : Option ℕ) → suc e ≡ d → o ≡ own (set_of d f) (root L) h → hop ≡ inherit o h
+    → agg d f L h ≡ join o (agg e (side false f) (half false L) hop) (agg e (side true f) (half true L) hop)
+agg_suc d e f L h hop o n k i =
+    subst (λ (m : ℕ). o ≡ own (set_of m f) (root L) h → agg m f L h ≡ join o (agg e (side false f) (half false L) hop) (agg e (side true f) (half true L) hop)) n (λ q. one_level e f L h hop o q i) k
+  where
+    one_level : (e : ℕ) (f : List Bool → ℕ) (L : Table) (h hop : ℕ) (o : Option ℕ) → o ≡ own (set_of (suc e) f) (root L) h → hop ≡ inherit o h → agg (suc e) f L h ≡ join o (agg e (side false f) (half false L) hop) (agg e (side true f) (half true L) hop)
+    one_level e f L h hop o k i = agg_level e f L h ∙ sym (ap (λ x. join o (agg e (side false f) (half false L) x) (agg e (side true f) (half true L) x)) i ∙ ap (λ y. join y (agg e (side false f) (half false L) (inherit y h)) (agg e (side true f) (half true L) (inherit y h))) k)
+
+-- what a half's entries are told as
+told_half : (p q : code.Prefix) (s t : Spot) (b : Bool) (e hop : ℕ) (Y Z : Entries) → suc t.bits ≡ s.bits → suc e ≡ s.bits → t.routes ≡ half b s.routes → t.entries ≡ half b s.entries → t.hop ≡ inherit (root s.routes) s.hop → prefix_as q ≡ half_at b (prefix_as p)
+    → Z ≡ Y ++ of_table q.family (lift (prefix_as q).bits (agg t.bits (answers_in t) t.entries hop))
+    → Z ≡ Y ++ of_table p.family (lift ((prefix_as p).bits ++ (b ∷ [])) (agg e (side b (answers_in s)) (half b s.entries) hop))
+told_half p q s t b e hop Y Z n m r l h k z =
+    let is : t.bits ≡ e = omega (arith, n, m) in
+    z ∙ (ap (λ (x : Prefix). Y ++ of_table x.family (lift x.bits (agg t.bits (answers_in t) t.entries hop))) k
+    ∙ ap (λ T. Y ++ of_table p.family (lift ((prefix_as p).bits ++ (b ∷ [])) T))
+    (agg_alike t.bits (answers_in t) (side b (answers_in s)) t.entries hop (λ a u. half_answers s t b r h a) ∙ (ap (λ d. agg d (side b (answers_in s)) t.entries hop) is ∙ ap (λ E. agg e (side b (answers_in s)) E hop) l)))
+
+pub told_join : (p q r : code.Prefix) (s low high : Spot) (h hop : ℕ) (o : Option ℕ) (X Y Z W : Entries) → s.bits ≢ 0
+    → o ≡ own (set_of s.bits (answers_in s)) (root s.entries) h → hop ≡ inherit o h
+    → suc low.bits ≡ s.bits → low.routes ≡ half false s.routes → low.entries ≡ half false s.entries → low.hop ≡ inherit (root s.routes) s.hop
+    → suc high.bits ≡ s.bits → high.routes ≡ half true s.routes → high.entries ≡ half true s.entries → high.hop ≡ inherit (root s.routes) s.hop
     → prefix_as q ≡ half_at false (prefix_as p) → prefix_as r ≡ half_at true (prefix_as p)
     → Y ≡ X ++ map (λ k. (prefix_as p, k)) (option_to_list o)
-    → ((g : List Bool → ℕ) (M : Table) → RegionStands l (width q.family - q.len) g M → Z ≡ Y ++ of_table q.family (lift (prefix_as q).bits (agg (width q.family - q.len) g M hop)))
-    → ((g : List Bool → ℕ) (M : Table) → RegionStands k (width r.family - r.len) g M → W ≡ Z ++ of_table r.family (lift (prefix_as r).bits (agg (width r.family - r.len) g M hop)))
-    → W ≡ X ++ of_table p.family (lift (prefix_as p).bits (agg (width p.family - p.len) f L h))
-told_join p q r f L h hop X Y Z W o old S n low high l k s ll kk ow i eq er y z w =
-    let e = s.0 in
+    → Z ≡ Y ++ of_table q.family (lift (prefix_as q).bits (agg low.bits (answers_in low) low.entries hop))
+    → W ≡ Z ++ of_table r.family (lift (prefix_as r).bits (agg high.bits (answers_in high) high.entries hop))
+    → W ≡ X ++ of_table p.family (lift (prefix_as p).bits (agg s.bits (answers_in s) s.entries h))
+told_join p q r s low high h hop o X Y Z W some ow i ln lr le lh hn hr he hh eq er y z w =
+    let e = s.bits - 1 in
+    let n : suc e ≡ s.bits = omega (arith, some) in
     let P = (prefix_as p).bits in
     let m = p.family in
-    let nq : e ≡ width q.family - q.len = omega (arith, s.1, telling.half_longer p q false eq, ap (λ (x : Prefix). width x.family) eq) in
-    let nr : e ≡ width r.family - r.len = omega (arith, s.1, telling.half_longer p r true er, ap (λ (x : Prefix). width x.family) er) in
-    let A = agg e (side false f) (half false L) hop in
-    let B = agg e (side true f) (half true L) hop in
+    let A = agg e (side false (answers_in s)) (half false s.entries) hop in
+    let B = agg e (side true (answers_in s)) (half true s.entries) hop in
     let O = of_table m (lift P (here o)) in
     let C = of_table m (lift (P ++ (false ∷ [])) A) in
     let D = of_table m (lift (P ++ (true ∷ [])) B) in
-    let z' : Z ≡ Y ++ C =
-    z (side false f) (half false L) (subst (λ (x : Region). RegionStands x (width q.family - q.len) (side false f) (half false L)) (sym ll) (subst (λ (n : ℕ). RegionStands low n (side false f) (half false L)) nq s.4))
-    ∙ (ap (λ (x : Prefix). Y ++ of_table x.family (lift x.bits (agg (width q.family - q.len) (side false f) (half false L) hop))) eq
-    ∙ ap (λ n. Y ++ of_table m (lift (P ++ (false ∷ [])) (agg n (side false f) (half false L) hop))) (sym nq))
-    in
-    let w' : W ≡ Z ++ D =
-    w (side true f) (half true L) (subst (λ (x : Region). RegionStands x (width r.family - r.len) (side true f) (half true L)) (sym kk) (subst (λ (n : ℕ). RegionStands high n (side true f) (half true L)) nr s.5))
-    ∙ (ap (λ (x : Prefix). Z ++ of_table x.family (lift x.bits (agg (width r.family - r.len) (side true f) (half true L) hop))) er
-    ∙ ap (λ n. Z ++ of_table m (lift (P ++ (true ∷ [])) (agg n (side true f) (half true L) hop))) (sym nr))
-    in
-    let ow' : o ≡ own (set_of (suc e) f) (root L) h = ow ∙ (same_own S (set_of (suc e) f) old h (same_filled S (set_of (suc e) f) s.3 (set_filled (suc e) f)) (set_filled (suc e) f) s.3 ∙ ap (λ x. own (set_of (suc e) f) x h) (sym s.2)) in
-    let whole : of_table m (lift P (agg (width p.family - p.len) f L h)) ≡ O ++ (C ++ D) =
-    ap (λ n. of_table m (lift P (agg n f L h))) s.1
-    ∙ (ap (λ x. of_table m (lift P x)) (agg_suc e f L h hop o ow' i)
+    let z' : Z ≡ Y ++ C = told_half p q s low false e hop Y Z ln n lr le lh eq z in
+    let w' : W ≡ Z ++ D = told_half p r s high true e hop Z W hn n hr he hh er w in
+    let whole : of_table m (lift P (agg s.bits (answers_in s) s.entries h)) ≡ O ++ (C ++ D) =
+    ap (λ x. of_table m (lift P x)) (agg_suc s.bits e (answers_in s) s.entries h hop o n ow i)
     ∙ (ap (of_table m) (telling.lift_join P o A B) ∙ (telling.seen_append m (lift P (here o)) (lift (P ++ (false ∷ [])) A ++ lift (P ++ (true ∷ [])) B)
-    ∙ ap (λ x. O ++ x) (telling.seen_append m (lift (P ++ (false ∷ [])) A) (lift (P ++ (true ∷ [])) B)))))
+    ∙ ap (λ x. O ++ x) (telling.seen_append m (lift (P ++ (false ∷ [])) A) (lift (P ++ (true ∷ [])) B))))
     in
     w' ∙ (ap (λ x. x ++ D) (z' ∙ ap (λ x. x ++ C) (y ∙ ap (λ x. X ++ x) (telling.told_own (prefix_as p) o))) ∙ (append_assoc (X ++ O) C D ∙ (append_assoc X O (C ++ D) ∙ ap (λ x. X ++ x) (sym whole))))
 
--- a region of two halves has a bit left
-pub no_bits_left : (p : code.Prefix) (w e : ℕ) → w ≡ width p.family → p.len ≡ w → width p.family - p.len ≡ suc e → ⊥
-no_bits_left p w e a b c = omega arith
-
 -- ---- the region of a prefix
 
-pub region_told : (p : code.Prefix) (f : Family) (q d : ℕ) (R E : Table) (RS ES : Entries) (region : Region) → d ≡ width p.family - p.len → bits_of p.len q ≡ (prefix_as p).bits
-    → of_table f R ≡ RS → of_table f E ≡ ES
-    → RegionStands region d (λ a. lpm R (bits_of p.len q ++ a) 0) (cut (bits_of p.len q) E)
-    → RegionStands region (width p.family - p.len) (answers (of_family f RS) (prefix_as p).bits) (cut (prefix_as p).bits (of_family f ES))
-region_told p f q d R E RS ES region n b v k s =
-    let P = (prefix_as p).bits in
-    let r : R ≡ of_family f RS = sym (family_is f R) ∙ ap (of_family f) v in
-    let e : E ≡ of_family f ES = sym (family_is f E) ∙ ap (of_family f) k in
-    subst (λ (z : Table). RegionStands region (width p.family - p.len) (answers (of_family f RS) P) (cut P z)) e
-    (subst (λ (z : Table). RegionStands region (width p.family - p.len) (answers z P) (cut P E)) r
-    (subst (λ (z : ℕ). RegionStands region z (answers R P) (cut P E)) n (subst (λ (z : List Bool). RegionStands region d (answers R z) (cut z E)) b s)))
-
-pub within_told : (p : code.Prefix) (f : Family) (h : ℕ) (R E : Table) (X W : Entries) (region : Region) → p.family ≡ f → X ≡ []
-    → RegionStands region (width p.family - p.len) (answers R (prefix_as p).bits) (cut (prefix_as p).bits E)
-    → ((g : List Bool → ℕ) (L : Table) → RegionStands region (width p.family - p.len) g L → W ≡ X ++ of_table p.family (lift (prefix_as p).bits (agg (width p.family - p.len) g L h)))
+pub within_told : (p : code.Prefix) (f : Family) (h : ℕ) (R E : Table) (X W : Entries) (s : Spot) → p.family ≡ f → X ≡ [] → s.bits + p.len ≡ width f
+    → ((a : List Bool) → answers_in s a ≡ answers R (prefix_as p).bits a) → s.entries ≡ cut (prefix_as p).bits E
+    → W ≡ X ++ of_table p.family (lift (prefix_as p).bits (agg s.bits (answers_in s) s.entries h))
     → W ≡ of_table f (aggregate (width f) R (prefix_as p).bits h E)
-within_told p f h R E X W region m x s t =
+within_told p f h R E X W s m x n g k t =
     let P = (prefix_as p).bits in
-    let l : width p.family - p.len ≡ width f - length P = omega (arith, ap width m, length_prefix (width p.family) p.len p.bits p.fits) in
-    t (answers R P) (cut P E) s
-    ∙ (ap (λ z. z ++ of_table p.family (lift P (agg (width p.family - p.len) (answers R P) (cut P E) h))) x
-    ∙ (ap (λ z. of_table z (lift P (agg (width p.family - p.len) (answers R P) (cut P E) h))) m
-    ∙ ap (λ z. of_table f (lift P (agg z (answers R P) (cut P E) h))) l))
+    let l : s.bits ≡ width f - length P = omega (arith, n, ap width m, length_prefix (width p.family) p.len p.bits p.fits) in
+    t ∙ (ap (λ z. z ++ of_table p.family (lift P (agg s.bits (answers_in s) s.entries h))) x
+    ∙ (ap (λ z. of_table z (lift P (agg s.bits (answers_in s) s.entries h))) m
+    ∙ ap (λ T. of_table f (lift P T)) (agg_alike s.bits (answers_in s) (answers R P) s.entries h (λ a u. g a) ∙ (ap (λ T. agg s.bits (answers R P) T h) k ∙ ap (λ z. agg z (answers R P) (cut P E) h) l))))
 
 -- and a least table of the region
 pub within_least : (p : code.Prefix) (f : Family) (h : ℕ) (R E : Table) (W : Entries) → p.family ≡ f

@@ -1,4 +1,3 @@
-pub mod Rising
+pub mod Alike
 pub mod Falling
-pub mod Merging
 pub mod Proving

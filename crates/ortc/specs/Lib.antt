@@ -1,4 +1,2 @@
-pub mod Hops
-pub mod Stands
 pub mod Proved
 pub mod Tables

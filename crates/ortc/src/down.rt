@@ -3,30 +3,28 @@
 //! A region gets an entry where what it inherits isn't in its set: of the old entry's hop where the set has it, else of the
 //! least hop. Entries are met in the order of prefixes.
 
-ghost use Rattle.std.specs.Prelude.{◌≡◌, ℕ, ◌-◌, ◌++◌, List, [], Bool, map, cond, nat_eq, Some, None, IfOk, OnOk};
+ghost use Rattle.std.specs.Prelude.{◌≡◌, ◌+◌, ℕ, ◌++◌, List, [], Bool, map, cond, nat_eq, Some, None, IfOk, OnOk};
 ghost use Rattle.std.specs.List.Sorted.{IsStrictlySortedBy};
 ghost use Rattle.std.specs.Map.{keys_of};
 ghost use Rattle.address_model.specs.Order.{prefix_cmp};
 ghost use Rattle.address_model.specs.Width.{width};
-ghost use Rattle.table_model.specs.Table.{Table};
+ghost use Rattle.table_model.specs.Table.{root, inherit};
 ghost use Rattle.table_model.specs.Entries.{of_family, of_table};
 ghost use Rattle.least_model.specs.Regions.{lift};
-ghost use Rattle.least_model.specs.Sets.{agg};
+ghost use Rattle.least_model.specs.Sets.{agg, own, set_of};
 ghost use Rattle.least_model.specs.Least.{Least, LeastWithin, aggregate};
 ghost use Rattle.least_model.specs.Both.{aggregate_in};
 ghost use Rattle.cert_model.specs.Rows.{family_rows};
 ghost use Rattle.fib_addr.specs.Views.{entry_as, prefix_as};
 ghost use Rattle.cert_rows.specs.Views.{row_as};
-ghost use Rattle.ortc.specs.Stands.{RegionStands};
+ghost use Rattle.orig_tree.specs.Spots.{answers_in};
 ghost use Rattle.ortc.specs.Proved.{ProveLeast};
 ghost use Rattle.ortc.specs.Tables.{IsAggregateOf};
 
-use crate::hop_set::own_hop;
-use crate::region::{Region, below, region_of};
 use crate::rows::prove;
 use crate::table::Fresh;
 use fib_addr::{Entry, Hop, Prefix, push_entry};
-use orig_tree::Tree;
+use orig_tree::{Region, Tree};
 use std::alloc::{AllocError, Global};
 
 /// The hop of a leaf's own entry, if it gets one.
@@ -36,43 +34,59 @@ fn leaf_hop(hop: u16, inherited: u16) -> Option<u16>
     if hop == inherited { None } else { Some(hop) }
 }
 
-/// The entries of a region, which stands for the prefix and inherits a hop, behind those that there are.
-pub fn descend(
-    region: &Region,
+/// The hop of a region's own entry, if it gets one: none where what it inherits is best for it, else the old entry's hop
+/// where that is best, else the least of the best hops.
+fn own_hop(region: &Region<'_>, inherited: u16) -> Option<u16>
+    ensures { result ≡ own (set_of region.now.bits (answers_in region.now)) (root region.now.entries)
+        inherited }
+{
+    if region.is_best(inherited) {
+        return None;
+    }
+    match region.entry() {
+        Some(hop) if region.is_best(hop) => Some(hop),
+        _ => Some(region.least()),
+    }
+}
+
+/// What is inherited from a label, or without one from above.
+fn below(label: Option<u16>, inherited: u16) -> u16
+    ensures { result ≡ inherit label inherited }
+{
+    label.unwrap_or(inherited)
+}
+
+/// The entries of the region of a prefix that inherits a hop, behind those that there are.
+fn descend(
+    region: &Region<'_>,
     inherited: u16,
     prefix: Prefix,
     out: &mut Vec<Entry>,
 ) -> Result<(), AllocError>
-    ensures { OnOk result ((f : List Bool → ℕ) (L : Table) → RegionStands region.now (width prefix.family - prefix.len) f L →
-        map entry_as out.new.items ≡ map entry_as out.old.items ++ of_table prefix.family (lift (prefix_as prefix).bits (agg (width prefix.family - prefix.len) f L inherited))) }
+    requires { region.now.bits + prefix.len ≡ width prefix.family }
+    ensures { OnOk result (map entry_as out.new.items ≡ map entry_as out.old.items ++ of_table
+        prefix.family (lift (prefix_as prefix).bits (agg region.now.bits (answers_in region.now)
+        region.now.entries inherited))) }
 {
-    match region {
-        Region::Leaf { hop, .. } => {
-            push_entry(prefix, leaf_hop(*hop, inherited), out)?;
-        }
-        Region::Join {
-            old,
-            set,
-            halves,
-            ..
-        } => {
-            if prefix.len == prefix.family.width() {
-                return Ok(());
-            }
-            let own = own_hop(set, *old, inherited);
-            let hop = below(own, inherited);
-            push_entry(prefix, own, out)?;
-            descend(&halves.low, hop, prefix.half(false), out)?;
-            descend(&halves.high, hop, prefix.half(true), out)?;
-        }
+    if let Some(hop) = region.leaf() {
+        push_entry(prefix, leaf_hop(hop, inherited), out)?;
+        return Ok(());
     }
+    if prefix.len == prefix.family.width() {
+        return Ok(());
+    }
+    let own = own_hop(region, inherited);
+    let hop = below(own, inherited);
+    push_entry(prefix, own, out)?;
+    descend(&region.half(false), hop, prefix.half(false), out)?;
+    descend(&region.half(true), hop, prefix.half(true), out)?;
     Ok(())
 }
 
 /// The least table of a prefix's region under a hop that is inherited from above: of the tables that, under it, give the
 /// region's addresses the answers of the tree's routes, the one that the best hops fix, with the tree's entries as the
-/// old table, in the order of prefixes. It costs the prefix's length, and the nodes within the prefix with their sets of
-/// hops.
+/// old table, in the order of prefixes. It costs the prefix's length, and the nodes within the prefix: what is best for them
+/// they keep.
 ///
 /// # Errors
 ///
@@ -96,15 +110,14 @@ pub fn within(
         (of_family tree.now.family tree.now.routes) (prefix_as prefix.now).bits inherited.0
         (of_family tree.now.family (map entry_as v.items))) }
 {
-    let region = region_of(alloc, tree, prefix)?;
     let mut table = Vec::new(alloc);
-    descend(&region, inherited.0, *prefix, &mut table)?;
+    descend(&tree.region(prefix), inherited.0, *prefix, &mut table)?;
     Ok(table)
 }
 
 /// The least table with the answers of the tree's routes: of all such tables the one that the best hops fix, with the
-/// tree's entries as the old table, in the order of prefixes; and the rows that prove it least. It costs the tree's nodes,
-/// and their sets of hops.
+/// tree's entries as the old table, in the order of prefixes; and the rows that prove it least. It costs the tree's nodes:
+/// what is best for them they keep.
 ///
 /// # Errors
 ///
@@ -124,7 +137,7 @@ pub fn fresh(alloc: Global, tree: &Tree) -> Result<Fresh, AllocError>
         (map entry_as v.table.items) (map row_as v.proof.items)) }
 {
     let whole = Prefix::whole(tree.family());
-    let region = region_of(alloc, tree, &whole)?;
+    let region = tree.region(&whole);
     let mut table = Vec::new(alloc);
     descend(&region, Hop::NONE.0, whole, &mut table)?;
     let proof = prove(alloc, &region, whole)?;

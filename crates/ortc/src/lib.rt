@@ -5,8 +5,6 @@
 #![tactic(auto)]
 
 mod down;
-mod hop_set;
-mod region;
 mod rows;
 mod table;
 

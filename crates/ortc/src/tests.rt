@@ -5,7 +5,6 @@ ghost use Rattle.std.specs.Prelude.{◌≡◌, IfOk};
 ghost use Rattle.address_model.specs.declared.family.Family.TheVariants.{V4};
 
 use super::*;
-use crate::hop_set::HopSet;
 use fib_addr::{Addr, Entry, Family, Hop, Prefix};
 use orig_tree::Tree;
 use std::alloc::{AllocError, Global};
@@ -320,17 +319,42 @@ fn the_tables_are_least(rt: HostRuntime) -> Result<(), AllocError> {
     Ok(())
 }
 
+/// Four routes that tie, and those three that are left where the second is taken away.
+const TIE: Case<'static> = Case {
+    routes: &[
+        (0x0000_0000, 2, 1),
+        (0x4000_0000, 2, 2),
+        (0x8000_0000, 2, 1),
+        (0xc000_0000, 2, 2),
+    ],
+    entries: &[],
+    region: (0, 0),
+    inherited: 0,
+    table: &[],
+    proof: &[],
+};
+
+const THREE: Case<'static> = Case {
+    routes: &[
+        (0x0000_0000, 2, 1),
+        (0x8000_0000, 2, 1),
+        (0xc000_0000, 2, 2),
+    ],
+    entries: &[],
+    region: (0, 0),
+    inherited: 0,
+    table: &[],
+    proof: &[],
+};
+
 #[test]
-fn sets_are_merged(rt: HostRuntime) -> Result<(), AllocError> {
-    let both = HopSet::joint(rt.alloc(), &[1, 3, 5], &[2, 3, 5, 6])?;
-    assert_eq!(rt; both.set.as_slice(), [3, 5].as_slice());
-    assert!(rt; !both.apart);
-    let all = HopSet::joint(rt.alloc(), &[1, 4], &[2, 3, 5])?;
-    assert_eq!(rt; all.set.as_slice(), [1, 2, 3, 4, 5].as_slice());
-    assert!(rt; all.apart);
-    assert_eq!(rt;
-        (all.set.least(), all.set.contains(5), all.set.contains(6)),
-        (1, true, false)
-    );
+fn what_nodes_keep_is_mended(rt: HostRuntime) -> Result<(), AllocError> {
+    let mut tree = tree_of(rt.alloc(), &TIE)?;
+    tree.clear_route(&prefix(0x4000_0000, 2))?;
+    let mended = fresh(rt.alloc(), &tree)?;
+    let rest = tree_of(rt.alloc(), &THREE)?;
+    let three = fresh(rt.alloc(), &rest)?;
+    assert_eq!(rt; mended.table.as_slice(), three.table.as_slice());
+    assert_eq!(rt; mended.proof.as_slice(), three.proof.as_slice());
     Ok(())
 }

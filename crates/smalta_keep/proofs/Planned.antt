@@ -1,5 +1,5 @@
 -- What a plan has, and what it tells.
-use Rattle.std.proofs.Common.{◌≡◌, List, [], ◌∷◌, ◌++◌, Bool, Option, Some, None, refl, sym, ap, subst, ◌∙◌}
+use Rattle.std.proofs.Common.{◌≡◌, List, [], ◌∷◌, ◌++◌, Bool, true, Option, Some, None, refl, sym, ap, subst, ◌∙◌}
 use Rattle.std.specs.Prelude.{option_map, is_some, IsSome}
 use Rattle.std.specs.Option.{option_and_then}
 use Rattle.table_model.specs.Entries.{Entries}
@@ -14,10 +14,11 @@ use Rattle.orig_tree.specs.Views.{Labels, InPlace}
 use Rattle.orig_tree.proofs.Places.{labels_are}
 use Rattle.smalta_keep.specs.declared.routes.Former.{Former}
 use Rattle.smalta_keep.specs.declared.repair.Moved.{Moved}
-use Rattle.smalta_keep.specs.Rooms.{KeepsNodes}
-use Rattle.smalta_keep.specs.Routes.{HasFormer, IsFormerOf}
+use Rattle.smalta_keep.specs.Routes.{HasFormer, IsFormerOf, former_in, undone_in}
 use Rattle.smalta_keep.specs.Plans.{IsMoved, IsPlanned, Tells, repaired_table, planned_table}
 use Rattle.smalta_keep.specs.Views.{repair_as, snapshot_as, place_in}
+use Rattle.orig_tree.specs.Walk.{has_node}
+use Rattle.smalta_keep.proofs.Making.{kept_room}
 
 abbrev Route : Type 0
 Route = Option (code_prefix.Prefix × code_hop.Hop)
@@ -32,9 +33,13 @@ pub places : (route : Route) (o : Option code_prefix.Prefix) → o ≡ option_ma
 places None o e = ap (option_map prefix_as) e
 places (Some r) o e = ap (option_map prefix_as) e
 
-pub has_former : (f : Option Former) (a b c : Labels) → IsFormerOf f a b → c.family ≡ b.family → KeepsNodes b c → HasFormer c f
-has_former None a b c i e k = tt
-has_former (Some f) a b c i e k = (i.family ∙ sym e, k (prefix_as f.prefix).bits i.room)
+pub has_former : (f : Option Former) (a b c : Labels) → IsFormerOf f a b → c.family ≡ b.family → c.routes ≡ b.routes → c.before ≡ b.before → HasFormer c f
+has_former None a b c i e r k = tt
+has_former (Some f) a b c i e r k = (i.family ∙ sym e, k ∙ (i.before ∙ (sym i.routes ∙ ap (former_in f) (sym r))))
+
+pub undone_is : (f : Option Former) (a b : Labels) → IsFormerOf f a b → undone_in f b.routes ≡ a.routes
+undone_is None a b i = i
+undone_is (Some f) a b i = i.routes
 
 after_more : (cs ds : List Change) (L : Entries) → after_changes (cs ++ ds) L ≡ option_and_then (after_changes ds) (after_changes cs L)
 after_more [] ds L = refl
@@ -62,8 +67,8 @@ second_run cs ds T N e s = after_more cs ds T ∙ ap (option_and_then (after_cha
 
 -- the same of a tree with these labels
 moved_there : (old new : Labels) (nodes : List (List Bool)) (at : Option Prefix) (due : Bool) (m : Moved) → IsMoved old nodes at due m → new.family ≡ old.family → new.routes ≡ old.routes → new.entries ≡ old.entries
-    → IsMoved (record { family = new.family; routes = new.routes; entries = new.entries; nodes = old.nodes }) nodes at due m
-moved_there old new nodes at due m i f r e = subst (λ (k : Labels). IsMoved k nodes at due m) (labels_are old.family new.family old.routes new.routes old.entries new.entries old.nodes old.nodes (sym f) (sym r) (sym e) refl) i
+    → IsMoved (record { family = new.family; routes = new.routes; entries = new.entries; nodes = old.nodes; before = old.before }) nodes at due m
+moved_there old new nodes at due m i f r e = subst (λ (k : Labels). IsMoved k nodes at due m) (labels_are old.family new.family old.routes new.routes old.entries new.entries old.before old.before old.nodes old.nodes (sym f) (sym r) (sym e) refl refl) i
 
 pub tells : (old new : Labels) (nodes : List (List Bool)) (at at' : Option Prefix) (due : Bool) (m : Moved) → IsMoved old nodes at due m → new.family ≡ old.family → new.routes ≡ old.routes → new.entries ≡ old.entries → at ≡ at' → Tells new at' due m
 tells old new nodes at at' due m i f r e a =
@@ -74,6 +79,20 @@ tells old new nodes at at' due m i f r e a =
       snapshot = j.snapshot;
       makes = both_led (repair_as m) (snapshot_as m) new.entries (repaired_table new at) (planned_table new at due) j.repair j.snapshot j.old_order j.repaired_order j.planned_order;
     })
+
+-- and where there are more nodes
+pub moved_more : (old : Labels) (m n : List (List Bool)) (at : Option Prefix) (due : Bool) (x : Moved) → ((p : List Bool) → has_node p m ≡ true → has_node p n ≡ true) → IsMoved old m at due x → IsMoved old n at due x
+moved_more old m n at due x k i = record {
+  repair = i.repair;
+  snapshot = i.snapshot;
+  repair_of = i.repair_of;
+  snapshot_of = i.snapshot_of;
+  repair_room = kept_room m n (repair_as x) k i.repair_room;
+  snapshot_room = kept_room m n (snapshot_as x) k i.snapshot_room;
+  old_order = i.old_order;
+  repaired_order = i.repaired_order;
+  planned_order = i.planned_order;
+}
 
 pub planned : (old new : Labels) (at : Option Prefix) (due : Bool) (f : Option Former) (m : Moved) → IsMoved old new.nodes at due m → new.family ≡ old.family → new.routes ≡ old.routes → new.entries ≡ old.entries → HasFormer new f
     → IsPlanned new (record { former = f; moved = m })

@@ -7,12 +7,14 @@ use Rattle.table_model.specs.Changes.{after_changes}
 use Rattle.least_model.specs.Both.{aggregate_in}
 use Rattle.delta_model.specs.Between.{between}
 use Rattle.kept_model.specs.Patched.{after_repair, after_snapshot}
+use Rattle.fib_addr.specs.declared.prefix.Prefix as code_prefix
+use Rattle.fib_addr.specs.declared.entry.Hop as code_hop
 use Rattle.fib_delta.specs.declared.change.Change as code_change
 use Rattle.fib_delta.specs.Views.{change_as}
 use Rattle.orig_tree.specs.Views.{Labels, InPlace}
 use Rattle.smalta_keep.specs.Rooms.{AreOf, HaveRoom}
 use Rattle.smalta_keep.specs.Routes.{HasFormer}
-use Rattle.smalta_keep.specs.Views.{repair_as, snapshot_as}
+use Rattle.smalta_keep.specs.Views.{repair_as, snapshot_as, with_planned}
 use Rattle.smalta_keep.specs.declared.told.Mend.{Mend}
 use Rattle.smalta_keep.specs.declared.repair.Moved.{Moved}
 use Rattle.smalta_keep.specs.declared.repair.Repair.{Repair}
@@ -32,7 +34,7 @@ pub record Tells (kept : Labels) (at : Option Prefix) (due : Bool) (m : Moved) :
   pub snapshot : snapshot_as m ≡ between (repaired_table kept at) (planned_table kept at due)
   pub makes : after_changes (repair_as m ++ snapshot_as m) kept.entries ≡ Some (planned_table kept at due)
 
--- Planned, and nothing changed since: there is room for the changes and for the former route, and the changes fit the table.
+-- Planned, and nothing changed since: there is room for the changes, which fit the table, and the former route can be put back.
 pub record IsPlanned (kept : Labels) (r : Repair) : Type 0 where
   pub repair_of : AreOf kept.family (repair_as r.moved)
   pub snapshot_of : AreOf kept.family (snapshot_as r.moved)
@@ -42,6 +44,10 @@ pub record IsPlanned (kept : Labels) (r : Repair) : Type 0 where
   pub former : HasFormer kept r.former
 
 -- ---- while a plan is made
+
+-- with a plan's route, if it has one
+abbrev pub routed : Option (code_prefix.Prefix × code_hop.Hop) → Labels → Labels
+routed route kept = record { family = kept.family; routes = with_planned route kept.routes; entries = kept.entries; nodes = kept.nodes; before = kept.before }
 
 -- the changes from one table of a family to another, which is in order, and those back, where they are asked for
 pub record IsMend (f : Family) (back_too : Bool) (old new : Entries) (m : Mend) : Type 0 where

@@ -43,6 +43,7 @@ fn apply(tree: &mut Tree, change: &Change)
     requires room { HasRoom tree.old.nodes (change_as change.now) }
     requires fits { IsSome (after_change (change_as change.now) tree.old.entries) }
     ensures keeps { KeepsRoutes tree.old tree.new }
+    ensures before { tree.new.before ≡ tree.old.before }
     ensures entries { after_change (change_as change.now) tree.old.entries ≡ Some tree.new.entries }
 {
     match change {
@@ -59,6 +60,7 @@ pub fn apply_all(tree: &mut Tree, changes: &[Change])
     requires room { HaveRoom tree.old.nodes (map change_as changes.now) }
     requires fit { IsSome (after_changes (map change_as changes.now) tree.old.entries) }
     ensures keeps { KeepsRoutes tree.old tree.new }
+    ensures before { tree.new.before ≡ tree.old.before }
     ensures entries { after_changes (map change_as changes.now) tree.old.entries
         ≡ Some tree.new.entries }
 {

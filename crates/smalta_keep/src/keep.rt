@@ -1,7 +1,10 @@
 //! The kept table.
 
-ghost use Rattle.std.specs.Prelude.{◌≡◌, ◌∷◌, ◌++◌, [], Some, IfOk, OnOk, OnErr, map, option_map};
+ghost use Rattle.std.specs.Prelude.{◌≡◌, ◌≤◌, filter, ◌∷◌, ◌++◌, [], Some, IfOk, OnOk, OnErr, map};
 ghost use Rattle.std.specs.Option.{ForSome};
+ghost use Rattle.std.specs.List.{AllByRecursion};
+ghost use Rattle.address_model.specs.Address.{same_family};
+ghost use Rattle.table_model.specs.Entries.{in_order};
 ghost use Rattle.table_model.specs.Changes.{after_changes};
 ghost use Rattle.least_model.specs.Both.{aggregate_in};
 ghost use Rattle.cert_model.specs.Rows.{family_rows};
@@ -12,8 +15,6 @@ ghost use Rattle.cert_rows.specs.Views.{row_as};
 ghost use Rattle.fib_delta.specs.Views.{change_as};
 ghost use Rattle.orig_tree.specs.Views.{InPlace};
 ghost use Rattle.ortc.specs.Proved.{ProveLeast};
-ghost use Rattle.smalta_keep.specs.Rooms.{KeepsEntries};
-ghost use Rattle.smalta_keep.specs.Routes.{HasFormer, IsFormerOf, undone_in};
 ghost use Rattle.smalta_keep.specs.Views.{moved_of, repair_as, snapshot_as, undone_by, with_planned, place_in};
 ghost use Rattle.smalta_keep.specs.Plans.{IsPlanned, Tells};
 ghost use Rattle.smalta_keep.specs.Answers.{IsAlike, IsLeast, IsFewestWithin};
@@ -22,7 +23,7 @@ use crate::entries::apply_all;
 use crate::idle::{trim_at, trim_left};
 use crate::plan::plan_moves;
 use crate::repair::{Moved, Repair};
-use crate::routes::{Former, put_back, set};
+use crate::routes::{former_prefix, planned_prefix, put_back_planned, set, set_planned};
 use fib_addr::{Entry, Family, Hop, Prefix};
 use fib_delta::Change;
 use orig_tree::Tree;
@@ -46,60 +47,38 @@ impl Model for Keep {
     ghost view = { λ k. k.tree };
 }
 
-/// Sets a plan's route, if it has one.
-fn set_planned(tree: &mut Tree, route: Option<(Prefix, Hop)>) -> Result<Option<Former>, AllocError>
-    requires { ForSome route (λ r. r.0.family ≡ tree.old.family) }
-    ensures keeps { KeepsEntries tree.old tree.new }
-    ensures routes { OnOk result (tree.new.routes ≡ with_planned route tree.old.routes) }
-    ensures former { IfOk result (λ f. IsFormerOf f tree.old tree.new) }
-    ensures err { OnErr result (tree.new ≡ tree.old) }
-{
-    match route {
-        Some((prefix, hop)) => Ok(Some(set(tree, &prefix, hop)?)),
-        None => Ok(None),
-    }
-}
-
-/// Puts back what a plan's prefix had for a route, if it had set one.
-fn put_back_planned(tree: &mut Tree, former: &Option<Former>)
-    requires { HasFormer tree.old former.now }
-    ensures keeps { KeepsEntries tree.old tree.new }
-    ensures routes { tree.new.routes ≡ undone_in former.now tree.old.routes }
-{
-    if let Some(former) = former {
-        put_back(tree, former);
-    }
-}
-
-/// The prefix of a plan's route.
-fn planned_prefix(route: Option<(Prefix, Hop)>) -> Option<Prefix>
-    ensures { result ≡ option_map (λ r. r.0) route }
-{
-    match route {
-        Some((prefix, _)) => Some(prefix),
-        None => None,
-    }
-}
-
-/// The prefix of the route that a plan set.
-fn former_prefix(former: &Option<Former>) -> Option<Prefix>
-    ensures { result ≡ option_map (λ f. f.prefix) former.now }
-{
-    match former {
-        Some(former) => Some(former.prefix),
-        None => None,
-    }
-}
-
 impl Keep {
     /// No routes, and an empty table.
     pub fn new(alloc: Global, family: Family) -> Keep
-        ensures { result ≡ record { family = family; routes = []; entries = []; nodes = [] ∷ [] } }
+        ensures { result ≡ record {
+          family = family;
+          routes = [];
+          entries = [];
+          nodes = [] ∷ [];
+          before = [];
+        } }
     {
         Keep {
             alloc,
             tree: Tree::new(alloc, family),
         }
+    }
+
+    /// Those of the routes that are of the family, the last at each prefix, and an empty table. It costs the routes' lengths and
+    /// the tree's nodes, where a `put` for each would cost the nodes on each way with their sets of hops.
+    ///
+    /// # Errors
+    ///
+    /// No memory.
+    pub fn load(alloc: Global, family: Family, routes: &[Entry]) -> Result<Keep, AllocError>
+        requires { AllByRecursion (λ r. 1 ≤ r.1) (map entry_as routes.now) }
+        ensures family { IfOk result (λ k. k.family ≡ family) }
+        ensures routes { IfOk result (λ k. k.routes ≡ in_order (filter (λ e. same_family family
+            e.0.family) (map entry_as routes.now))) }
+        ensures table { IfOk result (λ k. k.entries ≡ []) }
+    {
+        let tree = Tree::load(alloc, family, routes)?;
+        Ok(Keep { alloc, tree })
     }
 
     /// Gives a prefix this route, or with `Hop::NONE` none. The table stays.
@@ -143,13 +122,13 @@ impl Keep {
         ensures undone { IfOk result (λ r. undone_by r self.new.routes ≡ self.old.routes) }
         ensures err { OnErr result (self.new.routes ≡ self.old.routes) }
     {
-        let former = set_planned(&mut self.tree, route)?;
-        let at = planned_prefix(route);
-        match plan_moves(self.alloc, &mut self.tree, at, snapshot) {
-            Ok(moved) => Ok(Repair { former, moved }),
+        match plan_moves(self.alloc, &mut self.tree, route, snapshot) {
+            Ok(moved) => {
+                let former = set_planned(&mut self.tree, route)?;
+                Ok(Repair { former, moved })
+            }
             Err(failed) => {
-                put_back_planned(&mut self.tree, &former);
-                trim_at(&mut self.tree, at);
+                trim_at(&mut self.tree, planned_prefix(route));
                 Err(failed)
             }
         }

@@ -1,12 +1,13 @@
 //! Changes of the tree's routes, which can be taken back.
 
-ghost use Rattle.std.specs.Prelude.{◌≡◌, true, IfOk, OnOk, OnErr};
+ghost use Rattle.std.specs.Prelude.{◌≡◌, true, IfOk, OnOk, OnErr, option_map};
+ghost use Rattle.std.specs.Option.{ForSome};
 ghost use Rattle.orig_tree.specs.Walk.{has_node};
-ghost use Rattle.table_model.specs.Entries.{with_entry};
 ghost use Rattle.fib_addr.specs.Views.{prefix_as};
 ghost use Rattle.kept_model.specs.Patched.{with_route};
 ghost use Rattle.smalta_keep.specs.Rooms.{KeepsEntries};
-ghost use Rattle.smalta_keep.specs.Routes.{IsFormer, former_in};
+ghost use Rattle.smalta_keep.specs.Routes.{IsFormer, IsFormerOf, HasFormer, undone_in};
+ghost use Rattle.smalta_keep.specs.Views.{with_planned};
 
 use fib_addr::{Hop, Prefix};
 use orig_tree::Tree;
@@ -21,47 +22,86 @@ pub struct Former {
     pub hop: Option<Hop>,
 }
 
-/// Gives a prefix that is a node this route. It takes no memory.
-fn set_held(tree: &mut Tree, prefix: &Prefix, hop: Hop)
-    requires family { prefix.now.family ≡ tree.old.family }
-    requires room { has_node (prefix_as prefix.now).bits tree.old.nodes ≡ true }
+/// Gives a prefix this route, or with `Hop::NONE` none.
+pub fn set(tree: &mut Tree, prefix: &Prefix, hop: Hop) -> Result<(), AllocError>
+    requires { prefix.now.family ≡ tree.old.family }
     ensures keeps { KeepsEntries tree.old tree.new }
-    ensures routes { tree.new.routes ≡ with_entry tree.old.routes (prefix_as prefix.now, hop.0) }
+    ensures routes { OnOk result (tree.new.routes
+        ≡ with_route (prefix_as prefix.now) hop.0 tree.old.routes) }
+    ensures before { has_node (prefix_as prefix.now).bits tree.old.nodes ≡ true
+        → OnOk result (tree.new.before ≡ tree.old.routes) }
+    ensures err { OnErr result (tree.new ≡ tree.old) }
 {
-    let _set = tree.set_route(prefix, hop);
+    if hop == Hop::NONE {
+        tree.clear_route(prefix)?;
+    } else {
+        tree.set_route(prefix, hop)?;
+    }
+    Ok(())
 }
 
-/// Gives a prefix this route, or with `Hop::NONE` none.
-pub fn set(tree: &mut Tree, prefix: &Prefix, hop: Hop) -> Result<Former, AllocError>
+/// The same; what the prefix had is told, and can be put back.
+fn replace(tree: &mut Tree, prefix: &Prefix, hop: Hop) -> Result<Former, AllocError>
     requires { prefix.now.family ≡ tree.old.family }
     ensures keeps { KeepsEntries tree.old tree.new }
     ensures routes { OnOk result (tree.new.routes
         ≡ with_route (prefix_as prefix.now) hop.0 tree.old.routes) }
     ensures former { IfOk result (λ f. IsFormer f tree.old tree.new) }
-    ensures err { OnErr result (tree.new ≡ tree.old) }
+    ensures err { OnErr result (tree.new.routes ≡ tree.old.routes) }
 {
     tree.room(prefix)?;
     let former = Former {
         prefix: *prefix,
         hop: tree.route(prefix),
     };
-    if hop == Hop::NONE {
-        tree.clear_route(prefix);
-    } else {
-        set_held(tree, prefix, hop);
-    }
+    set(tree, prefix, hop)?;
     Ok(former)
 }
 
-/// Puts a route back. It takes no memory.
-pub fn put_back(tree: &mut Tree, former: &Former)
-    requires family { former.now.prefix.family ≡ tree.old.family }
-    requires room { has_node (prefix_as former.now.prefix).bits tree.old.nodes ≡ true }
+/// Sets a plan's route, if it has one.
+pub fn set_planned(
+    tree: &mut Tree,
+    route: Option<(Prefix, Hop)>,
+) -> Result<Option<Former>, AllocError>
+    requires { ForSome route (λ r. r.0.family ≡ tree.old.family) }
     ensures keeps { KeepsEntries tree.old tree.new }
-    ensures routes { tree.new.routes ≡ former_in former.now tree.old.routes }
+    ensures routes { OnOk result (tree.new.routes ≡ with_planned route tree.old.routes) }
+    ensures former { IfOk result (λ f. IsFormerOf f tree.old tree.new) }
+    ensures err { OnErr result (tree.new.routes ≡ tree.old.routes) }
 {
-    match former.hop {
-        Some(hop) => set_held(tree, &former.prefix, hop),
-        None => tree.clear_route(&former.prefix),
+    match route {
+        Some((prefix, hop)) => Ok(Some(replace(tree, &prefix, hop)?)),
+        None => Ok(None),
+    }
+}
+
+/// Puts back what a plan's prefix had for a route, if it had set one. It takes no memory.
+pub fn put_back_planned(tree: &mut Tree, former: &Option<Former>)
+    requires { HasFormer tree.old former.now }
+    ensures keeps { KeepsEntries tree.old tree.new }
+    ensures routes { tree.new.routes ≡ undone_in former.now tree.old.routes }
+{
+    if former.is_some() {
+        tree.put_back();
+    }
+}
+
+/// The prefix of a plan's route.
+pub fn planned_prefix(route: Option<(Prefix, Hop)>) -> Option<Prefix>
+    ensures { result ≡ option_map (λ r. r.0) route }
+{
+    match route {
+        Some((prefix, _)) => Some(prefix),
+        None => None,
+    }
+}
+
+/// The prefix of the route that a plan set.
+pub fn former_prefix(former: &Option<Former>) -> Option<Prefix>
+    ensures { result ≡ option_map (λ f. f.prefix) former.now }
+{
+    match former {
+        Some(former) => Some(former.prefix),
+        None => None,
     }
 }

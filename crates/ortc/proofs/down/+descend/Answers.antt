@@ -1,25 +1,34 @@
-use Rattle.ortc.specs.declared.region.Halves.{Halves}
-use Rattle.std.proofs.Common.{map, ap}
+use Rattle.std.proofs.Common.{map, ap, arith, true, false}
 use Rattle.fib_addr.specs.Views.{entry_as}
+use Rattle.address_model.specs.Address.{Prefix}
 use Rattle.address_model.specs.Width.{width}
-use Rattle.std.proofs.Common.{◌-◌}
-use Rattle.ortc.proofs.Falling.{told_leaf, told_join, no_bits_left}
+use Rattle.orig_tree.specs.Spots.{answers_in}
+use Rattle.orig_tree.proofs.Telling.{half_longer}
+use Rattle.ortc.proofs.Alike.{some_bit}
+use Rattle.ortc.proofs.Falling.{told_leaf, told_join}
 use Rattle.ortc.proofs.down.+descend.Goals as goal
 
+pub returns-in-Some : goal.returns-in-Some
+returns-in-Some t c =
+    let s = c.args.region.now in
+    told_leaf c.args.prefix s.bits (answers_in s) s.entries c.in-Some.hop c.args.inherited c.leaf_hop.result (map entry_as c.args.out.now.items) (map entry_as c.push_entry.new.out.items) c.in-Some.ensures.one c.leaf_hop.ensures c.in_ok-push_entry.ensures
+
 pub returns-then-prefix-width : goal.returns-then-prefix-width
-returns-then-prefix-width t c = λ f L s.
-    let s' = rw c.in-Join.is at s in
-    absurd (no_bits_left c.args.prefix c.width.result s'.0 c.width.ensures c.if-prefix-width.true s'.1)
+returns-then-prefix-width t c =
+    let s = c.args.region.now in
+    absurd (some_bit s.bits (answers_in s) c.in_default.ensures.more (omega (arith, c.requires, c.if-prefix-width.true, c.width.ensures)))
 
-pub returns-in_ok-push_entry-in-Leaf : goal.returns-in_ok-push_entry-in-Leaf
-returns-in_ok-push_entry-in-Leaf t c = λ f L s.
-    let s' = rw c.in-Leaf.is at s in
-    told_leaf c.args.prefix (width c.args.prefix.family - c.args.prefix.len) f L c.in-Leaf.hop c.args.inherited c.leaf_hop.result (map entry_as c.args.out.now.items) (map entry_as c.push_entry.new.out.items) s'.1 c.leaf_hop.ensures c.in_ok-push_entry-in-Leaf.ensures
+pub descend-requires : goal.descend-requires
+descend-requires t c = (omega (arith, c.half.ensures.bits), omega (arith, c.requires, c.half.ensures.bits, half_longer c.args.prefix c.half-2.result false c.half-2.ensures, ap (λ (x : Prefix). width x.family) c.half-2.ensures))
 
-pub returns-in_ok-descend-in-Join-2 : goal.returns-in_ok-descend-in-Join-2
-returns-in_ok-descend-in-Join-2 t c = λ f L s.
-    let s' = rw c.in-Join.is at s in
-    told_join c.args.prefix c.half.result c.half-in-Join.result f L c.args.inherited c.below-hop.result (map entry_as c.args.out.now.items) (map entry_as c.push_entry-in-Join.new.out.items) (map entry_as c.descend.new.out.items) (map entry_as c.descend-in-Join.new.out.items)
-    c.own_hop-own.result c.in-Join.old c.in-Join.set _ c.in-Join.halves.value.low c.in-Join.halves.value.high c.deref.result.now.low c.deref-in-Join.result.now.high s'
-    (ap (λ (z : Halves). z.low) c.deref.ensures) (ap (λ (z : Halves). z.high) c.deref-in-Join.ensures) c.own_hop-own.ensures c.below-hop.ensures c.half.ensures c.half-in-Join.ensures
-    c.in_ok-push_entry-in-Join.ensures c.in_ok-descend-in-Join.ensures c.in_ok-descend-in-Join-2.ensures
+pub descend-requires-2 : goal.descend-requires-2
+descend-requires-2 t c = (omega (arith, c.half-3.ensures.bits), omega (arith, c.requires, c.half-3.ensures.bits, half_longer c.args.prefix c.half-4.result true c.half-4.ensures, ap (λ (x : Prefix). width x.family) c.half-4.ensures))
+
+pub returns : goal.returns
+returns t c =
+    let s = c.args.region.now in
+    told_join c.args.prefix c.half-2.result c.half-4.result s c.half.result c.half-3.result c.args.inherited c.below-hop.result c.own_hop-own.result
+    (map entry_as c.args.out.now.items) (map entry_as c.push_entry-2.new.out.items) (map entry_as c.descend.new.out.items) (map entry_as c.descend-2.new.out.items)
+    (some_bit s.bits (answers_in s) c.in_default.ensures.more) c.own_hop-own.ensures c.below-hop.ensures
+    c.half.ensures.bits c.half.ensures.routes c.half.ensures.entries c.half.ensures.hop c.half-3.ensures.bits c.half-3.ensures.routes c.half-3.ensures.entries c.half-3.ensures.hop
+    c.half-2.ensures c.half-4.ensures c.in_ok-push_entry-2.ensures c.in_ok-descend.ensures c.in_ok-descend-2.ensures

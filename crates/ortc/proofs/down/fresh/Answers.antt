@@ -15,7 +15,7 @@ returns-clause-aggregate c =
     let E = of_family f c.args.tree.now.entries in
     let W = map entry_as c.descend.new.out.items in
     let whole : prefix_as p ≡ record { family = f; bits = [] } = c.whole-whole.ensures ∙ ap (λ k. let q : Prefix = record { family = k; bits = [] } in q) c.family.ensures.family in
-    fresh_told f p 0 R E W whole refl (within_told p f 0 R E (map entry_as c.new-table.result.items) W c.in_ok-region.region (ap (λ (q : Prefix). q.family) whole) (ap (map entry_as) c.new-table.ensures.items) c.in_ok-region.ensures c.in_ok-descend.ensures)
+    fresh_told f p 0 R E W whole refl (within_told p f 0 R E (map entry_as c.new-table.result.items) W c.region-region.result (ap (λ (q : Prefix). q.family) whole) (ap (map entry_as) c.new-table.ensures.items) c.region-region.ensures.bits c.region-region.ensures.answers c.region-region.ensures.entries c.in_ok-descend.ensures)
 
 pub returns-clause-least : goal.returns-clause-least
 returns-clause-least c =
@@ -39,7 +39,7 @@ returns-clause-proof c =
     let p = c.whole-whole.result in
     let f = c.args.tree.now.family in
     let whole : prefix_as p ≡ record { family = f; bits = [] } = c.whole-whole.ensures ∙ ap (λ k. let q : Prefix = record { family = k; bits = [] } in q) c.family.ensures.family in
-    fresh_proved f p c.args.tree.now.routes (of_family f c.args.tree.now.entries) c.in_ok-region.region (map row_as c.in_ok-proof.proof.items) whole c.in_ok-region.ensures c.in_ok-proof.ensures
+    fresh_proved f p c.args.tree.now.routes c.region-region.result (map row_as c.in_ok-proof.proof.items) whole c.region-region.ensures.bits c.region-region.ensures.answers c.in_ok-proof.ensures
 
 pub returns-clause-certificate : goal.returns-clause-certificate
 returns-clause-certificate c = certified c.args.tree.now.family c.args.tree.now.routes (map entry_as c.descend.new.out.items) (map row_as c.in_ok-proof.proof.items) (returns-clause-proof c) (returns-clause-least c)

@@ -7,8 +7,8 @@ use Rattle.ortc.proofs.down.within.Goals as goal
 pub returns-clause-aggregate : goal.returns-clause-aggregate
 returns-clause-aggregate c =
     let tree = c.args.tree.now in
-    within_told c.args.prefix.now tree.family c.args.inherited.0 (of_family tree.family tree.routes) (of_family tree.family tree.entries) (map entry_as c.new-table.result.items) (map entry_as c.descend.new.out.items) c.in_ok-region.region
-    c.requires (ap (map entry_as) c.new-table.ensures.items) c.in_ok-region.ensures c.in_ok-descend.ensures
+    within_told c.args.prefix.now tree.family c.args.inherited.0 (of_family tree.family tree.routes) (of_family tree.family tree.entries) (map entry_as c.new-table.result.items) (map entry_as c.descend.new.out.items) c.region.result
+    c.requires (ap (map entry_as) c.new-table.ensures.items) c.region.ensures.bits c.region.ensures.answers c.region.ensures.entries c.in_ok-descend.ensures
 
 pub returns-clause-least : goal.returns-clause-least
 returns-clause-least c =
