@@ -125,9 +125,9 @@ seen_released some xs left n k time since l e c =
     ∙ ap (λ (x : List Retired). record { taken = arrays_of some; replaced = blocks_of (retired_of (drop n xs)); retired = x; time = time }) b
 
 -- ---- the places
-pub held_cancelled : {T : Type 0} (space after : Space T) (h : Held) → Gives h.taken space after → AreHeldIn (is_out space.free) h → AreHeldIn (is_out after.free) (cancelled h)
+pub held_cancelled : {T : Type 0} (space after : Space T) (h : Held) → Gives h.taken space after → AreApart (is_out space.free) (h.taken ++ blocks_of h.retired) → AreHeldIn (is_out after.free) (cancelled h)
 held_cancelled space after h g a =
-    let p = apart_less (is_out space.free) (is_out after.free) h.taken (blocks_of h.retired) g.still a.with_taken in
+    let p = apart_less (is_out space.free) (is_out after.free) h.taken (blocks_of h.retired) g.still a in
     record { with_taken = p; with_replaced = p }
 
 blocks_append : (xs ys : List Retired) → blocks_of (xs ++ ys) ≡ blocks_of xs ++ blocks_of ys

@@ -55,11 +55,12 @@ impl Model for Blocks {
 }
 
 impl Blocks {
-    ghost use Rattle.std.specs.Prelude.{◌≡◌, ◌≤◌, ◌<◌, ◌^◌, ◌++◌, [], IfOk, OnOk, IfErr, OnErr};
+    ghost use Rattle.std.specs.Prelude.{◌≡◌, ◌+◌, ◌≤◌, ◌<◌, ◌^◌, ◌++◌, [], IfOk, OnOk, IfErr, OnErr};
     ghost use Rattle.buddy_arena.specs.Space.{IsSized, IsOut, Takes};
     ghost use Rattle.block_pool.specs.Powers.{up};
     ghost use Rattle.block_pool.specs.Refusals.{IsRefusal};
-    ghost use Rattle.block_pool.specs.Places.{is_out};
+    ghost use Rattle.block_pool.specs.Places.{is_out, count_free};
+    ghost use Rattle.block_pool.specs.Arrays.{AreApart};
     ghost use Rattle.block_pool.specs.Blocks.{AreHeldIn, Gives, with_taken, with_replaced, nothing_held, ended, cancelled, released, early, late, blocks_of};
 
     /// No blocks, at time 0.
@@ -94,7 +95,8 @@ impl Blocks {
     /// The pending update is forgotten: what it took is given back, and what it was to replace stays.
     pub fn cancel<T: Copy>(&mut self, arena: &mut Arena<T>)
         requires sized { IsSized arena.old }
-        requires held { AreHeldIn (is_out arena.old.free) self.old }
+        requires held { AreApart (is_out arena.old.free)
+            (self.old.taken ++ blocks_of self.old.retired) }
         ensures gives { Gives self.old.taken arena.old arena.new }
         ensures sized { IsSized arena.new }
         ensures held { AreHeldIn (is_out arena.new.free) self.new }
@@ -129,18 +131,20 @@ impl Blocks {
     pub fn take<T: Copy>(&mut self, arena: &mut Arena<T>, count: u32) -> Result<Block, Refused>
         requires some { 0 < count }
         requires sized { IsSized arena.old }
-        requires held { AreHeldIn (is_out arena.old.free) self.old }
         ensures size { IfOk result (λ b. 2 ^ b.order ≡ up count) }
         ensures ok { IfOk result (λ b. Takes arena.old.order arena.old.free arena.new.free b.place
             b.order) }
         ensures out { IfOk result (λ b. IsOut arena.new.order arena.new.free b.place b.order) }
         ensures taken { IfOk result (λ b. self.new ≡ with_taken self.old (b.place, 2 ^ b.order)) }
+        ensures left { IfOk result (λ b. count_free arena.new + 2 ^ b.order
+            ≡ count_free arena.old) }
         ensures full { IfErr result (λ e. IsRefusal e count arena.old) }
         ensures err { OnErr result ((arena.new ≡ arena.old) × (self.new ≡ self.old)) }
         ensures kept { (arena.new.order ≡ arena.old.order) × (arena.new.cells ≡ arena.old.cells)
             × (arena.new.fill ≡ arena.old.fill) }
         ensures sized { IsSized arena.new }
-        ensures held { AreHeldIn (is_out arena.new.free) self.new }
+        ensures held { AreHeldIn (is_out arena.old.free) self.old
+            → AreHeldIn (is_out arena.new.free) self.new }
     {
         if self.taken.reserve(1).is_err() {
             return Err(Refused::Memory);

@@ -96,7 +96,7 @@ leaf_goes_on n g u h (suc w) e b r =
     subst (λ (i : ℕ). leaf_before g i ≡ Some h) s (next_leaf g h x (sym (b x (omega arith)) ∙ z) before)
 
 -- two leaf slots of one place have one hop
-same_place : (n : ℕ) (g : ℕ → Option ℕ) (u v h k : ℕ) → u < v → v < 64 → ((x : ℕ) → x < 64 → bit_at n x ≡ run_start g x) → g u ≡ Some h → g v ≡ Some k → rank_of n (u + 1) ≡ rank_of n (v + 1) → k ≡ h
+pub same_place : (n : ℕ) (g : ℕ → Option ℕ) (u v h k : ℕ) → u < v → v < 64 → ((x : ℕ) → x < 64 → bit_at n x ≡ run_start g x) → g u ≡ Some h → g v ≡ Some k → rank_of n (u + 1) ≡ rank_of n (v + 1) → k ≡ h
 same_place n g u v h k l m b p q r =
     let w = v - (u + 1) in
     let s : u + 1 + w ≡ v = omega arith in

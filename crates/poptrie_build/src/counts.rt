@@ -12,9 +12,11 @@ use fib_regions::Region;
 
 /// Places of nodes and of leaves; more than a u64 holds is its greatest number.
 #[derive(Clone, Copy, Debug, PartialEq, Eq)]
-pub(crate) struct Needs {
-    pub(crate) nodes: u64,
-    pub(crate) leaves: u64,
+pub struct Needs {
+    /// Places of nodes.
+    pub nodes: u64,
+    /// Places of leaves.
+    pub leaves: u64,
 }
 
 /// What the arrays below a node need that stands for the region.
@@ -44,8 +46,9 @@ pub(crate) fn count_node<R: Region>(region: &R) -> Needs
     Needs { nodes, leaves }
 }
 
-/// What the slots of a region need, of `depth` more bits.
-pub(crate) fn count_words<R: Region>(region: &R, depth: u8) -> Needs
+/// What the direct slots of a region need, of `depth` more bits each. It costs the regions with two answers, and asks about the
+/// halves of each once.
+pub fn count_words<R: Region>(region: &R, depth: u8) -> Needs
     requires { depth ≤ R.bits region.now }
     ensures nodes { (k : ℕ) → R.bits region.now - depth ≤ 6 * k
         → result.nodes ≡ told (trie_nodes depth k (R.bits region.now - depth)

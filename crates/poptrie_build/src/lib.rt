@@ -20,9 +20,11 @@ mod node;
 mod slots;
 mod trie;
 
+pub use counts::{Needs, count_words};
 pub use direct::HOP;
 pub use filling::{TrieFull, fill_all};
 pub use lookup::{Found, key_of};
+pub use making::{Vectors, make_vectors};
 pub use node::{Node, rank};
 pub use slots::{ask, descend};
 pub use trie::{Trie, empty_words};

@@ -5,13 +5,13 @@ ghost use Rattle.poptrie_build.specs.Stands.{IsCanonical};
 ghost use Rattle.poptrie_build.specs.Need.{children, runs};
 ghost use Rattle.poptrie_build.specs.Making.{IsSoFar, kind_in};
 
-/// The vectors, how many children there are, and how many leaves.
+/// The vectors of a node, how many children it has, and how many leaves.
 #[derive(Clone, Copy)]
-pub(crate) struct Vectors {
-    pub(crate) vector: u64,
-    pub(crate) leafvec: u64,
-    pub(crate) nodes: u32,
-    pub(crate) leaves: u32,
+pub struct Vectors {
+    pub vector: u64,
+    pub leafvec: u64,
+    pub nodes: u32,
+    pub leaves: u32,
 }
 
 /// The vectors of the slots so far, and the last leaf.
@@ -61,7 +61,7 @@ fn with_slot(so_far: Partial, slot: u8, kind: Option<u16>) -> Partial
 }
 
 /// The canonical vectors of a node whose slots are these: the hop of a leaf, or nothing where the slot has a node.
-pub(crate) fn make_vectors(kinds: &[Option<u16>]) -> Vectors
+pub fn make_vectors(kinds: &[Option<u16>]) -> Vectors
     requires { length kinds.now ≡ 64 }
     ensures canonical { IsCanonical result.vector result.leafvec (kind_in kinds.now) }
     ensures nodes { result.nodes ≡ children (kind_in kinds.now) }

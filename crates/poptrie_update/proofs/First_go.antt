@@ -20,7 +20,7 @@ use Rattle.poptrie_update.specs.Version.{IsVersion}
 use Rattle.poptrie_update.specs.Lives.{Living, Beside}
 use Rattle.poptrie_update.specs.Reading.{ReadsOn}
 use Rattle.block_pool.proofs.Sets.{place_is, or_left, or_right}
-use Rattle.poptrie_update.proofs.Held.{words_held}
+use Rattle.poptrie_copy.proofs.Held.{words_held}
 use Rattle.poptrie_update.proofs.Read_on.{reads_on}
 use Rattle.poptrie_update.proofs.Safe.{before_safe, after_safe}
 

@@ -20,7 +20,7 @@ use Rattle.block_pool.proofs.Parting.{since_now, since_not, apart_append, part_r
 use Rattle.poptrie_build.proofs.Wording.{words_kept}
 use Rattle.poptrie_update.specs.Version.{IsVersion}
 use Rattle.block_pool.proofs.Sets.{places_append}
-use Rattle.poptrie_update.proofs.Held.{words_held}
+use Rattle.poptrie_copy.proofs.Held.{words_held}
 
 pub words_carried : (s k : ℕ) (words : List ℕ) (nodes after : List Node) (N M : ℕ → Bool) (leaves others : List ℕ) (L R : ℕ → Bool) (d : ℕ) (f : List Bool → ℕ) → Carries blank nodes N after M → Carries 0 leaves L others R → WordsIn s words k nodes N leaves L d f → WordsIn s words k after M others R d f
 words_carried s k words nodes after N M leaves others L R d f a b w v l =

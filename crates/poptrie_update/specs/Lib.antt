@@ -5,4 +5,3 @@ pub mod Reading
 pub mod First
 pub mod Past
 pub mod Fits
-pub mod Alike

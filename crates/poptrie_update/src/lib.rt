@@ -8,7 +8,6 @@
 //! steps of an update that is ready, and the reads of a lookup, paused or not. What makes an update ready isn't here yet.
 #![tactic(auto)]
 
-mod comparing;
 mod live;
 mod reading;
 

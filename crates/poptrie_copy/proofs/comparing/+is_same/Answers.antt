@@ -5,11 +5,11 @@ use Rattle.poptrie_build.specs.Build.{StandsIn}
 use Rattle.poptrie_build.proofs.Counting.{kinds_agree, six_bits, descended_slot}
 use Rattle.poptrie_build.proofs.Going.{child_less}
 use Rattle.poptrie_build.proofs.Directing.{small_len}
-use Rattle.poptrie_update.proofs.Agree.{slot_alike}
-use Rattle.poptrie_update.proofs.Same.{leaf_at, node_at_slot, differ_none, differ_some, differ_hop, same_hops, below_start, below_step, whole_alike, leaf_read_is, child_read, child_alike, alike_child}
-use Rattle.poptrie_update.proofs.Visit.{zero_bit, one_bit}
-use Rattle.poptrie_update.proofs.comparing.+is_same.Goals as goal
-use Rattle.poptrie_update.proofs.comparing.+is_same.Goals.{in-Some+else-not-is_leaf+else-read-hop, in-None+else-is_leaf+else-not-is_same}
+use Rattle.poptrie_copy.proofs.Agree.{slot_alike}
+use Rattle.poptrie_copy.proofs.Same.{leaf_at, node_at_slot, differ_none, differ_some, differ_hop, same_hops, below_start, below_step, whole_alike, leaf_read_is, child_read, child_alike, alike_child}
+use Rattle.poptrie_copy.proofs.Set_bits.{zero_bit, one_bit}
+use Rattle.poptrie_copy.proofs.comparing.+is_same.Goals as goal
+use Rattle.poptrie_copy.proofs.comparing.+is_same.Goals.{in-Some+else-not-is_leaf+else-read-hop, in-None+else-is_leaf+else-not-is_same}
 
 pub loop-slot-init : goal.loop-slot-init
 loop-slot-init g t c = λ k N L h s. below_start (g.R.Region.bits c.args.region.now) (g.R.Region.answers c.args.region.now) h

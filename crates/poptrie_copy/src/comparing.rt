@@ -3,19 +3,14 @@
 ghost use Rattle.std.specs.Prelude.{◌≡◌, ℕ, ◌↔◌, IsTrue, Bool, List};
 ghost use Rattle.buddy_arena.specs.Space.{IsSized};
 ghost use Rattle.poptrie_build.specs.Build.{StandsIn};
-ghost use Rattle.poptrie_update.specs.Alike.{Alike, IsNode};
+ghost use Rattle.poptrie_copy.specs.Alike.{Alike, IsNode};
 
 use buddy_arena::Arena;
 use fib_regions::Region;
 use poptrie_build::{Node, ask, descend, rank};
 
 /// Whether every address of the region gets what it gets from the node: it ends at the first slot where two differ.
-pub(crate) fn is_same<R: Region>(
-    region: &R,
-    node: &Node,
-    nodes: &Arena<Node>,
-    leaves: &Arena<u16>,
-) -> bool
+pub fn is_same<R: Region>(region: &R, node: &Node, nodes: &Arena<Node>, leaves: &Arena<u16>) -> bool
     requires nodes_sized { IsSized nodes.now }
     requires leaves_sized { IsSized leaves.now }
     requires node { IsNode nodes.now.cells leaves.now.cells node.now (R.bits region.now) }

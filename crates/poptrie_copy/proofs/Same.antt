@@ -13,8 +13,8 @@ use Rattle.poptrie_build.specs.Stands.{IsLeaf, BySlot, node_at, blank}
 use Rattle.poptrie_build.specs.Build.{StandsIn}
 use Rattle.poptrie_build.specs.declared.node.Node.{Node}
 use Rattle.poptrie_build.proofs.Walk.{leaf_ranked, node_ranked, default_same}
-use Rattle.poptrie_update.specs.Alike.{Alike}
-use Rattle.poptrie_update.proofs.Agree.{slots_alike}
+use Rattle.poptrie_copy.specs.Alike.{Alike}
+use Rattle.poptrie_copy.proofs.Agree.{slots_alike}
 
 -- ---- the slots of a node that stands
 pub record LeafAt (nodes : List Node) (leaves : List ℕ) (n : Node) (d : ℕ) (g : List Bool → ℕ) (v : ℕ) : Type 0 where

@@ -1,7 +1,7 @@
 use Rattle.std.specs.Prelude.{ℕ, Bool, List}
 use Rattle.poptrie_build.specs.Build.{StandsIn}
-use Rattle.poptrie_update.proofs.Same.{AlikeBelow}
-use Rattle.poptrie_update.proofs.comparing.+is_same.Given as goal
+use Rattle.poptrie_copy.proofs.Same.{AlikeBelow}
+use Rattle.poptrie_copy.proofs.comparing.+is_same.Given as goal
 
 abbrev pub decreases-is_same : goal.decreases-is_same
 decreases-is_same g l = g.R.Region.bits l.region.now

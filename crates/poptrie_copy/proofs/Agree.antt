@@ -11,7 +11,7 @@ use Rattle.block_pool.specs.Powers.{up}
 use Rattle.poptrie_build.specs.Need.{children, runs, if_mixed, need_nodes, need_leaves}
 use Rattle.poptrie_build.specs.Stands.{Stands, BySlot, IsLeaf, node_at}
 use Rattle.poptrie_build.specs.declared.node.Node.{Node}
-use Rattle.poptrie_update.specs.Alike.{Alike}
+use Rattle.poptrie_copy.specs.Alike.{Alike}
 use Rattle.poptrie_build.proofs.Address.{length_bits}
 use Rattle.poptrie_build.proofs.Counting.{canonical_same, children_same, runs_same}
 

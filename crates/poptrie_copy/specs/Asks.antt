@@ -1,0 +1,152 @@
+-- The blocks that an update asks its arenas for, in their order, and what becomes of the free places.
+use Rattle.std.specs.Prelude.{◌≡◌, ℕ, zero, suc, ◌+◌, ◌-◌, ◌*◌, ◌^◌, ◌<◌, ◌≤◌, List, [], ◌∷◌, ◌++◌, Bool, true, false, ◌&&◌, ◌⊎◌, Option, Some, None, nat_eq, slice_index}
+use Rattle.buddy_arena.specs.Space.{Space, blocks, NoneFrom, IsGreatest, Takes}
+use Rattle.buddy_arena.specs.declared.arena.Full.{Full}
+use Rattle.block_pool.specs.Powers.{up}
+use Rattle.block_pool.specs.declared.blocks.Refused.{Refused}
+use Rattle.block_pool.specs.declared.blocks.Refused.TheVariants as refused
+use Rattle.block_pool.specs.Places.{is_out}
+use Rattle.poptrie_build.specs.declared.node.Node.{Node}
+use Rattle.poptrie_copy.specs.Kids.{StandsAs}
+use Rattle.fib_regions.specs.Answers.{one_answer, side, part}
+use Rattle.address_model.specs.Bits.{bits_of}
+use Rattle.poptrie_build.specs.Build.{WordIn}
+use Rattle.poptrie_build.specs.Strides.{slots, slot}
+use Rattle.poptrie_build.specs.Need.{children, runs}
+use Rattle.poptrie_copy.specs.declared.blocks.Refusal.{Refusal}
+use Rattle.poptrie_copy.specs.declared.blocks.Refusal.TheVariants as refusal
+
+-- a block of so many places, of the arena 0 of nodes or the arena 1 of leaves
+abbrev pub Ask : Type 0
+Ask = ℕ × ℕ
+
+-- one for so many children or leaves, none for none
+abbrev pub ask_for : ℕ → ℕ → List Ask
+ask_for arena zero = []
+ask_for arena (suc n) = (arena, up (suc n)) ∷ []
+
+-- whether every address of d more bits gets the same from both
+unfoldable pub alike : ℕ → (List Bool → ℕ) → (List Bool → ℕ) → Bool
+alike zero f g = nat_eq (f []) (g [])
+alike (suc d) f g = alike d (side false f) (side false g) && alike d (side true f) (side true g)
+
+-- the lists of the first n numbers, one after another
+unfoldable pub listed : (ℕ → List Ask) → ℕ → List Ask
+listed g zero = []
+listed g (suc n) = listed g n ++ g n
+
+-- those of a region where an address gets another answer than before and that has a node now: its children's block, its leaves', and
+-- then what its slots ask for; no others ask for any. Regions are asked about top down and in the order of addresses
+abbrev pub if_changed : Bool → Option ℕ → List Ask → List Ask
+if_changed true o asks = []
+if_changed false (Some h) asks = []
+if_changed false None asks = asks
+
+unfoldable pub asks : ℕ → ℕ → (List Bool → ℕ) → (List Bool → ℕ) → List Ask
+asks zero d f g = []
+asks (suc k) d f g = if_changed (alike d f g) (one_answer d f) ((ask_for 0 (children (slots d f)) ++ ask_for 1 (runs (slots d f))) ++ listed (λ v. asks k (d - 6) (slot d f v) (slot d g v)) 64)
+
+-- ---- the free places of both arenas, of these orders, as asks are met
+abbrev pub Frees : Type 0
+Frees = List Bool × List Bool
+
+-- a block of so many places comes out
+abbrev pub Meets : ℕ → ℕ → List Bool → List Bool → Type 0
+Meets order need old new = (place : ℕ) × (k : ℕ) × (2 ^ k ≡ need) × Takes order old new place k
+
+-- the same said of a count: for none nothing comes out
+abbrev pub MeetsCount : ℕ → ℕ → List Bool → List Bool → Type 0
+MeetsCount zero order old new = new ≡ old
+MeetsCount (suc n) order old new = Meets order (up (suc n)) old new
+
+abbrev pub MeetsAsk : (node_order leaf_order : ℕ) → Ask → Frees → Frees → Type 0
+MeetsAsk n l (zero, need) s t = Meets n need s.0 t.0 × (t.1 ≡ s.1)
+MeetsAsk n l (suc a, need) s t = Meets l need s.1 t.1 × (t.0 ≡ s.0)
+
+-- each is met in its turn
+unfoldable pub Runs : (node_order leaf_order : ℕ) → List Ask → Frees → Frees → Type 0
+Runs n l [] s t = t ≡ s
+Runs n l (a ∷ rest) s t = (u : Frees) × MeetsAsk n l a s u × Runs n l rest u t
+
+-- no free block is large enough, and the greatest order of a free block is told
+abbrev pub Refuses : ℕ → ℕ → List Bool → Full → Type 0
+Refuses order need free e = (2 ^ e.order ≡ need) × NoneFrom e.order (blocks order free) × IsGreatest e.largest (blocks order free)
+
+abbrev pub RefusesAsk : (node_order leaf_order : ℕ) → Ask → Frees → Refusal → Type 0
+RefusesAsk n l (zero, need) s (refusal.Nodes e) = Refuses n need s.0 e
+RefusesAsk n l (suc a, need) s (refusal.Leaves e) = Refuses l need s.1 e
+RefusesAsk n l a s e = ⊥
+
+-- the asks before one are met, and that one is refused
+unfoldable pub RunsOut : (node_order leaf_order : ℕ) → List Ask → Frees → Refusal → Type 0
+RunsOut n l [] s e = ⊥
+RunsOut n l (a ∷ rest) s e = RefusesAsk n l a s e ⊎ ((u : Frees) × MeetsAsk n l a s u × RunsOut n l rest u e)
+
+-- a refusal that is no want of memory
+abbrev pub IsOut : (node_order leaf_order : ℕ) → List Ask → Frees → Refusal → Type 0
+IsOut n l xs s refusal.Memory = Unit {0}
+IsOut n l xs s e = RunsOut n l xs s e
+
+-- a block's refusal, told of its arena
+abbrev pub nodes_refusal : Refused → Refusal
+nodes_refusal refused.Memory = refusal.Memory
+nodes_refusal (refused.Full f) = refusal.Nodes f
+
+abbrev pub leaves_refusal : Refused → Refusal
+leaves_refusal refused.Memory = refusal.Memory
+leaves_refusal (refused.Full f) = refusal.Leaves f
+
+-- ---- what a part that stood for some answers g asks for where it is to stand for the answers f
+abbrev pub MeetsAll : Space Node → Space ℕ → Option Node → Space Node → Space ℕ → ℕ → (List Bool → ℕ) → Type 0
+MeetsAll nodes leaves was nodes2 leaves2 d f =
+    (k : ℕ) (g : List Bool → ℕ) → d ≤ 6 * k → StandsAs k nodes.cells (is_out nodes.free) leaves.cells (is_out leaves.free) was d g → Runs nodes.order leaves.order (asks k d f g) (nodes.free, leaves.free) (nodes2.free, leaves2.free)
+
+abbrev pub MeetsNotAll : Space Node → Space ℕ → Option Node → ℕ → (List Bool → ℕ) → Refusal → Type 0
+MeetsNotAll nodes leaves was d f e =
+    (k : ℕ) (g : List Bool → ℕ) → d ≤ 6 * k → StandsAs k nodes.cells (is_out nodes.free) leaves.cells (is_out leaves.free) was d g → IsOut nodes.order leaves.order (asks k d f g) (nodes.free, leaves.free) e
+
+-- the same where an answer changes
+abbrev pub MeetsChanged : Space Node → Space ℕ → Option Node → Space Node → Space ℕ → ℕ → (List Bool → ℕ) → Type 0
+MeetsChanged nodes leaves was nodes2 leaves2 d f =
+    (k : ℕ) (g : List Bool → ℕ) → d ≤ 6 * k → StandsAs k nodes.cells (is_out nodes.free) leaves.cells (is_out leaves.free) was d g → alike d f g ≡ false → Runs nodes.order leaves.order (asks k d f g) (nodes.free, leaves.free) (nodes2.free, leaves2.free)
+
+abbrev pub MeetsNotChanged : Space Node → Space ℕ → Option Node → ℕ → (List Bool → ℕ) → Refusal → Type 0
+MeetsNotChanged nodes leaves was d f e =
+    (k : ℕ) (g : List Bool → ℕ) → d ≤ 6 * k → StandsAs k nodes.cells (is_out nodes.free) leaves.cells (is_out leaves.free) was d g → alike d f g ≡ false → IsOut nodes.order leaves.order (asks k d f g) (nodes.free, leaves.free) e
+
+-- ---- direct words: a slot's node is asked for first
+abbrev pub word_asks : ℕ → ℕ → (List Bool → ℕ) → (List Bool → ℕ) → List Ask
+word_asks k d f g = if_changed (alike d f g) (one_answer d f) (ask_for 0 1) ++ asks k d f g
+
+abbrev pub MeetsWord : Space Node → Space ℕ → ℕ → Space Node → Space ℕ → ℕ → (List Bool → ℕ) → Type 0
+MeetsWord nodes leaves w nodes2 leaves2 d f =
+    (k : ℕ) (g : List Bool → ℕ) → d ≤ 6 * k → WordIn w k nodes.cells (is_out nodes.free) leaves.cells (is_out leaves.free) d g → Runs nodes.order leaves.order (word_asks k d f g) (nodes.free, leaves.free) (nodes2.free, leaves2.free)
+
+abbrev pub MeetsNotWord : Space Node → Space ℕ → ℕ → ℕ → (List Bool → ℕ) → Refusal → Type 0
+MeetsNotWord nodes leaves w d f e =
+    (k : ℕ) (g : List Bool → ℕ) → d ≤ 6 * k → WordIn w k nodes.cells (is_out nodes.free) leaves.cells (is_out leaves.free) d g → IsOut nodes.order leaves.order (word_asks k d f g) (nodes.free, leaves.free) e
+
+-- the same where an answer changes
+abbrev pub MeetsChangedWord : Space Node → Space ℕ → ℕ → Space Node → Space ℕ → ℕ → (List Bool → ℕ) → Type 0
+MeetsChangedWord nodes leaves w nodes2 leaves2 d f =
+    (k : ℕ) (g : List Bool → ℕ) → d ≤ 6 * k → WordIn w k nodes.cells (is_out nodes.free) leaves.cells (is_out leaves.free) d g → alike d f g ≡ false → Runs nodes.order leaves.order (word_asks k d f g) (nodes.free, leaves.free) (nodes2.free, leaves2.free)
+
+abbrev pub MeetsNotChangedWord : Space Node → Space ℕ → ℕ → ℕ → (List Bool → ℕ) → Refusal → Type 0
+MeetsNotChangedWord nodes leaves w d f e =
+    (k : ℕ) (g : List Bool → ℕ) → d ≤ 6 * k → WordIn w k nodes.cells (is_out nodes.free) leaves.cells (is_out leaves.free) d g → alike d f g ≡ false → IsOut nodes.order leaves.order (word_asks k d f g) (nodes.free, leaves.free) e
+
+-- ---- the slots of a region, j bits below it, the old answers of which are h
+abbrev pub slots_asks : (k j d : ℕ) → (List Bool → ℕ) → (ℕ → List Bool → ℕ) → List Ask
+slots_asks k j d f h = listed (λ v. word_asks k d (part (bits_of j v) f) (h v)) (2 ^ j)
+
+-- the words of the 2 ^ j slots from the first on stand for the answers h
+abbrev pub StandFor : (k j d first : ℕ) → Space Node → Space ℕ → List ℕ → (ℕ → List Bool → ℕ) → Type 0
+StandFor k j d first nodes leaves words h = (v : ℕ) → v < 2 ^ j → WordIn (slice_index words (first + v)) k nodes.cells (is_out nodes.free) leaves.cells (is_out leaves.free) d (h v)
+
+abbrev pub MeetsSlots : Space Node → Space ℕ → List ℕ → Space Node → Space ℕ → (first j d : ℕ) → (List Bool → ℕ) → Type 0
+MeetsSlots nodes leaves words nodes2 leaves2 first j d f =
+    (k : ℕ) (h : ℕ → List Bool → ℕ) → d ≤ 6 * k → StandFor k j d first nodes leaves words h → Runs nodes.order leaves.order (slots_asks k j d f h) (nodes.free, leaves.free) (nodes2.free, leaves2.free)
+
+abbrev pub MeetsNotSlots : Space Node → Space ℕ → List ℕ → (first j d : ℕ) → (List Bool → ℕ) → Refusal → Type 0
+MeetsNotSlots nodes leaves words first j d f e =
+    (k : ℕ) (h : ℕ → List Bool → ℕ) → d ≤ 6 * k → StandFor k j d first nodes leaves words h → IsOut nodes.order leaves.order (slots_asks k j d f h) (nodes.free, leaves.free) e

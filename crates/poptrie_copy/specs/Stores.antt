@@ -1,0 +1,36 @@
+-- Direct words to be stored.
+use Rattle.std.specs.Prelude.{◌≢◌, ℕ, ◌+◌, ◌-◌, ◌*◌, ◌^◌, ◌<◌, ◌≤◌, List, [], ◌∷◌, ◌++◌, Bool, cond, nat_eq, nat_le, nat_lt, ◌&&◌, slice_index}
+use Rattle.std.specs.List.{AllByRecursion}
+use Rattle.address_model.specs.Bits.{bits_of}
+use Rattle.buddy_arena.specs.Space.{Space}
+use Rattle.block_pool.specs.Arrays.{Array}
+use Rattle.block_pool.specs.Blocks.{Held}
+use Rattle.fib_regions.specs.Answers.{part}
+use Rattle.poptrie_build.specs.declared.node.Node.{Node}
+use Rattle.poptrie_copy.specs.declared.slots.Store.{Store}
+use Rattle.poptrie_copy.specs.Words.{WordRow}
+
+-- the words with those that are to be stored
+abbrev pub stored : List Store → List ℕ → ℕ → ℕ
+stored [] words u = slice_index words u
+stored (s ∷ rest) words u = cond (nat_eq u s.slot) s.word (stored rest words u)
+
+-- their slots ascend
+abbrev pub Ascends : List Store → Type 0
+Ascends [] = Unit {0}
+Ascends (s ∷ rest) = AllByRecursion (λ (t : Store). s.slot < t.slot) rest × Ascends rest
+
+-- for slots below an end, in their order, each a word that differs from the one that is there
+pub record AreStores (words : List ℕ) (stores : List Store) (end : ℕ) : Type 0 where
+  pub below : AllByRecursion (λ (s : Store). s.slot < end) stores
+  pub in_order : Ascends stores
+  pub changed : AllByRecursion (λ (s : Store). slice_index words s.slot ≢ s.word) stores
+
+-- the answers of the slots: those of a region of j bits above the slots in its 2 ^ j slots from the first on, else h
+abbrev pub under : ℕ → ℕ → (List Bool → ℕ) → (ℕ → List Bool → ℕ) → ℕ → List Bool → ℕ
+under first j f h u = cond (nat_le first u && nat_lt u (first + 2 ^ j)) (part (bits_of j (u - first)) f) (h u)
+
+-- the words of these slots are made anew beside the old ones, as `ReplacesWord` says it of one
+abbrev pub ReplacesWords : Space Node → Held → Space ℕ → Held → (ℕ → ℕ) → Space Node → Held → Space ℕ → Held → (ℕ → ℕ) → (first j d : ℕ) → (List Bool → ℕ) → Type 0
+ReplacesWords nodes nb leaves lb words nodes2 nb2 leaves2 lb2 words2 first j d f =
+    (k n : ℕ) (h : ℕ → List Bool → ℕ) (x y : List Array) (m m2 : ℕ) → first + 2 ^ j ≤ n → d ≤ 6 * k → WordRow k n nodes leaves words d h (nb.replaced ++ x) (lb.replaced ++ y) m m2 → WordRow k n nodes2 leaves2 words2 d (under first j f h) (nb2.replaced ++ x) (lb2.replaced ++ y) m m2
