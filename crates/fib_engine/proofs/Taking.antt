@@ -50,8 +50,9 @@ use Rattle.smalta_keep.specs.Views.{moved_of, place_in, repair_as, snapshot_as, 
 use Rattle.smalta_keep.specs.Plans.{Tells}
 use Rattle.smalta_keep.proofs.Alike.{committed}
 use Rattle.smalta_keep.proofs.Tables.{renewed_placed, renewed_family}
+use Rattle.route_tries.specs.Sizes.{shortage}
 use Rattle.fib_engine.specs.Tables.{Both, Route, AreBoth, AreOfRoutes, AreTold, ArePut, KeepRoutes, KeepTables, MadeBy, gathered, labels_of, only, route_in, table_of as both_tables}
-use Rattle.fib_engine.specs.Held.{Held, IsKept, IsSound, routes_in}
+use Rattle.fib_engine.specs.Held.{Held, IsKept, IsSound, if_loaded, routes_in}
 use Rattle.fib_engine.specs.Numbers.{IsNewNumber, IsRouteOf, HasNumber, number_or_none}
 use Rattle.fib_engine.specs.Stands.{IsLoading, Stands, Takes}
 use Rattle.fib_engine.proofs.Holding.{Fine, some_of, turned, stays_out, stays_all, both_repaired, both_repaired_high, both_snapshots, both_changes, both_aggregates, fine_repaired, fine_renewed, low_part, high_part, of_only, only_placed}
@@ -76,24 +77,24 @@ none_order : InPlace []
 unfolding IsStrictlySortedBy
 none_order = (tt, tt)
 
-kept_none : (f : Family) (E : Entries) (k : Labels) → k.family ≡ f → k.entries ≡ [] → IsKept f false E k
-kept_none f E k s e = record {
+kept_none : (f : Family) (E : Entries) (k : Labels) → k.family ≡ f → k.routes ≡ [] → k.entries ≡ [] → IsKept f false E k
+kept_none f E k s r e = record {
   family = s;
   order = subst (λ (T : Entries). InPlace T) (sym e) none_order;
   of_family = subst (λ (T : Entries). AllByRecursion (λ (p : Prefix). p.family ≡ f) (keys_of T)) (sym e) tt;
-  routes = λ t. absurd cc;
+  routes = r;
   empty = λ t. e;
 }
 
-pub sound_start : (C : Candidates) (H : List Address) (b : Both) → C ≡ [] → H ≡ [] → AreBoth b → b.v4.entries ≡ [] → b.v6.entries ≡ [] → IsSound C H false b
-sound_start C H b c h f x y = record {
+pub sound_start : (C : Candidates) (H : List Address) (b : Both) → C ≡ [] → H ≡ [] → AreBoth b → b.v4.routes ≡ [] → b.v6.routes ≡ [] → b.v4.entries ≡ [] → b.v6.entries ≡ [] → IsSound C H false b
+sound_start C H b c h f r t x y = record {
   elems = [];
   proper = tt;
   candidates = c;
   hops = h;
   few = omega (arith, ap length h);
-  v4 = kept_none V4 (entries_of H C) b.v4 f.0 x;
-  v6 = kept_none V6 (entries_of H C) b.v6 f.1 y;
+  v4 = kept_none V4 (entries_of H C) b.v4 f.0 r x;
+  v6 = kept_none V6 (entries_of H C) b.v6 f.1 t y;
 }
 
 -- ---- one elementary event of the load
@@ -114,8 +115,8 @@ sound_load C C' H H' elem loaded b l s x c h few = record {
   candidates = held_push s.elems elem C C' s.candidates c;
   hops = hops_push s.elems elem H H' s.hops h;
   few = few;
-  v4 = subst (λ (t : Bool). IsKept V4 t (entries_of H' C') b.v4) (sym l) (kept_none V4 (entries_of H' C') b.v4 s.v4.family (s.v4.empty l));
-  v6 = subst (λ (t : Bool). IsKept V6 t (entries_of H' C') b.v6) (sym l) (kept_none V6 (entries_of H' C') b.v6 s.v6.family (s.v6.empty l));
+  v4 = subst (λ (t : Bool). IsKept V4 t (entries_of H' C') b.v4) (sym l) (kept_none V4 (entries_of H' C') b.v4 s.v4.family (s.v4.routes ∙ ap (λ t. only V4 (if_loaded t (entries_of H C))) l) (s.v4.empty l));
+  v6 = subst (λ (t : Bool). IsKept V6 t (entries_of H' C') b.v6) (sym l) (kept_none V6 (entries_of H' C') b.v6 s.v6.family (s.v6.routes ∙ ap (λ t. only V6 (if_loaded t (entries_of H C))) l) (s.v6.empty l));
 }
 
 pub loading_more : (load : List Elem) (elem : Elem) (old new : Held) → IsElem elem → new.candidates ≡ after_elem old.candidates elem → new.hops ≡ hops_after old.hops (elem ∷ []) → new.table ≡ old.table → new.loaded ≡ old.loaded → new.events ≡ old.events
@@ -150,7 +151,7 @@ kept_fresh f E T R k s r e = record {
   family = s;
   order = subst (λ (U : Entries). InPlace U) (sym e) (renewed_placed f R T);
   of_family = subst (λ (U : Entries). AllByRecursion (λ (p : Prefix). p.family ≡ f) (keys_of U)) (sym e) (renewed_family f R T);
-  routes = λ t. r;
+  routes = r;
   empty = λ t. absurd cc;
 }
 
@@ -188,38 +189,17 @@ module _ (C : Candidates) (H : List Address) (b t n : Both) (s : IsSound C H fal
       ∙ (ap (λ (L : Entries). between [] n.v4.entries ++ between L n.v6.entries) a.v6_empty
       ∙ both_changes [] [] n.v4.entries n.v6.entries none4 none6 (record { order = x.v4.order; of = x.v4.of_family }) (record { order = x.v6.order; of = x.v6.of_family }))
 
-pub stands_end : (load : List Elem) (old new : Held) → new.candidates ≡ old.candidates → new.hops ≡ old.hops → new.table ≡ kept_at_load old.hops old.candidates → new.loaded ≡ true → new.events ≡ old.events → IsLoading load old → Stands load [] new
+pub stands_end : (load : List Elem) (old new : Held) → new.candidates ≡ old.candidates → new.hops ≡ old.hops → new.table ≡ kept_at_load old.hops old.candidates → new.loaded ≡ true → new.events ≡ old.events → shortage new.sizes (routes_in new) ≡ None → IsLoading load old → Stands load [] new
 unfolding kept_from
-stands_end load old new c h t l e s = record {
+stands_end load old new c h t l e f s = record {
   candidates = c ∙ s.candidates;
   hops = h ∙ (s.hops ∙ ap (hops_after []) (sym (append-nil load)));
   proper = (s.proper, tt);
   table = t ∙ (ap (λ (X : Candidates). kept_at_load old.hops X) s.candidates ∙ ap (λ (hs : List Address). kept_at_load hs (after_elems [] load)) (sym h));
   loaded = l;
   events = e ∙ s.events;
+  fits = f;
 }
-
--- ---- answers
-
-pub answer_is : (b : Both) (a : Address) → AllByRecursion (λ (p : Prefix). p.family ≡ V4) (keys_of b.v4.entries) → AllByRecursion (λ (p : Prefix). p.family ≡ V6) (keys_of b.v6.entries) → match_in (labels_of a.family b).entries a ≡ match_in (both_tables b) a
-answer_is b a x y = by_family a.family refl
-  where
-    by_family : (g : Family) → a.family ≡ g → lpm (of_family a.family (labels_of a.family b).entries) a.bits 0 ≡ lpm (of_family a.family (both_tables b)) a.bits 0
-    by_family V4 e =
-        ap (λ (g : Family). lpm (of_family g (labels_of g b).entries) a.bits 0) e
-        ∙ (ap (λ (L : Table). lpm L a.bits 0) (sym (low_part b.v4.entries b.v6.entries y)) ∙ ap (λ (g : Family). lpm (of_family g (both_tables b)) a.bits 0) (sym e))
-    by_family V6 e =
-        ap (λ (g : Family). lpm (of_family g (labels_of g b).entries) a.bits 0) e
-        ∙ (ap (λ (L : Table). lpm L a.bits 0) (sym (high_part b.v4.entries b.v6.entries x)) ∙ ap (λ (g : Family). lpm (of_family g (both_tables b)) a.bits 0) (sym e))
-
--- the kept table answers as the routes
-pub answers_routes : (load elems : List Elem) (e : Held) (a : Address) → Stands load elems e → IsAddress a → match_in e.table a ≡ match_in (routes_in e) a
-answers_routes load elems e a s x =
-    let C = after_elems [] load in
-    let c = candidates_stay [] load none_yet s.proper.0 in
-    let T = kept_at_load e.hops C in
-    ap (λ (L : Entries). match_in L a) s.table
-    ∙ (sym (kept_alike e.every e.hops 1 C T elems c s.proper.1 (snapshot_placed (entries_of e.hops C) []) (loaded_alike e.hops C) a x) ∙ ap (λ (X : Candidates). match_in (entries_of e.hops X) a) (sym s.candidates))
 
 -- ---- one elementary event after the load
 
@@ -227,8 +207,8 @@ answers_routes load elems e a s x =
 one_side : (f : Family) (n m : Labels) (R A : Entries) (at : Option Prefix) (due : Bool) (r : Repair) → n.family ≡ f → n.routes ≡ R → n.entries ≡ A → Tells n at due (moved_of r) → MadeBy r n m
     → (m.entries ≡ after_snapshot f R due (after_repair R at A)) × (repair_as (moved_of r) ≡ between A (after_repair R at A)) × (snapshot_as (moved_of r) ≡ between (after_repair R at A) (after_snapshot f R due (after_repair R at A)))
 one_side f n m R A at due r s e t tells made =
-    let k : Labels = record { family = f; routes = R; entries = A; nodes = n.nodes } in
-    let same : n ≡ k = labels_are n.family f n.routes R n.entries A n.nodes n.nodes s e t refl in
+    let k : Labels = record { family = f; routes = R; entries = A; nodes = n.nodes; before = n.before } in
+    let same : n ≡ k = labels_are n.family f n.routes R n.entries A n.before n.before n.nodes n.nodes s e t refl refl in
     let told : Tells k at due (moved_of r) = subst (λ (x : Labels). Tells x at due (moved_of r)) same tells in
     let done : after_changes (repair_as (moved_of r) ++ snapshot_as (moved_of r)) k.entries ≡ Some m.entries = ap (λ (T : Entries). after_changes (repair_as (moved_of r) ++ snapshot_as (moved_of r)) T) (sym t) ∙ made in
     (committed k m.entries at due (moved_of r) told done, told.repair, told.snapshot)
@@ -354,10 +334,10 @@ pub record IsTaken (every event : ℕ) (C : Candidates) (H : List Address) (elem
   pub table : both_tables new ≡ kept_by every (hops_after H (elem ∷ [])) event C (both_tables old) elem
   pub changes : gathered (moved_of v4) (moved_of v6) ≡ changes_by every (hops_after H (elem ∷ [])) event C (both_tables old) elem
 
-pub taken : (every event : ℕ) (C : Candidates) (H : List Address) (elem : Elem) (b n m : Both) (choice : Choice) (route : Route) (r4 r6 : Repair) (due : Bool) → IsSound C H true b → IsElem elem → length (hops_after H (elem ∷ [])) ≤ most_hops
-    → IsChoice C elem choice → IsRouteOf (hops_after H (elem ∷ [])) choice route → KeepTables b n → ArePut route b n → AreTold n route due r4 r6 → KeepRoutes n m → MadeBy r4 n.v4 m.v4 → MadeBy r6 n.v6 m.v6 → due ≡ is_due every event
-    → IsTaken every event C H elem b m r4 r6
-taken every event C H elem b n m choice route r4 r6 due s x few ch r kt put told kr m4 m6 d =
+pub taken : (every event : ℕ) (C : Candidates) (H : List Address) (elem : Elem) (b n m : Both) (choice : Choice) (route : Route) (low_plan high_plan : Repair) (due : Bool) → IsSound C H true b → IsElem elem → length (hops_after H (elem ∷ [])) ≤ most_hops
+    → IsChoice C elem choice → IsRouteOf (hops_after H (elem ∷ [])) choice route → KeepTables b n → ArePut route b n → AreTold n route due low_plan high_plan → KeepRoutes n m → MadeBy low_plan n.v4 m.v4 → MadeBy high_plan n.v6 m.v6 → due ≡ is_due every event
+    → IsTaken every event C H elem b m low_plan high_plan
+taken every event C H elem b n m choice route low_plan high_plan due s x few ch r kt put told kr low_made high_made d =
     let E = entries_of H C in
     let N = entries_of (hops_after H (elem ∷ [])) (after_elem C elem) in
     let A = b.v4.entries in
@@ -365,10 +345,10 @@ taken every event C H elem b n m choice route r4 r6 due s x few ch r kt put told
     let fa : Fine V4 A = record { order = s.v4.order; of = s.v4.of_family } in
     let fb : Fine V6 B = record { order = s.v6.order; of = s.v6.of_family } in
     let turn = routes_turn C H elem s.elems s.proper s.candidates s.hops x choice ch route r in
-    let R4 : n.v4.routes ≡ only V4 N = put.v4 ∙ (ap (with_planned (route_in V4 route)) (s.v4.routes refl) ∙ turn V4) in
-    let R6 : n.v6.routes ≡ only V6 N = put.v6 ∙ (ap (with_planned (route_in V6 route)) (s.v6.routes refl) ∙ turn V6) in
-    let low = one_side V4 n.v4 m.v4 (only V4 N) A (place_in (route_in V4 route)) due r4 (kt.v4_family ∙ s.v4.family) R4 kt.v4 told.v4_tells m4 in
-    let high = one_side V6 n.v6 m.v6 (only V6 N) B (place_in (route_in V6 route)) due r6 (kt.v6_family ∙ s.v6.family) R6 kt.v6 told.v6_tells m6 in
+    let low_routes : n.v4.routes ≡ only V4 N = put.v4 ∙ (ap (with_planned (route_in V4 route)) s.v4.routes ∙ turn V4) in
+    let high_routes : n.v6.routes ≡ only V6 N = put.v6 ∙ (ap (with_planned (route_in V6 route)) s.v6.routes ∙ turn V6) in
+    let low = one_side V4 n.v4 m.v4 (only V4 N) A (place_in (route_in V4 route)) due low_plan (kt.v4_family ∙ s.v4.family) low_routes kt.v4 told.v4_tells low_made in
+    let high = one_side V6 n.v6 m.v6 (only V6 N) B (place_in (route_in V6 route)) due high_plan (kt.v6_family ∙ s.v6.family) high_routes kt.v6 told.v6_tells high_made in
     let both = tables_turn C H elem s.elems s.proper s.candidates s.hops x choice ch A B fa fb route r in
     let A' = after_repair (only V4 N) (place_in (route_in V4 route)) A in
     let B' = after_repair (only V6 N) (place_in (route_in V6 route)) B in
@@ -391,22 +371,22 @@ taken every event C H elem b n m choice route r4 r6 due s x few ch r kt put told
           family = kr.v4_family ∙ (kt.v4_family ∙ s.v4.family);
           order = subst (λ (T : Entries). InPlace T) (sym low.0) ga.order;
           of_family = subst (λ (T : Entries). AllByRecursion (λ (q : Prefix). q.family ≡ V4) (keys_of T)) (sym low.0) ga.of;
-          routes = λ t. kr.v4 ∙ R4;
+          routes = kr.v4 ∙ low_routes;
           empty = λ t. absurd cc;
         };
         v6 = record {
           family = kr.v6_family ∙ (kt.v6_family ∙ s.v6.family);
           order = subst (λ (T : Entries). InPlace T) (sym high.0) gb.order;
           of_family = subst (λ (T : Entries). AllByRecursion (λ (q : Prefix). q.family ≡ V6) (keys_of T)) (sym high.0) gb.of;
-          routes = λ t. kr.v6 ∙ R6;
+          routes = kr.v6 ∙ high_routes;
           empty = λ t. absurd cc;
         };
       };
       table = ap (λ (L : Entries). L ++ m.v6.entries) low.0 ∙ (ap (λ (L : Entries). A'' ++ L) high.0 ∙ whole);
       changes =
-          ap (λ (cs : List Change). (cs ++ repair_as (moved_of r6)) ++ (snapshot_as (moved_of r4) ++ snapshot_as (moved_of r6))) low.1
-          ∙ (ap (λ (cs : List Change). (between A A' ++ cs) ++ (snapshot_as (moved_of r4) ++ snapshot_as (moved_of r6))) high.1
-          ∙ (ap (λ (cs : List Change). (between A A' ++ between B B') ++ (cs ++ snapshot_as (moved_of r6))) low.2
+          ap (λ (cs : List Change). (cs ++ repair_as (moved_of high_plan)) ++ (snapshot_as (moved_of low_plan) ++ snapshot_as (moved_of high_plan))) low.1
+          ∙ (ap (λ (cs : List Change). (between A A' ++ cs) ++ (snapshot_as (moved_of low_plan) ++ snapshot_as (moved_of high_plan))) high.1
+          ∙ (ap (λ (cs : List Change). (between A A' ++ between B B') ++ (cs ++ snapshot_as (moved_of high_plan))) low.2
           ∙ (ap (λ (cs : List Change). (between A A' ++ between B B') ++ (between A' A'' ++ cs)) high.2
           ∙ (ap (λ (cs : List Change). cs ++ (between A' A'' ++ between B' B'')) (both_changes A B A' B' fa fb both.1 both.2)
           ∙ (ap (λ (cs : List Change). between (A ++ B) (A' ++ B') ++ cs) (both_changes A' B' A'' B'' both.1 both.2 ga gb)
@@ -415,8 +395,8 @@ taken every event C H elem b n m choice route r4 r6 due s x few ch r kt put told
 
 -- ---- by whole lists
 
-pub stands_more : (load elems : List Elem) (elem : Elem) (old new : Held) → IsElem elem → Takes elem old new → Stands load elems old → Stands load (elems ++ elem ∷ []) new
-stands_more load elems elem old new x t s =
+pub stands_more : (load elems : List Elem) (elem : Elem) (old new : Held) → IsElem elem → Takes elem old new → shortage new.sizes (routes_in new) ≡ None → Stands load elems old → Stands load (elems ++ elem ∷ []) new
+stands_more load elems elem old new x t f s =
     let C = after_elems [] load in
     let hops : new.hops ≡ hops_after [] (load ++ (elems ++ elem ∷ [])) =
     hops_push (load ++ elems) elem old.hops new.hops s.hops t.hops ∙ ap (hops_after []) (append_assoc load elems (elem ∷ []))
@@ -442,34 +422,56 @@ stands_more load elems elem old new x t s =
           ∙ (sym (kept_step old.every new.hops elem C (kept_at_load new.hops C) elems) ∙ ap (λ (k : ℕ). kept_from k new.hops 1 C (kept_at_load new.hops C) (elems ++ elem ∷ [])) (sym t.every)))));
       loaded = t.loaded ∙ s.loaded;
       events = t.events ∙ (ap (λ (k : ℕ). k + 1) s.events ∙ sym (length-append elems (elem ∷ [])));
+      fits = f;
     }
 
 -- the same, as the engine's code comes to it
-pub applied : (every event : ℕ) (C : Candidates) (H H1 : List Address) (elem : Elem) (b n m : Both) (choice : Choice) (own : Option code_hop.Hop) (route : Route) (r4 r6 : Repair) (due : Bool) → IsSound C H true b → IsElem elem → H1 ≡ H → length (hops_after H (elem ∷ [])) ≤ most_hops
+pub applied : (every event : ℕ) (C : Candidates) (H H1 : List Address) (elem : Elem) (b n m : Both) (choice : Choice) (own : Option code_hop.Hop) (route : Route) (low_plan high_plan : Repair) (due : Bool) → IsSound C H true b → IsElem elem → H1 ≡ H → length (hops_after H (elem ∷ [])) ≤ most_hops
     → IsNewNumber H (hops_after H (elem ∷ [])) own → IsChoice C elem choice
     → ((after : List Address) (e : Elem) → after ≡ hops_after H1 (e ∷ []) → IsNewNumber H1 after own → HasNumber after (option_map addr_as choice.after) → IsRouteOf after choice route)
-    → KeepTables b n → ArePut route b n → AreTold n route due r4 r6 → KeepRoutes n m → MadeBy r4 n.v4 m.v4 → MadeBy r6 n.v6 m.v6 → due ≡ is_due every event
-    → IsTaken every event C H elem b m r4 r6
-applied every event C H H1 elem b n m choice own route r4 r6 due s x room few fresh ch turn =
+    → KeepTables b n → ArePut route b n → AreTold n route due low_plan high_plan → KeepRoutes n m → MadeBy low_plan n.v4 m.v4 → MadeBy high_plan n.v6 m.v6 → due ≡ is_due every event
+    → IsTaken every event C H elem b m low_plan high_plan
+applied every event C H H1 elem b n m choice own route low_plan high_plan due s x room few fresh ch turn =
     let H' = hops_after H (elem ∷ []) in
     let has : HasNumber H' (option_map addr_as choice.after) =
     subst (λ (o : Option Address). HasNumber H' o) (sym ch.after) (chosen_has C H elem s.elems s.proper s.candidates s.hops x (chosen_for (after_elem C elem) (elem_prefix elem)) refl)
     in
     let new : IsNewNumber H1 H' own = subst (λ (hs : List Address). IsNewNumber hs H' own) (sym room) fresh in
-    taken every event C H elem b n m choice route r4 r6 due s x few ch (turn H' elem (ap (λ (hs : List Address). hops_after hs (elem ∷ [])) (sym room)) new has)
+    taken every event C H elem b n m choice route low_plan high_plan due s x few ch (turn H' elem (ap (λ (hs : List Address). hops_after hs (elem ∷ [])) (sym room)) new has)
+
+-- the routes with the planned one are those after the elementary event
+pub turned_routes : (C : Candidates) (H H1 : List Address) (elem : Elem) (b : Both) (choice : Choice) (own : Option code_hop.Hop) (route : Route) → IsSound C H true b → IsElem elem → H1 ≡ H → IsNewNumber H (hops_after H (elem ∷ [])) own → IsChoice C elem choice
+    → ((after : List Address) (e : Elem) → after ≡ hops_after H1 (e ∷ []) → IsNewNumber H1 after own → HasNumber after (option_map addr_as choice.after) → IsRouteOf after choice route)
+    → (f : Family) → with_planned (route_in f route) (only f (entries_of H C)) ≡ only f (entries_of (hops_after H (elem ∷ [])) (after_elem C elem))
+turned_routes C H H1 elem b choice own route s x room fresh ch turn =
+    let H' = hops_after H (elem ∷ []) in
+    let has : HasNumber H' (option_map addr_as choice.after) =
+    subst (λ (o : Option Address). HasNumber H' o) (sym ch.after) (chosen_has C H elem s.elems s.proper s.candidates s.hops x (chosen_for (after_elem C elem) (elem_prefix elem)) refl)
+    in
+    let new : IsNewNumber H1 H' own = subst (λ (hs : List Address). IsNewNumber hs H' own) (sym room) fresh in
+    routes_turn C H elem s.elems s.proper s.candidates s.hops x choice ch route (turn H' elem (ap (λ (hs : List Address). hops_after hs (elem ∷ [])) (sym room)) new has)
+
+-- each family's routes stand in order
+pub kept_placed : (C : Candidates) (H : List Address) (b : Both) → IsSound C H true b → InPlace b.v4.routes × InPlace b.v6.routes
+kept_placed C H b s =
+    let e = routes_placed C H true b s in
+    (subst (λ (R : Entries). InPlace R) (sym s.v4.routes) (only_placed V4 (entries_of H C) e), subst (λ (R : Entries). InPlace R) (sym s.v6.routes) (only_placed V6 (entries_of H C) e))
 
 -- ---- least tables
-
-pub both_least : (C : Candidates) (H : List Address) (l : Bool) (b : Both) → IsSound C H l b → l ≡ true → aggregate_in V4 b.v4.routes b.v4.entries ++ aggregate_in V6 b.v6.routes b.v6.entries ≡ aggregate_in_both (entries_of H C) (both_tables b)
-both_least C H l b s t =
-    ap (λ (R : Entries). aggregate_in V4 R b.v4.entries ++ aggregate_in V6 b.v6.routes b.v6.entries) (s.v4.routes t)
-    ∙ (ap (λ (R : Entries). aggregate_in V4 (only V4 (entries_of H C)) b.v4.entries ++ aggregate_in V6 R b.v6.entries) (s.v6.routes t) ∙ both_aggregates (entries_of H C) b.v4.entries b.v6.entries s.v4.of_family s.v6.of_family)
 
 same_rows : (f : Family) (R S : Entries) → of_family f R ≡ of_family f S → family_rows f R ≡ family_rows f S
 same_rows f R S e = ap (λ (T : Table). region_rows (width f) (answers T []) (whole_prefix f) ++ (bound_row f (bound (width f) T) ∷ [])) e
 
-pub both_rows : (C : Candidates) (H : List Address) (l : Bool) (b : Both) → IsSound C H l b → l ≡ true → family_rows V4 b.v4.routes ++ family_rows V6 b.v6.routes ≡ certificate_of (entries_of H C)
-both_rows C H l b s t =
-    let E = entries_of H C in
-    ap (λ (rows : List CertRow). rows ++ family_rows V6 b.v6.routes) (same_rows V4 b.v4.routes E (ap (of_family V4) (s.v4.routes t) ∙ of_only V4 E))
-    ∙ ap (λ (rows : List CertRow). family_rows V4 E ++ rows) (same_rows V6 b.v6.routes E (ap (of_family V6) (s.v6.routes t) ∙ of_only V6 E))
+module _ (C : Candidates) (H : List Address) (loaded : Bool) (b : Both) (s : IsSound C H loaded b) where
+  abbrev Told : Entries
+  Told = if_loaded loaded (entries_of H C)
+
+  pub both_least : aggregate_in V4 b.v4.routes b.v4.entries ++ aggregate_in V6 b.v6.routes b.v6.entries ≡ aggregate_in_both Told (both_tables b)
+  both_least =
+      ap (λ (L : Entries). aggregate_in V4 L b.v4.entries ++ aggregate_in V6 b.v6.routes b.v6.entries) s.v4.routes
+      ∙ (ap (λ (L : Entries). aggregate_in V4 (only V4 Told) b.v4.entries ++ aggregate_in V6 L b.v6.entries) s.v6.routes ∙ both_aggregates Told b.v4.entries b.v6.entries s.v4.of_family s.v6.of_family)
+
+  pub both_rows : family_rows V4 b.v4.routes ++ family_rows V6 b.v6.routes ≡ certificate_of Told
+  both_rows =
+      ap (λ (rows : List CertRow). rows ++ family_rows V6 b.v6.routes) (same_rows V4 b.v4.routes Told (ap (of_family V4) s.v4.routes ∙ of_only V4 Told))
+      ∙ ap (λ (rows : List CertRow). family_rows V4 Told ++ rows) (same_rows V6 b.v6.routes Told (ap (of_family V6) s.v6.routes ∙ of_only V6 Told))

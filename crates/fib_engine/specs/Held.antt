@@ -1,5 +1,5 @@
 -- What is seen of an engine.
-use Rattle.std.specs.Prelude.{◌≡◌, ◌≤◌, ℕ, List, [], length, Bool, true, false}
+use Rattle.std.specs.Prelude.{◌≡◌, ◌≤◌, ℕ, List, [], length, Bool, true, false, cond, None}
 use Rattle.std.specs.List.{AllByRecursion}
 use Rattle.std.specs.Map.{keys_of}
 use Rattle.address_model.specs.Address.{Address}
@@ -11,12 +11,15 @@ use Rattle.route_model.specs.Choice.{Candidates, IsElem, after_elems}
 use Rattle.feed_model.specs.Feed.{entries_of, hops_after}
 use Rattle.fib_addr.specs.Hops.{most_hops}
 use Rattle.orig_tree.specs.Views.{Labels, InPlace}
+use Rattle.route_tries.specs.Sizes.{Sizes, needs_of, shortage}
+use Rattle.route_tries.specs.declared.needs.FamilyNeeds.{FamilyNeeds}
 use Rattle.fib_engine.specs.Tables.{Both, only}
 
--- How often a snapshot comes, the candidates of all peers, the hops with numbers, the kept table of both families, whether the
+-- How often a snapshot comes, how large tries are, the candidates of all peers, the hops with numbers, the kept table of both families, whether the
 -- load ended, and how many elementary events were taken since.
 pub record Held : Type 0 where
   pub every : ℕ
+  pub sizes : Sizes
   pub candidates : Candidates
   pub hops : List Address
   pub table : Entries
@@ -27,15 +30,27 @@ pub record Held : Type 0 where
 abbrev pub routes_in : Held → Entries
 routes_in e = entries_of e.hops e.candidates
 
--- A family's kept table is of the family and in order. Once the load ended its routes are those of the family; before, it is empty.
+-- the routes of the tables and of tries: none before the load ended
+abbrev pub if_loaded : Bool → Entries → Entries
+if_loaded loaded E = cond loaded E []
+
+abbrev pub routes_told : Held → Entries
+routes_told e = if_loaded e.loaded (routes_in e)
+
+-- A family's kept table is of the family and in order, and has the routes of the family; before the load ended it is empty.
 pub record IsKept (f : Family) (loaded : Bool) (E : Entries) (kept : Labels) : Type 0 where
   pub family : kept.family ≡ f
   pub order : InPlace kept.entries
   pub of_family : AllByRecursion (λ p. p.family ≡ f) (keys_of kept.entries)
-  pub routes : loaded ≡ true → kept.routes ≡ only f E
+  pub routes : kept.routes ≡ only f (if_loaded loaded E)
   pub empty : loaded ≡ false → kept.entries ≡ []
 
--- The candidates and the hops are those after some elementary events, and the kept tables are of the routes that they come to.
+-- the needs are those of tries of the routes, and arenas of these sizes have room for them
+pub record AreKeptNeeds (z : Sizes) (E : Entries) (n : FamilyNeeds) : Type 0 where
+  pub needs : n ≡ needs_of z.direct E
+  pub fit : shortage z E ≡ None
+
+-- The candidates and the hops are those after some elementary events, the kept tables are of the routes that they come to.
 pub record IsSound (C : Candidates) (H : List Address) (is_loaded : Bool) (both : Both) : Type 0 where
   pub elems : List Elem
   pub proper : AllByRecursion IsElem elems

@@ -1,13 +1,16 @@
 -- What an engine holds after elementary events: those of the load, and those since.
-use Rattle.std.specs.Prelude.{◌≡◌, ◌+◌, ◌<◌, List, [], ◌∷◌, ◌++◌, length, true, false}
+use Rattle.std.specs.Prelude.{◌≡◌, ◌+◌, ◌<◌, List, [], ◌∷◌, ◌++◌, length, true, false, Some, None}
 use Rattle.std.specs.List.{AllByRecursion}
 use Rattle.table_model.specs.Changes.{Change}
 use Rattle.route_model.specs.Events.{Elem}
 use Rattle.route_model.specs.Choice.{IsElem, after_elem, after_elems}
-use Rattle.feed_model.specs.Feed.{hops_after}
+use Rattle.feed_model.specs.Feed.{entries_of, hops_after}
 use Rattle.kept_feed.specs.Kept.{changes_by, kept_at_load, kept_by, kept_from}
 use Rattle.fib_addr.specs.Hops.{most_hops}
-use Rattle.fib_engine.specs.Held.{Held}
+use Rattle.route_tries.specs.Sizes.{shortage, shortage_as}
+use Rattle.route_tries.specs.declared.sizes.TrieFull.{TrieFull}
+use Rattle.table_model.specs.Entries.{Entries}
+use Rattle.fib_engine.specs.Held.{Held, routes_in}
 
 -- the load has had these elementary events, and goes on
 pub record IsLoading (load : List Elem) (e : Held) : Type 0 where
@@ -18,7 +21,8 @@ pub record IsLoading (load : List Elem) (e : Held) : Type 0 where
   pub loaded : e.loaded ≡ false
   pub events : e.events ≡ 0
 
--- The load had these elementary events, and those came since: the candidates, the hops and the kept table are theirs.
+-- The load had these elementary events, and those came since: the candidates, the hops and the kept table are theirs, and tries
+-- of the routes have room.
 pub record Stands (load elems : List Elem) (e : Held) : Type 0 where
   pub candidates : e.candidates ≡ after_elems (after_elems [] load) elems
   pub hops : e.hops ≡ hops_after [] (load ++ elems)
@@ -26,6 +30,7 @@ pub record Stands (load elems : List Elem) (e : Held) : Type 0 where
   pub table : e.table ≡ kept_from e.every e.hops 1 (after_elems [] load) (kept_at_load e.hops (after_elems [] load)) elems
   pub loaded : e.loaded ≡ true
   pub events : e.events ≡ length elems
+  pub fits : shortage e.sizes (routes_in e) ≡ None
 
 -- ---- one elementary event
 
@@ -34,6 +39,7 @@ pub record Loads (elem : Elem) (old new : Held) : Type 0 where
   pub candidates : new.candidates ≡ after_elem old.candidates elem
   pub hops : new.hops ≡ hops_after old.hops (elem ∷ [])
   pub every : new.every ≡ old.every
+  pub sizes : new.sizes ≡ old.sizes
   pub table : new.table ≡ old.table
   pub loaded : new.loaded ≡ old.loaded
   pub events : new.events ≡ old.events
@@ -43,6 +49,7 @@ pub record EndsLoad (old new : Held) : Type 0 where
   pub candidates : new.candidates ≡ old.candidates
   pub hops : new.hops ≡ old.hops
   pub every : new.every ≡ old.every
+  pub sizes : new.sizes ≡ old.sizes
   pub table : new.table ≡ kept_at_load old.hops old.candidates
   pub loaded : new.loaded ≡ true
   pub events : new.events ≡ old.events
@@ -52,6 +59,7 @@ pub record Takes (elem : Elem) (old new : Held) : Type 0 where
   pub candidates : new.candidates ≡ after_elem old.candidates elem
   pub hops : new.hops ≡ hops_after old.hops (elem ∷ [])
   pub every : new.every ≡ old.every
+  pub sizes : new.sizes ≡ old.sizes
   pub table : new.table ≡ kept_by old.every new.hops (old.events + 1) old.candidates old.table elem
   pub loaded : new.loaded ≡ old.loaded
   pub events : new.events ≡ old.events + 1
@@ -63,3 +71,11 @@ changes_of elem old = changes_by old.every (hops_after old.hops (elem ∷ [])) (
 -- the elementary event brings one different hop too many
 abbrev pub IsTooMany : Elem → Held → Type 0
 IsTooMany elem old = most_hops < length (hops_after old.hops (elem ∷ []))
+
+-- the routes after the elementary event
+abbrev pub routes_after : Elem → Held → Entries
+routes_after elem old = entries_of (hops_after old.hops (elem ∷ [])) (after_elem old.candidates elem)
+
+-- the tries of these routes would not have room, of which this is said
+abbrev pub IsShortFor : Held → Entries → TrieFull → Type 0
+IsShortFor e E t = shortage e.sizes E ≡ Some (shortage_as t)

@@ -1,5 +1,5 @@
 -- The kept tables of both families.
-use Rattle.std.specs.Prelude.{◌≡◌, List, [], ◌++◌, cond, Option, Some, None}
+use Rattle.std.specs.Prelude.{◌≡◌, ℕ, List, [], ◌++◌, cond, Option, Some, None}
 use Rattle.std.specs.List.{filter}
 use Rattle.address_model.specs.Address.{same_family}
 use Rattle.address_model.specs.declared.family.Family.{Family}
@@ -11,8 +11,12 @@ use Rattle.fib_addr.specs.declared.entry.Hop as code_hop
 use Rattle.orig_tree.specs.Views.{Labels}
 use Rattle.smalta_keep.specs.declared.repair.Moved.{Moved}
 use Rattle.smalta_keep.specs.declared.repair.Repair.{Repair}
-use Rattle.smalta_keep.specs.Views.{moved_of, place_in, repair_as, snapshot_as, with_planned}
+use Rattle.smalta_keep.specs.Views.{moved_of, place_in, repair_as, snapshot_as, undone_by, with_planned}
 use Rattle.smalta_keep.specs.Plans.{IsPlanned, Tells}
+use Rattle.poptrie_build.specs.declared.counts.Needs.{Needs}
+use Rattle.route_tries.specs.Sizes.{needs_of_both}
+use Rattle.route_tries.specs.Parts.{IsNeedAfter}
+use Rattle.route_tries.specs.declared.needs.FamilyNeeds.{FamilyNeeds}
 use Rattle.fib_engine.specs.declared.tables.Plan.{Plan}
 use Rattle.std.specs.Prelude.{Bool}
 
@@ -72,6 +76,11 @@ pub record ArePut (route : Route) (old new : Both) : Type 0 where
   pub v4 : new.v4.routes ≡ with_planned (route_in V4 route) old.v4.routes
   pub v6 : new.v6.routes ≡ with_planned (route_in V6 route) old.v6.routes
 
+-- both have the routes from before the plan
+pub record AreUndone (plan : Plan) (old new : Both) : Type 0 where
+  pub v4 : new.v4.routes ≡ undone_by plan.v4 old.v4.routes
+  pub v6 : new.v6.routes ≡ undone_by plan.v6 old.v6.routes
+
 -- both are planned, and nothing changed since
 pub record ArePlanned (both : Both) (plan : Plan) : Type 0 where
   pub v4 : IsPlanned both.v4 plan.v4
@@ -93,3 +102,19 @@ pub record AreOfRoutes (E : Entries) (both : Both) : Type 0 where
   pub v6 : both.v6.routes ≡ only V6 E
   pub v4_empty : both.v4.entries ≡ []
   pub v6_empty : both.v6.entries ≡ []
+
+-- ---- needs
+
+-- what tries of the routes need
+abbrev pub needs_in : ℕ → Both → FamilyNeeds
+needs_in s both = needs_of_both s both.v4.routes both.v6.routes
+
+-- what they need once the route is put
+abbrev pub needs_put : ℕ → Route → Both → FamilyNeeds
+needs_put s route both = needs_of_both s (with_planned (route_in V4 route) both.v4.routes) (with_planned (route_in V6 route) both.v6.routes)
+
+-- the need of the family is what it is after a change within a prefix, whose direct slots needed the first and need the second; the
+-- other family's stays
+abbrev pub IsReplaced : Family → FamilyNeeds → Needs → Needs → FamilyNeeds → Type 0
+IsReplaced V4 old before after new = IsNeedAfter old.v4 before after new.v4 × (new.v6 ≡ old.v6)
+IsReplaced V6 old before after new = IsNeedAfter old.v6 before after new.v6 × (new.v4 ≡ old.v4)

@@ -1,8 +1,7 @@
 //! The engine.
 
-ghost use Rattle.std.specs.Prelude.{◌≡◌, ◌≤◌, ◌<◌, ◌+◌, ◌^◌, ◌↔◌, [], ◌∷◌, ◌++◌, ℕ, List, length, map, not, option_map, true, false, IfOk, OnOk, OnErr, IsErr, IsErrOf};
+ghost use Rattle.std.specs.Prelude.{◌≡◌, ◌≤◌, ◌<◌, ◌+◌, ◌^◌, ◌↔◌, [], ◌∷◌, ◌++◌, ℕ, List, length, map, not, option_map, true, false, None, IfOk, OnOk, OnErr, IsErr, IsErrOf};
 ghost use Rattle.address_model.specs.Address.{Address};
-ghost use Rattle.table_model.specs.Entries.{match_in};
 ghost use Rattle.least_model.specs.Both.{aggregate_in_both};
 ghost use Rattle.cert_model.specs.Rows.{certificate_of};
 ghost use Rattle.delta_model.specs.Between.{between};
@@ -15,50 +14,62 @@ ghost use Rattle.fib_addr.specs.Views.{addr_as, entry_as, route_as};
 ghost use Rattle.fib_prefix.specs.Views.{elem_as, event_as};
 ghost use Rattle.fib_delta.specs.Views.{change_as};
 ghost use Rattle.cert_rows.specs.Views.{row_as};
-ghost use Rattle.fib_engine.specs.Held.{routes_in};
+ghost use Rattle.route_tries.specs.Sizes.{AreFew, needs_of, shortage, sizes_as};
+ghost use Rattle.route_tries.specs.Tries.{AreTriesOf};
+ghost use Rattle.route_tries.specs.declared.sizes.TrieFull.{TrieFull};
+ghost use Rattle.fib_engine.specs.Held.{routes_in, routes_told};
 ghost use Rattle.fib_engine.specs.Numbers.{HasNumber, IsNewNumber, IsRouteOf, numbered};
 ghost use Rattle.fib_engine.specs.Tables.{AreOfRoutes};
-ghost use Rattle.fib_engine.specs.Stands.{EndsLoad, IsLoading, IsTooMany, Loads, Stands, Takes, changes_of};
+ghost use Rattle.fib_engine.specs.Stands.{EndsLoad, IsLoading, IsShortFor, IsTooMany, Loads, Stands, Takes, changes_of, routes_after};
 
 use crate::error::EngineError;
+use crate::fitting::plan_fitting;
 use crate::tables::Tables;
 use fib_delta::Change;
-use fib_prefix::{Addr, Elem, Entry, Event, Hop, HopTable, HopsFull, Prefix};
+use fib_prefix::{Addr, Elem, Entry, Event, Family, Hop, HopTable, HopsFull, Prefix};
 use ortc::Fresh;
 use route_choice::{Candidates, Choice};
+use route_tries::{FamilyNeeds, Sizes, Tries, TriesError};
 use std::alloc::{AllocError, Global};
 use std::marker::Model;
 
-/// How often a snapshot comes.
+/// How often a snapshot comes, and how large tries are.
 #[derive(Clone, Copy, Debug, PartialEq, Eq)]
 pub struct Limits {
     /// A snapshot of both families follows each so many elementary events after the load; with 0 none does.
     pub every: u32,
+    /// The sizes of both families' tries.
+    pub sizes: Sizes,
 }
 
-/// The candidates of all peers, the numbers of next hops, and the kept tables of both families, under one event at a time.
-/// Contracts see what `Held` lists.
+/// The candidates of all peers, the numbers of next hops, the kept tables of both families, and what tries of the routes need,
+/// under one event at a time. Contracts see what `Held` lists.
 #[derive(Drop)]
 pub struct Engine {
     alloc: Global,
     candidates: Candidates,
     hops: HopTable,
-    // empty until the load ends
+    // empty, and of no routes, until the load ends; so are the needs those of no routes
     tables: Tables,
+    needs: FamilyNeeds,
     events: u64,
     limits: Limits,
     is_loaded: bool,
 }
 
 impl Model for Engine {
-    ghost use Rattle.fib_engine.specs.Held.{Held, IsSound};
+    ghost use Rattle.feed_model.specs.Feed.{entries_of};
+    ghost use Rattle.route_tries.specs.Sizes.{sizes_as};
+    ghost use Rattle.fib_engine.specs.Held.{Held, IsSound, AreKeptNeeds, if_loaded};
     ghost use Rattle.fib_engine.specs.Tables.{table_of};
 
     ghost Value = { Held };
 
-    ghost view = { λ e. record { every = e.limits.every; candidates = e.candidates.candidates; hops = e.hops.list; table = table_of e.tables; loaded = e.is_loaded; events = e.events } };
+    ghost view = { λ e. record { every = e.limits.every; sizes = sizes_as e.limits.sizes; candidates = e.candidates.candidates; hops = e.hops.list; table = table_of e.tables; loaded = e.is_loaded; events = e.events } };
 
-    ghost invariant = { λ e. IsSound e.candidates.candidates e.hops.list e.is_loaded e.tables };
+    ghost invariant = { λ e. IsSound e.candidates.candidates e.hops.list e.is_loaded e.tables
+        × AreKeptNeeds (sizes_as e.limits.sizes)
+        (if_loaded e.is_loaded (entries_of e.hops.list e.candidates.candidates)) e.needs };
 }
 
 /// Whether a snapshot follows the elementary event of this number.
@@ -162,6 +173,7 @@ impl Engine {
     pub fn new(alloc: Global, limits: Limits) -> Engine
         ensures { result ≡ record {
           every = limits.every;
+          sizes = sizes_as limits.sizes;
           candidates = [];
           hops = [];
           table = [];
@@ -174,6 +186,7 @@ impl Engine {
             candidates: Candidates::new(alloc),
             hops: HopTable::new(alloc),
             tables: Tables::new(alloc),
+            needs: FamilyNeeds::none(),
             events: 0,
             limits,
             is_loaded: false,
@@ -218,6 +231,7 @@ impl Engine {
         ensures loading { OnOk result ((load : List model_elem) → IsLoading load self.old
             → IsLoading (load ++ elem_as elem.now ∷ []) self.new) }
         ensures full { IsErrOf result EngineError.HopsFull ↔ IsTooMany (elem_as elem.now) self.old }
+        ensures fits { (t : TrieFull) → ¬ (IsErrOf result (EngineError.TrieFull t)) }
         ensures err { OnErr result (self.new ≡ self.old) }
     {
         number_put(&self.hops, elem)?;
@@ -229,11 +243,12 @@ impl Engine {
 
     /// Takes an elementary event after the load, counts it, and gives its changes: those of the repair at its prefix, where it
     /// changes the chosen hop, then those of a snapshot of both families, where one is due. Its hop gets a number, chosen or
-    /// not.
+    /// not. What tries need is counted anew at its prefix alone, where it changes the chosen hop.
     ///
     /// # Errors
     ///
-    /// `HopsFull` exactly where the event brings one different hop too many, or no memory. Then the engine is as it was.
+    /// `HopsFull` exactly where the event brings one different hop too many, else `TrieFull` exactly where tries of the routes
+    /// after it need more than an arena has, of which it names the first; or no memory. Then the engine is as it was.
     pub fn apply(&mut self, elem: &Elem) -> Result<Vec<Change>, EngineError>
         requires loaded { self.old.loaded ≡ true }
         requires few { self.old.events + 1 < 2 ^ 64 }
@@ -243,6 +258,9 @@ impl Engine {
         ensures stands { OnOk result ((load elems : List model_elem) → Stands load elems self.old
             → Stands load (elems ++ elem_as elem.now ∷ []) self.new) }
         ensures full { IsErrOf result EngineError.HopsFull ↔ IsTooMany (elem_as elem.now) self.old }
+        ensures fits { OnOk result (shortage self.new.sizes (routes_in self.new) ≡ None) }
+        ensures short { (t : TrieFull) → IsErrOf result (EngineError.TrieFull t)
+            → IsShortFor self.old (routes_after (elem_as elem.now) self.old) t }
         ensures err { OnErr result (self.new ≡ self.old) }
     {
         let own = number_put(&self.hops, elem)?;
@@ -251,12 +269,14 @@ impl Engine {
         let event = self.events + 1;
         let route = changed_route(&self.hops, own, pick.choice());
         let due = is_due(self.limits.every, event);
-        let plan = self.tables.plan(self.alloc, route, due)?;
+        let sizes = &self.limits.sizes;
+        let fitting = plan_fitting(&mut self.tables, self.alloc, route, due, self.needs, sizes)?;
         // from here on nothing takes memory
         self.candidates.commit(pick);
         number_hop(&mut self.hops, elem);
         self.events = event;
-        Ok(self.tables.commit(plan))
+        self.needs = fitting.needs;
+        Ok(self.tables.commit(fitting.plan))
     }
 
     /// The routes: each prefix for which a peer offers one, with the number of the chosen one's hop, in the order of prefixes.
@@ -274,27 +294,35 @@ impl Engine {
     fn tables_of_routes(&self) -> Result<Tables, AllocError>
         ensures { IfOk result (AreOfRoutes (routes_in self.now)) }
     {
-        let mut tables = Tables::new(self.alloc);
-        tables.put_all(&self.routes()?)?;
+        let tables = Tables::load(self.alloc, &self.routes()?)?;
         Ok(tables)
     }
 
-    /// Ends the load: makes the kept tables, which are least for the routes, and gives what adds their entries.
+    /// Ends the load: makes the kept tables, which are least for the routes, and gives what adds their entries; counts what tries of
+    /// the routes need.
     ///
     /// # Errors
     ///
-    /// No memory; then the engine is as it was.
-    pub fn finish_load(&mut self) -> Result<Vec<Change>, AllocError>
+    /// `TrieFull` exactly where that is more than an arena has, of which it names the first; or no memory. Then the engine is as
+    /// it was.
+    pub fn finish_load(&mut self) -> Result<Vec<Change>, EngineError>
         requires { self.old.loaded ≡ false }
         ensures ends { OnOk result (EndsLoad self.old self.new) }
         ensures changes { IfOk result (λ v. map change_as v.items ≡ between [] self.new.table) }
         ensures stands { OnOk result ((load : List model_elem) → IsLoading load self.old
             → Stands load [] self.new) }
+        ensures fits { OnOk result (shortage self.new.sizes (routes_in self.new) ≡ None) }
+        ensures hops { ¬ (IsErrOf result EngineError.HopsFull) }
+        ensures short { (t : TrieFull) → IsErrOf result (EngineError.TrieFull t)
+            → IsShortFor self.old (routes_in self.old) t }
         ensures err { OnErr result (self.new ≡ self.old) }
     {
         let mut tables = self.tables_of_routes()?;
+        let needs = tables.needs(self.limits.sizes.direct);
+        needs.fit(&self.limits.sizes)?;
         let changes = tables.snapshot()?;
         self.tables = tables;
+        self.needs = needs;
         self.is_loaded = true;
         Ok(changes)
     }
@@ -310,28 +338,44 @@ impl Engine {
         self.tables.table()
     }
 
-    /// The least table of the routes, with the kept one as the old table, and the rows that prove it least; IPv4 first.
+    /// The least table of the routes, with the kept one as the old table, and the rows that prove it least; IPv4 first. Before the
+    /// load ended, those of no routes.
     ///
     /// # Errors
     ///
     /// No memory.
     pub fn least(&self) -> Result<Fresh, AllocError>
-        requires { self.now.loaded ≡ true }
         ensures table { IfOk result (λ v. map entry_as v.table.items
-            ≡ aggregate_in_both (routes_in self.now) self.now.table) }
+            ≡ aggregate_in_both (routes_told self.now) self.now.table) }
         ensures proof { IfOk result (λ v. map row_as v.proof.items
-            ≡ certificate_of (routes_in self.now)) }
+            ≡ certificate_of (routes_told self.now)) }
     {
         self.tables.least()
     }
 
-    /// Longest match in the kept table: the hop of the longest entry whose prefix the address begins with, or none. The kept
-    /// table answers as the routes do.
-    pub fn answer(&self, addr: &Addr) -> Hop
-        ensures table { result.0 ≡ match_in self.now.table (addr_as addr.now) }
-        ensures routes { (load elems : List model_elem) → Stands load elems self.now
-            → result.0 ≡ match_in (routes_in self.now) (addr_as addr.now) }
+    /// How many places the nodes and the leaves of tries of the routes need, each at most what its arena has; before the load
+    /// ended, of no routes.
+    pub fn needs(&self) -> FamilyNeeds
+        ensures needs { result ≡ needs_of self.now.sizes.direct (routes_told self.now) }
+        ensures few { AreFew result }
     {
-        self.tables.answer(addr)
+        self.needs
+    }
+
+    /// Tries of the routes, to look addresses up; before the load ended, of no routes. They have room.
+    ///
+    /// # Errors
+    ///
+    /// No memory.
+    pub fn tries(&self) -> Result<Tries<'_>, AllocError>
+        ensures { IfOk result (AreTriesOf self.now.sizes.direct (routes_told self.now)) }
+    {
+        let v4 = self.tables.tree(Family::V4);
+        let v6 = self.tables.tree(Family::V6);
+        match Tries::build(self.alloc, &self.limits.sizes, v4, v6) {
+            Ok(tries) => Ok(tries),
+            Err(TriesError::NoMemory) => Err(AllocError),
+            Err(TriesError::Full(_)) => unreachable!(),
+        }
     }
 }

@@ -4,14 +4,19 @@
 //! ones for the chosen routes. From then on each event that changes a chosen hop is followed by a repair at its prefix, and
 //! now and then by a snapshot of both families. What takes memory comes first: an event that is refused leaves the engine as it
 //! was.
+//!
+//! Lookups go to tries of the routes, which are built when they are asked for. What tries would need is kept as numbers from the
+//! load's end on, so that an event after which an arena would be too small is refused at once.
 #![tactic(auto)]
 
 mod engine;
 mod error;
+mod fitting;
 mod tables;
 
 pub use engine::{Engine, Limits};
 pub use error::EngineError;
+pub use route_tries::{FamilyNeeds, Found, Needs, Sizes, TrieFull, Tries};
 
 #[cfg(test)]
 mod tests;

@@ -3,19 +3,21 @@
 ghost use Rattle.std.specs.Prelude.{◌≡◌, ◌≤◌, [], ◌∷◌, ◌++◌, IfOk, OnOk, OnErr, map};
 ghost use Rattle.std.specs.List.{AllByRecursion};
 ghost use Rattle.address_model.specs.declared.family.Family.TheVariants.{V4, V6};
-ghost use Rattle.table_model.specs.Entries.{Entries, match_in};
 ghost use Rattle.least_model.specs.Both.{aggregate_in};
 ghost use Rattle.cert_model.specs.Rows.{family_rows};
 ghost use Rattle.delta_model.specs.Between.{between};
-ghost use Rattle.fib_addr.specs.Views.{addr_as, entry_as};
+ghost use Rattle.fib_addr.specs.Views.{entry_as};
 ghost use Rattle.fib_delta.specs.Views.{change_as};
 ghost use Rattle.cert_rows.specs.Views.{row_as};
 ghost use Rattle.smalta_keep.specs.Views.{moved_of};
-ghost use Rattle.fib_engine.specs.Tables.{AreBoth, AreTold, ArePlanned, ArePut, Given, gathered, route_in, labels_of, table_of, KeepRoutes, KeepTables, MadeBy};
+ghost use Rattle.route_tries.specs.Sizes.{told_needs};
+ghost use Rattle.fib_engine.specs.Tables.{AreBoth, AreTold, ArePlanned, ArePut, AreUndone, Given, gathered, needs_in, route_in, labels_of, table_of, KeepRoutes, KeepTables, MadeBy};
 
 use fib_delta::Change;
-use fib_prefix::{Addr, Entry, Family, Hop, Prefix};
+use fib_prefix::{Entry, Family, Hop, Prefix};
+use orig_tree::Tree;
 use ortc::Fresh;
+use route_tries::FamilyNeeds;
 use smalta_keep::{Keep, Moved, Repair};
 use std::alloc::{AllocError, Global};
 use std::marker::Model;
@@ -38,9 +40,9 @@ impl Model for Tables {
 /// What is planned of both tables, and all changes that it will make.
 #[derive(Drop)]
 pub struct Plan {
-    v4: Repair,
-    v6: Repair,
-    changes: Vec<Change>,
+    pub(crate) v4: Repair,
+    pub(crate) v6: Repair,
+    pub(crate) changes: Vec<Change>,
 }
 
 /// The route, if it is of the family.
@@ -69,8 +71,8 @@ impl Tables {
     /// Empty tables of no routes.
     pub fn new(alloc: Global) -> Tables
         ensures { result ≡ record {
-          v4 = record { family = V4; routes = []; entries = []; nodes = [] ∷ [] };
-          v6 = record { family = V6; routes = []; entries = []; nodes = [] ∷ [] };
+          v4 = record { family = V4; routes = []; entries = []; nodes = [] ∷ []; before = [] };
+          v6 = record { family = V6; routes = []; entries = []; nodes = [] ∷ []; before = [] };
         } }
     {
         Tables {
@@ -79,32 +81,20 @@ impl Tables {
         }
     }
 
-    /// Gives the table of its family a route.
-    pub fn put(&mut self, route: &Entry) -> Result<(), AllocError>
-        requires both { AreBoth self.old }
-        requires hop { 1 ≤ route.now.hop.0 }
-        ensures tables { KeepTables self.old self.new }
-        ensures given { OnOk result ((E : Entries) → Given E self.old
-            → Given (E ++ entry_as route.now ∷ []) self.new) }
+    /// Empty tables of these routes, of which none is that of no hop. A tree is made of all routes at once.
+    ///
+    /// # Errors
+    ///
+    /// No memory.
+    pub fn load(alloc: Global, routes: &[Entry]) -> Result<Tables, AllocError>
+        requires { AllByRecursion (λ r. 1 ≤ r.1) (map entry_as routes.now) }
+        ensures both { IfOk result AreBoth }
+        ensures given { IfOk result (Given (map entry_as routes.now)) }
+        ensures empty { IfOk result (λ t. (t.v4.entries ≡ []) × (t.v6.entries ≡ [])) }
     {
-        match route.prefix.family {
-            Family::V4 => self.v4.put(&route.prefix, route.hop),
-            Family::V6 => self.v6.put(&route.prefix, route.hop),
-        }
-    }
-
-    /// Gives the tables these routes.
-    pub fn put_all(&mut self, routes: &[Entry]) -> Result<(), AllocError>
-        requires both { AreBoth self.old }
-        requires hops { AllByRecursion (λ r. 1 ≤ r.1) (map entry_as routes.now) }
-        requires none { Given [] self.old }
-        ensures tables { KeepTables self.old self.new }
-        ensures given { OnOk result (Given (map entry_as routes.now) self.new) }
-    {
-        for route in routes {
-            self.put(route)?;
-        }
-        Ok(())
+        let v4 = Keep::load(alloc, Family::V4, routes)?;
+        let v6 = Keep::load(alloc, Family::V6, routes)?;
+        Ok(Tables { v4, v6 })
     }
 
     /// Makes both tables least, and gives the changes, IPv4 first.
@@ -141,6 +131,7 @@ impl Tables {
         ensures put { OnOk result (ArePut route self.old self.new) }
         ensures planned { IfOk result (ArePlanned self.new) }
         ensures told { IfOk result (λ p. AreTold self.new route snapshot p.v4 p.v6) }
+        ensures undone { IfOk result (λ p. AreUndone p self.new self.old) }
         ensures changes { IfOk result (λ p. map change_as p.changes.items
             ≡ gathered (moved_of p.v4) (moved_of p.v6)) }
         ensures err { OnErr result (KeepRoutes self.old self.new) }
@@ -163,6 +154,17 @@ impl Tables {
         }
     }
 
+    /// Puts the route of a plan back, where nothing changed since: routes and tables are as they were before it. It takes no
+    /// memory.
+    pub fn undo(&mut self, plan: Plan)
+        requires { ArePlanned self.old plan }
+        ensures tables { KeepTables self.old self.new }
+        ensures undone { AreUndone plan self.old self.new }
+    {
+        self.v4.undo(plan.v4);
+        self.v6.undo(plan.v6);
+    }
+
     /// Makes what was planned, where nothing changed since, and gives the changes. It takes no memory.
     pub fn commit(&mut self, plan: Plan) -> Vec<Change>
         requires { ArePlanned self.old plan }
@@ -176,16 +178,23 @@ impl Tables {
         plan.changes
     }
 
-    /// Longest match in the table of the address's family.
-    pub fn answer(&self, addr: &Addr) -> Hop
-        requires { AreBoth self.now }
-        ensures { result.0 ≡ match_in (labels_of addr.now.family self.now).entries
-            (addr_as addr.now) }
+    /// The tree of a family's routes and entries.
+    pub fn tree(&self, family: Family) -> &Tree
+        ensures { result.now ≡ labels_of family self.now }
     {
-        match addr.family {
-            Family::V4 => self.v4.tree().answer_entry(addr),
-            Family::V6 => self.v6.tree().answer_entry(addr),
+        match family {
+            Family::V4 => self.v4.tree(),
+            Family::V6 => self.v6.tree(),
         }
+    }
+
+    /// What tries of the routes need.
+    pub fn needs(&self, direct: u8) -> FamilyNeeds
+        requires both { AreBoth self.now }
+        requires few { direct ≤ 18 }
+        ensures { result ≡ told_needs (needs_in direct self.now) }
+    {
+        FamilyNeeds::of(self.v4.tree(), self.v6.tree(), direct)
     }
 
     /// Both tables, IPv4 first.

@@ -32,7 +32,12 @@ fn loaded(alloc: Global, every: u32, prefix: Prefix) -> Result<Engine, EngineErr
     ensures loaded { IfOk result (λ e. e.loaded ≡ true) }
     ensures events { IfOk result (λ e. e.events ≡ 0) }
 {
-    let mut engine = Engine::new(alloc, Limits { every });
+    let sizes = Sizes {
+        direct: 16,
+        nodes: 4,
+        leaves: 4,
+    };
+    let mut engine = Engine::new(alloc, Limits { every, sizes });
     engine.load(&Elem::Put(via(1), prefix, 1, hop(1)))?;
     engine.finish_load()?;
     Ok(engine)
@@ -76,6 +81,11 @@ fn what_is_held_is_told(rt: HostRuntime) -> Result<(), EngineError> {
     assert_eq!(rt; engine.routes()?.as_slice(), held.as_slice());
     assert_eq!(rt; engine.table()?.as_slice(), held.as_slice());
     assert_eq!(rt; engine.least()?.table.as_slice(), held.as_slice());
-    assert_eq!(rt; engine.answer(&Addr::v4(1)), Hop(1));
+    let none = Needs {
+        nodes: 0,
+        leaves: 0,
+    };
+    assert_eq!(rt; engine.needs(), FamilyNeeds { v4: none, v6: none });
+    assert_eq!(rt; engine.tries().is_ok(), true);
     Ok(())
 }

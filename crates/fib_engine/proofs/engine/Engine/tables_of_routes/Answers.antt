@@ -12,25 +12,24 @@ use Rattle.fib_engine.proofs.Numbering.{numbers_least}
 use Rattle.fib_engine.proofs.Taking.{put_in_order, routes_have, routes_placed}
 use Rattle.fib_engine.proofs.engine.Engine.tables_of_routes.Goals as goal
 
-pub put_all-requires-clause-hops : goal.put_all-requires-clause-hops
-put_all-requires-clause-hops c =
+pub load-requires : goal.load-requires
+load-requires c =
     let t = c.self.inside in
     let C = t.candidates.candidates in
     let is : map entry_as c.deref.result.now ≡ routes_in c.args.self.now = ap (map entry_as) c.deref.ensures.value ∙ c.in_ok-routes.ensures in
-    subst (λ (E : Entries). AllByRecursion (λ (r : Prefix × ℕ). 1 ≤ r.1) E) (sym (is ∙ ap routes_in (sym c.self.view_is))) (numbers_least t.hops.list (routes_of C) (routes_have C t.hops.list t.is_loaded t.tables c.self.invariant))
+    subst (λ (E : Entries). AllByRecursion (λ (r : Prefix × ℕ). 1 ≤ r.1) E) (sym (is ∙ ap routes_in (sym c.self.view_is))) (numbers_least t.hops.list (routes_of C) (routes_have C t.hops.list t.is_loaded t.tables c.self.invariant.0))
 
 pub returns : goal.returns
 returns c =
     let t = c.self.inside in
     let E = routes_in c.args.self.now in
     let is : map entry_as c.deref.result.now ≡ E = ap (map entry_as) c.deref.ensures.value ∙ c.in_ok-routes.ensures in
-    let placed = subst (λ (e : Held). InPlace (routes_in e)) c.self.view_is (routes_placed t.candidates.candidates t.hops.list t.is_loaded t.tables c.self.invariant) in
-    let k = c.put_all.ensures.tables in
-    let given = c.in_ok-put_all.ensures.given in
+    let placed = subst (λ (e : Held). InPlace (routes_in e)) c.self.view_is (routes_placed t.candidates.candidates t.hops.list t.is_loaded t.tables c.self.invariant.0) in
+    let given = c.in_ok-tables.ensures.given in
     record {
-      families = (k.v4_family ∙ ap (λ (b : Both). b.v4.family) c.new-tables.ensures, k.v6_family ∙ ap (λ (b : Both). b.v6.family) c.new-tables.ensures);
+      families = c.in_ok-tables.ensures.both;
       v4 = given V4 ∙ (ap (λ (L : Entries). in_order (only V4 L)) is ∙ put_in_order V4 E placed);
       v6 = given V6 ∙ (ap (λ (L : Entries). in_order (only V6 L)) is ∙ put_in_order V6 E placed);
-      v4_empty = k.v4 ∙ ap (λ (b : Both). b.v4.entries) c.new-tables.ensures;
-      v6_empty = k.v6 ∙ ap (λ (b : Both). b.v6.entries) c.new-tables.ensures;
+      v4_empty = c.in_ok-tables.ensures.empty.0;
+      v6_empty = c.in_ok-tables.ensures.empty.1;
     }

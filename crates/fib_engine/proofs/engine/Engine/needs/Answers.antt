@@ -1,0 +1,17 @@
+use Rattle.std.proofs.Common.{ap, subst, ◌∙◌}
+use Rattle.route_tries.specs.Sizes.{AreFew, sizes_as, needs_of}
+use Rattle.route_tries.specs.declared.needs.FamilyNeeds.{FamilyNeeds}
+use Rattle.route_tries.proofs.Short.{fit_few}
+use Rattle.fib_engine.specs.Held.{Held, if_loaded, routes_told}
+use Rattle.feed_model.specs.Feed.{entries_of}
+use Rattle.std.proofs.Common.{sym}
+use Rattle.fib_engine.proofs.engine.Engine.needs.Goals as goal
+
+pub returns-clause-needs : goal.returns-clause-needs
+returns-clause-needs c = c.self.invariant.1.needs ∙ ap (λ (h : Held). needs_of h.sizes.direct (routes_told h)) c.self.view_is
+
+pub returns-clause-few : goal.returns-clause-few
+returns-clause-few c =
+    let t = c.self.inside in
+    let n = needs_of t.limits.sizes.direct (if_loaded t.is_loaded (entries_of t.hops.list t.candidates.candidates)) in
+    subst (λ (m : FamilyNeeds). AreFew m) (sym c.self.invariant.1.needs) (fit_few (sizes_as t.limits.sizes) t.limits.sizes.few_nodes t.limits.sizes.few_leaves n c.self.invariant.1.fit)

@@ -1,0 +1,4 @@
+pub mod Going
+pub mod Under
+pub mod Short
+pub mod Same

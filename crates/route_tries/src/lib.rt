@@ -1,0 +1,21 @@
+//! The tries of a forwarding table's routes, and what they need.
+//!
+//! Each family has a Poptrie (`poptrie_build`) with the same direct bits and arenas of the same orders. `Tries` are built from
+//! the prefix trees that hold the routes, asked by halves: a region of a tree keeps its place there. While routes change no
+//! trie is built: what the tries need is kept as numbers. A change at a prefix changes only what the direct slots at the
+//! prefix need, which is counted before and after it.
+#![tactic(auto)]
+
+mod needs;
+mod region;
+mod sizes;
+mod tries;
+
+pub use needs::{FamilyNeeds, need_after, need_at, need_of};
+pub use poptrie_build::{Found, Needs};
+pub use region::RouteRegion;
+pub use sizes::{Sizes, TrieFull};
+pub use tries::{Tries, TriesError};
+
+#[cfg(test)]
+mod tests;
