@@ -2,8 +2,9 @@
 use Rattle.std.specs.Prelude.{ℕ, Bool, List, [], Option, option_map}
 use Rattle.std.specs.Result.{result_unwrap_or}
 use Rattle.address_model.specs.declared.family.Family.{Family}
+use Rattle.address_model.specs.declared.family.Family.TheVariants.{V4}
 use Rattle.address_model.specs.Address.{Address}
-use Rattle.fib_addr.specs.declared.addr.Addr as code_addr
+use Rattle.address_model.specs.Bits.{bits_of}
 use Rattle.fib_addr.specs.Views.{addr_as}
 use Rattle.wire_model.specs.declared.rule.Rule.TheVariants.{AttributeValue}
 use Rattle.wire_model.specs.Wire.{Nlri, nlris}
@@ -17,9 +18,13 @@ use Rattle.bgp_attrs.specs.declared.list.Found as code
 abbrev pub nlri_in : Bool → Family → List ℕ → List Nlri
 nlri_in ids family octets = result_unwrap_or (nlris AttributeValue ids family octets) []
 
+-- an IPv4 address by its bits
+abbrev pub ipv4_as : ℕ → Address
+ipv4_as bits = record { family = V4; bits = bits_of 32 bits }
+
 -- a next hop, or none where NEXT_HOP isn't of its form
-abbrev pub judged_as : Option code_addr.Addr → Option Address
-judged_as hop = option_map addr_as hop
+abbrev pub judged_as : Option ℕ → Option Address
+judged_as hop = option_map ipv4_as hop
 
 abbrev pub reached : Reach → ReachAttr
 reached r = record { family = r.family; hop = addr_as r.hop; nlri = nlri_in r.ids r.family r.nlri.now }

@@ -6,17 +6,19 @@ ghost use Rattle.octet_fields.specs.Gives.{Gives};
 ghost use Rattle.wire_model.specs.Attribute.{full_hop, hop_of, is_hop_length, next_hop_at, rib_hop};
 ghost use Rattle.fib_addr.specs.Views.{addr_as};
 
+use byteorder::{BigEndian, ByteOrder};
 use fib_addr::{Addr, Family};
 use octet_fields::{octet, octets};
 use wire_fields::{Rule, family};
 
 /// The address in the octets of a next hop: 4 are IPv4, and of 16 or 32 the first 16 are IPv6 (RFC 2545, section 3).
+#[inline(always)]
 pub fn next_hop(octets: &[u8]) -> Addr
     requires { IsTrue (is_hop_length V4 (length octets.now)) }
     ensures { addr_as result ≡ hop_of octets.now }
 {
     if octets.len() == 4 {
-        Addr::from_octets(Family::V4, octets)
+        Addr::v4(BigEndian::read_u32(octets))
     } else {
         Addr::from_octets(Family::V6, &octets[..16])
     }
@@ -24,6 +26,7 @@ pub fn next_hop(octets: &[u8]) -> Addr
 
 /// Whether a next hop for this family may have so many octets (RFC 4271, section 5.1.3; RFC 2545, section 3; RFC 8950,
 /// section 3).
+#[inline(always)]
 fn is_next_hop(family: Family, len: u8) -> bool
     ensures { result ≡ is_hop_length family len }
 {
@@ -35,6 +38,7 @@ fn is_next_hop(family: Family, len: u8) -> bool
 
 /// The next hop behind its length, and what follows it.
 #[tactic(auto, unfolding(wire_model::specs::Attribute::next_hop_at))]
+#[inline(always)]
 pub fn next_hop_of(family: Family, bytes: &[u8]) -> Result<(Addr, &[u8]), Rule>
     ensures { Gives (λ x. (addr_as x.0, x.1.now)) result (next_hop_at family bytes.now) }
 {

@@ -7,12 +7,12 @@ ghost use Rattle.wire_model.specs.declared.rule.Rule.TheVariants.{AttributeCut};
 ghost use Rattle.wire_model.specs.Path.{as_size, path_of};
 ghost use Rattle.wire_model.specs.Attribute.{attribute_at, attributes, is_bad, is_wide, judged, listed, next_hop_in, nothing_found, with_as_path, with_next_hop, with_reach, with_unreach, with_value};
 ghost use Rattle.fib_addr.specs.Views.{addr_as};
-ghost use Rattle.bgp_attrs.specs.Views.{found_as, judged_as, listed_as};
+ghost use Rattle.bgp_attrs.specs.Views.{found_as, ipv4_as, judged_as, listed_as};
 
-use crate::hops::next_hop;
 use crate::multiprotocol::{Reach, Unreach};
 use crate::path::path_length;
 use crate::reach::{reach_in_rib, reach_in_update, unreach_in_update};
+use byteorder::{BigEndian, ByteOrder};
 use fib_addr::Addr;
 use octet_fields::{octet, octets, u16_at};
 use wire_fields::{Rule, family};
@@ -49,29 +49,32 @@ pub struct Attrs<'a> {
 /// What stood in the list so far; of AS_PATH and NEXT_HOP the value, or none where it isn't of its form.
 #[derive(Clone, Copy)]
 struct Found<'a> {
-    hop: Option<Option<Addr>>,
     reach: Option<Reach<'a>>,
     unreach: Option<Unreach<'a>>,
     path: Option<Option<u32>>,
+    // The bits of an IPv4 address.
+    hop: Option<Option<u32>>,
     has_reach: bool,
     has_unreach: bool,
 }
 
 /// Nothing stood there.
+#[inline(always)]
 fn nothing<'a>() -> Found<'a>
     ensures { found_as result ≡ nothing_found }
 {
     Found {
-        hop: None,
         reach: None,
         unreach: None,
         path: None,
+        hop: None,
         has_reach: false,
         has_unreach: false,
     }
 }
 
 /// A value, or none where it isn't of its form in an UPDATE; in a RIB entry the rule that it breaks.
+#[inline(always)]
 fn judge<A: Drop>(place: Place, read: Result<A, Rule>) -> Result<Option<A>, Rule>
     ensures { result ≡ judged place read }
 {
@@ -83,6 +86,7 @@ fn judge<A: Drop>(place: Place, read: Result<A, Rule>) -> Result<Option<A>, Rule
 }
 
 /// Whether AS numbers have four octets.
+#[inline(always)]
 fn has_wide_as(place: Place) -> bool
     ensures { result ≡ is_wide place }
 {
@@ -94,6 +98,7 @@ fn has_wide_as(place: Place) -> bool
 
 /// An AS_PATH; the first counts (RFC 7606, section 3 (g)).
 #[tactic(auto, unfolding(wire_model::specs::Attribute::with_as_path))]
+#[inline(always)]
 fn take_as_path(found: &mut Found<'_>, place: Place, value: &[u8]) -> Result<(), Rule>
     requires { length value.now < 2 ^ 32 }
     ensures { Gives (λ x. found_as found.new) result
@@ -105,18 +110,20 @@ fn take_as_path(found: &mut Found<'_>, place: Place, value: &[u8]) -> Result<(),
     Ok(())
 }
 
-/// The address in a NEXT_HOP's value, which has four octets.
-fn ipv4_hop(value: &[u8]) -> Result<Addr, Rule>
-    ensures { Gives addr_as result (next_hop_in value.now) }
+/// The bits of the address in a NEXT_HOP's value, which has four octets.
+#[inline(always)]
+fn ipv4_hop(value: &[u8]) -> Result<u32, Rule>
+    ensures { Gives ipv4_as result (next_hop_in value.now) }
 {
     if value.len() != 4 {
         return Err(Rule::AttributeValue);
     }
-    Ok(next_hop(value))
+    Ok(BigEndian::read_u32(value))
 }
 
 /// A NEXT_HOP; the first counts (RFC 7606, section 3 (g)).
 #[tactic(auto, unfolding(wire_model::specs::Attribute::with_next_hop))]
+#[inline(always)]
 fn take_next_hop(found: &mut Found<'_>, place: Place, value: &[u8]) -> Result<(), Rule>
     ensures { Gives (λ x. found_as found.new) result
         (with_next_hop place (found_as found.old) value.now) }
@@ -129,6 +136,7 @@ fn take_next_hop(found: &mut Found<'_>, place: Place, value: &[u8]) -> Result<()
 
 /// An MP_REACH_NLRI.
 #[tactic(auto, unfolding(wire_model::specs::Attribute::with_reach))]
+#[inline(always)]
 fn take_mp_reach<'a>(found: &mut Found<'a>, place: Place, value: &'a [u8]) -> Result<(), Rule>
     ensures { Gives (λ x. found_as found.new) result
         (with_reach place (found_as found.old) value.now) }
@@ -160,6 +168,7 @@ fn take_mp_unreach<'a>(found: &mut Found<'a>, place: Place, value: &'a [u8]) -> 
 
 /// An attribute of this type.
 #[tactic(auto, unfolding(wire_model::specs::Attribute::with_value))]
+#[inline(always)]
 fn take_value<'a>(
     found: &mut Found<'a>,
     place: Place,
@@ -180,6 +189,7 @@ fn take_value<'a>(
 }
 
 /// The length of a value, in two octets where the flags say so.
+#[inline(always)]
 fn value_len(flags: u8, bytes: &[u8]) -> Result<(u16, &[u8]), Rule>
     ensures value { Gives (λ x. (x.0, x.1.now)) result (number_at AttributeCut
         (if bit_and flags 16 == 0 then 1 else 2) bytes.now) }
@@ -194,6 +204,7 @@ fn value_len(flags: u8, bytes: &[u8]) -> Result<(u16, &[u8]), Rule>
 
 /// Takes the attribute at the front, and gives what follows it.
 #[tactic(auto, unfolding(wire_model::specs::Attribute::attribute_at))]
+#[inline(always)]
 fn take_attribute<'a>(
     found: &mut Found<'a>,
     place: Place,
@@ -215,18 +226,31 @@ fn take_attribute<'a>(
     Ok(rest)
 }
 
+/// The IPv4 address of these bits, if there is one.
+#[inline(always)]
+fn ipv4_addr(bits: Option<u32>) -> Option<Addr>
+    ensures { option_map addr_as result ≡ judged_as bits }
+{
+    match bits {
+        Some(bits) => Some(Addr::v4(bits)),
+        None => None,
+    }
+}
+
 /// What the list as a whole gives.
+#[inline(always)]
 fn attrs_of(found: Found<'_>) -> Attrs<'_>
     ensures { listed_as result ≡ listed (found_as found.entry) }
 {
     let bad = matches!(found.path, Some(None)) || matches!(found.hop, Some(None));
+    let hop = ipv4_addr(found.hop.flatten());
     Attrs {
         path: if bad {
             0
         } else {
             found.path.flatten().unwrap_or(0)
         },
-        hop: if bad { None } else { found.hop.flatten() },
+        hop: if bad { None } else { hop },
         reach: found.reach,
         unreach: found.unreach,
         bad,
@@ -235,6 +259,7 @@ fn attrs_of(found: Found<'_>) -> Attrs<'_>
 
 /// What an attribute list gives at this place, or the rule that its first wrong field breaks.
 #[tactic(auto, unfolding(wire_model::specs::Attribute::attributes))]
+#[inline(always)]
 pub fn read_attrs(bytes: &[u8], place: Place) -> Result<Attrs<'_>, Rule>
     ensures { Gives listed_as result (attributes place bytes.now) }
 {

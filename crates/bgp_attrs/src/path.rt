@@ -17,6 +17,7 @@ const AS_SEQUENCE: u8 = 2;
 const AS_CONFED_SET: u8 = 4;
 
 /// What a segment counts in the path length.
+#[inline(always)]
 fn weight_of(kind: u8, count: u8) -> u32
     ensures { result ≡ segment_length kind count }
 {
@@ -29,6 +30,7 @@ fn weight_of(kind: u8, count: u8) -> u32
 
 /// The length with one segment more, and what follows the segment.
 #[tactic(auto, unfolding(wire_model::specs::Path::segment_at))]
+#[inline(always)]
 fn segment(so_far: u32, bytes: &[u8], wide: bool) -> Result<(u32, &[u8]), Rule>
     requires { so_far + length bytes.now < 2 ^ 32 }
     ensures value { Gives (λ x. (x.0, x.1.now)) result (segment_at
@@ -51,6 +53,7 @@ fn segment(so_far: u32, bytes: &[u8], wide: bool) -> Result<(u32, &[u8]), Rule>
 /// RFC 5065, section 5.3). A wrong segment breaks `AttributeValue`.
 ///
 /// The octets are fewer than 2^32, so that the length fits.
+#[inline(always)]
 pub fn path_length(bytes: &[u8], wide: bool) -> Result<u32, Rule>
     requires { length bytes.now < 2 ^ 32 }
     ensures { Gives (λ x. x) result (path_of (as_size wide) bytes.now) }

@@ -1,6 +1,5 @@
 -- Events behind those that there are.
-use Rattle.std.proofs.Common.{◌≡◌, refl, sym, ap, ◌∙◌, List, [], ◌∷◌, ◌++◌, append-nil, append_assoc, Result, Ok, false, Option, ℕ}
-use Rattle.std.specs.Prelude.{map}
+use Rattle.std.proofs.Common.{◌≡◌, refl, sym, ap, List, [], ◌∷◌, ◌++◌, append-nil, Result, Ok, false, Option, ℕ}
 use Rattle.address_model.specs.Address.{Address}
 use Rattle.route_model.specs.Events.{Peer, Event}
 use Rattle.wire_model.specs.declared.rule.Rule.{Rule}

@@ -1,6 +1,6 @@
 //! What is said of prefixes.
 
-ghost use Rattle.std.specs.Prelude.{◌≡◌, option_map, map};
+ghost use Rattle.std.specs.Prelude.{◌≡◌, ◌++◌, ◌∷◌, [], OnOk, option_map, map};
 ghost use Rattle.reading_model.specs.Rib as model;
 ghost use Rattle.address_model.specs.declared.family.Family.TheVariants.{V4};
 ghost use Rattle.wire_model.specs.declared.rule.Rule.TheVariants.{UpdateLengths};
@@ -10,16 +10,31 @@ ghost use Rattle.fib_prefix.specs.Views.{peer_as, via_as, event_as};
 ghost use Rattle.bgp_update.specs.Adds.{AddsRoutes};
 
 use fib_prefix::{Addr, Event, Family, Peer, Prefix, Via};
+use std::alloc::AllocError;
 use wire_fields::{Refusal, Rule, next_nlri};
 
-/// The event of a prefix: Announce with this next hop, Withdraw where there is none.
-pub fn event_of(path: u32, hop: Option<Addr>, via: Via, prefix: Prefix) -> Event
-    ensures { event_as result ≡ model.event_of path (option_map addr_as hop) (via_as via)
-        (prefix_as prefix) }
+/// Adds the event of a prefix: Announce with this next hop, Withdraw where there is none. It is written once, where it stays.
+#[inline(always)]
+pub fn push_event(
+    events: &mut Vec<Event>,
+    path: u32,
+    hop: Option<Addr>,
+    via: Via,
+    prefix: Prefix,
+) -> Result<(), AllocError>
+    ensures { OnOk result (map event_as events.new.items ≡ map event_as events.old.items
+        ++ model.event_of path (option_map addr_as hop) (via_as via) (prefix_as prefix) ∷ []) }
 {
+    events.reserve(1)?;
     match hop {
-        Some(hop) => Event::Announce(via, prefix, path, hop),
-        None => Event::Withdraw(via, prefix),
+        Some(hop) => {
+            events.push_reserved(Event::Announce(via, prefix, path, hop));
+            Ok(())
+        }
+        None => {
+            events.push_reserved(Event::Withdraw(via, prefix));
+            Ok(())
+        }
     }
 }
 
@@ -65,7 +80,7 @@ pub fn push_routes(
             peer: saying.peer,
             id: nlri.id,
         };
-        events.push(event_of(saying.path, saying.hop, via, nlri.prefix))?;
+        push_event(events, saying.path, saying.hop, via, nlri.prefix)?;
         rest = after;
     }
     Ok(())

@@ -8,7 +8,7 @@ mod event;
 mod message;
 mod update;
 
-pub use event::event_of;
+pub use event::push_event;
 pub use message::{push_message, read_message};
 pub use wire_fields::{Refusal, WireFault, read_wire_prefix};
 

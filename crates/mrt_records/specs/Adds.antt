@@ -1,10 +1,15 @@
 -- What the readers of records add behind the events that there are.
-use Rattle.std.specs.Prelude.{◌≡◌, ℕ, List, ◌++◌, Option, Some, None, Result, Ok, Err, Bool}
+use Rattle.std.specs.Prelude.{◌≡◌, ℕ, List, [], ◌∷◌, ◌++◌, Option, Some, None, Result, Ok, Err, Bool}
 use Rattle.route_model.specs.Events.{Event}
 use Rattle.wire_model.specs.declared.rule.Rule.{Rule}
 use Rattle.reading_model.specs.Update.{Said}
 use Rattle.wire_fields.specs.declared.refusal.Refusal.{Refusal}
 use Rattle.wire_fields.specs.Gives.{Refuses}
+
+-- the event of an entry, and what follows it
+abbrev pub AddsEntry : {T : Type 0} → (T → List ℕ) → List Event → List Event → Result T Refusal → Result (Event × List ℕ) Rule → Type 0
+AddsEntry view old new (Ok rest) read = (added : Event) × (read ≡ Ok (added, view rest)) × (new ≡ old ++ added ∷ [])
+AddsEntry view old new (Err refusal) read = Refuses refusal read
 
 -- the events of so many entries, and what follows them
 abbrev pub AddsEntries : {T : Type 0} → (T → List ℕ) → List Event → List Event → Result T Refusal → Result (List Event × List ℕ) Rule → Type 0

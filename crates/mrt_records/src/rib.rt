@@ -2,59 +2,84 @@
 
 ghost use Rattle.std.specs.Prelude.{◌≡◌, [], option_map, map};
 ghost use Rattle.octet_fields.specs.Field.{one_more, times};
-ghost use Rattle.octet_fields.specs.Gives.{Gives};
 ghost use Rattle.fib_addr.specs.Views.{addr_as, prefix_as};
 ghost use Rattle.fib_prefix.specs.Views.{peer_as, event_as};
 ghost use Rattle.reading_model.specs.Rib.{rib_entry_at, entry_hop, rib};
 ghost use Rattle.bgp_attrs.specs.Views.{listed_as};
 ghost use Rattle.wire_fields.specs.Gives.{GivesInMemory};
 ghost use Rattle.bgp_update.specs.Adds.{AddsEvents};
-ghost use Rattle.mrt_records.specs.Adds.{AddsEntries};
+ghost use Rattle.mrt_records.specs.Adds.{AddsEntries, AddsEntry};
 ghost use Rattle.mrt_records.specs.Views.{peers_of};
 
 use crate::peer_table::PeerTable;
 use bgp_attrs::{Attrs, Place, read_attrs};
-use bgp_update::event_of;
+use bgp_update::push_event;
 use fib_prefix::{Addr, Event, Family, Peer, Prefix, Via};
 use octet_fields::{octets, u16_at};
 use std::alloc::Global;
 use wire_fields::{Refusal, Rule, path_id, prefix};
 
-/// The next hop of an entry in a record of this family.
-fn hop_of_entry(family: Family, attrs: &Attrs<'_>) -> Option<Addr>
-    ensures { option_map addr_as result ≡ entry_hop family (listed_as attrs.now) }
+/// The next hop of MP_REACH_NLRI.
+#[inline(always)]
+fn reach_hop(attrs: &Attrs<'_>) -> Option<Addr>
+    ensures { option_map addr_as result ≡ option_map (λ reach. reach.hop) (listed_as attrs.now).reach }
 {
-    let reach = attrs.reach.map(|reach| reach.hop);
-    match family {
-        Family::V4 => attrs.hop.or(reach),
-        Family::V6 => reach.or(attrs.hop),
+    match &attrs.reach {
+        Some(reach) => Some(reach.hop),
+        None => None,
     }
 }
 
-/// The event of the entry at the front, and what follows it.
+/// The next hop of an entry in a record of this family.
+#[inline(always)]
+fn hop_of_entry(family: Family, attrs: &Attrs<'_>) -> Option<Addr>
+    ensures { option_map addr_as result ≡ entry_hop family (listed_as attrs.now) }
+{
+    match family {
+        Family::V4 => match attrs.hop {
+            Some(hop) => Some(hop),
+            None => reach_hop(attrs),
+        },
+        Family::V6 => match reach_hop(attrs) {
+            Some(hop) => Some(hop),
+            None => attrs.hop,
+        },
+    }
+}
+
+/// Adds the event of the entry at the front, and gives what follows it.
 #[tactic(auto, unfolding(reading_model::specs::Rib::rib_entry_at))]
-fn entry<'a>(
+#[inline(always)]
+fn push_entry<'a>(
+    events: &mut Vec<Event>,
     peers: &[Peer],
     ids: bool,
     family: Family,
     prefix: Prefix,
     bytes: &'a [u8],
-) -> Result<(Event, &'a [u8]), Rule>
-    ensures { Gives (λ x. (event_as x.0, x.1.now)) result
-        (rib_entry_at (map peer_as peers.now) ids family (prefix_as prefix) bytes.now) }
+) -> Result<&'a [u8], Refusal>
+    ensures { AddsEntry (λ rest. rest.now) (map event_as events.old.items)
+        (map event_as events.new.items) result (rib_entry_at (map peer_as peers.now)
+        ids family (prefix_as prefix) bytes.now) }
 {
     let (index, rest) = u16_at(Rule::RibForm, bytes)?;
     let Some(peer) = peers.get(usize::from(index)) else {
-        return Err(Rule::PeerIndex);
+        return Err(Refusal::Rule(Rule::PeerIndex));
     };
     let (_time, rest) = octets(Rule::RibForm, 4, rest)?;
     let (id, rest) = path_id(Rule::RibForm, ids, rest)?;
     let (len, rest) = u16_at(Rule::RibForm, rest)?;
     let (area, rest) = octets(Rule::RibForm, usize::from(len), rest)?;
     let attrs = read_attrs(area, Place::Rib(family))?;
-    let hop = hop_of_entry(family, &attrs);
     let via = Via { peer: *peer, id };
-    Ok((event_of(attrs.path, hop, via, prefix), rest))
+    push_event(
+        events,
+        attrs.path,
+        hop_of_entry(family, &attrs),
+        via,
+        prefix,
+    )?;
+    Ok(rest)
 }
 
 /// Adds the events of so many entries, in their order, and gives what follows them.
@@ -73,9 +98,7 @@ fn push_entries<'a>(
 {
     let mut rest = bytes;
     for _ in 0..count {
-        let (event, after) = entry(peers, ids, family, prefix, rest)?;
-        events.push(event)?;
-        rest = after;
+        rest = push_entry(events, peers, ids, family, prefix, rest)?;
     }
     Ok(rest)
 }

@@ -1,6 +1,5 @@
-use Rattle.std.proofs.Common.{[], ◌∷◌, ◌++◌, sym, ap, ◌∙◌, append-nil, append_assoc, option_map}
+use Rattle.std.proofs.Common.{[], ◌++◌, sym, ap, ◌∙◌, append-nil, append_assoc, option_map}
 use Rattle.std.specs.Prelude.{map}
-use Rattle.std.proofs.lemmas.List.{map_push}
 use Rattle.std.proofs.lemmas.Result.{err_from_is_err_and}
 use Rattle.octet_fields.proofs.Steps.{left_at_start, left_at_end, one_more_left, one_more_fault}
 use Rattle.fib_addr.specs.Views.{addr_as}
@@ -20,10 +19,9 @@ loop-rest-preserved c =
     let i = c.loop-rest.invariant in (
       _,
       one_more_left _ _ _ _ _ _ c.in_ok-nlri.ensures.value c.in_ok-nlri.ensures.shorter i.1,
-      ap (map event_as) c.in_ok-push.ensures.items
-          ∙ (map_push event_as _ _
-          ∙ (rw (i.2, c.event_of.ensures) (append_assoc _ (routes (peer_as c.args.saying.peer) c.args.saying.path (option_map addr_as c.args.saying.hop) i.0) _)
-          ∙ ap (λ es. map event_as c.args.events.now.items ++ es) (sym (routes_more (peer_as c.args.saying.peer) c.args.saying.path (option_map addr_as c.args.saying.hop) i.0 (nlri_as c.in_ok-nlri.nlri))))),
+      c.in_ok-push_event.ensures
+          ∙ (rw i.2 (append_assoc _ (routes (peer_as c.args.saying.peer) c.args.saying.path (option_map addr_as c.args.saying.hop) i.0) _)
+          ∙ ap (λ es. map event_as c.args.events.now.items ++ es) (sym (routes_more (peer_as c.args.saying.peer) c.args.saying.path (option_map addr_as c.args.saying.hop) i.0 (nlri_as c.in_ok-nlri.nlri)))),
     )
 
 pub returns-in_err-nlri : goal.returns-in_err-nlri

@@ -1,4 +1,4 @@
-use Rattle.std.proofs.Common.{◌≡◌, sym, ◌∙◌}
+use Rattle.std.proofs.Common.{sym, ◌∙◌}
 use Rattle.mrt_records.proofs.record.push_behind.Goals as goal
 
 pub returns-in-Some : goal.returns-in-Some
