@@ -55,11 +55,40 @@ all_by : (P Q : Run → Type 0) → ((r : Run) → P r → Q r) → (runs : List
 all_by P Q f [] a = tt
 all_by P Q f (r ∷ runs) a = (f r a.0, all_by P Q f runs a.1)
 
+in_list : (runs : List Run) (j : ℕ) (y z : Run) → j < length runs → get_or runs j y ≡ get_or runs j z
+in_list [] j y z lt = absurd (omega arith)
+in_list (r ∷ runs) zero y z lt = refl
+in_list (r ∷ runs) (suc j) y z lt = in_list runs j y z (omega arith)
+
 pub begun_at : (n : ℕ) (runs : List Run) (i : ℕ) → i ≤ length runs → IsPartitionPoint (λ (r : Run). nat_le r.start n ≡ true) (λ (r : Run). nat_le r.start n ≡ false) runs i → IsBegun n runs i
 begun_at n runs i le w = (
   all_by (λ (r : Run). nat_le r.start n ≡ true) (λ (r : Run). r.start ≤ n) (λ r e. leb-true r.start n e) (take i runs) (taken (λ (r : Run). nat_le r.start n ≡ true) runs i le w.0),
   all_by (λ (r : Run). nat_le r.start n ≡ false) (λ (r : Run). n < r.start) (λ r e. leb-false r.start n e) (drop i runs) (dropped (λ (r : Run). nat_le r.start n ≡ false) runs i w.1),
 )
+
+-- the first so many runs begin at the last one's start or before it
+pub begun_by : (runs : List Run) (i : ℕ) (last d : Run) → 0 < i → i ≤ length runs → last ≡ get_or runs (i - 1) d → AreRuns 0 runs → AllByRecursion (λ (r : Run). r.start ≤ last.start) (take i runs)
+begun_by runs i last d some le is a =
+    taken (λ (r : Run). r.start ≤ last.start) runs i le
+    (λ k z lo hi. let up : (get_or runs k z).start ≤ (get_or runs (i - 1) z).start = rising 0 runs a k (i - 1) z (omega arith) (omega arith) in
+    let same : get_or runs (i - 1) z ≡ get_or runs (i - 1) d = in_list runs (i - 1) z d (omega arith) in
+    omega (arith, up, ap (λ (r : Run). r.start) same, ap (λ (r : Run). r.start) is))
+
+-- the others begin where the next one does, or after it
+pub after_from : (n : ℕ) (runs : List Run) (i : ℕ) (next d : Run) → i < length runs → next ≡ get_or runs i d → n < next.start → AreRuns 0 runs → AllByRecursion (λ (r : Run). n < r.start) (drop i runs)
+after_from n runs i next d lt is more a =
+    dropped (λ (r : Run). n < r.start) runs i
+    (λ k z lo hi. let up : (get_or runs i z).start ≤ (get_or runs k z).start = rising 0 runs a i k z (omega arith) (omega arith) in
+    let same : get_or runs i z ≡ get_or runs i d = in_list runs i z d lt in
+    omega (arith, up, more, ap (λ (r : Run). r.start) same, ap (λ (r : Run). r.start) is))
+
+-- no run is left
+pub none_after : (n : ℕ) (runs : List Run) (i : ℕ) → i ≡ length runs → AllByRecursion (λ (r : Run). n < r.start) (drop i runs)
+none_after n runs i e = dropped (λ (r : Run). n < r.start) runs i (λ k z lo hi. absurd (omega arith))
+
+-- what begins at a number or before it begins at a greater one or before it
+pub begun_more : (m n : ℕ) (runs : List Run) → m ≤ n → AllByRecursion (λ (r : Run). r.start ≤ m) runs → AllByRecursion (λ (r : Run). r.start ≤ n) runs
+begun_more m n runs le a = all_by (λ (r : Run). r.start ≤ m) (λ (r : Run). r.start ≤ n) (λ r k. omega arith) runs a
 
 -- ---- past the last address
 

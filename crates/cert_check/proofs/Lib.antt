@@ -1,5 +1,6 @@
 pub mod Deals
 pub mod Sweeps
+pub mod Alone
 pub mod Aparts
 pub mod Sames
 pub mod Holding

@@ -50,6 +50,8 @@ pub struct Reading {
     pub due: Option<Family>,
     /// The stack, its top last.
     pub stack: Vec<Item>,
+    /// The last leaf's place among the runs of its family (`holds`).
+    pub place: usize,
     /// Marks for sets.
     pub marks: Vec<u64>,
     /// The bound of IPv4.
@@ -75,6 +77,7 @@ fn read_leaf(
     hop: Hop,
     row: u64,
     stack: &mut Vec<Item>,
+    place: &mut usize,
 ) -> Result<Option<No>, AllocError>
     ensures weight { IfOk result (λ no. no ≡ None → leaf_weight (stack_as stack.new.items)
         ≤ leaf_weight (stack_as stack.old.items) + 1) }
@@ -82,7 +85,7 @@ fn read_leaf(
         → LeafRead R (prefix_as prefix.now) hop.0 row (stack_as stack.old.items)
         (stack_as stack.new.items) (option_map no_as no)) }
 {
-    if !holds(runs_in(runs, prefix.family), prefix, hop.0) {
+    if !holds(runs_in(runs, prefix.family), prefix, hop.0, place) {
         return Ok(Some(No::LeafWrong { row }));
     }
     let mut hops = SmallVec::new(alloc);
@@ -296,9 +299,15 @@ fn read_row(
     match reading.due {
         None => Ok(Some(No::Shape { row: number })),
         Some(family) => match row {
-            Row::Leaf(prefix, hop) => {
-                read_leaf(alloc, runs, prefix, *hop, number, &mut reading.stack)
-            }
+            Row::Leaf(prefix, hop) => read_leaf(
+                alloc,
+                runs,
+                prefix,
+                *hop,
+                number,
+                &mut reading.stack,
+                &mut reading.place,
+            ),
             Row::Join(prefix, k) => read_join(
                 alloc,
                 prefix,

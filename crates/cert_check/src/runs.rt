@@ -5,7 +5,8 @@
 //! prefixes, as a radix sort does: at each prefix the entries within it are dealt out to its halves. That takes a step for
 //! each bit of each entry, and goes 128 levels down at most.
 
-ghost use Rattle.std.specs.Prelude.{◌≡◌, ◌↔◌, ◌+◌, ◌-◌, ◌<◌, ◌≤◌, ◌^◌, [], ◌∷◌, ◌++◌, false, true, length, map, take, IfOk, OnOk};
+ghost use Rattle.std.specs.Prelude.{◌≡◌, ◌↔◌, ◌+◌, ◌-◌, ◌<◌, ◌≤◌, ◌^◌, [], ◌∷◌, ◌++◌, drop, false, true, length, map, take, IfOk, OnOk};
+ghost use Rattle.std.specs.List.{AllByRecursion};
 ghost use Rattle.std.specs.Option.{option_or};
 ghost use Rattle.address_model.specs.Width.{width};
 ghost use Rattle.table_model.specs.Table.{root, half};
@@ -126,6 +127,42 @@ fn note(runs: &mut Vec<Run>, start: u128, hop: u16) -> Result<(), AllocError>
     Ok(())
 }
 
+/// Adds the runs of such a region as `sweep` does, where it has this entry alone. It takes memory for runs alone.
+fn sweep_alone(
+    part: &Part,
+    inherited: u16,
+    start: u128,
+    left: u8,
+    runs: &mut Vec<Run>,
+) -> Result<(), AllocError>
+    requires left { left ≤ 128 }
+    requires fits { start + 2 ^ left ≤ 2 ^ 128 }
+    ensures { OnOk result (Swept left (part_as left part.now ∷ []) inherited start runs.old.items
+        runs.new.items) }
+{
+    if part.len == 0 {
+        return note(runs, start, part.hop);
+    }
+    if left == 0 {
+        return note(runs, start, part.hop);
+    }
+    let at = left - 1;
+    let middle = start + (1 << at);
+    let rest = Part {
+        bits: part.bits,
+        len: part.len - 1,
+        hop: part.hop,
+    };
+    if bit_at(part.bits, at) {
+        note(runs, start, inherited)?;
+        sweep_alone(&rest, inherited, middle, at, runs)?;
+    } else {
+        sweep_alone(&rest, inherited, start, at, runs)?;
+        note(runs, middle, inherited)?;
+    }
+    Ok(())
+}
+
 /// Adds the runs of a region whose addresses are `2 ^ left` from `start` on, and which inherits a hop.
 fn sweep(
     alloc: Global,
@@ -142,6 +179,9 @@ fn sweep(
 {
     if parts.is_empty() {
         return note(runs, start, inherited);
+    }
+    if parts.len() == 1 {
+        return sweep_alone(&parts[0], inherited, start, left, runs);
     }
     if left == 0 {
         return note(runs, start, parts[0].hop);
@@ -168,11 +208,47 @@ pub(crate) fn runs_of(
     Ok(runs)
 }
 
-/// How many runs begin at the number or before it.
-fn begun(runs: &[Run], number: u128) -> usize
+/// The greatest number at which one of the first so many runs begins, 0 for none.
+fn last_start(runs: &[Run], place: usize) -> u128
+    requires { place ≤ length runs.now }
+    ensures { AreRuns 0 runs.now → AllByRecursion (λ r. r.start ≤ result) (take place runs.now) }
+{
+    if place == 0 { 0 } else { runs[place - 1].start }
+}
+
+/// Whether all runs but the first so many begin after the number.
+fn begin_after(runs: &[Run], place: usize, number: u128) -> bool
+    requires { place ≤ length runs.now }
+    ensures { AreRuns 0 runs.now → result ≡ true
+        → AllByRecursion (λ r. number < r.start) (drop place runs.now) }
+{
+    if place == runs.len() {
+        true
+    } else {
+        number < runs[place].start
+    }
+}
+
+/// Whether so many runs begin at the number or before it; false where it's hard to say.
+fn are_begun(runs: &[Run], number: u128, place: usize) -> bool
+    ensures bound { result ≡ true → place ≤ length runs.now }
+    ensures begun { result ≡ true → AreRuns 0 runs.now → IsBegun number runs.now place }
+{
+    place <= runs.len() && last_start(runs, place) <= number && begin_after(runs, place, number)
+}
+
+/// How many runs begin at the number or before it. It is quick where it is the guess or one more.
+fn begun(runs: &[Run], number: u128, guess: usize) -> usize
     ensures bound { result ≤ length runs.now }
     ensures begun { AreRuns 0 runs.now → IsBegun number runs.now result }
 {
+    if are_begun(runs, number, guess) {
+        return guess;
+    }
+    let next = guess.saturating_add(1);
+    if are_begun(runs, number, next) {
+        return next;
+    }
     runs.partition_point(|run| run.start <= number)
 }
 
@@ -193,11 +269,13 @@ fn is_past(number: u128, prefix: &Prefix) -> bool
     unused < 128 && number >> unused != prefix.bits >> unused
 }
 
-/// Whether all addresses of the prefix get the hop.
-pub(crate) fn holds(runs: &[Run], prefix: &Prefix, hop: u16) -> bool
+/// Whether all addresses of the prefix get the hop. The place is how many runs begin at the prefix's first address or before
+/// it; that of a prefix shortly before, given here, makes it quick.
+pub(crate) fn holds(runs: &[Run], prefix: &Prefix, hop: u16, place: &mut usize) -> bool
     ensures { (L : Entries) → RunsTell prefix.now.family L runs.now
         → result ≡ all_get L (prefix_as prefix.now) hop }
 {
-    let place = begun(runs, prefix.bits);
-    hop_before(runs, place) == hop && (place == runs.len() || is_past(runs[place].start, prefix))
+    let here = begun(runs, prefix.bits, *place);
+    *place = here;
+    hop_before(runs, here) == hop && (here == runs.len() || is_past(runs[here].start, prefix))
 }

@@ -119,6 +119,7 @@ fn wrong_in(
     let mut reading = Reading {
         due: Some(Family::V4),
         stack: Vec::new(alloc),
+        place: 0,
         marks: no_marks(alloc)?,
         v4: 0,
         v6: 0,
