@@ -31,6 +31,8 @@ use Rattle.kept_model.specs.Patched.{after_repair, entries_outside, patch_of, re
 use Rattle.kept_feed.specs.Kept.{changed_at, changes_by, is_due, kept_at_load, kept_by, kept_changes_from, kept_from, kept_load_changes, repaired_by, snapshot_if, snapshot_of}
 use Rattle.feed_model.specs.Feed.{at_event, entries_of, hops_after, number_in}
 use Rattle.feed_model.proofs.Numbers.{hops_distinct, entries_have}
+use Rattle.fib_report.specs.Views.{Answer}
+use Rattle.fib_main.specs.Refusals.{Limits}
 use Rattle.fib_main.specs.Due.{Feed, answers_to, kept_of, printed}
 use Rattle.fib_main.specs.Runs.{ChangeHasHop, HasHops, RowHasHop}
 
@@ -145,9 +147,9 @@ aggregate_at_most n f R old l =
 least_at_most : (n : ℕ) (R old : Entries) → EntriesAtMost n R → EntriesAtMost n (aggregate_in_both R old)
 least_at_most n R old l = both (λ (e : Prefix × ℕ). e.1 ≤ n) (aggregate_in V4 R old) (aggregate_in V6 R old) (aggregate_at_most n V4 R old l) (aggregate_at_most n V6 R old l)
 
-answers_at_most : (n : ℕ) (R : Entries) (asks : List Address) → EntriesAtMost n R → AllByRecursion (λ (a : Address × ℕ). a.1 ≤ n) (answers_to R asks)
-answers_at_most n R [] l = tt
-answers_at_most n R (a ∷ asks) l = (lpm_at_most n a.family R a.bits l, answers_at_most n R asks l)
+answers_at_most : (n s : ℕ) (R : Entries) (asks : List Address) → EntriesAtMost n R → AllByRecursion (λ (a : Answer). a.hop ≤ n) (answers_to s R asks)
+answers_at_most n s R [] l = tt
+answers_at_most n s R (a ∷ asks) l = (lpm_at_most n a.family R a.bits l, answers_at_most n s R asks l)
 
 -- ---- the certificate
 
@@ -316,8 +318,9 @@ changes_have every hops n held T (elem ∷ elems) t =
 
 -- ---- all that is told
 
-pub has_hops : (every : ℕ) (load updates : Feed) (asks : List Address) → HasHops (printed every load updates asks)
-has_hops every load updates asks =
+pub has_hops : (limits : Limits) (load updates : Feed) (asks : List Address) → HasHops (printed limits load updates asks)
+has_hops limits load updates asks =
+    let every : ℕ = limits.every in
     let elems : List Elem = load.elems ++ updates.elems in
     let hops : List Address = hops_after [] elems in
     let held : Candidates = after_elems [] load.elems in
@@ -329,7 +332,7 @@ has_hops every load updates asks =
       distinct = hops_distinct elems;
       routes = entries_have elems;
       changes = both (λ (c : ℕ × Change). ChangeHasHop hops c.1) (kept_load_changes hops held) (kept_changes_from every hops 1 held T updates.elems) (between_have hops 0 [] T first) (changes_have every hops 1 held T updates.elems first);
-      answers = answers_at_most (length hops) R asks few;
+      answers = answers_at_most (length hops) limits.sizes.direct R asks few;
       table = table_has every hops 1 held T updates.elems first;
       least = least_at_most (length hops) R (kept_of every hops load.elems updates.elems) few;
       cert = cert_have hops R few;

@@ -2,7 +2,7 @@
 use Rattle.std.proofs.Common.{ℕ, List, Result, inl, inr, refl}
 use Rattle.fib_io.specs.Causes.{Rose}
 use Rattle.fib_main.specs.declared.outcome.Outcome.{Outcome}
-use Rattle.fib_main.specs.declared.outcome.Outcome.TheVariants.{Done, CheckNo, Usage, ReadFault, WriteFault, NoMemory, TooLarge, Malformed, HopsFull, BadLine}
+use Rattle.fib_main.specs.declared.outcome.Outcome.TheVariants.{Done, CheckNo, Usage, ReadFault, WriteFault, NoMemory, TooLarge, Malformed, HopsFull, TrieFull, BadLine}
 use Rattle.fib_main.specs.Stops.{Stop}
 use Rattle.fib_main.specs.Due.{Output}
 use Rattle.fib_main.specs.Ends.{Meets, ReadsBy, WritesBy, Completes}
@@ -18,4 +18,5 @@ completes d f before now b n Usage m r w = λ nr nw. inl m
 completes d f before now b n (TooLarge input) m r w = λ nr nw. inl m
 completes d f before now b n (Malformed input number rule) m r w = λ nr nw. inl m
 completes d f before now b n (HopsFull event) m r w = λ nr nw. inl m
+completes d f before now b n (TrieFull event need have arena) m r w = λ nr nw. inl m
 completes d f before now b n (BadLine input line why) m r w = λ nr nw. inl m

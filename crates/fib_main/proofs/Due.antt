@@ -1,21 +1,28 @@
 -- What is due, part by part.
-use Rattle.std.proofs.Common.{◌≡◌, ℕ, false, List, [], Option, Some, Result, Ok, Err, inr, refl, sym, ap, subst, arith}
+use Rattle.std.proofs.Common.{◌≡◌, ℕ, false, List, [], Option, Some, None, Result, Ok, Err, inr, refl, sym, ap, ◌∙◌, subst, append-nil, arith}
 use Rattle.std.specs.Prelude.{option_to_list}
 use Rattle.octet_fields.specs.Field.{◌>>=◌}
 use Rattle.address_model.specs.Address.{Address}
-use Rattle.feed_model.specs.Feed.{full_at}
 use Rattle.fib_words.specs.Commands.{Named}
 use Rattle.fib_main.specs.declared.outcome.Outcome.{Outcome}
-use Rattle.fib_main.specs.declared.outcome.Outcome.TheVariants.{Done, CheckNo, Usage, ReadFault, WriteFault, NoMemory, TooLarge, Malformed, HopsFull, BadLine}
+use Rattle.fib_main.specs.declared.outcome.Outcome.TheVariants.{Done, CheckNo, Usage, ReadFault, WriteFault, NoMemory, TooLarge, Malformed, HopsFull, TrieFull, BadLine}
 use Rattle.fib_main.specs.declared.outcome.MrtInput.TheVariants.{Dump, Updates}
 use Rattle.fib_main.specs.declared.state.State.{State}
-use Rattle.fib_main.specs.Stops.{Stop, Untold, Refused, IsDueIfTold, FailsDue}
-use Rattle.fib_main.specs.Due.{Feed, feed_at, printed, told_at, printed_text, with_text}
+use Rattle.fib_main.specs.Stops.{Stop, Untold, Refused, IsDueIfTold, FailsDue, outcome_at, with_room}
+use Rattle.route_tries.specs.Sizes.{Shortage, shortage, shortage_as}
+use Rattle.route_tries.specs.declared.sizes.TrieFull.{TrieFull as CodeFull}
+use Rattle.fib_main.specs.Refusals.{Limits, Short, routes_by, stop_at}
+use Rattle.fib_main.specs.Due.{Feed, Printed, feed_at, feeds_at, limits_of, load_at, printed, sizes_of, told_at}
 use Rattle.fib_main.specs.Ends.{OneRose, ReadsBy, after, feeds_named}
-use Rattle.fib_engine.specs.Held.{Held}
+use Rattle.fib_engine.specs.Held.{Held, routes_in}
 use Rattle.fib_main.specs.declared.report.Fed.{Fed}
 use Rattle.fib_main.specs.Views.{changes_as}
-use Rattle.fib_main.specs.Standing.{StateStands, StateHas, IsFed}
+use Rattle.fib_main.specs.Standing.{EndsShort, StateStands, StateHas, IsFed, IsOfLoad, refusal_of}
+use Rattle.fib_main.specs.Owned.{StopsAt}
+use Rattle.fib_main.specs.declared.outcome.Which.TheVariants as which
+use Rattle.fib_main.specs.declared.state.FeedError.{FeedError}
+use Rattle.fib_main.specs.declared.state.FeedError.TheVariants as feed
+use Rattle.feed_model.specs.Feed.{entries_of, hops_after}
 
 refused_not_ok : {X : Type 0} (o : Outcome) (x : X) → Err (Refused o) ≡ Ok x → ⊥
 refused_not_ok o x e = cc
@@ -46,6 +53,7 @@ fails_untold Y Usage d f = tt
 fails_untold Y (TooLarge input) d f = tt
 fails_untold Y (Malformed input number rule) d f = tt
 fails_untold Y (HopsFull event) d f = tt
+fails_untold Y (TrieFull event need have arena) d f = tt
 fails_untold Y (BadLine input line why) d f = tt
 
 fails_then : {X Y : Type 0} (o : Outcome) (d : Result X Stop) (f : X → Result Y Stop) (x : X) → IsDueIfTold d (Ok x) → FailsDue o (f x) → FailsDue o (d >>= f)
@@ -73,6 +81,7 @@ fails_first Usage d f j = is_first Usage d f j
 fails_first (TooLarge input) d f j = is_first (TooLarge input) d f j
 fails_first (Malformed input number rule) d f j = is_first (Malformed input number rule) d f j
 fails_first (HopsFull event) d f j = is_first (HopsFull event) d f j
+fails_first (TrieFull event need have arena) d f j = is_first (TrieFull event need have arena) d f j
 fails_first (BadLine input line why) d f j = is_first (BadLine input line why) d f j
 
 -- ---- the dump, and then the updates
@@ -80,25 +89,63 @@ fails_first (BadLine input line why) d f j = is_first (BadLine input line why) d
 abbrev Content : Type 0
 Content = List ℕ → Option (List ℕ)
 
-pub load_fails : (content : Content) (named : Named) (asks : List Address) (o : Outcome) → FailsDue o (feed_at content Dump [] (Some named.dump)) → FailsDue o (with_text (told_at content named asks))
-unfolding told_at
-load_fails content named asks o f =
-    fails_first o (told_at content named asks) (λ p. Ok (printed_text p))
-    (fails_first o (feed_at content Dump [] (Some named.dump)) (λ load. feed_at content Updates load.elems named.updates >>= λ updates. Ok (printed named.every load updates asks)) f)
+-- the tries of the dump's routes have room, or the load ends there
+room : {A : Type 0} (o : Option Shortage) (x : A) → o ≡ None → with_room o x ≡ Ok x
+room None x e = refl
+room (Some s) x e = absurd cc
 
-pub updates_fail : (content : Content) (named : Named) (asks : List Address) (o : Outcome) (load : Feed) → IsDueIfTold (feed_at content Dump [] (Some named.dump)) (Ok load) → FailsDue o (feed_at content Updates load.elems named.updates) → FailsDue o (with_text (told_at content named asks))
-unfolding told_at
-updates_fail content named asks o load i f =
-    fails_first o (told_at content named asks) (λ p. Ok (printed_text p))
-    (fails_then o (feed_at content Dump [] (Some named.dump)) (λ load. feed_at content Updates load.elems named.updates >>= λ updates. Ok (printed named.every load updates asks)) load i
-    (fails_first o (feed_at content Updates load.elems named.updates) (λ updates. Ok (printed named.every load updates asks)) f))
+no_room : {A : Type 0} (o : Option Shortage) (s : Shortage) (x : A) → o ≡ Some s → with_room o x ≡ stopped (outcome_at 0 (Short s))
+no_room None s x e = absurd cc
+no_room (Some t) s x e = let same : t ≡ s = cc in ap (λ u. stopped (outcome_at 0 (Short u))) same
 
-pub all_due : (content : Content) (named : Named) (asks : List Address) (load updates : Feed) (text : List ℕ) → IsDueIfTold (feed_at content Dump [] (Some named.dump)) (Ok load) → IsDueIfTold (feed_at content Updates load.elems named.updates) (Ok updates) → text ≡ printed_text (printed named.every load updates asks) → IsDueIfTold (with_text (told_at content named asks)) (Ok text)
+pub dump_fails : (content : Content) (named : Named) (o : Outcome) → FailsDue o (feed_at (sizes_of named) content Dump [] (Some named.dump)) → FailsDue o (feeds_at content named)
+unfolding feeds_at load_at
+dump_fails content named o f = fails_first o (load_at (sizes_of named) content named.dump) _ (fails_first o (feed_at (sizes_of named) content Dump [] (Some named.dump)) _ f)
+
+abbrev due_feed : Content → Named → Result Feed Stop
+due_feed content named = feed_at (sizes_of named) content Dump [] (Some named.dump)
+
+is_refusal : {X : Type 0} (o : Outcome) (d : Result X Stop) → d ≡ stopped o → IsDueIfTold d (stopped o)
+is_refusal o d e = rw e refl
+
+pub load_fits : (content : Content) (named : Named) (load : Feed) → IsDueIfTold (due_feed content named) (Ok load) → shortage (sizes_of named) (routes_by load.elems) ≡ None → IsDueIfTold (load_at (sizes_of named) content named.dump) (Ok load)
+unfolding load_at
+load_fits content named load i e =
+    is_then (due_feed content named) (λ l. with_room (shortage (sizes_of named) (routes_by l.elems)) l) load load i (subst (λ d. IsDueIfTold d (fine load)) (sym (room (shortage (sizes_of named) (routes_by load.elems)) load e)) refl)
+
+-- a load that lacks places is refused
+pub load_lacks : (content : Content) (named : Named) (load : Feed) (full : CodeFull) → IsDueIfTold (due_feed content named) (Ok load) → shortage (sizes_of named) (routes_by load.elems) ≡ Some (shortage_as full) → FailsDue (TrieFull 0 full.need full.have full.arena) (feeds_at content named)
+unfolding feeds_at load_at
+load_lacks content named load full i e =
+    let o = TrieFull 0 full.need full.have full.arena in
+    let here : FailsDue {Y = Feed} o (with_room (shortage (sizes_of named) (routes_by load.elems)) load) = is_refusal o _ (no_room (shortage (sizes_of named) (routes_by load.elems)) (shortage_as full) load e) in
+    fails_first o (load_at (sizes_of named) content named.dump) _ (fails_then o (due_feed content named) (λ l. with_room (shortage (sizes_of named) (routes_by l.elems)) l) load i here)
+
+abbrev due_updates : Content → Named → Feed → Result Feed Stop
+due_updates content named load = feed_at (sizes_of named) content Updates load.elems named.updates
+
+pub updates_fail : (content : Content) (named : Named) (o : Outcome) (load : Feed) → IsDueIfTold (load_at (sizes_of named) content named.dump) (Ok load) → FailsDue o (due_updates content named load) → FailsDue o (feeds_at content named)
+unfolding feeds_at
+updates_fail content named o load i f =
+    fails_then o (load_at (sizes_of named) content named.dump) (λ load. due_updates content named load >>= λ updates. Ok (load, updates)) load i (fails_first o (due_updates content named load) (λ updates. Ok (load, updates)) f)
+
+pub feeds_due : (content : Content) (named : Named) (load updates : Feed) → IsDueIfTold (load_at (sizes_of named) content named.dump) (Ok load) → IsDueIfTold (due_updates content named load) (Ok updates) → IsDueIfTold (feeds_at content named) (Ok (load, updates))
+unfolding feeds_at
+feeds_due content named load updates i j =
+    is_then (load_at (sizes_of named) content named.dump) (λ load. due_updates content named load >>= λ updates. Ok (load, updates)) load (load, updates) i
+    (is_then (due_updates content named load) (λ updates. Ok (load, updates)) updates (load, updates) j refl)
+
+-- what is told of them
+
+pub feeds_fail : {Y : Type 0} (content : Content) (named : Named) (asks : List Address) (f : Printed → Result Y Stop) (o : Outcome) → FailsDue o (feeds_at content named) → FailsDue o (told_at content named asks >>= f)
 unfolding told_at
-all_due content named asks load updates text i j e =
-    is_then (told_at content named asks) (λ p. Ok (printed_text p)) (printed named.every load updates asks) text
-    (is_then (feed_at content Dump [] (Some named.dump)) (λ load. feed_at content Updates load.elems named.updates >>= λ updates. Ok (printed named.every load updates asks)) load (printed named.every load updates asks) i
-    (is_then (feed_at content Updates load.elems named.updates) (λ updates. Ok (printed named.every load updates asks)) updates (printed named.every load updates asks) j refl))
+feeds_fail content named asks f o j = fails_first o (told_at content named asks) f (fails_first o (feeds_at content named) (λ feeds. Ok (printed (limits_of named) feeds.0 feeds.1 asks)) j)
+
+pub all_due : {Y : Type 0} (content : Content) (named : Named) (asks : List Address) (view : Printed → Y) (feeds : Feed × Feed) (y : Y) → IsDueIfTold (feeds_at content named) (Ok feeds) → y ≡ view (printed (limits_of named) feeds.0 feeds.1 asks) → IsDueIfTold (told_at content named asks >>= λ p. Ok (view p)) (Ok y)
+unfolding told_at
+all_due content named asks view feeds y i e =
+    is_then (told_at content named asks) (λ p. Ok (view p)) (printed (limits_of named) feeds.0 feeds.1 asks) y
+    (is_then (feeds_at content named) (λ feeds. Ok (printed (limits_of named) feeds.0 feeds.1 asks)) feeds (printed (limits_of named) feeds.0 feeds.1 asks) i refl)
     (ap fine (sym e))
 
 -- ---- the inputs that are read
@@ -118,26 +165,60 @@ reads_more cause more before now Usage f r = r
 reads_more cause more before now (TooLarge input) f r = r
 reads_more cause more before now (Malformed input number rule) f r = r
 reads_more cause more before now (HopsFull event) f r = r
+reads_more cause more before now (TrieFull event need have arena) f r = r
 reads_more cause more before now (BadLine input line why) f r = r
 
-pub updates_read : (content : Content) (named : Named) (load : Feed) (before mid now : List ℕ → ℕ) (o : Outcome) → IsDueIfTold (feed_at content Dump [] (Some named.dump)) (Ok load) → mid ≡ before → ReadsBy (OneRose (option_to_list named.updates) mid now) mid now o
+pub updates_read : (content : Content) (named : Named) (load : Feed) (before mid now : List ℕ → ℕ) (o : Outcome) → IsDueIfTold (load_at (sizes_of named) content named.dump) (Ok load) → mid ≡ before → ReadsBy (OneRose (option_to_list named.updates) mid now) mid now o
     → ReadsBy (OneRose (feeds_named content named) before now) before now o
 updates_read content named load before mid now o i same r =
     let at : ReadsBy (OneRose (option_to_list named.updates) before now) before now o = subst (λ b. ReadsBy (OneRose (option_to_list named.updates) b now) b now o) same r in
     reads_more (OneRose (option_to_list named.updates) before now) (OneRose (feeds_named content named) before now) before now o
-    (λ rose. inr (subst (λ names. OneRose names before now) (sym (after_is (feed_at content Dump [] (Some named.dump)) load (option_to_list named.updates) i)) rose)) at
+    (λ rose. inr (subst (λ names. OneRose names before now) (sym (after_is (load_at (sizes_of named) content named.dump) load (option_to_list named.updates) i)) rose)) at
 
 -- ---- where the inputs begin
 
-pub stands_new : (every : ℕ) (state : State) → state.engine ≡ record { every = every; candidates = []; hops = []; table = []; loaded = false; events = 0 } → state.changes.items ≡ [] → StateStands Dump every [] [] state
-unfolding full_at
-stands_new every state e n = record {
+pub stands_new : (limits : Limits) (state : State) → state.engine ≡ record { every = limits.every; sizes = limits.sizes; candidates = []; hops = []; table = []; loaded = false; events = 0 } → state.changes.items ≡ [] → StateStands Dump limits [] [] state
+unfolding stop_at
+stands_new limits state e n = record {
   engine = rw e (record { candidates = refl; hops = refl; proper = tt; table = refl; loaded = refl; events = refl });
   every_is = ap (λ (h : Held). h.every) e;
+  sizes_are = ap (λ (h : Held). h.sizes) e;
   few = rw e (omega arith);
   fits = refl;
   changes = ap changes_as n;
 }
 
-pub fed_all : (every : ℕ) (load updates : Feed) (fed : Fed) (before state : State) → StateHas Dump every [] load fed.load before → StateHas Updates every load.elems updates fed.updates state → IsFed every load updates fed state
-fed_all every load updates fed before state h u = record { counted = h.counted; has = u }
+pub fed_all : (limits : Limits) (load updates : Feed) (fed : Fed) (before state : State) → StateHas Dump limits [] load fed.load before → StateHas Updates limits load.elems updates fed.updates state → IsFed limits load updates fed state
+fed_all limits load updates fed before state h u = record { counted = h.counted; has = u }
+
+-- ---- the load's end isn't reached
+
+pub dump_stops : (error : FeedError) → StopsAt which.Dump (refusal_of Dump error)
+dump_stops (feed.Malformed malformed) = (refl, tt)
+dump_stops (feed.HopsFull n) = refl
+dump_stops (feed.TrieFull n full) = refl
+dump_stops feed.NoMemory = tt
+dump_stops feed.Fault = tt
+dump_stops feed.TooLarge = refl
+
+pub end_reads : (cause : Type 0) (before now : List ℕ → ℕ) (error : FeedError) → IsOfLoad error → now ≡ before → ReadsBy cause before now (refusal_of Dump error)
+end_reads cause before now (feed.Malformed malformed) of same = absurd of
+end_reads cause before now (feed.HopsFull n) of same = absurd of
+end_reads cause before now (feed.TrieFull n full) of same = same
+end_reads cause before now feed.NoMemory of same = same
+end_reads cause before now feed.Fault of same = absurd of
+end_reads cause before now feed.TooLarge of same = absurd of
+
+pub end_fails : (content : Content) (named : Named) (load : Feed) (error : FeedError) → IsDueIfTold (due_feed content named) (Ok load) → EndsShort (limits_of named) load.elems error → FailsDue (refusal_of Dump error) (feeds_at content named)
+end_fails content named load (feed.TrieFull n full) i e = load_lacks content named load full i e.1
+end_fails content named load feed.NoMemory i e = tt
+end_fails content named load (feed.Malformed malformed) i e = absurd e
+end_fails content named load (feed.HopsFull n) i e = absurd e
+end_fails content named load feed.Fault i e = absurd e
+end_fails content named load feed.TooLarge i e = absurd e
+
+-- a state after the load's end has room
+pub load_has_room : (limits : Limits) (load : Feed) (state : State) → StateStands Updates limits load.elems [] state → shortage limits.sizes (routes_by load.elems) ≡ None
+load_has_room limits load state s =
+    let routes : routes_in state.engine ≡ routes_by load.elems = ap (λ hs. entries_of hs state.engine.candidates) (s.engine.hops ∙ ap (hops_after []) (append-nil load.elems)) ∙ ap (entries_of (hops_after [] load.elems)) s.engine.candidates in
+    ap (shortage limits.sizes) (sym routes) ∙ (ap (λ z. shortage z (routes_in state.engine)) (sym s.sizes_are) ∙ s.engine.fits)

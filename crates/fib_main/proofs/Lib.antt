@@ -13,6 +13,7 @@ pub mod FewEvents
 pub mod Fitting
 pub mod Keeping
 pub mod Printing
+pub mod Refusing
 pub mod Replies
 pub mod Reporting
 pub mod Running
@@ -20,3 +21,4 @@ pub mod Steps
 pub mod Telling
 pub mod Untold
 pub mod Streaming
+pub mod Making

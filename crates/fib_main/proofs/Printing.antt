@@ -22,11 +22,12 @@ use Rattle.printed_model.specs.Numbered.{of_route, of_least, of_cert, IsOther, P
 use Rattle.printed_model.specs.Used.{printed_in, used_of}
 use Rattle.printed_model.proofs.Few.{printed_read}
 use Rattle.printed_model.proofs.Renamed.{printed_proves}
-use Rattle.fib_report.specs.Views.{Told}
+use Rattle.fib_report.specs.Views.{Answer, Told}
 use Rattle.fib_report.specs.Rows.{change_row, of_answer, of_change, table_entry_row, printed_rows, report_rows}
 use Rattle.fib_words.specs.Commands.{Named, Asked, Run}
 use Rattle.fib_main.specs.declared.report.Fed.{Fed}
 use Rattle.fib_main.specs.declared.state.State.{State}
+use Rattle.fib_main.specs.Refusals.{Limits}
 use Rattle.fib_main.specs.Due.{Feed, Printed, kept_of, output_at, printed, ran, run_at, printed_text, with_text}
 use Rattle.fib_main.specs.Proves.{ChecksYes, IfRan, PrintsYes}
 use Rattle.fib_main.specs.Standing.{IsFed}
@@ -56,10 +57,14 @@ change_other hops event (Add p h) = tt
 change_other hops event (Replace p h) = tt
 change_other hops event (Remove p) = tt
 
-between_other : (hops : List Address) (told : Told) → AllByRecursion IsOther (map (of_change hops) told.changes ++ map (of_answer hops) told.answers ++ map (table_entry_row hops) told.table)
+answers_other : (hops : List Address) (answers : List Answer) → AllByRecursion IsOther (flat_map (of_answer hops) answers)
+answers_other hops [] = tt
+answers_other hops (a ∷ answers) = (tt, (tt, answers_other hops answers))
+
+between_other : (hops : List Address) (told : Told) → AllByRecursion IsOther (map (of_change hops) told.changes ++ flat_map (of_answer hops) told.answers ++ map (table_entry_row hops) told.table)
 between_other hops told =
-    both_other (map (of_change hops) told.changes ++ map (of_answer hops) told.answers) (map (table_entry_row hops) told.table)
-    (both_other (map (of_change hops) told.changes) (map (of_answer hops) told.answers) (all_other (of_change hops) (λ c. change_other hops c.0 c.1) told.changes) (all_other (of_answer hops) (λ a. tt) told.answers))
+    both_other (map (of_change hops) told.changes ++ flat_map (of_answer hops) told.answers) (map (table_entry_row hops) told.table)
+    (both_other (map (of_change hops) told.changes) (flat_map (of_answer hops) told.answers) (all_other (of_change hops) (λ c. change_other hops c.0 c.1) told.changes) (answers_other hops told.answers))
     (all_other (table_entry_row hops) (λ e. tt) told.table)
 
 -- ---- the text
@@ -68,18 +73,18 @@ all_elems : (xs ys : List Elem) → AllByRecursion IsElem xs → AllByRecursion 
 all_elems [] ys a b = b
 all_elems (x ∷ xs) ys a b = (a.0, all_elems xs ys a.1 b)
 
-pub checks_yes : (every : ℕ) (load updates : Feed) (fed : Fed) (state : State) (asks numbered : List Address) (run : Told) (text : List ℕ) → IsFed every load updates fed state → run ≡ (printed every load updates asks).told
-    → numbered ≡ state.engine.hops → AllByRecursion IsRow (printed_rows numbered run) → text ≡ printed_text (printed every load updates asks) → ChecksYes text
-checks_yes every load updates fed state asks numbered run text f r n proper e =
+pub checks_yes : (limits : Limits) (load updates : Feed) (fed : Fed) (state : State) (asks numbered : List Address) (run : Told) (text : List ℕ) → IsFed limits load updates fed state → run ≡ (printed limits load updates asks).told
+    → numbered ≡ state.engine.hops → AllByRecursion IsRow (printed_rows numbered run) → text ≡ printed_text (printed limits load updates asks) → ChecksYes text
+checks_yes limits load updates fed state asks numbered run text f r n proper e =
     let elems : List Elem = load.elems ++ updates.elems in
     let hops : List Address = hops_after [] elems in
     let held : Candidates = after_elems [] elems in
-    let told : Told = (printed every load updates asks).told in
+    let told : Told = (printed limits load updates asks).told in
     let R : Entries = entries_of hops held in
-    let K : Entries = kept_of every hops load.elems updates.elems in
+    let K : Entries = kept_of limits.every hops load.elems updates.elems in
     let T : Entries = aggregate_in_both R K in
     let C : List CertRow = certificate_of R in
-    let between : List PrintedRow = map (of_change hops) told.changes ++ map (of_answer hops) told.answers ++ map (table_entry_row hops) told.table in
+    let between : List PrintedRow = map (of_change hops) told.changes ++ flat_map (of_answer hops) told.answers ++ map (table_entry_row hops) told.table in
     let after : List PrintedRow = report_rows told.report in
     let s = f.has.stands in
     let few : length hops ≤ most_hops = subst (λ h. length h ≤ most_hops) s.engine.hops s.few in
@@ -87,17 +92,17 @@ checks_yes every load updates fed state asks numbered run text f r n proper e =
     let cert : IsCertificate R T C = certified_least R K (entries_sorted hops held (candidates_stay [] elems none_yet proper_all)) in
     let others = between_other hops told in
     let same : printed_rows hops told ≡ rows_with hops R T C between after =
-    parted (flat_map (of_route hops) R) (map (of_change hops) told.changes) (map (of_answer hops) told.answers) (map (table_entry_row hops) told.table) (map (of_least hops) T) (map (of_cert hops) C) after
+    parted (flat_map (of_route hops) R) (map (of_change hops) told.changes) (flat_map (of_answer hops) told.answers) (map (table_entry_row hops) told.table) (map (of_least hops) T) (map (of_cert hops) C) after
     in
     let all : AllByRecursion IsRow (rows_with hops R T C between after) =
     subst (AllByRecursion IsRow) same (subst (λ h. AllByRecursion IsRow (printed_rows h told)) (n ∙ s.engine.hops) (subst (λ x. AllByRecursion IsRow (printed_rows numbered x)) r proper))
     in
     let right : Proves (used_of (rows_with hops R T C between after)) =
-    printed_proves hops R T C between after (hops_distinct elems) (entries_have elems) others (tt, (tt, (tt, (tt, (tt, (tt, tt)))))) cert
+    printed_proves hops R T C between after (hops_distinct elems) (entries_have elems) others (tt, (tt, (tt, (tt, (tt, (tt, (tt, (tt, tt)))))))) cert
     in
     record {
       used = used_of (rows_with hops R T C between after);
-      read = ap printed_in (e ∙ ap rows_text same) ∙ printed_read hops R T C between after few others (tt, (tt, (tt, (tt, (tt, (tt, tt)))))) all;
+      read = ap printed_in (e ∙ ap rows_text same) ∙ printed_read hops R T C between after few others (tt, (tt, (tt, (tt, (tt, (tt, (tt, (tt, tt)))))))) all;
       certified = right;
       yes = verdict_from _ _ _ right;
     }

@@ -5,12 +5,15 @@ use Rattle.octet_fields.specs.Field.{◌>>=◌}
 use Rattle.cert_model.proofs.Rules.{soundness_law}
 use Rattle.cert_model.proofs.Verdicts.{verdict_is, verdict_law}
 use Rattle.cert_model.specs.Verdict.{RowFits}
-use Rattle.printed_model.specs.Texts.{BadLine}
+use Rattle.printed_model.specs.Texts.{BadLine as BadRow}
 use Rattle.printed_model.specs.Used.{Used, printed_in}
-use Rattle.fib_words.specs.Commands.{Named, Asked, Run, Check, command_of}
+use Rattle.fib_words.specs.Commands.{Named, Asked, Run, Check, Make, command_of}
 use Rattle.fib_main.specs.declared.outcome.Which.TheVariants as which
-use Rattle.fib_main.specs.Stops.{Stop, Untold, Refused, rowed, IsDueIfTold}
-use Rattle.fib_main.specs.Due.{Printed, Reply, ran, checked, due, input_at, output_at, run_at, usage, used_at, printed_text, with_text, with_reply}
+use Rattle.fib_main.specs.declared.outcome.Outcome.{Outcome}
+use Rattle.fib_main.specs.declared.outcome.Outcome.TheVariants.{Done, CheckNo, Usage, ReadFault, WriteFault, NoMemory, TooLarge, Malformed, HopsFull, TrieFull, BadLine}
+use Rattle.fib_main.specs.Stops.{Stop, Untold, Refused, rowed, FailsDue, IsDueIfTold}
+use Rattle.fib_main.specs.Due.{Printed, Reply, ran, checked, due, made, made_at, with_counts, input_at, output_at, run_at, usage, used_at, printed_text, with_text, with_reply}
+use Rattle.fib_report.specs.Rows.{report_text}
 use Rattle.fib_main.specs.Proves.{IfChecked, Decides, YesProves}
 use Rattle.fib_main.proofs.Fitting.{read_fits}
 
@@ -35,13 +38,68 @@ ran_replied content named asked text reply a r i = rw (a, r) (by_run (run_at con
     by_run (Err Untold) i = tt
     by_run (Err (Refused o)) i = absurd cc
 
+-- a refusal of its text is one of what is to be replied
+pub ran_refused : (d : Result Printed Stop) (o : Outcome) → FailsDue o (with_text d) → FailsDue o (with_reply (ran d))
+ran_refused d o f = passed o d f
+  where
+    is_first : (d : Result Printed Stop) (o : Outcome) → IsDueIfTold (with_text d) (Err (Refused o)) → IsDueIfTold (with_reply (ran d)) (Err (Refused o))
+    is_first (Ok p) o i = absurd cc
+    is_first (Err Untold) o i = tt
+    is_first (Err (Refused p)) o i = let same : p ≡ o = cc in ap (λ (q : Outcome). Err (Refused q)) same
+
+    passed : (o : Outcome) (d : Result Printed Stop) → FailsDue o (with_text d) → FailsDue o (with_reply (ran d))
+    passed Done d f = f
+    passed (CheckNo x) d f = f
+    passed WriteFault d f = f
+    passed NoMemory d f = tt
+    passed ReadFault d f = tt
+    passed Usage d f = is_first d Usage f
+    passed (TooLarge input) d f = is_first d (TooLarge input) f
+    passed (Malformed input number rule) d f = is_first d (Malformed input number rule) f
+    passed (HopsFull event) d f = is_first d (HopsFull event) f
+    passed (TrieFull event need have arena) d f = is_first d (TrieFull event need have arena) f
+    passed (BadLine input line why) d f = is_first d (BadLine input line why) f
+
+-- so of a run on inputs that are made
+pub made_replied : (routes seed : ℕ) (content : List ℕ → Option (List ℕ)) (asked : Asked) (text : List ℕ) (reply : Reply) → asked ≡ Make routes seed → reply ≡ record { text = text; wrong = None } → IsDueIfTold (with_counts (made_at routes seed)) (Ok text) → IsDueIfTold (with_reply (output_at content asked)) (Ok reply)
+unfolding output_at
+made_replied routes seed content asked text reply a r i = rw (a, r) (by_run (made_at routes seed) i)
+  where
+    by_run : (d : Result Printed Stop) → IsDueIfTold (with_counts d) (fine text) → IsDueIfTold (with_reply (made d)) (fine (plain text))
+    by_run (Ok p) i = ap (λ t. fine (plain t)) (same_fine (report_text p.told.report) text i)
+    by_run (Err Untold) i = tt
+    by_run (Err (Refused o)) i = absurd cc
+
+-- a refusal of it is one of what is to be replied
+pub made_refused : (routes seed : ℕ) (content : List ℕ → Option (List ℕ)) (asked : Asked) (o : Outcome) → asked ≡ Make routes seed → FailsDue o (with_counts (made_at routes seed)) → FailsDue o (with_reply (output_at content asked))
+unfolding output_at
+made_refused routes seed content asked o a f = rw a (passed o (made_at routes seed) f)
+  where
+    is_first : (d : Result Printed Stop) (o : Outcome) → IsDueIfTold (with_counts d) (Err (Refused o)) → IsDueIfTold (with_reply (made d)) (Err (Refused o))
+    is_first (Ok p) o i = absurd cc
+    is_first (Err Untold) o i = tt
+    is_first (Err (Refused p)) o i = let same : p ≡ o = cc in ap (λ (q : Outcome). Err (Refused q)) same
+
+    passed : (o : Outcome) (d : Result Printed Stop) → FailsDue o (with_counts d) → FailsDue o (with_reply (made d))
+    passed Done d f = f
+    passed (CheckNo x) d f = f
+    passed WriteFault d f = f
+    passed NoMemory d f = tt
+    passed ReadFault d f = tt
+    passed Usage d f = is_first d Usage f
+    passed (TooLarge input) d f = is_first d (TooLarge input) f
+    passed (Malformed input number rule) d f = is_first d (Malformed input number rule) f
+    passed (HopsFull event) d f = is_first d (HopsFull event) f
+    passed (TrieFull event need have arena) d f = is_first d (TrieFull event need have arena) f
+    passed (BadLine input line why) d f = is_first d (BadLine input line why) f
+
 -- ---- what holds of each text that is checked
 
 -- a property of what is used of each text whose rows are of prefixes
 abbrev pub OfEachText : (Used → Type 0) → Type 0
 OfEachText P = (used : Used) → AllByRecursion RowFits used.cert → P used
 
-text_checked : (P : Used → Type 0) → OfEachText P → (text : List ℕ) (r : Result Used BadLine) → printed_in text ≡ r → IfChecked (checked (rowed r)) P
+text_checked : (P : Used → Type 0) → OfEachText P → (text : List ℕ) (r : Result Used BadRow) → printed_in text ≡ r → IfChecked (checked (rowed r)) P
 text_checked P each text (Ok used) e = each used (read_fits text used e)
 text_checked P each text (Err bad) e = tt
 
@@ -53,6 +111,10 @@ name_checked P each content name = by_octets (input_at content which.Printed nam
     by_octets (Ok octets) = text_checked P each octets (printed_in octets) refl
     by_octets (Err stop) = tt
 
+none_made : (P : Used → Type 0) (p : Result Printed Stop) → IfChecked (made p) P
+none_made P (Ok p) = tt
+none_made P (Err stop) = tt
+
 none_checked : (P : Used → Type 0) (p : Result Printed Stop) → IfChecked (ran p) P
 none_checked P (Ok p) = tt
 none_checked P (Err stop) = tt
@@ -62,6 +124,7 @@ unfolding output_at
 words_checked P each content None = tt
 words_checked P each content (Some (Run named)) = none_checked P (run_at content named)
 words_checked P each content (Some (Check name)) = name_checked P each content name
+words_checked P each content (Some (Make routes seed)) = none_made P (made_at routes seed)
 
 each_checked : (P : Used → Type 0) → OfEachText P → (words : List (List ℕ)) (content : List ℕ → Option (List ℕ)) → IfChecked (due words content) P
 unfolding due

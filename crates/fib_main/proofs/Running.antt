@@ -17,19 +17,23 @@ use Rattle.address_model.specs.Width.{width}
 use Rattle.table_model.specs.Table.{Alike}
 use Rattle.least_model.specs.Both.{LeastInBoth}
 use Rattle.delta_model.proofs.Held.{Placed}
-use Rattle.feed_model.specs.Feed.{hops_after, full_at, entries_of}
+use Rattle.feed_model.specs.Feed.{hops_after, entries_of}
 use Rattle.feed_model.proofs.Tables.{entries_sorted}
 use Rattle.kept_feed.specs.Kept.{kept_at_load, kept_by}
 use Rattle.kept_feed.proofs.Steps.{kept_step}
 use Rattle.kept_feed.proofs.Sums.{all}
-use Rattle.fib_words.specs.Commands.{Named, Asked, Run, Check, command_of}
+use Rattle.fib_words.specs.Commands.{Named, Asked, Run, Check, Make, command_of}
 use Rattle.printed_model.specs.Used.{Used}
 use Rattle.fib_main.specs.declared.outcome.MrtInput.{MrtInput}
 use Rattle.fib_main.specs.declared.outcome.MrtInput.TheVariants.{Dump, Updates}
 use Rattle.std.specs.Prelude.{Bool, true, false, not, ◌&&◌}
 use Rattle.fib_io.specs.Pieces.{octets_read}
-use Rattle.fib_main.specs.Stops.{Stop, bad_record, few_hops, is_cut, is_small, records_due, told_content, whole_records}
-use Rattle.fib_main.specs.Due.{Feed, Printed, printed, asks_at, feed_at, feed_of, feed_in, elems_in, read_part, changes_of, kept_of, told_at, run_at, used_at, output_at, ran, checked, due, usage, answers_to}
+use Rattle.poptrie_build.specs.Tries.{visits_of}
+use Rattle.fib_report.specs.Views.{Answer}
+use Rattle.fib_main.specs.Stops.{Stop, bad_record, is_cut, is_small, records_due, told_content, unless_stopped, whole_records, with_room}
+use Rattle.fib_main.specs.Refusals.{Limits, Refusal, routes_by, stop_at, too_much}
+use Rattle.route_tries.specs.Sizes.{Shortage, Sizes, shortage}
+use Rattle.fib_main.specs.Due.{Feed, Printed, printed, asks_at, feed_at, feeds_at, limits_of, load_at, made, made_at, sizes_of, feed_of, feed_in, elems_in, read_part, changes_of, kept_of, told_at, run_at, used_at, output_at, ran, checked, due, usage, answers_to}
 use Rattle.fib_main.specs.Proves.{IfRan}
 use Rattle.fib_main.specs.Runs.{IfDue, SumsUp, Forwards, Answers, HasLeast, HasAggregate, Certified, InPrefixOrder, IsInOrder, HasHops}
 use Rattle.fib_main.specs.Keeps.{Follows, HasTable, RenewsLeast, RepairsFewest, changes_to}
@@ -39,9 +43,9 @@ use Rattle.fib_main.proofs.Keeping.{alike_after, fewest_by, kept_placed, least_a
 
 -- ---- what an input brings is of prefixes and peers that there are
 
-few_ok : (which : MrtInput) (o : Option ℕ) (next : Result Feed Stop) (feed : Feed) → few_hops which o next ≡ Ok feed → next ≡ Ok feed
-few_ok which None next feed e = e
-few_ok which (Some n) next feed e = absurd cc
+went_on : (which : MrtInput) (o : Option (ℕ × Refusal)) (next : Result Feed Stop) (feed : Feed) → unless_stopped which o next ≡ Ok feed → next ≡ Ok feed
+went_on which None next feed e = e
+went_on which (Some s) next feed e = absurd cc
 
 abbrev brought : Feed → Result Feed Stop
 brought feed = Ok feed
@@ -49,9 +53,9 @@ brought feed = Ok feed
 same_feed : (f g : Feed) → brought f ≡ brought g → f ≡ g
 same_feed f g e = cc
 
-feed_proper : (which : MrtInput) (before : List Elem) (octets : List ℕ) (feed : Feed) → AllByRecursion IsElem before → feed_of which before octets ≡ Ok feed → AllByRecursion IsElem feed.elems
+feed_proper : (z : Sizes) (which : MrtInput) (before : List Elem) (octets : List ℕ) (feed : Feed) → AllByRecursion IsElem before → feed_of z which before octets ≡ Ok feed → AllByRecursion IsElem feed.elems
 unfolding feed_of
-feed_proper which before octets feed p e = by_input (is_small octets) (input (octets_read octets)) refl (few_ok which (full_at (hops_after [] before) (elems_in before (read_part (input (octets_read octets))))) (records_due which octets >>= λ read. Ok (feed_in before read)) feed e)
+feed_proper z which before octets feed p e = by_input (is_small octets) (input (octets_read octets)) refl (went_on which (stop_at (too_much which z) before (elems_in before (read_part (input (octets_read octets))))) (records_due which octets >>= λ read. Ok (feed_in before read)) feed e)
   where
     by_input : (ends : Bool) (r : Result Progress Stopped) → input (octets_read octets) ≡ r → (whole_records which ends (is_cut (octets_read octets)) r >>= λ read. Ok (feed_in before read)) ≡ Ok feed → AllByRecursion IsElem feed.elems
     by_input true (Ok read) is e = subst (λ (f : Feed). AllByRecursion IsElem f.elems) (same_feed (feed_in before read) feed e) (elems_of_events (after_elems [] before) read.events (candidates_stay [] before none_yet p) (read_events (octets_read octets) read is))
@@ -61,31 +65,46 @@ feed_proper which before octets feed p e = by_input (is_small octets) (input (oc
       bad true e = cc
       bad false e = cc
 
-named_proper : (content : List ℕ → Option (List ℕ)) (which : MrtInput) (before : List Elem) (name : Option (List ℕ)) (feed : Feed) → AllByRecursion IsElem before → feed_at content which before name ≡ Ok feed → AllByRecursion IsElem feed.elems
+named_proper : (z : Sizes) (content : List ℕ → Option (List ℕ)) (which : MrtInput) (before : List Elem) (name : Option (List ℕ)) (feed : Feed) → AllByRecursion IsElem before → feed_at z content which before name ≡ Ok feed → AllByRecursion IsElem feed.elems
 unfolding feed_at
-named_proper content which before None feed p e = let none = same_feed _ feed e in subst (λ (f : Feed). AllByRecursion IsElem f.elems) none tt
-named_proper content which before (Some name) feed p e = by_octets (told_content (content name)) e
+named_proper z content which before None feed p e = let none = same_feed _ feed e in subst (λ (f : Feed). AllByRecursion IsElem f.elems) none tt
+named_proper z content which before (Some name) feed p e = by_octets (told_content (content name)) e
   where
-    by_octets : (r : Result (List ℕ) Stop) → (r >>= feed_of which before) ≡ Ok feed → AllByRecursion IsElem feed.elems
-    by_octets (Ok octets) e = feed_proper which before octets feed p e
+    by_octets : (r : Result (List ℕ) Stop) → (r >>= feed_of z which before) ≡ Ok feed → AllByRecursion IsElem feed.elems
+    by_octets (Ok octets) e = feed_proper z which before octets feed p e
     by_octets (Err stop) e = absurd cc
+
+load_proper : (z : Sizes) (content : List ℕ → Option (List ℕ)) (name : List ℕ) (load : Feed) → load_at z content name ≡ Ok load → AllByRecursion IsElem load.elems
+unfolding load_at
+load_proper z content name load e = by_feed (feed_at z content Dump [] (Some name)) refl e
+  where
+    by_room : (o : Option Shortage) (feed : Feed) → with_room o feed ≡ Ok load → feed ≡ load
+    by_room None feed e = same_feed feed load e
+    by_room (Some s) feed e = absurd cc
+
+    by_feed : (r : Result Feed Stop) → feed_at z content Dump [] (Some name) ≡ r → (r >>= λ feed. with_room (shortage z (routes_by feed.elems)) feed) ≡ Ok load → AllByRecursion IsElem load.elems
+    by_feed (Ok feed) is e = let same = by_room (shortage z (routes_by feed.elems)) feed e in subst (λ (f : Feed). AllByRecursion IsElem f.elems) same (named_proper z content Dump [] (Some name) feed tt is)
+    by_feed (Err stop) is e = absurd cc
 
 -- ---- whatever is due
 
 -- a property of what is printed of each dump and each list of updates and of asks
 abbrev pub OfEach : (Printed → Type 0) → Type 0
-OfEach P = (every : ℕ) (load updates : Feed) (asks : List Address) → AllByRecursion IsElem load.elems → AllByRecursion IsElem updates.elems → P (printed every load updates asks)
+OfEach P = (limits : Limits) (load updates : Feed) (asks : List Address) → AllByRecursion IsElem load.elems → AllByRecursion IsElem updates.elems → P (printed limits load updates asks)
+
+abbrev both_of : Feed → Feed → Result (Feed × Feed) Stop
+both_of load updates = Ok (load, updates)
 
 told_due : (P : Printed → Type 0) → OfEach P → (content : List ℕ → Option (List ℕ)) (named : Named) (asks : List Address) → IfRan (ran (told_at content named asks)) P
-unfolding told_at
-told_due P each content named asks = by_load (feed_at content Dump [] (Some named.dump)) refl
+unfolding told_at feeds_at
+told_due P each content named asks = by_load (load_at (sizes_of named) content named.dump) refl
   where
-    by_updates : (load : Feed) → AllByRecursion IsElem load.elems → (u : Result Feed Stop) → feed_at content Updates load.elems named.updates ≡ u → IfRan (ran (u >>= λ updates. Ok (printed named.every load updates asks))) P
-    by_updates load p (Ok updates) e = each named.every load updates asks p (named_proper content Updates load.elems named.updates updates p e)
+    by_updates : (load : Feed) → AllByRecursion IsElem load.elems → (u : Result Feed Stop) → feed_at (sizes_of named) content Updates load.elems named.updates ≡ u → IfRan (ran ((u >>= λ updates. both_of load updates) >>= λ feeds. Ok (printed (limits_of named) feeds.0 feeds.1 asks))) P
+    by_updates load p (Ok updates) e = each (limits_of named) load updates asks p (named_proper (sizes_of named) content Updates load.elems named.updates updates p e)
     by_updates load p (Err stop) e = tt
 
-    by_load : (l : Result Feed Stop) → feed_at content Dump [] (Some named.dump) ≡ l → IfRan (ran (l >>= λ load. feed_at content Updates load.elems named.updates >>= λ updates. Ok (printed named.every load updates asks))) P
-    by_load (Ok load) e = by_updates load (named_proper content Dump [] (Some named.dump) load tt e) (feed_at content Updates load.elems named.updates) refl
+    by_load : (l : Result Feed Stop) → load_at (sizes_of named) content named.dump ≡ l → IfRan (ran ((l >>= λ load. feed_at (sizes_of named) content Updates load.elems named.updates >>= λ updates. both_of load updates) >>= λ feeds. Ok (printed (limits_of named) feeds.0 feeds.1 asks))) P
+    by_load (Ok load) e = by_updates load (load_proper (sizes_of named) content named.dump load e) (feed_at (sizes_of named) content Updates load.elems named.updates) refl
     by_load (Err stop) e = tt
 
 asks_due : (P : Printed → Type 0) → OfEach P → (content : List ℕ → Option (List ℕ)) (named : Named) (r : Result (List Address) Stop) → IfRan (ran (r >>= told_at content named)) P
@@ -96,11 +115,16 @@ check_due : (P : Printed → Type 0) (u : Result Used Stop) → IfRan (checked u
 check_due P (Ok used) = tt
 check_due P (Err stop) = tt
 
+made_due : (P : Printed → Type 0) (p : Result Printed Stop) → IfRan (made p) P
+made_due P (Ok p) = tt
+made_due P (Err stop) = tt
+
 words_due : (P : Printed → Type 0) → OfEach P → (content : List ℕ → Option (List ℕ)) (o : Option Asked) → IfRan (usage o >>= output_at content) P
 unfolding output_at run_at
 words_due P each content None = tt
 words_due P each content (Some (Run named)) = asks_due P each content named (asks_at content named.asks)
 words_due P each content (Some (Check name)) = check_due P (used_at content name)
+words_due P each content (Some (Make routes seed)) = made_due P (made_at routes seed)
 
 each_due : (P : Printed → Type 0) → OfEach P → (words : List (List ℕ)) (content : List ℕ → Option (List ℕ)) → IfRan (due words content) P
 unfolding due
@@ -123,19 +147,19 @@ held_all : (load updates : Feed) → after_elems [] (load.elems ++ updates.elems
 held_all load updates = fold-append after_elem [] load.elems updates.elems
 
 pub sums_up : (words : Words) (content : Content) → IfDue (due words content) SumsUp
-sums_up = each_due (λ p. SumsUp p.told) (λ every load updates asks p q. all every (hops_after [] (load.elems ++ updates.elems)) (after_elems [] load.elems) updates.elems q)
+sums_up = each_due (λ p. SumsUp p.told) (λ limits load updates asks p q. all limits.every (hops_after [] (load.elems ++ updates.elems)) (after_elems [] load.elems) updates.elems q)
 
 pub forwards : (words : Words) (content : Content) → IfDue (due words content) Forwards
-forwards = each_due (λ p. Forwards p.told) (λ every load updates asks p q.
+forwards = each_due (λ p. Forwards p.told) (λ limits load updates asks p q.
     let hops : List Address = hops_after [] (load.elems ++ updates.elems) in
-    subst (λ held. AlikeInBoth (kept_of every hops load.elems updates.elems) (entries_of hops held)) (sym (held_all load updates)) (alike_after every hops (after_elems [] load.elems) updates.elems (held_first load p) q))
+    subst (λ held. AlikeInBoth (kept_of limits.every hops load.elems updates.elems) (entries_of hops held)) (sym (held_all load updates)) (alike_after limits.every hops (after_elems [] load.elems) updates.elems (held_first load p) q))
 
-all_answer : (routes : Entries) (asks : List Address) → AllByRecursion (λ (a : Address × ℕ). a.1 ≡ match_in routes a.0) (answers_to routes asks)
-all_answer routes [] = tt
-all_answer routes (a ∷ asks) = (refl, all_answer routes asks)
+all_answer : (s : ℕ) (routes : Entries) (asks : List Address) → AllByRecursion (λ (a : Answer). (a.hop ≡ match_in routes a.addr) × (a.visits ≡ visits_of s routes a.addr)) (answers_to s routes asks)
+all_answer s routes [] = tt
+all_answer s routes (a ∷ asks) = ((refl, refl), all_answer s routes asks)
 
-pub answers : (words : Words) (content : Content) → IfDue (due words content) Answers
-answers = each_due (λ p. Answers p.told) (λ every load updates asks p q. all_answer (entries_of (hops_after [] (load.elems ++ updates.elems)) (after_elems [] (load.elems ++ updates.elems))) asks)
+pub answers : (words : Words) (content : Content) → IfRan (due words content) Answers
+answers = each_due Answers (λ limits load updates asks p q. all_answer limits.sizes.direct (entries_of (hops_after [] (load.elems ++ updates.elems)) (after_elems [] (load.elems ++ updates.elems))) asks)
 
 -- the routes, and the kept table
 abbrev routes_of_both : Feed → Feed → Entries
@@ -145,30 +169,30 @@ abbrev kept_of_both : ℕ → Feed → Feed → Entries
 kept_of_both every load updates = kept_of every (hops_after [] (load.elems ++ updates.elems)) load.elems updates.elems
 
 pub least : (words : Words) (content : Content) → IfDue (due words content) HasLeast
-least = each_due (λ p. HasLeast p.told) (λ every load updates asks p q. least_in_both (routes_of_both load updates) (kept_of_both every load updates))
+least = each_due (λ p. HasLeast p.told) (λ limits load updates asks p q. least_in_both (routes_of_both load updates) (kept_of_both limits.every load updates))
 
 pub aggregated : (words : Words) (content : Content) → IfDue (due words content) HasAggregate
-aggregated = each_due (λ p. HasAggregate p.told) (λ every load updates asks p q. aggregates_are (routes_of_both load updates) (kept_of_both every load updates))
+aggregated = each_due (λ p. HasAggregate p.told) (λ limits load updates asks p q. aggregates_are (routes_of_both load updates) (kept_of_both limits.every load updates))
 
 routes_in_order : (load updates : Feed) → AllByRecursion IsElem load.elems → AllByRecursion IsElem updates.elems → InPrefixOrder (routes_of_both load updates)
 routes_in_order load updates p q =
     entries_sorted (hops_after [] (load.elems ++ updates.elems)) (after_elems [] (load.elems ++ updates.elems)) (subst AreCandidates (sym (held_all load updates)) (candidates_stay (after_elems [] load.elems) updates.elems (held_first load p) q))
 
 pub sorted : (words : Words) (content : Content) → IfDue (due words content) IsInOrder
-sorted = each_due (λ p. IsInOrder p.told) (λ every load updates asks p q.
+sorted = each_due (λ p. IsInOrder p.told) (λ limits load updates asks p q.
     let hops : List Address = hops_after [] (load.elems ++ updates.elems) in
     let held : Candidates = after_elems [] load.elems in
     record {
       routes = routes_in_order load updates p q;
-      table = (kept_placed every hops 1 held (kept_at_load hops held) updates.elems q (loaded_placed hops held)).1;
-      least = aggregates_sorted (routes_of_both load updates) (kept_of_both every load updates);
+      table = (kept_placed limits.every hops 1 held (kept_at_load hops held) updates.elems q (loaded_placed hops held)).1;
+      least = aggregates_sorted (routes_of_both load updates) (kept_of_both limits.every load updates);
     })
 
 pub certified : (words : Words) (content : Content) → IfDue (due words content) Certified
-certified = each_due (λ p. Certified p.told) (λ every load updates asks p q. certified_least (routes_of_both load updates) (kept_of_both every load updates) (routes_in_order load updates p q))
+certified = each_due (λ p. Certified p.told) (λ limits load updates asks p q. certified_least (routes_of_both load updates) (kept_of_both limits.every load updates) (routes_in_order load updates p q))
 
 pub addressed : (words : Words) (content : Content) → IfRan (due words content) HasHops
-addressed = each_due HasHops (λ every load updates asks p q. has_hops every load updates asks)
+addressed = each_due HasHops (λ limits load updates asks p q. has_hops limits load updates asks)
 
 -- ---- on the way
 
@@ -181,38 +205,38 @@ one_of [] x ys a = a.0
 one_of (y ∷ xs) x ys a = one_of xs x ys a.1
 
 -- the table that the changes so far add up to
-table_at : (every : ℕ) (load updates : Feed) (asks : List Address) (done rest : List Elem) (T : Entries) → AllByRecursion IsElem updates.elems → updates.elems ≡ done ++ rest → HasTable (printed every load updates asks) (length done) T
-    → T ≡ kept_of every (hops_after [] (load.elems ++ updates.elems)) load.elems done
-table_at every load updates asks done rest T q e h =
+table_at : (limits : Limits) (load updates : Feed) (asks : List Address) (done rest : List Elem) (T : Entries) → AllByRecursion IsElem updates.elems → updates.elems ≡ done ++ rest → HasTable (printed limits load updates asks) (length done) T
+    → T ≡ kept_of limits.every (hops_after [] (load.elems ++ updates.elems)) load.elems done
+table_at limits load updates asks done rest T q e h =
     let hops : List Address = hops_after [] (load.elems ++ updates.elems) in
     let held : Candidates = after_elems [] load.elems in
-    table_is every hops held done rest T (front_of done rest (subst (AllByRecursion IsElem) e q)) (subst (λ es. sum_of (changes_to (length done) (changes_of every hops load.elems es)) ≡ Some T) e h)
+    table_is limits.every hops held done rest T (front_of done rest (subst (AllByRecursion IsElem) e q)) (subst (λ es. sum_of (changes_to (length done) (changes_of limits.every hops load.elems es)) ≡ Some T) e h)
 
 proper_front : (updates : Feed) (done rest : List Elem) → AllByRecursion IsElem updates.elems → updates.elems ≡ done ++ rest → AllByRecursion IsElem done
 proper_front updates done rest q e = front_of done rest (subst (AllByRecursion IsElem) e q)
 
 pub follows : (words : Words) (content : Content) → IfRan (due words content) Follows
-follows = each_due Follows (λ every load updates asks p q done rest T e h.
+follows = each_due Follows (λ limits load updates asks p q done rest T e h.
     let hops : List Address = hops_after [] (load.elems ++ updates.elems) in
     let held : Candidates = after_elems [] load.elems in
-    subst (λ L. AlikeInBoth L (entries_of hops (after_elems held done))) (sym (table_at every load updates asks done rest T q e h)) (alike_after every hops held done (held_first load p) (proper_front updates done rest q e)))
+    subst (λ L. AlikeInBoth L (entries_of hops (after_elems held done))) (sym (table_at limits load updates asks done rest T q e h)) (alike_after limits.every hops held done (held_first load p) (proper_front updates done rest q e)))
 
 pub renewed : (words : Words) (content : Content) → IfRan (due words content) RenewsLeast
-renewed = each_due RenewsLeast (λ every load updates asks p q done rest T e snapshot h.
+renewed = each_due RenewsLeast (λ limits load updates asks p q done rest T e snapshot h.
     let hops : List Address = hops_after [] (load.elems ++ updates.elems) in
     let held : Candidates = after_elems [] load.elems in
-    subst (λ L. LeastInBoth (entries_of hops (after_elems held done)) L) (sym (table_at every load updates asks done rest T q e h)) (least_after every hops held done snapshot))
+    subst (λ L. LeastInBoth (entries_of hops (after_elems held done)) L) (sym (table_at limits load updates asks done rest T q e h)) (least_after limits.every hops held done snapshot))
 
 pub fewest : (words : Words) (content : Content) → IfRan (due words content) RepairsFewest
-fewest = each_due RepairsFewest (λ every load updates asks p q done rest elem at T U L e changed h k d.
+fewest = each_due RepairsFewest (λ limits load updates asks p q done rest elem at T U L e changed h k d.
     let hops : List Address = hops_after [] (load.elems ++ updates.elems) in
     let held : Candidates = after_elems [] load.elems in
-    let before : T ≡ kept_of every hops load.elems done = table_at every load updates asks done (elem ∷ rest) T q e h in
+    let before : T ≡ kept_of limits.every hops load.elems done = table_at limits load updates asks done (elem ∷ rest) T q e h in
     let all_one : updates.elems ≡ (done ++ elem ∷ []) ++ rest = e ∙ sym (append_assoc done (elem ∷ []) rest) in
     let counted : length done + 1 ≡ length (done ++ elem ∷ []) = sym (length-append done (elem ∷ [])) in
-    let after : U ≡ kept_of every hops load.elems (done ++ elem ∷ []) = table_at every load updates asks (done ++ elem ∷ []) rest U q all_one (subst (λ n. sum_of (changes_to n (changes_of every hops load.elems updates.elems)) ≡ Some U) counted k) in
-    let step : U ≡ kept_by every hops (length done + 1) (after_elems held done) T elem = after ∙ (kept_step every hops elem held (kept_at_load hops held) done ∙ ap (λ K. kept_by every hops (length done + 1) (after_elems held done) K elem) (sym before)) in
-    let placed : Placed T = subst Placed (sym before) (kept_placed every hops 1 held (kept_at_load hops held) done (proper_front updates done (elem ∷ rest) q e) (loaded_placed hops held)) in
+    let after : U ≡ kept_of limits.every hops load.elems (done ++ elem ∷ []) = table_at limits load updates asks (done ++ elem ∷ []) rest U q all_one (subst (λ n. sum_of (changes_to n (changes_of limits.every hops load.elems updates.elems)) ≡ Some U) counted k) in
+    let step : U ≡ kept_by limits.every hops (length done + 1) (after_elems held done) T elem = after ∙ (kept_step limits.every hops elem held (kept_at_load hops held) done ∙ ap (λ K. kept_by limits.every hops (length done + 1) (after_elems held done) K elem) (sym before)) in
+    let placed : Placed T = subst Placed (sym before) (kept_placed limits.every hops 1 held (kept_at_load hops held) done (proper_front updates done (elem ∷ rest) q e) (loaded_placed hops held)) in
     let alike : Alike (width at.family) (of_family at.family (entries_of hops (after_elem (after_elems held done) elem))) (of_family at.family L) = subst (λ c. Alike (width at.family) (of_family at.family (entries_of hops c)) (of_family at.family L)) (fold-append after_elem held done (elem ∷ [])) d.alike in
     subst (λ K. length (of_family at.family K) ≤ length (of_family at.family L)) (sym step)
-    (fewest_by every hops (length done + 1) (after_elems held done) T L elem at (one_of done elem rest (subst (AllByRecursion IsElem) e q)) placed changed d.entries alike d.outside))
+    (fewest_by limits.every hops (length done + 1) (after_elems held done) T L elem at (one_of done elem rest (subst (AllByRecursion IsElem) e q)) placed changed d.entries alike d.outside))

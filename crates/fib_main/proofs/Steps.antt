@@ -4,8 +4,7 @@ use Rattle.std.specs.Prelude.{option_map, get_or, IsErrOf}
 use Rattle.std.proofs.Math.Seq.{drop-cons}
 use Rattle.std.proofs.lemmas.List.{take_all, take_more, take-append-drop, map-append}
 use Rattle.fib_main.specs.declared.state.FeedError.{FeedError}
-use Rattle.fib_main.specs.declared.state.FeedError.TheVariants.{Malformed, HopsFull, NoMemory, Fault, TooLarge}
-use Rattle.std.proofs.lemmas.Bool.{lt-ltb, le-ltb}
+use Rattle.fib_main.specs.declared.state.FeedError.TheVariants.{Malformed, HopsFull, TrieFull as FeedFull, NoMemory, Fault, TooLarge}
 use Rattle.std.proofs.lemmas.List.{map_push}
 use Rattle.std.proofs.lemmas.List.Sums.{fold-append}
 use Rattle.address_model.specs.Address.{Address}
@@ -14,55 +13,89 @@ use Rattle.route_model.specs.Events.{Elem, Event}
 use Rattle.route_model.specs.Choice.{Candidates, after_elem, after_elems, elems_of, elems_after}
 use Rattle.route_model.proofs.Elems.{elems_more}
 use Rattle.delta_model.specs.Between.{between}
-use Rattle.feed_model.specs.Feed.{hops_after, full_at, at_event}
-use Rattle.feed_model.proofs.Numbers.{hops_more, full_in_front, full_behind}
+use Rattle.feed_model.specs.Feed.{hops_after, entries_of, at_event}
+use Rattle.feed_model.proofs.Numbers.{hops_more}
 use Rattle.kept_feed.specs.Kept.{changes_by, kept_at_load, kept_changes_from, kept_load_changes}
 use Rattle.fib_addr.specs.Hops.{most_hops}
 use Rattle.fib_main.specs.declared.outcome.MrtInput.{MrtInput}
 use Rattle.fib_main.specs.declared.outcome.MrtInput.TheVariants.{Dump, Updates}
 use Rattle.fib_main.specs.declared.state.State.{State}
 use Rattle.fib_main.specs.Views.{changes_as}
-use Rattle.fib_engine.specs.Stands.{EndsLoad, IsLoading, IsTooMany, Loads, Stands, Takes, changes_of as engine_changes}
+use Rattle.fib_engine.specs.Held.{routes_in}
+use Rattle.fib_engine.specs.Stands.{EndsLoad, IsLoading, IsShortFor, IsTooMany, Loads, Stands, Takes, changes_of as engine_changes, routes_after}
+use Rattle.route_tries.specs.Sizes.{shortage, shortage_as}
+use Rattle.route_tries.specs.declared.sizes.TrieFull.{TrieFull}
+use Rattle.fib_main.specs.Refusals.{Limits, ManyHops, Refusal, Short, routes_by, stop_at, too_much}
+use Rattle.fib_main.proofs.Refusing.{dump_fits, is_short, many_hops, stop_behind, stop_in_front, stop_none, stop_one, updates_fit}
 use Rattle.fib_engine.specs.declared.error.EngineError.{EngineError}
 use Rattle.fib_engine.specs.declared.error.EngineError.TheVariants as engine
 use Rattle.fib_main.specs.Due.{changes_of, kept_of}
 use Rattle.fib_main.proofs.Keeping.{changes_grow}
-use Rattle.fib_main.specs.Standing.{refusal_at, StateStands, IsFull, StateTakes, StateTakesAll, next_elems}
-
--- ---- one hop too many
-
-full_one : (hops : List Address) (elem : Elem) → most_hops < length (hops_after hops (elem ∷ [])) → full_at hops (elem ∷ []) ≡ Some 1
-unfolding full_at
-full_one hops elem over = ap (λ t. cond t (Some 1) (option_map suc None)) (lt-ltb most_hops (length (hops_after hops (elem ∷ []))) over)
-
-fits_one : (hops : List Address) (elem : Elem) → length (hops_after hops (elem ∷ [])) ≤ most_hops → full_at hops (elem ∷ []) ≡ None
-unfolding full_at
-fits_one hops elem few = ap (λ t. cond t (Some 1) (option_map suc None)) (le-ltb most_hops (length (hops_after hops (elem ∷ []))) few)
+use Rattle.fib_main.specs.Standing.{EndsShort, IsOfLoad, refusal_at, StateStands, IsStopped, StateTakes, StateTakesAll, next_elems}
 
 -- ---- what the engine has is what came before and since
 
-pub stands_hops : (which : MrtInput) (every : ℕ) (before done : List Elem) (state : State) → StateStands which every before done state → state.engine.hops ≡ hops_after [] (before ++ done)
-stands_hops Dump every before done state s = s.engine.hops
-stands_hops Updates every before done state s = s.engine.hops
+pub stands_hops : (which : MrtInput) (limits : Limits) (before done : List Elem) (state : State) → StateStands which limits before done state → state.engine.hops ≡ hops_after [] (before ++ done)
+stands_hops Dump limits before done state s = s.engine.hops
+stands_hops Updates limits before done state s = s.engine.hops
 
-pub stands_candidates : (which : MrtInput) (every : ℕ) (before done : List Elem) (state : State) → StateStands which every before done state → state.engine.candidates ≡ after_elems [] (before ++ done)
-stands_candidates Dump every before done state s = s.engine.candidates
-stands_candidates Updates every before done state s = s.engine.candidates ∙ sym (fold-append after_elem [] before done)
+pub stands_candidates : (which : MrtInput) (limits : Limits) (before done : List Elem) (state : State) → StateStands which limits before done state → state.engine.candidates ≡ after_elems [] (before ++ done)
+stands_candidates Dump limits before done state s = s.engine.candidates
+stands_candidates Updates limits before done state s = s.engine.candidates ∙ sym (fold-append after_elem [] before done)
 
--- the hops of a state after what came before it in its input
-hops_here : (which : MrtInput) (every : ℕ) (before done : List Elem) (state : State) → StateStands which every before done state → hops_after (hops_after [] before) done ≡ state.engine.hops
-hops_here which every before done state s = sym (hops_more [] before done) ∙ sym (stands_hops which every before done state s)
+-- the hops and the routes after one elementary event more
+elems_push : (before done : List Elem) (elem : Elem) → before ++ (done ++ elem ∷ []) ≡ (before ++ done) ++ elem ∷ []
+elems_push before done elem = sym (append_assoc before done (elem ∷ []))
 
-full_here : (which : MrtInput) (every : ℕ) (before done : List Elem) (elem : Elem) (state : State) (event : ℕ) → event ≡ length (done ++ elem ∷ []) → StateStands which every before done state → IsTooMany elem state.engine → IsFull before (done ++ elem ∷ []) event
-full_here which every before done elem state event counted s over =
-    let one : full_at (hops_after (hops_after [] before) done) (elem ∷ []) ≡ Some 1 = ap (λ hs. full_at hs (elem ∷ [])) (hops_here which every before done state s) ∙ full_one state.engine.hops elem over in
+pub after_push : (held : Candidates) (done : List Elem) (elem : Elem) → after_elems held (done ++ elem ∷ []) ≡ after_elem (after_elems held done) elem
+after_push held done elem = fold-append after_elem held done (elem ∷ [])
+
+hops_next : (which : MrtInput) (limits : Limits) (before done : List Elem) (elem : Elem) (state : State) → StateStands which limits before done state → hops_after [] ((before ++ done) ++ elem ∷ []) ≡ hops_after state.engine.hops (elem ∷ [])
+hops_next which limits before done elem state s = hops_more [] (before ++ done) (elem ∷ []) ∙ ap (λ hs. hops_after hs (elem ∷ [])) (sym (stands_hops which limits before done state s))
+
+routes_next : (which : MrtInput) (limits : Limits) (before done : List Elem) (elem : Elem) (state : State) → StateStands which limits before done state → routes_by ((before ++ done) ++ elem ∷ []) ≡ routes_after elem state.engine
+routes_next which limits before done elem state s =
+    ap (λ hs. entries_of hs (after_elems [] ((before ++ done) ++ elem ∷ []))) (hops_next which limits before done elem state s)
+    ∙ ap (entries_of (hops_after state.engine.hops (elem ∷ []))) (after_push [] (before ++ done) elem ∙ ap (λ held. after_elem held elem) (sym (stands_candidates which limits before done state s)))
+
+-- ---- what isn't taken
+
+stop_here : (which : MrtInput) (limits : Limits) (before done : List Elem) (elem : Elem) (state : State) (event : ℕ) (r : Refusal) → event ≡ length (done ++ elem ∷ []) → StateStands which limits before done state → too_much which limits.sizes ((before ++ done) ++ elem ∷ []) ≡ Some r → IsStopped which limits before (done ++ elem ∷ []) event r
+stop_here which limits before done elem state event r counted s much =
+    let f = too_much which limits.sizes in
     let n : length done + 1 ≡ event = omega (arith, counted, length-append done (elem ∷ [])) in
-    full_behind (hops_after [] before) done (elem ∷ []) s.fits ∙ (ap (option_map (λ n. length done + n)) one ∙ ap Some n)
+    stop_behind f before done (elem ∷ []) s.fits ∙ (ap (option_map (λ t. (length done + t.0, t.1))) (stop_one f (before ++ done) elem r much) ∙ ap (λ k. Some (k, r)) n)
 
--- an elementary event that the engine didn't take
-pub not_taken : {X : Type 0} (which : MrtInput) (event : ℕ) (elem : Elem) (old new : State) (error : EngineError) (r : FeedError) → r ≡ refusal_at event error → (IsErrOf {T = X} (Err error) engine.HopsFull → IsTooMany elem old.engine) → StateTakes {T = Unit {0}} which event (elem ∷ []) old (Err r) new
-not_taken which event elem old new engine.HopsFull r e full = rw e (λ every before done counted s. full_here which every before done elem old event counted s (full refl))
-not_taken which event elem old new engine.NoMemory r e full = rw e tt
+full_here : (which : MrtInput) (limits : Limits) (before done : List Elem) (elem : Elem) (state : State) (event : ℕ) → event ≡ length (done ++ elem ∷ []) → StateStands which limits before done state → IsTooMany elem state.engine → IsStopped which limits before (done ++ elem ∷ []) event ManyHops
+full_here which limits before done elem state event counted s over =
+    stop_here which limits before done elem state event ManyHops counted s (many_hops which limits.sizes ((before ++ done) ++ elem ∷ []) (rw (hops_next which limits before done elem state s) over))
+
+few_after : (hops : List Address) (elem : Elem) → (most_hops < length (hops_after hops (elem ∷ [])) → ⊥) → length (hops_after hops (elem ∷ [])) ≤ most_hops
+few_after hops elem n = omega (arith, n)
+
+few_next : (which : MrtInput) (limits : Limits) (before done : List Elem) (elem : Elem) (state : State) → StateStands which limits before done state → (IsTooMany elem state.engine → ⊥) → length (hops_after [] ((before ++ done) ++ elem ∷ [])) ≤ most_hops
+few_next which limits before done elem state s n = rw (hops_next which limits before done elem state s) (few_after state.engine.hops elem n)
+
+short_here : (which : MrtInput) (limits : Limits) (before done : List Elem) (elem : Elem) (state : State) (event : ℕ) (full : TrieFull) → event ≡ length (done ++ elem ∷ []) → which ≡ Updates → StateStands which limits before done state → (IsTooMany elem state.engine → ⊥) → IsShortFor state.engine (routes_after elem state.engine) full
+    → IsStopped which limits before (done ++ elem ∷ []) event (Short (shortage_as full))
+short_here which limits before done elem state event full counted w s n short =
+    let lacks : shortage limits.sizes (routes_by ((before ++ done) ++ elem ∷ [])) ≡ Some (shortage_as full) = rw (routes_next which limits before done elem state s, ← s.sizes_are) short in
+    let much = is_short limits.sizes ((before ++ done) ++ elem ∷ []) (shortage_as full) (few_next which limits before done elem state s n) lacks in
+    stop_here which limits before done elem state event (Short (shortage_as full)) counted s (subst (λ x. too_much x limits.sizes ((before ++ done) ++ elem ∷ []) ≡ Some (Short (shortage_as full))) (sym w) much)
+
+-- an elementary event of the load that the engine didn't take
+pub not_loaded : {X : Type 0} (which : MrtInput) (event : ℕ) (elem : Elem) (old new : State) (error : EngineError) (r : FeedError) → r ≡ refusal_at event error → (IsErrOf {T = X} (Err error) engine.HopsFull → IsTooMany elem old.engine) → ((t : TrieFull) → IsErrOf {T = X} (Err error) (engine.TrieFull t) → ⊥)
+    → StateTakes {T = Unit {0}} which event (elem ∷ []) old (Err r) new
+not_loaded which event elem old new engine.HopsFull r e full never = rw e (λ limits before done counted s. full_here which limits before done elem old event counted s (full refl))
+not_loaded which event elem old new (engine.TrieFull t) r e full never = absurd (never t refl)
+not_loaded which event elem old new engine.NoMemory r e full never = rw e tt
+
+-- one of the updates
+pub not_taken : {X : Type 0} (which : MrtInput) (event : ℕ) (elem : Elem) (old new : State) (error : EngineError) (r : FeedError) → which ≡ Updates → r ≡ refusal_at event error → (IsErrOf {T = X} (Err error) engine.HopsFull → IsTooMany elem old.engine) → (IsTooMany elem old.engine → IsErrOf {T = X} (Err error) engine.HopsFull)
+    → ((t : TrieFull) → IsErrOf {T = X} (Err error) (engine.TrieFull t) → IsShortFor old.engine (routes_after elem old.engine) t) → StateTakes {T = Unit {0}} which event (elem ∷ []) old (Err r) new
+not_taken which event elem old new engine.HopsFull r w e full over short = rw e (λ limits before done counted s. full_here which limits before done elem old event counted s (full refl))
+not_taken which event elem old new (engine.TrieFull t) r w e full over short = rw e (λ limits before done counted s. short_here which limits before done elem old event t counted w s (λ many. let is = over many in cc) (short t refl))
+not_taken which event elem old new engine.NoMemory r w e full over short = rw e tt
 
 -- one that it took brings no hop too many
 pub took_it : {X : Type 0} (x : X) (elem : Elem) (old : State) → (IsTooMany elem old.engine → IsErrOf {E = EngineError} (Ok x) engine.HopsFull) → IsTooMany elem old.engine → ⊥
@@ -70,19 +103,10 @@ took_it x elem old full over = let e = full over in cc
 
 -- ---- the state after one more
 
-elems_push : (before done : List Elem) (elem : Elem) → before ++ (done ++ elem ∷ []) ≡ (before ++ done) ++ elem ∷ []
-elems_push before done elem = sym (append_assoc before done (elem ∷ []))
-
-pub after_push : (held : Candidates) (done : List Elem) (elem : Elem) → after_elems held (done ++ elem ∷ []) ≡ after_elem (after_elems held done) elem
-after_push held done elem = fold-append after_elem held done (elem ∷ [])
-
-few_after : (hops : List Address) (elem : Elem) → (most_hops < length (hops_after hops (elem ∷ [])) → ⊥) → length (hops_after hops (elem ∷ [])) ≤ most_hops
-few_after hops elem n = omega (arith, n)
-
-fits_push : (which : MrtInput) (every : ℕ) (before done : List Elem) (elem : Elem) (old : State) → StateStands which every before done old → (IsTooMany elem old.engine → ⊥) → full_at (hops_after [] before) (done ++ elem ∷ []) ≡ None
-fits_push which every before done elem old s n =
-    let one : full_at (hops_after (hops_after [] before) done) (elem ∷ []) ≡ None = ap (λ hs. full_at hs (elem ∷ [])) (hops_here which every before done old s) ∙ fits_one old.engine.hops elem (few_after old.engine.hops elem n) in
-    full_behind (hops_after [] before) done (elem ∷ []) s.fits ∙ ap (option_map (λ n. length done + n)) one
+fits_push : (which : MrtInput) (limits : Limits) (before done : List Elem) (elem : Elem) (old : State) → StateStands which limits before done old → too_much which limits.sizes ((before ++ done) ++ elem ∷ []) ≡ None → stop_at (too_much which limits.sizes) before (done ++ elem ∷ []) ≡ None
+fits_push which limits before done elem old s none =
+    let f = too_much which limits.sizes in
+    stop_behind f before done (elem ∷ []) s.fits ∙ ap (option_map (λ t. (length done + t.0, t.1))) (stop_none f (before ++ done) elem none)
 
 few_push : (elem : Elem) (old new : State) → (IsTooMany elem old.engine → ⊥) → new.engine.hops ≡ hops_after old.engine.hops (elem ∷ []) → length new.engine.hops ≤ most_hops
 few_push elem old new n h = rw h (few_after old.engine.hops elem n)
@@ -90,43 +114,52 @@ few_push elem old new n h = rw h (few_after old.engine.hops elem n)
 -- an elementary event of the load
 pub loads_one : (event : ℕ) (elem : Elem) (old new : State) → Loads elem old.engine new.engine → ((load : List Elem) → IsLoading load old.engine → IsLoading (load ++ elem ∷ []) new.engine) → (IsTooMany elem old.engine → ⊥) → new.changes.items ≡ old.changes.items
     → StateTakes {T = Unit {0}} Dump event (elem ∷ []) old (Ok tt) new
-loads_one event elem old new l loading n same = λ every before done counted s. record {
+loads_one event elem old new l loading n same = λ limits before done counted s. record {
   engine = subst (λ es. IsLoading es new.engine) (sym (elems_push before done elem)) (loading (before ++ done) s.engine);
   every_is = l.every ∙ s.every_is;
+  sizes_are = l.sizes ∙ s.sizes_are;
   few = few_push elem old new n l.hops;
-  fits = fits_push Dump every before done elem old s n;
+  fits = fits_push Dump limits before done elem old s (dump_fits limits.sizes ((before ++ done) ++ elem ∷ []) (few_next Dump limits before done elem old s n));
   changes = ap changes_as same ∙ s.changes;
 }
 
+-- tries of the routes after an elementary event that was taken have room
+room_next : (limits : Limits) (before done : List Elem) (elem : Elem) (old new : State) → StateStands Updates limits before done old → Takes elem old.engine new.engine → shortage new.engine.sizes (routes_in new.engine) ≡ None → shortage limits.sizes (routes_by ((before ++ done) ++ elem ∷ [])) ≡ None
+room_next limits before done elem old new s t room =
+    let routes : routes_in new.engine ≡ routes_after elem old.engine = ap (λ hs. entries_of hs new.engine.candidates) t.hops ∙ ap (entries_of (hops_after old.engine.hops (elem ∷ []))) t.candidates in
+    ap (shortage limits.sizes) (routes_next Updates limits before done elem old s ∙ sym routes) ∙ (ap (λ z. shortage z (routes_in new.engine)) (sym (t.sizes ∙ s.sizes_are)) ∙ room)
+
 -- an elementary event of updates
 pub takes_one : (event : ℕ) (elem : Elem) (old new : State) (changes : List Change) → Takes elem old.engine new.engine → ((load elems : List Elem) → Stands load elems old.engine → Stands load (elems ++ elem ∷ []) new.engine) → (IsTooMany elem old.engine → ⊥)
-    → changes ≡ engine_changes elem old.engine → changes_as new.changes.items ≡ changes_as old.changes.items ++ at_event event changes → StateTakes {T = Unit {0}} Updates event (elem ∷ []) old (Ok tt) new
-takes_one event elem old new changes t stands n c grown = λ every before done counted s. record {
+    → shortage new.engine.sizes (routes_in new.engine) ≡ None → changes ≡ engine_changes elem old.engine → changes_as new.changes.items ≡ changes_as old.changes.items ++ at_event event changes → StateTakes {T = Unit {0}} Updates event (elem ∷ []) old (Ok tt) new
+takes_one event elem old new changes t stands n room c grown = λ limits before done counted s. record {
   engine = stands before done s.engine;
   every_is = t.every ∙ s.every_is;
+  sizes_are = t.sizes ∙ s.sizes_are;
   few = few_push elem old new n t.hops;
-  fits = fits_push Updates every before done elem old s n;
-  changes = all every before done counted s;
+  fits = fits_push Updates limits before done elem old s (updates_fit limits.sizes ((before ++ done) ++ elem ∷ []) (few_next Updates limits before done elem old s n) (room_next limits before done elem old new s t room));
+  changes = all limits before done counted s;
 } where
-  all : (every : ℕ) (before done : List Elem) → event ≡ length (done ++ elem ∷ []) → StateStands Updates every before done old → changes_as new.changes.items ≡ changes_of every new.engine.hops before (done ++ elem ∷ [])
-  all every before done counted s =
+  all : (limits : Limits) (before done : List Elem) → event ≡ length (done ++ elem ∷ []) → StateStands Updates limits before done old → changes_as new.changes.items ≡ changes_of limits.every new.engine.hops before (done ++ elem ∷ [])
+  all limits before done counted s =
       let n : event ≡ old.engine.events + 1 = omega (arith, counted, s.engine.events, length-append done (elem ∷ [])) in
-      let by : changes ≡ changes_by every (hops_after old.engine.hops (elem ∷ [])) (old.engine.events + 1) old.engine.candidates old.engine.table elem = c ∙ ap (λ k. changes_by k (hops_after old.engine.hops (elem ∷ [])) (old.engine.events + 1) old.engine.candidates old.engine.table elem) s.every_is in
-      let table : old.engine.table ≡ kept_of every old.engine.hops before done = s.engine.table ∙ ap (λ k. kept_of k old.engine.hops before done) s.every_is in
+      let by : changes ≡ changes_by limits.every (hops_after old.engine.hops (elem ∷ [])) (old.engine.events + 1) old.engine.candidates old.engine.table elem = c ∙ ap (λ k. changes_by k (hops_after old.engine.hops (elem ∷ [])) (old.engine.events + 1) old.engine.candidates old.engine.table elem) s.every_is in
+      let table : old.engine.table ≡ kept_of limits.every old.engine.hops before done = s.engine.table ∙ ap (λ k. kept_of k old.engine.hops before done) s.every_is in
       grown
       ∙ (ap (λ cs. cs ++ at_event event changes) s.changes
-      ∙ (ap (λ cs. changes_of every old.engine.hops before done ++ at_event event cs) by
-      ∙ (ap (λ m. changes_of every old.engine.hops before done ++ at_event m (changes_by every (hops_after old.engine.hops (elem ∷ [])) (old.engine.events + 1) old.engine.candidates old.engine.table elem)) n
-      ∙ (changes_grow every before done elem old.engine.hops old.engine.candidates old.engine.table old.engine.events s.engine.hops s.engine.candidates table s.engine.events ∙ ap (λ hs. changes_of every hs before (done ++ elem ∷ [])) (sym t.hops)))))
+      ∙ (ap (λ cs. changes_of limits.every old.engine.hops before done ++ at_event event cs) by
+      ∙ (ap (λ m. changes_of limits.every old.engine.hops before done ++ at_event m (changes_by limits.every (hops_after old.engine.hops (elem ∷ [])) (old.engine.events + 1) old.engine.candidates old.engine.table elem)) n
+      ∙ (changes_grow limits.every before done elem old.engine.hops old.engine.candidates old.engine.table old.engine.events s.engine.hops s.engine.candidates table s.engine.events ∙ ap (λ hs. changes_of limits.every hs before (done ++ elem ∷ [])) (sym t.hops)))))
 
 -- ---- the end of the load
 
-pub load_ended : (every : ℕ) (load : List Elem) (old new : State) (changes : List Change) → EndsLoad old.engine new.engine → ((load : List Elem) → IsLoading load old.engine → Stands load [] new.engine) → changes ≡ between [] new.engine.table → changes_as new.changes.items ≡ changes_as old.changes.items ++ at_event 0 changes
-    → StateStands Dump every [] load old → StateStands Updates every load [] new
-unfolding full_at kept_changes_from
-load_ended every load old new changes e stands c grown s = record {
+pub load_ended : (limits : Limits) (load : List Elem) (old new : State) (changes : List Change) → EndsLoad old.engine new.engine → ((load : List Elem) → IsLoading load old.engine → Stands load [] new.engine) → changes ≡ between [] new.engine.table → changes_as new.changes.items ≡ changes_as old.changes.items ++ at_event 0 changes
+    → StateStands Dump limits [] load old → StateStands Updates limits load [] new
+unfolding stop_at kept_changes_from
+load_ended limits load old new changes e stands c grown s = record {
   engine = stands load s.engine;
   every_is = e.every ∙ s.every_is;
+  sizes_are = e.sizes ∙ s.sizes_are;
   few = rw e.hops s.few;
   fits = refl;
   changes = grown
@@ -134,6 +167,23 @@ load_ended every load old new changes e stands c grown s = record {
       ∙ (ap (at_event 0) (c ∙ ap (between []) (e.table ∙ ap (kept_at_load old.engine.hops) s.engine.candidates))
       ∙ (ap (λ hs. kept_load_changes hs (after_elems [] load)) (sym e.hops) ∙ sym (append-nil (kept_load_changes new.engine.hops (after_elems [] load))))));
 }
+
+-- its end isn't reached
+pub load_short : (limits : Limits) (load : List Elem) (old : State) (full : TrieFull) → StateStands Dump limits [] load old → IsShortFor old.engine (routes_in old.engine) full → shortage limits.sizes (routes_by load) ≡ Some (shortage_as full)
+load_short limits load old full s short =
+    let routes : routes_in old.engine ≡ routes_by load = ap (λ hs. entries_of hs old.engine.candidates) s.engine.hops ∙ ap (entries_of (hops_after [] load)) s.engine.candidates in
+    ap (shortage limits.sizes) (sym routes) ∙ (ap (λ z. shortage z (routes_in old.engine)) (sym s.sizes_are) ∙ short)
+
+pub ends_short : {X : Type 0} (limits : Limits) (load : List Elem) (old : State) (error : EngineError) (r : FeedError) → r ≡ refusal_at 0 error → (IsErrOf {T = X} (Err error) engine.HopsFull → ⊥) → ((t : TrieFull) → IsErrOf {T = X} (Err error) (engine.TrieFull t) → IsShortFor old.engine (routes_in old.engine) t)
+    → StateStands Dump limits [] load old → EndsShort limits load r
+ends_short limits load old engine.HopsFull r e never short s = absurd (never refl)
+ends_short limits load old (engine.TrieFull t) r e never short s = rw e (refl, load_short limits load old t s (short t refl))
+ends_short limits load old engine.NoMemory r e never short s = rw e tt
+
+pub of_load : {X : Type 0} (error : EngineError) (r : FeedError) → r ≡ refusal_at 0 error → (IsErrOf {T = X} (Err error) engine.HopsFull → ⊥) → IsOfLoad r
+of_load engine.HopsFull r e never = absurd (never refl)
+of_load (engine.TrieFull t) r e never = rw e tt
+of_load engine.NoMemory r e never = rw e tt
 
 -- ---- events
 
@@ -146,12 +196,12 @@ next_more before done xs ys =
     ∙ ap (λ zs. done ++ zs) (ap (λ h. elems_after held xs ++ elems_after h ys) same ∙ sym (elems_more held xs ys))
 
 -- those of one event are the ones that the candidates give
-pub next_one : (which : MrtInput) (every : ℕ) (before done : List Elem) (event : Event) (state : State) → StateStands which every before done state → next_elems before done (event ∷ []) ≡ elems_of state.engine.candidates event
+pub next_one : (which : MrtInput) (limits : Limits) (before done : List Elem) (event : Event) (state : State) → StateStands which limits before done state → next_elems before done (event ∷ []) ≡ elems_of state.engine.candidates event
 unfolding elems_after
-next_one which every before done event state s = append-nil (elems_of (after_elems [] (before ++ done)) event) ∙ ap (λ h. elems_of h event) (sym (stands_candidates which every before done state s))
+next_one which limits before done event state s = append-nil (elems_of (after_elems [] (before ++ done)) event) ∙ ap (λ h. elems_of h event) (sym (stands_candidates which limits before done state s))
 
-pub full_more : (before xs ys : List Elem) (n : ℕ) → IsFull before xs n → IsFull before (xs ++ ys) n
-full_more before xs ys n full = full_in_front (hops_after [] before) xs ys n full
+pub stop_more : (which : MrtInput) (limits : Limits) (before xs ys : List Elem) (n : ℕ) (r : Refusal) → IsStopped which limits before xs n r → IsStopped which limits before (xs ++ ys) n r
+stop_more which limits before xs ys n r stopped = stop_in_front (too_much which limits.sizes) before xs ys (n, r) stopped
 
 -- ---- loops over lists of the code
 
@@ -174,36 +224,42 @@ all_taken view items i le = ap (map view) (take_all i items le)
 -- ---- refusals
 
 -- the elementary events of an input up to the one that is refused, and those behind it
-pub record Apart (which : MrtInput) (every : ℕ) (before : List Elem) (n : ℕ) (elem : Elem) (mid : State) (all : List Elem) : Type 0 where
+pub record Apart (which : MrtInput) (limits : Limits) (before : List Elem) (n : ℕ) (elem : Elem) (mid : State) (all : List Elem) : Type 0 where
   pub front : List Elem
   pub rest : List Elem
   pub counted : n ≡ length (front ++ elem ∷ [])
-  pub stands : StateStands which every before front mid
+  pub stands : StateStands which limits before front mid
   pub same : (front ++ elem ∷ []) ++ rest ≡ all
 
 pub refused_step : (which : MrtInput) (count n : ℕ) (events : List Event) (elem : Elem) (old mid new after : State) (error : FeedError) → StateTakes {T = Unit {0}} which n (elem ∷ []) mid (Err error) new
-    → ((every : ℕ) (before done : List Elem) → count ≡ length done → StateStands which every before done old → Apart which every before n elem mid (done ++ next_elems before done events)) → StateTakesAll which count events old (Err error) after
-refused_step which count n events elem old mid new after (HopsFull m) taken at = λ every before done counted s.
-    let a = at every before done counted s in
-    subst (λ xs. IsFull before xs m) a.same (full_more before (a.front ++ elem ∷ []) a.rest m (taken every before a.front a.counted a.stands))
+    → ((limits : Limits) (before done : List Elem) → count ≡ length done → StateStands which limits before done old → Apart which limits before n elem mid (done ++ next_elems before done events)) → StateTakesAll which count events old (Err error) after
+refused_step which count n events elem old mid new after (HopsFull m) taken at = λ limits before done counted s.
+    let a = at limits before done counted s in
+    subst (λ xs. IsStopped which limits before xs m ManyHops) a.same (stop_more which limits before (a.front ++ elem ∷ []) a.rest m ManyHops (taken limits before a.front a.counted a.stands))
+refused_step which count n events elem old mid new after (FeedFull m full) taken at = λ limits before done counted s.
+    let a = at limits before done counted s in
+    subst (λ xs. IsStopped which limits before xs m (Short (shortage_as full))) a.same (stop_more which limits before (a.front ++ elem ∷ []) a.rest m (Short (shortage_as full)) (taken limits before a.front a.counted a.stands))
 refused_step which count n events elem old mid new after (Malformed malformed) taken at = taken
 refused_step which count n events elem old mid new after Fault taken at = taken
 refused_step which count n events elem old mid new after TooLarge taken at = taken
 refused_step which count n events elem old mid new after NoMemory taken at = tt
 
 -- the same of events
-pub record ApartEvents (which : MrtInput) (every : ℕ) (before : List Elem) (n : ℕ) (event : Event) (mid : State) (all : List Elem) : Type 0 where
+pub record ApartEvents (which : MrtInput) (limits : Limits) (before : List Elem) (n : ℕ) (event : Event) (mid : State) (all : List Elem) : Type 0 where
   pub front : List Elem
   pub rest : List Elem
   pub counted : n ≡ length front
-  pub stands : StateStands which every before front mid
+  pub stands : StateStands which limits before front mid
   pub same : (front ++ next_elems before front (event ∷ [])) ++ rest ≡ all
 
 pub refused_event : (which : MrtInput) (count n : ℕ) (events : List Event) (event : Event) (old mid new after : State) (error : FeedError) → StateTakesAll which n (event ∷ []) mid (Err error) new
-    → ((every : ℕ) (before done : List Elem) → count ≡ length done → StateStands which every before done old → ApartEvents which every before n event mid (done ++ next_elems before done events)) → StateTakesAll which count events old (Err error) after
-refused_event which count n events event old mid new after (HopsFull m) taken at = λ every before done counted s.
-    let a = at every before done counted s in
-    subst (λ xs. IsFull before xs m) a.same (full_more before (a.front ++ next_elems before a.front (event ∷ [])) a.rest m (taken every before a.front a.counted a.stands))
+    → ((limits : Limits) (before done : List Elem) → count ≡ length done → StateStands which limits before done old → ApartEvents which limits before n event mid (done ++ next_elems before done events)) → StateTakesAll which count events old (Err error) after
+refused_event which count n events event old mid new after (HopsFull m) taken at = λ limits before done counted s.
+    let a = at limits before done counted s in
+    subst (λ xs. IsStopped which limits before xs m ManyHops) a.same (stop_more which limits before (a.front ++ next_elems before a.front (event ∷ [])) a.rest m ManyHops (taken limits before a.front a.counted a.stands))
+refused_event which count n events event old mid new after (FeedFull m full) taken at = λ limits before done counted s.
+    let a = at limits before done counted s in
+    subst (λ xs. IsStopped which limits before xs m (Short (shortage_as full))) a.same (stop_more which limits before (a.front ++ next_elems before a.front (event ∷ [])) a.rest m (Short (shortage_as full)) (taken limits before a.front a.counted a.stands))
 refused_event which count n events event old mid new after (Malformed malformed) taken at = taken
 refused_event which count n events event old mid new after Fault taken at = taken
 refused_event which count n events event old mid new after TooLarge taken at = taken
@@ -229,9 +285,9 @@ pub next_counted : (done : List Elem) (elem : Elem) (n count : ℕ) → count �
 next_counted done elem n count c e = omega (arith, c, e, length-append done (elem ∷ []))
 
 -- one elementary event more was taken
-pub taken_push : (which : MrtInput) (every : ℕ) (before done front all : List Elem) (elem : Elem) (count : ℕ) (old new : State) → (count ≡ length (done ++ front)) × StateStands which every before (done ++ front) old → StateTakes {T = Unit {0}} which (count + 1) (elem ∷ []) old (Ok tt) new → all ≡ front ++ elem ∷ []
-    → (count + 1 ≡ length (done ++ all)) × StateStands which every before (done ++ all) new
-taken_push which every before done front all elem count old new so_far takes next =
+pub taken_push : (which : MrtInput) (limits : Limits) (before done front all : List Elem) (elem : Elem) (count : ℕ) (old new : State) → (count ≡ length (done ++ front)) × StateStands which limits before (done ++ front) old → StateTakes {T = Unit {0}} which (count + 1) (elem ∷ []) old (Ok tt) new → all ≡ front ++ elem ∷ []
+    → (count + 1 ≡ length (done ++ all)) × StateStands which limits before (done ++ all) new
+taken_push which limits before done front all elem count old new so_far takes next =
     let at : count + 1 ≡ length ((done ++ front) ++ elem ∷ []) = next_counted (done ++ front) elem (count + 1) count so_far.0 refl in
     let same : (done ++ front) ++ elem ∷ [] ≡ done ++ all = append_assoc done front (elem ∷ []) ∙ ap (λ es. done ++ es) (sym next) in
-    (at ∙ ap length same, subst (λ es. StateStands which every before es new) same (takes every before (done ++ front) at so_far.1))
+    (at ∙ ap length same, subst (λ es. StateStands which limits before es new) same (takes limits before (done ++ front) at so_far.1))

@@ -5,12 +5,12 @@ use Rattle.fib_io.specs.Octets.{Adds, AddsSome}
 use Rattle.cert_model.specs.Verdict.{No}
 use Rattle.cert_check.specs.declared.refusal.No as code
 use Rattle.cert_check.specs.Views.{no_as}
-use Rattle.fib_words.specs.Commands.{Asked, Run, Check}
+use Rattle.fib_words.specs.Commands.{Asked, Run, Check, Make}
 use Rattle.fib_main.specs.declared.check.Reply as code_reply
 use Rattle.fib_main.specs.declared.outcome.Outcome.{Outcome}
-use Rattle.fib_main.specs.declared.outcome.Outcome.TheVariants.{Done, CheckNo, Usage, ReadFault, WriteFault, NoMemory, TooLarge, Malformed, HopsFull, BadLine}
+use Rattle.fib_main.specs.declared.outcome.Outcome.TheVariants.{Done, CheckNo, Usage, ReadFault, WriteFault, NoMemory, TooLarge, Malformed, HopsFull, TrieFull, BadLine}
 use Rattle.fib_main.specs.Stops.{Stop, Untold, Refused, IsDueIfTold, FailsDue}
-use Rattle.fib_main.specs.Due.{Output, Checked, Reply, ran, reply_of, told_at, output_text, with_reply, wrong_in}
+use Rattle.fib_main.specs.Due.{Output, Checked, Reply, made, made_at, ran, reply_of, told_at, output_text, with_reply, wrong_in}
 use Rattle.fib_main.specs.Ends.{EndsBy, IsDue}
 use Rattle.fib_main.specs.Owned.{IsOf, Owns}
 use Rattle.fib_main.specs.Untold.{FitsUntold, FitsSome, GivesSome}
@@ -20,6 +20,7 @@ pub memory_some : (content : List ℕ → Option (List ℕ)) (asked : Option Ask
 memory_some content None = tt
 memory_some content (Some (Run named)) = inl tt
 memory_some content (Some (Check name)) = inl tt
+memory_some content (Some (Make routes seed)) = tt
 
 -- ---- what fits what is due
 
@@ -56,6 +57,7 @@ ends_fit d text w old new NoMemory i e a = absurd (no_end w NoMemory (λ f. cc) 
 ends_fit d text w old new (TooLarge input) i e a = absurd (no_end w (TooLarge input) (λ f. cc) (λ x f. cc) e)
 ends_fit d text w old new (Malformed input number rule) i e a = absurd (no_end w (Malformed input number rule) (λ f. cc) (λ x f. cc) e)
 ends_fit d text w old new (HopsFull event) i e a = absurd (no_end w (HopsFull event) (λ f. cc) (λ x f. cc) e)
+ends_fit d text w old new (TrieFull event need have arena) i e a = absurd (no_end w (TrieFull event need have arena) (λ f. cc) (λ x f. cc) e)
 ends_fit d text w old new (BadLine input line why) i e a = absurd (no_end w (BadLine input line why) (λ f. cc) (λ x f. cc) e)
 
 fault_fits : (d : Result Output Stop) (text : List ℕ) (w : Option No) (old new : Option (List ℕ)) → IsDueIfTold (with_reply d) (fine (record { text = text; wrong = w })) → AddsSome old new text → FitsUntold d old new WriteFault
@@ -78,6 +80,7 @@ stop_fits d Usage old new f same = (is_stop d Usage f, same)
 stop_fits d (TooLarge input) old new f same = (is_stop d (TooLarge input) f, same)
 stop_fits d (Malformed input number rule) old new f same = (is_stop d (Malformed input number rule) f, same)
 stop_fits d (HopsFull event) old new f same = (is_stop d (HopsFull event) f, same)
+stop_fits d (TrieFull event need have arena) old new f same = (is_stop d (TrieFull event need have arena) f, same)
 stop_fits d (BadLine input line why) old new f same = (is_stop d (BadLine input line why) f, same)
 
 -- ---- the same of what the words ask for
@@ -91,6 +94,7 @@ some_ends content (Some (Run named)) reply old new o (inl s) e a = absurd s
 some_ends content (Some (Run named)) reply old new o (inr x) e a = inr (x.0, ends_fit (ran (told_at content named x.0)) reply.text.items (option_map no_as reply.no) old new o x.1 e a)
 some_ends content (Some (Check name)) reply old new o (inl s) e a = absurd s
 some_ends content (Some (Check name)) reply old new o (inr x) e a = inr (x.0, ends_fit (Ok (Checked x.0)) reply.text.items (option_map no_as reply.no) old new o x.1 e a)
+some_ends content (Some (Make routes seed)) reply old new o x e a = ends_fit (made (made_at routes seed)) reply.text.items (option_map no_as reply.no) old new o x e a
 
 pub some_fault : (content : Content) (asked : Option Asked) (reply : code_reply.Reply) (old new : Option (List ℕ)) → GivesSome content asked (Ok reply) → AddsSome old new reply.text.items → FitsSome content asked old new WriteFault
 some_fault content None reply old new g a = tt
@@ -98,6 +102,7 @@ some_fault content (Some (Run named)) reply old new (inl s) a = absurd s
 some_fault content (Some (Run named)) reply old new (inr x) a = inr (x.0, fault_fits (ran (told_at content named x.0)) reply.text.items (option_map no_as reply.no) old new x.1 a)
 some_fault content (Some (Check name)) reply old new (inl s) a = absurd s
 some_fault content (Some (Check name)) reply old new (inr x) a = inr (x.0, fault_fits (Ok (Checked x.0)) reply.text.items (option_map no_as reply.no) old new x.1 a)
+some_fault content (Some (Make routes seed)) reply old new x a = fault_fits (made (made_at routes seed)) reply.text.items (option_map no_as reply.no) old new x a
 
 pub some_stop : (content : Content) (asked : Option Asked) (o : Outcome) (old new : Option (List ℕ)) → GivesSome content asked (Err o) → new ≡ old → FitsSome content asked old new o
 some_stop content None o old new g same = tt
@@ -105,6 +110,7 @@ some_stop content (Some (Run named)) o old new (inl s) same = inl s
 some_stop content (Some (Run named)) o old new (inr x) same = inr (x.0, stop_fits (ran (told_at content named x.0)) o old new x.1 same)
 some_stop content (Some (Check name)) o old new (inl s) same = inl s
 some_stop content (Some (Check name)) o old new (inr x) same = inr (x.0, stop_fits (Ok (Checked x.0)) o old new x.1 same)
+some_stop content (Some (Make routes seed)) o old new x same = stop_fits (made (made_at routes seed)) o old new x same
 
 -- ---- whose outcome it is
 
@@ -116,6 +122,7 @@ pub own_end : (asked : Option Asked) (reply : code_reply.Reply) (o : Outcome) �
 own_end None reply o own e = absurd own
 own_end (Some (Run named)) reply o own e = let done : EndsBy None o = subst (λ n. EndsBy (option_map no_as n) o) own e in subst (IsOf (Some (Run named))) (sym done) tt
 own_end (Some (Check name)) reply o own e = check_owns name (option_map no_as reply.no) o e
+own_end (Some (Make routes seed)) reply o own e = let done : EndsBy None o = subst (λ n. EndsBy (option_map no_as n) o) own e in subst (IsOf (Some (Make routes seed))) (sym done) tt
 
 pub own_fault : (asked : Option Asked) (reply : code_reply.Reply) → Owns asked reply → IsOf asked WriteFault
 own_fault None reply own = absurd own

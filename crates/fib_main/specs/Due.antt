@@ -1,5 +1,5 @@
 -- What a run and a check are to come to.
-use Rattle.std.specs.Prelude.{ℕ, ◌+◌, List, [], ◌++◌, length, Option, Some, None, Result, Ok, Err, map, if◌then◌else◌}
+use Rattle.std.specs.Prelude.{ℕ, ◌+◌, List, [], ◌++◌, bytes_eq, codes, length, Option, Some, None, Result, Ok, Err, map, if◌then◌else◌}
 use Rattle.octet_fields.specs.Field.{◌>>=◌}
 use Rattle.address_model.specs.Address.{Address}
 use Rattle.table_model.specs.Entries.{Entries, match_in}
@@ -9,20 +9,26 @@ use Rattle.cert_model.specs.Rows.{certificate_of}
 use Rattle.route_model.specs.Events.{Elem}
 use Rattle.route_model.specs.Choice.{after_elems, elems_after}
 use Rattle.reading_model.specs.Input.{Progress, Stopped, input}
-use Rattle.feed_model.specs.Feed.{hops_after, full_at, entries_of}
+use Rattle.feed_model.specs.Feed.{hops_after, entries_of}
 use Rattle.kept_feed.specs.Kept.{kept_at_load, kept_changes_from, kept_from, kept_load_changes}
-use Rattle.fib_report.specs.Views.{Told}
-use Rattle.fib_report.specs.Rows.{run_text}
+use Rattle.poptrie_build.specs.Tries.{visits_of}
+use Rattle.poptrie_build.specs.declared.counts.Needs.{Needs}
+use Rattle.route_tries.specs.Sizes.{Sizes, needs_of, shortage}
+use Rattle.route_tries.specs.declared.needs.FamilyNeeds.{FamilyNeeds}
+use Rattle.made_model.specs.Files.{dump_octets, updates_octets}
+use Rattle.fib_report.specs.Views.{Answer, Told}
+use Rattle.fib_report.specs.Rows.{report_text, run_text}
 use Rattle.fib_report.specs.declared.run.Report.{Report}
 use Rattle.cert_model.specs.Verdict.{No}
 use Rattle.printed_model.specs.Used.{Used, printed_in}
-use Rattle.fib_words.specs.Commands.{Named, Asked, Run, Check, command_of}
+use Rattle.fib_words.specs.Commands.{Named, Asked, Run, Check, Make, command_of}
 use Rattle.fib_main.specs.declared.outcome.Outcome.TheVariants.{Usage}
 use Rattle.fib_main.specs.declared.outcome.MrtInput.{MrtInput}
 use Rattle.fib_main.specs.declared.outcome.MrtInput.TheVariants.{Dump, Updates}
 use Rattle.fib_main.specs.declared.outcome.Which.{Which}
 use Rattle.fib_main.specs.declared.outcome.Which.TheVariants as all
-use Rattle.fib_main.specs.Stops.{Stop, Refused, told_content, is_small, sized, lined, lined_past, rowed, records_due, few_hops}
+use Rattle.fib_main.specs.Stops.{Stop, Refused, told_content, is_small, sized, lined, lined_past, rowed, records_due, unless_stopped, with_room}
+use Rattle.fib_main.specs.Refusals.{Limits, routes_by, stop_at, too_much}
 use Rattle.fib_io.specs.Pieces.{octets_read}
 use Rattle.fib_main.specs.Asks.{asks_in, ended_asks_in}
 use Rattle.fib_main.specs.Checks.{verdict_of, verdict_text}
@@ -74,32 +80,47 @@ elems_in before read = elems_after (after_elems [] before) read.events
 abbrev pub feed_in : List Elem → Progress → Feed
 feed_in before read = record { elems = elems_in before read; records = read.records; skipped = read.skipped; treated = read.treated }
 
--- What the octets of an input bring after earlier elementary events. Records are taken one by one: a hop too many comes before a record after it that breaks a rule, and before the end of what is read.
-unfoldable pub feed_of : MrtInput → List Elem → List ℕ → Result Feed Stop
-feed_of which before octets =
-    few_hops which (full_at (hops_after [] before) (elems_in before (read_part (input (octets_read octets)))))
+-- What the octets of an input bring after earlier elementary events. Records are taken one by one: an event that isn't taken comes before a record after it that breaks a rule, and before the end of what is read.
+unfoldable pub feed_of : Sizes → MrtInput → List Elem → List ℕ → Result Feed Stop
+feed_of z which before octets =
+    unless_stopped which (stop_at (too_much which z) before (elems_in before (read_part (input (octets_read octets)))))
     (records_due which octets >>= λ read. Ok (feed_in before read))
 
 -- nothing comes of an input that isn't named
-unfoldable pub feed_at : (List ℕ → Option (List ℕ)) → MrtInput → List Elem → Option (List ℕ) → Result Feed Stop
-feed_at content which before None = Ok no_feed
-feed_at content which before (Some name) = do
+unfoldable pub feed_at : Sizes → (List ℕ → Option (List ℕ)) → MrtInput → List Elem → Option (List ℕ) → Result Feed Stop
+feed_at z content which before None = Ok no_feed
+feed_at z content which before (Some name) = do
   octets ← told_content (content name)
-  feed_of which before octets
+  feed_of z which before octets
+
+-- what a dump brings, if the tries of its routes have room at its end
+unfoldable pub load_at : Sizes → (List ℕ → Option (List ℕ)) → List ℕ → Result Feed Stop
+load_at z content name = do
+  load ← feed_at z content Dump [] (Some name)
+  with_room (shortage z (routes_by load.elems)) load
 
 -- ---- what is told
 
--- each address with its answer: longest match among the routes
-abbrev pub answers_to : Entries → List Address → List (Address × ℕ)
-answers_to routes asks = map (λ a. (a, match_in routes a)) asks
+-- each address with its answer, which is longest match among the routes, and with how many of its regions of s, s + 6, s + 12, .. bits hold two different answers
+abbrev pub answers_to : ℕ → Entries → List Address → List Answer
+answers_to s routes asks = map (λ a. record { addr = a; hop = match_in routes a; visits = visits_of s routes a }) asks
 
-abbrev pub counts : Feed → Feed → Entries → Entries → Report
-counts load updates routes kept = record {
+-- of both families' tries, the places that nodes need, and those that leaves need
+abbrev pub all_nodes : FamilyNeeds → ℕ
+all_nodes n = n.v4.nodes + n.v6.nodes
+
+abbrev pub all_leaves : FamilyNeeds → ℕ
+all_leaves n = n.v4.leaves + n.v6.leaves
+
+abbrev pub counts : Feed → Feed → Entries → Entries → FamilyNeeds → Report
+counts load updates routes kept needs = record {
   records = load.records + updates.records;
   skipped = load.skipped + updates.skipped;
   events = length load.elems + length updates.elems;
   routes = length routes;
   entries = length kept;
+  nodes = all_nodes needs;
+  leaves = all_leaves needs;
   treated = load.treated + updates.treated;
 }
 
@@ -111,37 +132,58 @@ kept_of every hops load updates = kept_from every hops 1 (after_elems [] load) (
 abbrev pub changes_of : ℕ → List Address → List Elem → List Elem → List (ℕ × Change)
 changes_of every hops load updates = kept_load_changes hops (after_elems [] load) ++ kept_changes_from every hops 1 (after_elems [] load) (kept_at_load hops (after_elems [] load)) updates
 
--- of these routes, and of a kept table and its changes: the routes, the changes, each address with its answer, the table, the aggregate of the routes with the kept table as the old one, the certificate that it is least, and the counts
-abbrev pub run_of : Entries → Entries → List (ℕ × Change) → List Address → Feed → Feed → Told
-run_of routes kept changes asks load updates = record { routes = routes; changes = changes; answers = answers_to routes asks; table = kept; least = aggregate_in_both routes kept; cert = certificate_of routes; report = counts load updates routes kept }
+-- of these routes, and of a kept table and its changes, with so many direct bits: the routes, the changes, each address with its answer, the table, the aggregate of the routes with the kept table as the old one, the certificate that it is least, and the counts
+abbrev pub run_of : ℕ → Entries → Entries → List (ℕ × Change) → List Address → Feed → Feed → Told
+run_of s routes kept changes asks load updates = record {
+  routes = routes;
+  changes = changes;
+  answers = answers_to s routes asks;
+  table = kept;
+  least = aggregate_in_both routes kept;
+  cert = certificate_of routes;
+  report = counts load updates routes kept (needs_of s routes);
+}
 
--- what is to be printed: the rows, and the hops that their numbers stand for; and what they come from: the elementary events of the load and of the updates, and how many of these each snapshot follows
+-- what is to be printed: the rows, and the hops that their numbers stand for; and what they come from: the elementary events of the load and of the updates, how many of these each snapshot follows, and how large tries are
 pub record Printed : Type 0 where
   pub told : Told
   pub hops : List Address
-  pub every : ℕ
+  pub limits : Limits
   pub load : List Elem
   pub updates : List Elem
 
 -- the numbers are those after all elementary events
-abbrev pub printed_by : List Address → ℕ → Feed → Feed → List Address → Printed
-printed_by hops every load updates asks = record {
-  told = run_of (entries_of hops (after_elems [] (load.elems ++ updates.elems))) (kept_of every hops load.elems updates.elems) (changes_of every hops load.elems updates.elems) asks load updates;
+abbrev pub printed_by : List Address → Limits → Feed → Feed → List Address → Printed
+printed_by hops limits load updates asks = record {
+  told = run_of limits.sizes.direct (entries_of hops (after_elems [] (load.elems ++ updates.elems))) (kept_of limits.every hops load.elems updates.elems) (changes_of limits.every hops load.elems updates.elems) asks load updates;
   hops = hops;
-  every = every;
+  limits = limits;
   load = load.elems;
   updates = updates.elems;
 }
 
-abbrev pub printed : ℕ → Feed → Feed → List Address → Printed
-printed every load updates asks = printed_by (hops_after [] (load.elems ++ updates.elems)) every load updates asks
+abbrev pub printed : Limits → Feed → Feed → List Address → Printed
+printed limits load updates asks = printed_by (hops_after [] (load.elems ++ updates.elems)) limits load updates asks
 
--- of the dump and the updates that are named, with these asks and as many events to a snapshot as are asked for
+-- as many events to a snapshot, and tries as large, as are asked for
+abbrev pub sizes_of : Named → Sizes
+sizes_of named = record { direct = named.direct; nodes = named.nodes; leaves = named.leaves }
+
+abbrev pub limits_of : Named → Limits
+limits_of named = record { every = named.every; sizes = sizes_of named }
+
+-- what the dump and the updates that are named bring: the tries of the dump's routes need room before the updates are read
+unfoldable pub feeds_at : (List ℕ → Option (List ℕ)) → Named → Result (Feed × Feed) Stop
+feeds_at content named = do
+  load ← load_at (sizes_of named) content named.dump
+  updates ← feed_at (sizes_of named) content Updates load.elems named.updates
+  Ok (load, updates)
+
+-- of these, with these asks
 unfoldable pub told_at : (List ℕ → Option (List ℕ)) → Named → List Address → Result Printed Stop
 told_at content named asks = do
-  load ← feed_at content Dump [] (Some named.dump)
-  updates ← feed_at content Updates load.elems named.updates
-  Ok (printed named.every load updates asks)
+  feeds ← feeds_at content named
+  Ok (printed (limits_of named) feeds.0 feeds.1 asks)
 
 -- what is to be printed of a run, or the first refusal: of the asks, the dump, the updates
 unfoldable pub run_at : (List ℕ → Option (List ℕ)) → Named → Result Printed Stop
@@ -156,16 +198,36 @@ printed_text p = run_text p.hops p.told
 abbrev pub with_text : Result Printed Stop → Result (List ℕ) Stop
 with_text printed = printed >>= λ p. Ok (printed_text p)
 
+-- the rows of its counts alone
+abbrev pub with_counts : Result Printed Stop → Result (List ℕ) Stop
+with_counts printed = printed >>= λ p. Ok (report_text p.told.report)
+
 -- what a check uses of the printed text of this name, or the text's refusal
 unfoldable pub used_at : (List ℕ → Option (List ℕ)) → List ℕ → Result Used Stop
 used_at content name = do
   octets ← input_at content all.Printed name
   rowed (printed_in octets)
 
--- What is to be printed: the rows of a run, or the verdict on what a printed text has.
+-- the inputs that are made: so many routes and half as many updates, drawn from a seed
+abbrev pub made_content : ℕ → ℕ → List ℕ → Option (List ℕ)
+made_content routes seed name =
+    if bytes_eq (codes "dump") name then Some (dump_octets seed routes)
+    else if bytes_eq (codes "updates") name then Some (updates_octets seed routes)
+    else None
+
+-- what the main job is asked to do with them
+abbrev pub made_named : Named
+made_named = record { dump = codes "dump"; updates = Some (codes "updates"); asks = None; every = 1000; direct = 16; nodes = 20; leaves = 22 }
+
+-- what it comes to
+unfoldable pub made_at : ℕ → ℕ → Result Printed Stop
+made_at routes seed = told_at (made_content routes seed) made_named []
+
+-- What is to be printed: the rows of a run, the verdict on what a printed text has, or the counts alone of a run on inputs that are made.
 pub data Output : Type 0 where
   Ran : Printed → Output
   Checked : Used → Output
+  Made : Printed → Output
 
 abbrev pub ran : Result Printed Stop → Result Output Stop
 ran printed = printed >>= λ p. Ok (Ran p)
@@ -173,10 +235,14 @@ ran printed = printed >>= λ p. Ok (Ran p)
 abbrev pub checked : Result Used Stop → Result Output Stop
 checked used = used >>= λ u. Ok (Checked u)
 
--- of a run, or of a check
+abbrev pub made : Result Printed Stop → Result Output Stop
+made printed = printed >>= λ p. Ok (Made p)
+
+-- of a run, of a check, or of a run on made inputs
 unfoldable pub output_at : (List ℕ → Option (List ℕ)) → Asked → Result Output Stop
 output_at content (Run named) = ran (run_at content named)
 output_at content (Check name) = checked (used_at content name)
+output_at content (Make routes seed) = made (made_at routes seed)
 
 -- What is to be printed, or the first refusal: of the words, and then of the inputs that they name.
 unfoldable pub due : List (List ℕ) → (List ℕ → Option (List ℕ)) → Result Output Stop
@@ -188,11 +254,13 @@ due words content = do
 abbrev pub wrong_in : Output → Option No
 wrong_in (Ran p) = None
 wrong_in (Checked used) = verdict_of used
+wrong_in (Made p) = None
 
 -- the text of the rows
 abbrev pub output_text : Output → List ℕ
 output_text (Ran p) = printed_text p
 output_text (Checked used) = verdict_text used.hops (verdict_of used)
+output_text (Made p) = report_text p.told.report
 
 -- a text, and what is wrong where it says so
 pub record Reply : Type 0 where

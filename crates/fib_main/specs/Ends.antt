@@ -5,14 +5,13 @@ use Rattle.fib_io.specs.Octets.{Adds, AddsSome}
 use Rattle.cert_model.specs.Verdict.{No}
 use Rattle.cert_check.specs.declared.refusal.No as code
 use Rattle.cert_check.specs.Views.{no_as}
-use Rattle.fib_main.specs.declared.outcome.MrtInput.TheVariants as mrt
 use Rattle.fib_main.specs.declared.outcome.Which.{Which}
 use Rattle.fib_main.specs.declared.outcome.Which.TheVariants.{Asks, Dump, Updates, Printed}
 use Rattle.fib_main.specs.declared.outcome.Outcome.{Outcome}
-use Rattle.fib_main.specs.declared.outcome.Outcome.TheVariants.{Done, CheckNo, Usage, ReadFault, WriteFault, NoMemory, TooLarge, Malformed, HopsFull, BadLine}
+use Rattle.fib_main.specs.declared.outcome.Outcome.TheVariants.{Done, CheckNo, Usage, ReadFault, WriteFault, NoMemory, TooLarge, Malformed, HopsFull, TrieFull, BadLine}
 use Rattle.fib_main.specs.Stops.{Stop, Untold, Refused}
-use Rattle.fib_words.specs.Commands.{Named, Asked, Run, Check, command_of}
-use Rattle.fib_main.specs.Due.{Output, asks_at, feed_at, output_text, wrong_in}
+use Rattle.fib_words.specs.Commands.{Named, Asked, Run, Check, Make, command_of}
+use Rattle.fib_main.specs.Due.{Output, asks_at, load_at, output_text, sizes_of, wrong_in}
 
 -- the outcome at the end: Done, or what a check finds wrong
 abbrev pub EndsBy : Option No → Outcome → Type 0
@@ -57,9 +56,9 @@ after (Err (Refused o)) names = []
 after (Err Untold) names = names
 after (Ok x) names = names
 
--- the dump and then the updates
+-- the dump, and then the updates where it is accepted and tries of its routes have room
 abbrev pub feeds_named : (List ℕ → Option (List ℕ)) → Named → List (List ℕ)
-feeds_named content named = named.dump ∷ after (feed_at content mrt.Dump [] (Some named.dump)) (option_to_list named.updates)
+feeds_named content named = named.dump ∷ after (load_at (sizes_of named) content named.dump) (option_to_list named.updates)
 
 -- the inputs that are to be read, up to the first that is refused
 abbrev pub reads_named : (List ℕ → Option (List ℕ)) → Named → List (List ℕ)
@@ -70,6 +69,7 @@ abbrev pub reads_asked : (List ℕ → Option (List ℕ)) → Option Asked → L
 reads_asked content None = []
 reads_asked content (Some (Run named)) = reads_named content named
 reads_asked content (Some (Check name)) = name ∷ []
+reads_asked content (Some (Make routes seed)) = []
 
 unfoldable pub reads : List (List ℕ) → (List ℕ → Option (List ℕ)) → List (List ℕ)
 reads words content = reads_asked content (command_of words)
@@ -123,6 +123,7 @@ outcome_line NoMemory = codes "fib: no memory\n"
 outcome_line (TooLarge input) = codes "fib: too large " ++ name_of input ++ codes "\n"
 outcome_line (Malformed input number rule) = codes "fib: malformed " ++ name_of input ++ codes " record " ++ decimal number ++ codes " rule " ++ decimal rule ++ codes "\n"
 outcome_line (HopsFull event) = codes "fib: too many hops at event " ++ decimal event ++ codes "\n"
+outcome_line (TrieFull event need have arena) = codes "fib: trie full at event " ++ decimal event ++ codes ": arena " ++ decimal arena ++ codes " needs " ++ decimal need ++ codes " of " ++ decimal have ++ codes "\n"
 outcome_line (BadLine input line why) = codes "fib: bad line " ++ name_of input ++ codes " " ++ decimal line ++ codes " why " ++ decimal why ++ codes "\n"
 
 abbrev pub status_of : Outcome → ℕ
@@ -134,6 +135,7 @@ status_of WriteFault = 4
 status_of NoMemory = 9
 status_of (TooLarge input) = 10
 status_of (Malformed input number rule) = 5
+status_of (TrieFull event need have arena) = 6
 status_of (HopsFull event) = 7
 status_of (BadLine input line why) = 8
 

@@ -42,7 +42,7 @@ Follows p = (done rest : List Elem) (T : Entries) → p.updates ≡ done ++ rest
 
 -- After each snapshot no table that does so has fewer entries, in either family.
 abbrev pub RenewsLeast : Printed → Type 0
-RenewsLeast p = (done rest : List Elem) (T : Entries) → p.updates ≡ done ++ rest → has_snapshot p.every (length done) ≡ true → HasTable p (length done) T → LeastInBoth (routes_after p done) T
+RenewsLeast p = (done rest : List Elem) (T : Entries) → p.updates ≡ done ++ rest → has_snapshot p.limits.every (length done) ≡ true → HasTable p (length done) T → LeastInBoth (routes_after p done) T
 
 -- The table L, in this prefix's family, sends every address where these routes send it, and has T's entries outside the prefix.
 pub record DoesWithin (q : Prefix) (R T L : Entries) : Type 0 where

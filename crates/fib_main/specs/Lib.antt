@@ -1,5 +1,6 @@
 pub mod Asks
 pub mod Asking
+pub mod Refusals
 pub mod Stops
 pub mod Checks
 pub mod Counts

@@ -1,13 +1,13 @@
 -- Which outcomes a command can have, whether or not its inputs tell what they hold.
 use Rattle.std.specs.Prelude.{◌≡◌, ℕ, Option, Some, None, IsSome, Result, Ok, Err}
-use Rattle.fib_words.specs.Commands.{Asked, Run, Check}
+use Rattle.fib_words.specs.Commands.{Asked, Run, Check, Make}
 use Rattle.fib_main.specs.declared.outcome.Which.{Which}
 use Rattle.fib_main.specs.declared.outcome.Which.TheVariants.{Asks, Dump, Updates, Printed}
 use Rattle.fib_main.specs.declared.outcome.Outcome.{Outcome}
-use Rattle.fib_main.specs.declared.outcome.Outcome.TheVariants.{Done, CheckNo, Usage, ReadFault, WriteFault, NoMemory, TooLarge, Malformed, HopsFull, BadLine}
+use Rattle.fib_main.specs.declared.outcome.Outcome.TheVariants.{Done, CheckNo, Usage, ReadFault, WriteFault, NoMemory, TooLarge, Malformed, HopsFull, TrieFull, BadLine}
 use Rattle.fib_main.specs.declared.check.Reply as code_reply
 
--- the command names this input
+-- the command names this input, or makes it
 abbrev pub HasInput : Asked → Which → Type 0
 HasInput (Run named) Asks = IsSome named.asks
 HasInput (Run named) Dump = Unit {0}
@@ -17,6 +17,10 @@ HasInput (Check name) Asks = ⊥
 HasInput (Check name) Dump = ⊥
 HasInput (Check name) Updates = ⊥
 HasInput (Check name) Printed = Unit {0}
+HasInput (Make routes seed) Asks = ⊥
+HasInput (Make routes seed) Dump = Unit {0}
+HasInput (Make routes seed) Updates = Unit {0}
+HasInput (Make routes seed) Printed = ⊥
 
 -- the input is one of lines
 abbrev pub HasLines : Which → Type 0
@@ -46,6 +50,7 @@ StopsAt which NoMemory = Unit {0}
 StopsAt which (TooLarge input) = input ≡ which
 StopsAt which (Malformed input number rule) = (input ≡ which) × HasRecords which
 StopsAt which (HopsFull event) = HasEvent which event
+StopsAt which (TrieFull event need have arena) = HasEvent which event
 StopsAt which (BadLine input line why) = (input ≡ which) × HasLines which
 StopsAt which outcome = ⊥
 
@@ -53,7 +58,7 @@ StopsAt which outcome = ⊥
 abbrev pub StopsIn : Asked → Outcome → Type 0
 StopsIn asked outcome = (which : Which) × HasInput asked which × StopsAt which outcome
 
--- The outcome is one of these words. Words that are no command have Usage alone, and no command has it; a check alone says no; a refusal names an input that the command names. Memory may run out with any.
+-- The outcome is one of these words. Words that are no command have Usage alone, and no command has it; a check alone says no; a refusal names an input that the command names or makes. Memory may run out with any.
 abbrev pub IsOf : Option Asked → Outcome → Type 0
 IsOf None Usage = Unit {0}
 IsOf None NoMemory = Unit {0}
@@ -65,11 +70,12 @@ IsOf (Some asked) WriteFault = Unit {0}
 IsOf (Some asked) NoMemory = Unit {0}
 IsOf (Some asked) outcome = StopsIn asked outcome
 
--- the words are a command, and a run finds nothing wrong
+-- the words are a command, and a run finds nothing wrong, whatever its inputs
 abbrev pub Owns : Option Asked → code_reply.Reply → Type 0
 Owns None reply = ⊥
 Owns (Some (Run named)) reply = reply.no ≡ None
 Owns (Some (Check name)) reply = Unit {0}
+Owns (Some (Make routes seed)) reply = reply.no ≡ None
 
 -- a call was stopped at this input
 abbrev pub StoppedAt : {X : Type 0} → Which → Result X Outcome → Type 0

@@ -4,10 +4,10 @@ use Rattle.fib_io.specs.Octets.{Adds, AddsSome}
 use Rattle.least_model.specs.Both.{LeastInBoth}
 use Rattle.cert_model.specs.Right.{IsCertificate}
 use Rattle.printed_model.specs.Used.{Used, printed_in}
-use Rattle.fib_words.specs.Commands.{Asked, Run, Check}
+use Rattle.fib_words.specs.Commands.{Asked, Run, Check, Make}
 use Rattle.fib_main.specs.Stops.{Stop}
 use Rattle.fib_main.specs.Checks.{verdict_of}
-use Rattle.fib_main.specs.Due.{Output, Ran, Checked, Printed, printed_text}
+use Rattle.fib_main.specs.Due.{Output, Ran, Checked, Made, Printed, printed_text}
 
 -- nothing is wrong exactly where the rows are a certificate that the least table is least for the routes
 abbrev pub Decides : Used → Type 0
@@ -21,6 +21,7 @@ YesProves used = verdict_of used ≡ None → LeastInBoth used.routes used.least
 abbrev pub IfChecked : Result Output Stop → (Used → Type 0) → Type 0
 IfChecked (Ok (Ran p)) P = Unit {0}
 IfChecked (Ok (Checked used)) P = P used
+IfChecked (Ok (Made p)) P = Unit {0}
 IfChecked (Err stop) P = Unit {0}
 
 -- The text, if it isn't too large for an input, is one that a check says yes to: each of its lines is a printed row, the rows have a certificate that proves their least table least for their routes, and so nothing is wrong with them.
@@ -38,12 +39,14 @@ PrintsYes p = ChecksYes (printed_text p)
 abbrev pub IfRan : Result Output Stop → (Printed → Type 0) → Type 0
 IfRan (Ok (Ran p)) P = P p
 IfRan (Ok (Checked used)) P = Unit {0}
+IfRan (Ok (Made p)) P = Unit {0}
 IfRan (Err stop) P = Unit {0}
 
 -- the words are those of a run
 abbrev pub IsRun : Option Asked → Type 0
 IsRun (Some (Run named)) = Unit {0}
 IsRun (Some (Check name)) = ⊥
+IsRun (Some (Make routes seed)) = ⊥
 IsRun None = ⊥
 
 -- a text that a check says yes to was added, where out tells it

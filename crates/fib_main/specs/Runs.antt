@@ -12,7 +12,8 @@ use Rattle.cert_model.specs.Right.{IsCertificate}
 use Rattle.cert_model.specs.Rows.{CertRow, leaf_row, join_row, bound_row}
 use Rattle.printed_model.specs.Numbered.{HaveHops}
 use Rattle.feed_model.specs.Feed.{changes_in}
-use Rattle.fib_report.specs.Views.{Told}
+use Rattle.poptrie_build.specs.Tries.{visits_of}
+use Rattle.fib_report.specs.Views.{Answer, Told}
 use Rattle.fib_main.specs.Stops.{Stop}
 use Rattle.fib_main.specs.Due.{Output, Printed}
 use Rattle.fib_main.specs.Proves.{IfRan}
@@ -29,9 +30,9 @@ SumsUp told = sum_of (changes_in told.changes) ≡ Some told.table
 abbrev pub Forwards : Told → Type 0
 Forwards told = AlikeInBoth told.table told.routes
 
--- each answer is the longest match among the routes
-abbrev pub Answers : Told → Type 0
-Answers told = AllByRecursion (λ (a : Address × ℕ). a.1 ≡ match_in told.routes a.0) told.answers
+-- Each answer is the longest match among the routes, and its visits are as many as the address's regions of s, s + 6, s + 12, .. bits that hold two different answers, s being the direct bits.
+abbrev pub Answers : Printed → Type 0
+Answers p = AllByRecursion (λ (a : Answer). (a.hop ≡ match_in p.told.routes a.addr) × (a.visits ≡ visits_of p.limits.sizes.direct p.told.routes a.addr)) p.told.answers
 
 -- The least table sends every address where the routes send it, and in either family no table that does so has fewer entries, drop entries counted.
 abbrev pub HasLeast : Told → Type 0
@@ -79,7 +80,7 @@ pub record HasHops (p : Printed) : Type 0 where
   pub distinct : IsDistinct same_address p.hops
   pub routes : HaveHops p.hops p.told.routes
   pub changes : AllByRecursion (λ (c : ℕ × Change). ChangeHasHop p.hops c.1) p.told.changes
-  pub answers : AllByRecursion (λ (a : Address × ℕ). HasHop p.hops a.1) p.told.answers
+  pub answers : AllByRecursion (λ (a : Answer). HasHop p.hops a.hop) p.told.answers
   pub table : AllByRecursion (EntryHasHop p.hops) p.told.table
   pub least : AllByRecursion (EntryHasHop p.hops) p.told.least
   pub cert : AllByRecursion (RowHasHop p.hops) p.told.cert

@@ -1,10 +1,9 @@
 -- What a state holds after elementary events.
-use Rattle.std.specs.Prelude.{◌≡◌, ◌≤◌, ℕ, List, [], ◌++◌, length, Some, None, true, false, Result, Ok, Err}
+use Rattle.std.specs.Prelude.{◌≡◌, ◌≤◌, ℕ, List, [], ◌++◌, length, codes, unwrap_or, Option, Some, None, true, false, Result, Ok, Err}
 use Rattle.address_model.specs.Address.{Address}
 use Rattle.table_model.specs.Changes.{Change}
 use Rattle.route_model.specs.Events.{Elem, Event}
 use Rattle.route_model.specs.Choice.{after_elems, elems_after}
-use Rattle.feed_model.specs.Feed.{hops_after, full_at}
 use Rattle.fib_engine.specs.Held.{Held}
 use Rattle.fib_engine.specs.Stands.{IsLoading, Stands}
 use Rattle.fib_engine.specs.declared.error.EngineError.{EngineError}
@@ -18,7 +17,7 @@ use Rattle.fib_main.specs.declared.outcome.Outcome.TheVariants as outcome
 use Rattle.fib_main.specs.declared.feed.Counts.{Counts}
 use Rattle.fib_main.specs.declared.state.State.{State}
 use Rattle.fib_main.specs.declared.state.FeedError.{FeedError}
-use Rattle.fib_main.specs.declared.state.FeedError.TheVariants.{Malformed, HopsFull, NoMemory, Fault, TooLarge}
+use Rattle.fib_main.specs.declared.state.FeedError.TheVariants.{Malformed, HopsFull, TrieFull, NoMemory, Fault, TooLarge}
 use Rattle.fib_io.specs.Causes.{Rose}
 use Rattle.fib_io.specs.declared.pieces.ReadError.{ReadError}
 use Rattle.fib_io.specs.declared.pieces.ReadError.TheVariants as pieces
@@ -27,7 +26,13 @@ use Rattle.mrt_read.specs.declared.reader.EventsError.{EventsError}
 use Rattle.mrt_read.specs.declared.reader.EventsError.TheVariants as read
 use Rattle.fib_main.specs.Views.{changes_as}
 use Rattle.fib_main.specs.Stops.{Stop, IsDueIfTold, FailsDue, event_in, input_of}
-use Rattle.fib_main.specs.Due.{Feed, changes_of}
+use Rattle.fib_main.specs.Refusals.{Limits, ManyHops, Refusal, Short, routes_by, stop_at, too_much}
+use Rattle.fib_main.specs.Due.{Feed, changes_of, feeds_at, limits_of}
+use Rattle.made_model.specs.Files.{dump_octets, updates_octets}
+use Rattle.fib_io.specs.Held.{held_under}
+use Rattle.fib_io.specs.declared.memory_inputs.SureInputs.{SureInputs}
+use Rattle.fib_words.specs.Commands.{Named}
+use Rattle.route_tries.specs.Sizes.{shortage, shortage_as}
 
 -- the engine has these elementary events of an input, which came after those: of a dump they are its load, and updates came since the load
 abbrev pub EngineHas : MrtInput → List Elem → List Elem → Held → Type 0
@@ -44,22 +49,24 @@ abbrev pub changes_so_far : MrtInput → ℕ → List Address → List Elem → 
 changes_so_far Dump every hops before elems = []
 changes_so_far Updates every hops before elems = changes_of every hops before elems
 
--- The state after these elementary events of an input, which came after earlier ones, with a snapshot after each so many of the updates. Its hops are few enough, and its changes are those so far.
-pub record StateStands (which : MrtInput) (every : ℕ) (before elems : List Elem) (state : State) : Type 0 where
+-- The state after these elementary events of an input, which came after earlier ones, within these limits. Its hops are few enough, and its changes are those so far.
+pub record StateStands (which : MrtInput) (limits : Limits) (before elems : List Elem) (state : State) : Type 0 where
   pub engine : EngineHas which before elems state.engine
-  pub every_is : state.engine.every ≡ every
+  pub every_is : state.engine.every ≡ limits.every
+  pub sizes_are : state.engine.sizes ≡ limits.sizes
   pub few : length state.engine.hops ≤ most_hops
-  pub fits : full_at (hops_after [] before) elems ≡ None
-  pub changes : changes_as state.changes.items ≡ changes_so_far which every state.engine.hops before elems
+  pub fits : stop_at (too_much which limits.sizes) before elems ≡ None
+  pub changes : changes_as state.changes.items ≡ changes_so_far which limits.every state.engine.hops before elems
 
--- one of these elementary events brings one hop too many
-abbrev pub IsFull : List Elem → List Elem → ℕ → Type 0
-IsFull before elems n = full_at (hops_after [] before) elems ≡ Some n
+-- the first of these elementary events after which something is too much has this number
+abbrev pub IsStopped : MrtInput → Limits → List Elem → List Elem → ℕ → Refusal → Type 0
+IsStopped which limits before elems n r = stop_at (too_much which limits.sizes) before elems ≡ Some (n, r)
 
 -- what became of a state that took elementary events, the last of which has this number in its input
 abbrev pub StateTakes : {T : Type 0} → MrtInput → ℕ → List Elem → State → Result T FeedError → State → Type 0
-StateTakes which event elems old (Ok x) new = (every : ℕ) (before done : List Elem) → event ≡ length (done ++ elems) → StateStands which every before done old → StateStands which every before (done ++ elems) new
-StateTakes which event elems old (Err (HopsFull n)) new = (every : ℕ) (before done : List Elem) → event ≡ length (done ++ elems) → StateStands which every before done old → IsFull before (done ++ elems) n
+StateTakes which event elems old (Ok x) new = (limits : Limits) (before done : List Elem) → event ≡ length (done ++ elems) → StateStands which limits before done old → StateStands which limits before (done ++ elems) new
+StateTakes which event elems old (Err (HopsFull n)) new = (limits : Limits) (before done : List Elem) → event ≡ length (done ++ elems) → StateStands which limits before done old → IsStopped which limits before (done ++ elems) n ManyHops
+StateTakes which event elems old (Err (TrieFull n full)) new = (limits : Limits) (before done : List Elem) → event ≡ length (done ++ elems) → StateStands which limits before done old → IsStopped which limits before (done ++ elems) n (Short (shortage_as full))
 StateTakes which event elems old (Err (Malformed malformed)) new = ⊥
 StateTakes which event elems old (Err Fault) new = ⊥
 StateTakes which event elems old (Err TooLarge) new = ⊥
@@ -71,8 +78,9 @@ next_elems before done events = elems_after (after_elems [] (before ++ done)) ev
 
 -- the same of events, after so many elementary events of the input
 abbrev pub StateTakesAll : MrtInput → ℕ → List Event → State → Result ℕ FeedError → State → Type 0
-StateTakesAll which count events old (Ok n) new = (every : ℕ) (before done : List Elem) → count ≡ length done → StateStands which every before done old → (n ≡ length (done ++ next_elems before done events)) × StateStands which every before (done ++ next_elems before done events) new
-StateTakesAll which count events old (Err (HopsFull n)) new = (every : ℕ) (before done : List Elem) → count ≡ length done → StateStands which every before done old → IsFull before (done ++ next_elems before done events) n
+StateTakesAll which count events old (Ok n) new = (limits : Limits) (before done : List Elem) → count ≡ length done → StateStands which limits before done old → (n ≡ length (done ++ next_elems before done events)) × StateStands which limits before (done ++ next_elems before done events) new
+StateTakesAll which count events old (Err (HopsFull n)) new = (limits : Limits) (before done : List Elem) → count ≡ length done → StateStands which limits before done old → IsStopped which limits before (done ++ next_elems before done events) n ManyHops
+StateTakesAll which count events old (Err (TrieFull n full)) new = (limits : Limits) (before done : List Elem) → count ≡ length done → StateStands which limits before done old → IsStopped which limits before (done ++ next_elems before done events) n (Short (shortage_as full))
 StateTakesAll which count events old (Err (Malformed malformed)) new = ⊥
 StateTakesAll which count events old (Err Fault) new = ⊥
 StateTakesAll which count events old (Err TooLarge) new = ⊥
@@ -81,6 +89,7 @@ StateTakesAll which count events old (Err NoMemory) new = Unit {0}
 -- an elementary event of this number that the engine didn't take, as a refusal of an input
 abbrev pub refusal_at : ℕ → EngineError → FeedError
 refusal_at event engine.HopsFull = HopsFull event
+refusal_at event (engine.TrieFull full) = TrieFull event full
 refusal_at event engine.NoMemory = NoMemory
 
 -- the counts are those of what an input brings
@@ -91,9 +100,9 @@ pub record IsCounted (feed : Feed) (counts : Counts) : Type 0 where
   pub events : counts.events ≡ length feed.elems
 
 -- the state has what the input brings, and it was counted
-pub record StateHas (which : MrtInput) (every : ℕ) (before : List Elem) (feed : Feed) (counts : Counts) (state : State) : Type 0 where
+pub record StateHas (which : MrtInput) (limits : Limits) (before : List Elem) (feed : Feed) (counts : Counts) (state : State) : Type 0 where
   pub counted : IsCounted feed counts
-  pub stands : StateStands which every before feed.elems state
+  pub stands : StateStands which limits before feed.elems state
 
 -- a refusal of a reader, as one of an input
 abbrev pub of_read : EventsError → FeedError
@@ -103,6 +112,7 @@ of_read read.NoMemory = NoMemory
 -- the outcome where an input brings nothing
 abbrev pub refusal_of : MrtInput → FeedError → Outcome
 refusal_of which (HopsFull n) = outcome.HopsFull (event_in which n)
+refusal_of which (TrieFull n full) = outcome.TrieFull (event_in which n) full.need full.have full.arena
 refusal_of which (Malformed malformed) = outcome.Malformed (input_of which) malformed.number (rule_number malformed.rule)
 refusal_of which NoMemory = outcome.NoMemory
 refusal_of which Fault = outcome.ReadFault
@@ -115,9 +125,9 @@ of_input pieces.TooLarge = TooLarge
 of_input pieces.NoMemory = NoMemory
 
 -- what was brought is what the definition gives, but for a fault of reading or want of memory
-abbrev pub StateBrings : MrtInput → ℕ → List Elem → Result Counts FeedError → State → Result Feed Stop → Type 0
-StateBrings which every before (Ok counts) new due = (feed : Feed) × StateHas which every before feed counts new × IsDueIfTold due (Ok feed)
-StateBrings which every before (Err error) new due = FailsDue (refusal_of which error) due
+abbrev pub StateBrings : MrtInput → Limits → List Elem → Result Counts FeedError → State → Result Feed Stop → Type 0
+StateBrings which limits before (Ok counts) new due = (feed : Feed) × StateHas which limits before feed counts new × IsDueIfTold due (Ok feed)
+StateBrings which limits before (Err error) new due = FailsDue (refusal_of which error) due
 
 -- a fault comes only where the count of the name rose, and every other answer leaves all counts
 abbrev pub FeedsFrom : {T : Type 0} → (List ℕ → ℕ) → (List ℕ → ℕ) → List ℕ → Result T FeedError → Type 0
@@ -125,11 +135,42 @@ FeedsFrom before now name (Err Fault) = Rose (before name) (now name)
 FeedsFrom before now name result = now ≡ before
 
 -- the same of a call that answers an outcome
-abbrev pub StateFeeds : MrtInput → ℕ → List Elem → Result Counts Outcome → State → Result Feed Stop → Type 0
-StateFeeds which every before (Ok counts) new due = (feed : Feed) × StateHas which every before feed counts new × IsDueIfTold due (Ok feed)
-StateFeeds which every before (Err o) new due = FailsDue o due
+abbrev pub StateFeeds : MrtInput → Limits → List Elem → Result Counts Outcome → State → Result Feed Stop → Type 0
+StateFeeds which limits before (Ok counts) new due = (feed : Feed) × StateHas which limits before feed counts new × IsDueIfTold due (Ok feed)
+StateFeeds which limits before (Err o) new due = FailsDue o due
 
 -- both inputs were counted, and the state has what they bring
-pub record IsFed (every : ℕ) (load updates : Feed) (fed : Fed) (state : State) : Type 0 where
+pub record IsFed (limits : Limits) (load updates : Feed) (fed : Fed) (state : State) : Type 0 where
   pub counted : IsCounted load fed.load
-  pub has : StateHas Updates every load.elems updates fed.updates state
+  pub has : StateHas Updates limits load.elems updates fed.updates state
+
+-- what became of a state that was to take the dump and the updates that are named
+abbrev pub FeedsBoth : (List ℕ → Option (List ℕ)) → Named → Result Fed Outcome → State → Type 0
+FeedsBoth content named (Ok fed) new = (feeds : Feed × Feed) × IsFed (limits_of named) feeds.0 feeds.1 fed new × IsDueIfTold (feeds_at content named) (Ok feeds)
+FeedsBoth content named (Err o) new = FailsDue o (feeds_at content named)
+
+-- what inputs in memory hold under a name
+abbrev pub holds : SureInputs → List ℕ → List ℕ
+holds inputs name = unwrap_or (held_under inputs.names.items name) []
+
+-- under their names the inputs hold what is made of so many routes from a seed
+abbrev pub HoldsMade : ℕ → ℕ → SureInputs → Type 0
+HoldsMade routes seed inputs = (holds inputs (codes "dump") ≡ dump_octets seed routes) × (holds inputs (codes "updates") ≡ updates_octets seed routes)
+
+-- why a load's end may not be reached
+abbrev pub IsOfLoad : FeedError → Type 0
+IsOfLoad (TrieFull n full) = Unit {0}
+IsOfLoad NoMemory = Unit {0}
+IsOfLoad (HopsFull n) = ⊥
+IsOfLoad (Malformed malformed) = ⊥
+IsOfLoad Fault = ⊥
+IsOfLoad TooLarge = ⊥
+
+-- The load's end was not reached: an arena is too small for tries of its routes, or memory ran out.
+abbrev pub EndsShort : Limits → List Elem → FeedError → Type 0
+EndsShort limits load (TrieFull n full) = (n ≡ 0) × (shortage limits.sizes (routes_by load) ≡ Some (shortage_as full))
+EndsShort limits load NoMemory = Unit {0}
+EndsShort limits load (HopsFull n) = ⊥
+EndsShort limits load (Malformed malformed) = ⊥
+EndsShort limits load Fault = ⊥
+EndsShort limits load TooLarge = ⊥

@@ -7,14 +7,16 @@ use Rattle.wire_model.specs.Record.{Record, Fault, records_in}
 use Rattle.reading_model.specs.Input.{Progress, Stopped, input}
 use Rattle.fib_io.specs.Pieces.{octets_read}
 use Rattle.printed_model.specs.Texts.{BadLine as BadRow}
+use Rattle.route_tries.specs.Sizes.{Shortage}
 use Rattle.printed_model.specs.Used.{Used}
 use Rattle.fib_main.specs.declared.outcome.Outcome.{Outcome}
-use Rattle.fib_main.specs.declared.outcome.Outcome.TheVariants.{Done, CheckNo, NoMemory, ReadFault, WriteFault, TooLarge, Malformed, HopsFull, BadLine}
+use Rattle.fib_main.specs.declared.outcome.Outcome.TheVariants.{Done, CheckNo, NoMemory, ReadFault, WriteFault, TooLarge, Malformed, HopsFull, TrieFull, BadLine}
 use Rattle.fib_main.specs.declared.outcome.MrtInput.{MrtInput}
 use Rattle.fib_main.specs.declared.outcome.MrtInput.TheVariants.{Dump, Updates}
 use Rattle.fib_main.specs.declared.outcome.Which.{Which}
 use Rattle.fib_main.specs.declared.outcome.Which.TheVariants.{Printed}
 use Rattle.fib_main.specs.declared.outcome.Which.TheVariants as all
+use Rattle.fib_main.specs.Refusals.{Refusal, ManyHops, Short}
 
 -- an input that doesn't tell its content, or a refusal
 pub data Stop : Type 0 where
@@ -91,10 +93,20 @@ abbrev pub event_in : MrtInput → ℕ → ℕ
 event_in Dump n = 0
 event_in Updates n = n
 
--- no elementary event brings one hop too many, or the first that does
-abbrev pub few_hops : {A : Type 0} → MrtInput → Option ℕ → Result A Stop → Result A Stop
-few_hops which None next = next
-few_hops which (Some n) next = Err (Refused (HopsFull (event_in which n)))
+-- the outcome where something is too much after the event of this number
+abbrev pub outcome_at : ℕ → Refusal → Outcome
+outcome_at n ManyHops = HopsFull n
+outcome_at n (Short s) = TrieFull n s.need s.have s.arena
+
+-- every elementary event is taken, or the first that isn't ends the run
+abbrev pub unless_stopped : {A : Type 0} → MrtInput → Option (ℕ × Refusal) → Result A Stop → Result A Stop
+unless_stopped which None next = next
+unless_stopped which (Some s) next = Err (Refused (outcome_at (event_in which s.0) s.1))
+
+-- the arenas have room at the end of the load, event 0, or one hasn't
+abbrev pub with_room : {A : Type 0} → Option Shortage → A → Result A Stop
+with_room None x = Ok x
+with_room (Some s) x = Err (Refused (outcome_at 0 (Short s)))
 
 -- what is due is this, if all that it rests on is told
 abbrev pub IsDueIfTold : {Y : Type 0} → Result Y Stop → Result Y Stop → Type 0

@@ -3,12 +3,12 @@ use Rattle.std.specs.Prelude.{ℕ, List, Option, Some, None, Result, Ok, ◌⊎�
 use Rattle.std.specs.declared.vec.Vec.{Vec}
 use Rattle.address_model.specs.Address.{Address}
 use Rattle.printed_model.specs.Used.{Used}
-use Rattle.fib_words.specs.Commands.{Asked, Named, Run, Check}
+use Rattle.fib_words.specs.Commands.{Asked, Named, Run, Check, Make}
 use Rattle.fib_main.specs.declared.check.Reply as code_reply
 use Rattle.fib_main.specs.declared.outcome.Which.TheVariants.{Asks, Printed}
 use Rattle.fib_main.specs.declared.outcome.Outcome.{Outcome}
 use Rattle.fib_main.specs.Stops.{Stop, GivesDue}
-use Rattle.fib_main.specs.Due.{Output, Checked, ran, told_at, with_reply, with_text}
+use Rattle.fib_main.specs.Due.{Output, Checked, made, made_at, ran, told_at, with_reply, with_text}
 use Rattle.fib_main.specs.Ends.{Meets, Writes, text_due}
 use Rattle.fib_main.specs.Owned.{StopsAt, StoppedAt}
 use Rattle.fib_main.specs.Views.{reply_as}
@@ -22,6 +22,7 @@ abbrev pub FitsSome : (List ℕ → Option (List ℕ)) → Option Asked → Opti
 FitsSome content None old new outcome = Unit {0}
 FitsSome content (Some (Run named)) old new outcome = StopsAt Asks outcome ⊎ ((asks : List Address) × FitsUntold (ran (told_at content named asks)) old new outcome)
 FitsSome content (Some (Check name)) old new outcome = StopsAt Printed outcome ⊎ ((used : Used) × FitsUntold (Ok (Checked used)) old new outcome)
+FitsSome content (Some (Make routes seed)) old new outcome = FitsUntold (made (made_at routes seed)) old new outcome
 
 -- the same of the text of a run's rows
 abbrev pub TextOfSome : {X : Type 0} → (List ℕ → Option (List ℕ)) → Named → Result (Vec ℕ X) Outcome → Type 0
@@ -36,3 +37,4 @@ abbrev pub GivesSome : (List ℕ → Option (List ℕ)) → Option Asked → Res
 GivesSome content None result = Unit {0}
 GivesSome content (Some (Run named)) result = StoppedAt Asks result ⊎ ((asks : List Address) × GivesDue reply_as result (with_reply (ran (told_at content named asks))))
 GivesSome content (Some (Check name)) result = ReplyOfSome result
+GivesSome content (Some (Make routes seed)) result = GivesDue reply_as result (with_reply (made (made_at routes seed)))

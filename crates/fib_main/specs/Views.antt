@@ -1,37 +1,39 @@
 -- What a clause sees of this crate's values.
 use Rattle.std.specs.Prelude.{ℕ, ◌+◌, List, map, option_map}
-use Rattle.address_model.specs.Address.{Address}
 use Rattle.table_model.specs.Changes.{Change}
-use Rattle.fib_addr.specs.declared.addr.Addr as code_addr
-use Rattle.fib_addr.specs.declared.entry.Hop as code_hop
-use Rattle.fib_addr.specs.Views.{addr_as}
 use Rattle.fib_delta.specs.declared.change.Change as code_change
 use Rattle.fib_report.specs.declared.run.Report.{Report}
+use Rattle.fib_engine.specs.declared.engine.Limits as code_limits
+use Rattle.route_tries.specs.Sizes.{sizes_as}
+use Rattle.route_tries.specs.declared.needs.FamilyNeeds.{FamilyNeeds}
 use Rattle.fib_delta.specs.Views.{change_as}
 use Rattle.cert_check.specs.Views.{no_as}
 use Rattle.fib_main.specs.declared.feed.Counts.{Counts}
 use Rattle.fib_main.specs.declared.check.Reply as code_reply
-use Rattle.fib_main.specs.Due.{Reply}
+use Rattle.fib_main.specs.Refusals.{Limits}
+use Rattle.fib_main.specs.Due.{Reply, all_leaves, all_nodes}
 
 -- changes with their events' numbers
 abbrev pub changes_as : List (ℕ × code_change.Change) → List (ℕ × Change)
 changes_as changes = map (λ c. (c.0, change_as c.1)) changes
 
--- addresses with their answers
-abbrev pub answers_as : List (code_addr.Addr × code_hop.Hop) → List (Address × ℕ)
-answers_as answers = map (λ a. (addr_as a.0, a.1.0)) answers
-
 -- a text, and what is wrong where it says so
 abbrev pub reply_as : code_reply.Reply → Reply
 reply_as reply = record { text = reply.text.items; wrong = option_map no_as reply.no }
 
--- the counts of two inputs, of the routes and of the table's entries
-abbrev pub totals : Counts → Counts → ℕ → ℕ → Report
-totals load updates routes entries = record {
+-- how often a snapshot comes, and how large tries are
+abbrev pub limits_as : code_limits.Limits → Limits
+limits_as limits = record { every = limits.every; sizes = sizes_as limits.sizes }
+
+-- the counts of two inputs, of the routes and of the table's entries, and what tries need
+abbrev pub totals : Counts → Counts → ℕ → ℕ → FamilyNeeds → Report
+totals load updates routes entries needs = record {
   records = load.records + updates.records;
   skipped = load.skipped + updates.skipped;
   events = load.events + updates.events;
   routes = routes;
   entries = entries;
+  nodes = all_nodes needs;
+  leaves = all_leaves needs;
   treated = load.treated + updates.treated;
 }

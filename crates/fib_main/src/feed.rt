@@ -1,9 +1,10 @@
 //! What an input of records brings.
 
-ghost use Rattle.std.specs.Prelude.{◌≡◌, ℕ, List, [], ◌^◌, ◌<◌, ◌≤◌, length, IfOk, Some};
+ghost use Rattle.std.specs.Prelude.{◌≡◌, List, [], ◌^◌, ◌<◌, ◌≤◌, length, IfOk, Some};
 ghost use Rattle.route_model.specs.Events.{Elem};
 ghost use Rattle.fib_main.specs.Counts.{AreFew};
 ghost use Rattle.fib_main.specs.Due.{feed_at};
+ghost use Rattle.fib_main.specs.Refusals.{Limits};
 ghost use Rattle.fib_main.specs.Standing.{FeedsFrom, IsReady, StateBrings, StateStands};
 
 use crate::outcome::MrtInput;
@@ -38,9 +39,9 @@ fn feed_through<I: Inputs>(
     requires some { 0 < length room.old }
     requires ready { IsReady which 0 state.old.engine }
     requires few { length state.old.engine.candidates ≤ 2 ^ 40 }
-    ensures brings { (every : ℕ) (before : List Elem) → StateStands which every before [] state.old
-        → StateBrings which every before result state.new
-        (feed_at (I.content inputs.old) which before (Some name.now)) }
+    ensures brings { (limits : Limits) (before : List Elem) → StateStands which limits before [] state.old
+        → StateBrings which limits before result state.new
+        (feed_at limits.sizes (I.content inputs.old) which before (Some name.now)) }
     ensures ready { IfOk result (λ counts. IsReady which counts.events state.new.engine) }
     ensures few { IfOk result (λ counts. AreFew (2 ^ 36) state.old.engine.candidates
         counts state.new.engine.candidates) }
@@ -81,9 +82,9 @@ pub fn feed<I: Inputs>(
 ) -> Result<Counts, FeedError>
     requires ready { IsReady which 0 state.old.engine }
     requires few { length state.old.engine.candidates ≤ 2 ^ 40 }
-    ensures brings { (every : ℕ) (before : List Elem) → StateStands which every before [] state.old
-        → StateBrings which every before result state.new
-        (feed_at (I.content inputs.old) which before (Some name.now)) }
+    ensures brings { (limits : Limits) (before : List Elem) → StateStands which limits before [] state.old
+        → StateBrings which limits before result state.new
+        (feed_at limits.sizes (I.content inputs.old) which before (Some name.now)) }
     ensures ready { IfOk result (λ counts. IsReady which counts.events state.new.engine) }
     ensures few { IfOk result (λ counts. AreFew (2 ^ 36) state.old.engine.candidates
         counts state.new.engine.candidates) }

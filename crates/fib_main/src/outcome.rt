@@ -4,14 +4,14 @@ ghost use Rattle.std.specs.Prelude.{◌≡◌, ◌+◌, ◌++◌, ◌≤◌, dec
 ghost use Rattle.arrayvec.specs.ArrayString.{array_string_len};
 ghost use Rattle.fib_main.specs.Ends.{outcome_line, name_of, status_of};
 ghost use Rattle.fib_main.specs.Stops.{input_of};
-ghost use Rattle.fib_main.specs.declared.outcome.Outcome.TheVariants.{Malformed as IsMalformed, HopsFull as IsHopsFull, BadLine as IsBadLine, TooLarge as IsTooLarge};
+ghost use Rattle.fib_main.specs.declared.outcome.Outcome.TheVariants.{Malformed as IsMalformed, HopsFull as IsHopsFull, TrieFull as IsTrieFull, BadLine as IsBadLine, TooLarge as IsTooLarge};
 
 use arrayvec::ArrayString;
 use cert_check::No;
 use itoa::Buffer;
 
 /// Room for the line that tells an outcome.
-pub const MOST_LINE: usize = 96;
+pub const MOST_LINE: usize = 128;
 
 /// An input, by what it is for.
 #[derive(Clone, Copy, Debug, PartialEq, Eq)]
@@ -73,6 +73,17 @@ pub enum Outcome {
     HopsFull {
         /// The number of the elementary event in the updates, from 1; 0 for the load.
         event: u64,
+    },
+    /// Tries of the routes after an event need more places than an arena has.
+    TrieFull {
+        /// The number of the elementary event in the updates, from 1; 0 for the end of the load.
+        event: u64,
+        /// The places that they need, at most 2^64 - 1.
+        need: u64,
+        /// The places that there are.
+        have: u64,
+        /// The first such arena: 0 that of IPv4's nodes, 1 of its leaves, 2 of IPv6's nodes, 3 of its leaves.
+        arena: u8,
     },
     /// A line of this input isn't of its form.
     BadLine {
@@ -145,6 +156,23 @@ fn hops_full(event: u64) -> Line
     line
 }
 
+/// `fib: trie full at event EVENT: arena ARENA needs NEED of HAVE`.
+fn trie_full(event: u64, need: u64, have: u64, arena: u8) -> Line
+    ensures { result.bytes ≡ outcome_line (IsTrieFull event need have arena) }
+{
+    let mut line = Line::new();
+    line.push_str("fib: trie full at event ");
+    push_number(&mut line, event);
+    line.push_str(": arena ");
+    push_number(&mut line, u64::from(arena));
+    line.push_str(" needs ");
+    push_number(&mut line, need);
+    line.push_str(" of ");
+    push_number(&mut line, have);
+    line.push_str("\n");
+    line
+}
+
 /// `fib: bad line INPUT LINE why WHY`.
 fn bad_line(input: Which, number: u64, why: u8) -> Line
     ensures { result.bytes ≡ outcome_line (IsBadLine input number why) }
@@ -193,6 +221,7 @@ impl Outcome {
             Outcome::ReadFault => 3,
             Outcome::WriteFault => 4,
             Outcome::Malformed { .. } => 5,
+            Outcome::TrieFull { .. } => 6,
             Outcome::HopsFull { .. } => 7,
             Outcome::BadLine { .. } => 8,
             Outcome::NoMemory => 9,
@@ -216,6 +245,12 @@ impl Outcome {
                 rule,
             } => malformed_line(input, number, rule),
             Outcome::HopsFull { event } => hops_full(event),
+            Outcome::TrieFull {
+                event,
+                need,
+                have,
+                arena,
+            } => trie_full(event, need, have, arena),
             Outcome::BadLine { input, line, why } => bad_line(input, line, why),
             Outcome::NoMemory => plain("fib: no memory\n"),
             Outcome::TooLarge { input } => too_large(input),

@@ -3,42 +3,75 @@
 //!
 //! The printed table is the kept one, which is the least table's old table too.
 
-ghost use Rattle.std.specs.Prelude.{◌≡◌, ℕ, List, true, IfOk, map};
+ghost use Rattle.std.specs.Prelude.{◌≡◌, ℕ, [], true, IfOk, map};
+ghost use Rattle.table_model.specs.Entries.{Entries};
 ghost use Rattle.fib_addr.specs.Views.{addr_as};
 ghost use Rattle.fib_engine.specs.Held.{routes_in};
-ghost use Rattle.fib_engine.specs.Stands.{Stands};
-ghost use Rattle.route_model.specs.Events.{Elem};
 ghost use Rattle.fib_main.specs.Due.{answers_to, Feed, printed, printed_text};
-ghost use Rattle.fib_report.specs.Views.{run_as};
+ghost use Rattle.fib_report.specs.Rows.{report_text};
+ghost use Rattle.fib_report.specs.Views.{answer_as, run_as};
+ghost use Rattle.route_tries.specs.Sizes.{AreFew};
+ghost use Rattle.route_tries.specs.Tries.{AreTriesOf};
+ghost use Rattle.fib_main.specs.Refusals.{Limits};
 ghost use Rattle.fib_main.specs.Counts.{AddUp};
 ghost use Rattle.fib_main.specs.Standing.{IsFed};
 ghost use Rattle.fib_main.specs.Proves.{ChecksYes};
-ghost use Rattle.fib_main.specs.Views.{answers_as, totals};
+ghost use Rattle.fib_main.specs.Views.{totals};
 
 use crate::feed::Counts;
 use crate::state::State;
 use fib_delta::Change;
-use fib_engine::Engine;
-use fib_prefix::{Addr, Hop};
-use fib_report::{Report, Run, write_run};
+use fib_engine::{Engine, FamilyNeeds, Tries};
+use fib_prefix::Addr;
+use fib_report::{Answer, Report, Run, report_text, write_run};
 use std::alloc::{AllocError, Global};
+use std::marker::Brand;
+use std::sync::ledger::{Blank, Ledger};
+use step_count::Steps;
 
-/// Each address with its answer.
-fn answers(alloc: Global, engine: &Engine, asks: &[Addr]) -> Result<Vec<(Addr, Hop)>, AllocError>
-    ensures { (load elems : List Elem) → Stands load elems engine.now → IfOk result (λ answers.
-        answers_as answers.items ≡ answers_to (routes_in engine.now) (map addr_as asks.now)) }
+/// The answers of tries, looked up one by one.
+fn look_up_all<L: Ledger>(
+    alloc: Global,
+    tries: &Tries,
+    asks: &[Addr],
+    blank: Blank,
+) -> Result<Vec<Answer>, AllocError>
+    requires name { blank.name ≡ L.name }
+    requires parts { (blank.parts ≡ L.parts) × (blank.parts ≡ 1) }
+    ensures { (s : ℕ) (routes : Entries) → AreTriesOf s routes tries.now → IfOk result (λ answers.
+        map answer_as answers.items ≡ answers_to s routes (map addr_as asks.now)) }
 {
+    let mut steps = Steps::<L>::start(blank);
     let mut answers = Vec::with_capacity(alloc, asks.len())?;
     for ask in asks {
-        answers.push((*ask, engine.answer(ask)))?;
+        let found = tries.lookup(ask, &mut steps);
+        answers.push(Answer {
+            addr: *ask,
+            hop: found.hop,
+            visits: found.visits,
+        })?;
     }
     Ok(answers)
 }
 
-/// The counts of both inputs, of the routes and of the table's entries.
-fn totals(fed: &Fed, routes: usize, entries: usize) -> Report
-    requires { AddUp fed.now.load fed.now.updates }
-    ensures { result ≡ totals fed.now.load fed.now.updates routes entries }
+/// Each address with its answer. Tries are built where an address is asked for.
+fn answers(alloc: Global, engine: &Engine, asks: &[Addr]) -> Result<Vec<Answer>, AllocError>
+    requires { engine.now.loaded ≡ true }
+    ensures { IfOk result (λ answers. map answer_as answers.items
+        ≡ answers_to engine.now.sizes.direct (routes_in engine.now) (map addr_as asks.now)) }
+{
+    if asks.is_empty() {
+        return Ok(Vec::new(alloc));
+    }
+    let tries = engine.tries()?;
+    look_up_all::<Brand>(alloc, &tries, asks, Blank::new(1))
+}
+
+/// The counts of both inputs, of the routes and of the table's entries, and what tries need.
+fn totals(fed: &Fed, routes: usize, entries: usize, needs: &FamilyNeeds) -> Report
+    requires counts { AddUp fed.now.load fed.now.updates }
+    requires few { AreFew needs.now }
+    ensures { result ≡ totals fed.now.load fed.now.updates routes entries needs.now }
 {
     Report {
         records: fed.load.records + fed.updates.records,
@@ -46,6 +79,8 @@ fn totals(fed: &Fed, routes: usize, entries: usize) -> Report
         events: fed.load.events + fed.updates.events,
         routes: routes as u64,
         entries: entries as u64,
+        nodes: needs.v4.nodes + needs.v6.nodes,
+        leaves: needs.v4.leaves + needs.v6.leaves,
         treated: fed.load.treated + fed.updates.treated,
     }
 }
@@ -69,10 +104,10 @@ fn report_of(
 ) -> Result<Run, AllocError>
     requires loaded { engine.now.loaded ≡ true }
     requires counts { AddUp fed.now.load fed.now.updates }
-    ensures { (every : ℕ) (load updates : Feed)
-        → IsFed every load updates fed.now (record { engine = engine.now; changes = changes })
+    ensures { (limits : Limits) (load updates : Feed)
+        → IsFed limits load updates fed.now (record { engine = engine.now; changes = changes })
         → IfOk result (λ run. run_as run
-        ≡ (printed every load updates (map addr_as asks.now)).told) }
+        ≡ (printed limits load updates (map addr_as asks.now)).told) }
 {
     let routes = engine.routes()?;
     let table = engine.table()?;
@@ -80,7 +115,7 @@ fn report_of(
     Ok(Run {
         changes,
         answers: answers(alloc, engine, asks)?,
-        report: totals(fed, routes.len(), table.len()),
+        report: totals(fed, routes.len(), table.len(), &engine.needs()),
         table,
         least: least.table,
         cert: least.proof,
@@ -97,10 +132,10 @@ pub fn write_text(
 ) -> Result<Vec<u8>, AllocError>
     requires loaded { state.engine.loaded ≡ true }
     requires counts { AddUp fed.now.load fed.now.updates }
-    ensures text { (every : ℕ) (load updates : Feed) → IsFed every load updates fed.now state
+    ensures text { (limits : Limits) (load updates : Feed) → IsFed limits load updates fed.now state
         → IfOk result (λ text. text.items
-        ≡ printed_text (printed every load updates (map addr_as asks.now))) }
-    ensures yes { (every : ℕ) (load updates : Feed) → IsFed every load updates fed.now state
+        ≡ printed_text (printed limits load updates (map addr_as asks.now))) }
+    ensures yes { (limits : Limits) (load updates : Feed) → IsFed limits load updates fed.now state
         → IfOk result (λ text. ChecksYes text.items) }
 {
     let State { engine, changes } = state;
@@ -108,4 +143,19 @@ pub fn write_text(
     let mut text = Vec::new(alloc);
     write_run(alloc, &mut text, &run, engine.hops())?;
     Ok(text)
+}
+
+/// The rows of the counts alone.
+pub fn write_counts(alloc: Global, state: &State, fed: &Fed) -> Result<Vec<u8>, AllocError>
+    requires loaded { state.now.engine.loaded ≡ true }
+    requires counts { AddUp fed.now.load fed.now.updates }
+    ensures { (limits : Limits) (load updates : Feed) → IsFed limits load updates fed.now state.now
+        → IfOk result (λ text. text.items
+        ≡ report_text (printed limits load updates []).told.report) }
+{
+    let engine = &state.engine;
+    let routes = engine.routes()?;
+    let table = engine.table()?;
+    let report = totals(fed, routes.len(), table.len(), &engine.needs());
+    report_text(alloc, &report)
 }

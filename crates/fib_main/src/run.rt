@@ -1,32 +1,35 @@
 //! From the words and the inputs to the text that is due.
 
-ghost use Rattle.std.specs.Prelude.{◌≡◌, ◌≤◌, ◌^◌, ℕ, List, [], Some, None, length, map, IfErr, IfOk, IsSome, OnErr, OnOk, option_to_list};
+ghost use Rattle.std.specs.Prelude.{◌≡◌, ◌≤◌, ◌^◌, List, [], Some, None, length, map, IfErr, IfOk, IsSome, OnErr, OnOk, option_to_list, true};
 ghost use Rattle.fib_addr.specs.Views.{addr_as};
 ghost use Rattle.fib_main.specs.Asking.{ask_refusal};
-ghost use Rattle.fib_main.specs.Counts.{AreFew};
-ghost use Rattle.fib_main.specs.Due.{asks_at, checked, feed_at, input_at, output_at, reply_at, run_at, told_at, used_at, with_reply, with_text};
+ghost use Rattle.fib_main.specs.Counts.{AddUp, AreFew};
+ghost use Rattle.fib_main.specs.Due.{asks_at, checked, feed_at, input_at, limits_of, made_at, output_at, reply_at, run_at, told_at, used_at, with_counts, with_reply, with_text};
 ghost use Rattle.fib_main.specs.Ends.{feeds_named, reads_asked, reads_named, ReadsName, ReadsNames};
 ghost use Rattle.fib_main.specs.Owned.{IsOf, Owns, StopsAt, StopsIn};
 ghost use Rattle.fib_main.specs.Proves.{ChecksYes, IfRan, IsRun, PrintsYes};
-ghost use Rattle.fib_main.specs.Views.{reply_as};
-ghost use Rattle.fib_main.specs.Standing.{IsReady, StateFeeds, refusal_of, StateStands};
+ghost use Rattle.fib_main.specs.Views.{limits_as, reply_as};
+ghost use Rattle.fib_main.specs.Standing.{FeedsBoth, HoldsMade, IsReady, StateFeeds, refusal_of, StateStands};
+ghost use Rattle.fib_main.specs.Refusals.{Limits as ends};
 ghost use Rattle.fib_main.specs.Stops.{GivesDue, event_in, input_of};
 ghost use Rattle.fib_main.specs.Untold.{GivesSome, ReplyOfSome, TextOfSome};
 ghost use Rattle.fib_main.specs.Words.{asked_by, due_by, read_by, texts_of};
-ghost use Rattle.fib_words.specs.Commands.{asked_as, Check, named_as, Run};
+ghost use Rattle.fib_words.specs.Commands.{asked_as, Check, IsWithin, Make, named_as, Run};
 ghost use Rattle.route_model.specs.Events.{Elem};
 
 use crate::asks::{AskError, read_asks};
 use crate::check::{Reply, check_text};
 use crate::feed::{Counts, feed};
 use crate::outcome::{MrtInput, Outcome, Which};
-use crate::report::{Fed, write_text};
+use crate::report::{Fed, write_counts, write_text};
 use crate::state::{FeedError, State};
 use cost_cert::PrintedError;
-use fib_io::{Inputs, ReadError, read_whole};
+use fib_engine::{Limits, Sizes};
+use fib_io::{Inputs, ReadError, SureInputs, read_whole};
 use fib_prefix::Addr;
-use fib_words::{CommandWords, RunWords, WordsError, read_words};
-use std::alloc::Global;
+use fib_words::{CommandWords, MakeWords, RunWords, WordsError, read_words};
+use made_input::generate;
+use std::alloc::{AllocError, Global};
 
 /// What is wrong with a line where an address is due.
 const NO_ADDRESS: u8 = 1;
@@ -113,6 +116,12 @@ fn outcome_of_refusal(which: MrtInput, error: FeedError) -> Outcome
         FeedError::HopsFull(event) => Outcome::HopsFull {
             event: event_in(which, event),
         },
+        FeedError::TrieFull(event, full) => Outcome::TrieFull {
+            event: event_in(which, event),
+            need: full.need,
+            have: full.have,
+            arena: full.arena,
+        },
         FeedError::NoMemory => Outcome::NoMemory,
         FeedError::Fault => Outcome::ReadFault,
         FeedError::TooLarge => Outcome::TooLarge {
@@ -131,9 +140,9 @@ fn feed_of<I: Inputs>(
 ) -> Result<Counts, Outcome>
     requires ready { IsReady which 0 state.old.engine }
     requires few { length state.old.engine.candidates ≤ 2 ^ 40 }
-    ensures due { (every : ℕ) (before : List Elem) → StateStands which every before [] state.old
-        → StateFeeds which every before result state.new
-        (feed_at (I.content inputs.old) which before (Some name.now)) }
+    ensures due { (limits : ends) (before : List Elem) → StateStands which limits before [] state.old
+        → StateFeeds which limits before result state.new
+        (feed_at limits.sizes (I.content inputs.old) which before (Some name.now)) }
     ensures stops { IfErr result (StopsAt (input_of which)) }
     ensures ready { IfOk result (λ counts. IsReady which counts.events state.new.engine) }
     ensures few { IfOk result (λ counts. AreFew (2 ^ 36) state.old.engine.candidates
@@ -154,10 +163,10 @@ fn updates_of<I: Inputs>(
 ) -> Result<Counts, Outcome>
     requires ready { IsReady MrtInput.Updates 0 state.old.engine }
     requires few { length state.old.engine.candidates ≤ 2 ^ 40 }
-    ensures due { (every : ℕ) (before : List Elem)
-        → StateStands MrtInput.Updates every before [] state.old
-        → StateFeeds MrtInput.Updates every before result state.new
-        (feed_at (I.content inputs.old) MrtInput.Updates before (named_as command.now).updates) }
+    ensures due { (limits : ends) (before : List Elem)
+        → StateStands MrtInput.Updates limits before [] state.old
+        → StateFeeds MrtInput.Updates limits before result state.new
+        (feed_at limits.sizes (I.content inputs.old) MrtInput.Updates before (named_as command.now).updates) }
     ensures stops { IfErr result (StopsAt Which.Updates) }
     ensures named { OnErr result (IsSome (named_as command.now).updates) }
     ensures ready { IfOk result (λ counts. IsReady MrtInput.Updates counts.events state.new.engine) }
@@ -178,6 +187,49 @@ fn updates_of<I: Inputs>(
     }
 }
 
+/// How often a snapshot comes and how large tries are, as the words ask for it.
+fn limits_of(command: &RunWords<'_>) -> Limits
+    requires { IsWithin (CommandWords.Run command.now) }
+    ensures { limits_as result ≡ limits_of (named_as command.now) }
+{
+    Limits {
+        every: command.every,
+        sizes: Sizes {
+            direct: command.direct,
+            nodes: command.nodes,
+            leaves: command.leaves,
+        },
+    }
+}
+
+/// Takes the dump and ends the load, and then takes the updates.
+#[tactic(auto, unfolding(crate::specs::Due::feeds_at))]
+fn feed_both<I: Inputs>(
+    alloc: Global,
+    inputs: &mut I,
+    state: &mut State,
+    command: &RunWords<'_>,
+) -> Result<Fed, Outcome>
+    requires ready { IsReady MrtInput.Dump 0 state.old.engine }
+    requires none { state.old.engine.candidates ≡ [] }
+    ensures due { StateStands MrtInput.Dump (limits_of (named_as command.now)) [] [] state.old
+        → FeedsBoth (I.content inputs.old) (named_as command.now) result state.new }
+    ensures stops { IfErr result (StopsIn (Run (named_as command.now))) }
+    ensures loaded { OnOk result (state.new.engine.loaded ≡ true) }
+    ensures counts { IfOk result (λ fed. AddUp fed.load fed.updates) }
+    ensures same { I.content inputs.new ≡ I.content inputs.old }
+    ensures cause { StateStands MrtInput.Dump (limits_of (named_as command.now)) [] [] state.old
+        → ReadsNames (feeds_named (I.content inputs.old) (named_as command.now))
+        (I.faults inputs.old) (I.faults inputs.new) result }
+{
+    let load = feed_of(alloc, inputs, state, MrtInput::Dump, command.dump)?;
+    if let Err(error) = state.finish_load() {
+        return Err(outcome_of_refusal(MrtInput::Dump, error));
+    }
+    let updates = updates_of(alloc, inputs, state, command)?;
+    Ok(Fed { load, updates })
+}
+
 /// Takes the dump and the updates, and gives the text.
 #[tactic(auto, unfolding(crate::specs::Due::told_at))]
 fn text_of<I: Inputs>(
@@ -186,6 +238,7 @@ fn text_of<I: Inputs>(
     command: &RunWords<'_>,
     asks: &[Addr],
 ) -> Result<Vec<u8>, Outcome>
+    requires { IsWithin (CommandWords.Run command.now) }
     ensures due { GivesDue (λ v. v.items) result
         (with_text (told_at (I.content inputs.old) (named_as command.now) (map addr_as asks.now))) }
     ensures stops { IfErr result (StopsIn (Run (named_as command.now))) }
@@ -194,13 +247,52 @@ fn text_of<I: Inputs>(
     ensures cause { ReadsNames (feeds_named (I.content inputs.old) (named_as command.now))
         (I.faults inputs.old) (I.faults inputs.new) result }
 {
-    let mut state = State::new(alloc, command.every);
-    let load = feed_of(alloc, inputs, &mut state, MrtInput::Dump, command.dump)?;
-    let Ok(()) = state.finish_load() else {
+    let mut state = State::new(alloc, limits_of(command));
+    let fed = feed_both(alloc, inputs, &mut state, command)?;
+    match write_text(alloc, state, &fed, asks) {
+        Ok(text) => Ok(text),
+        Err(_) => Err(Outcome::NoMemory),
+    }
+}
+
+/// What `make` asks of its inputs: snapshots now and then, and tries that have room for all that it may make.
+const MADE: RunWords<'static> = RunWords {
+    dump: "dump",
+    updates: Some("updates"),
+    asks: None,
+    every: 1000,
+    direct: 16,
+    nodes: 20,
+    leaves: 22,
+};
+
+/// Both made inputs, under their names.
+fn made_inputs(alloc: Global, made: &MakeWords) -> Result<SureInputs, AllocError>
+    requires { IsWithin (CommandWords.Make made.now) }
+    ensures { IfOk result (HoldsMade made.now.routes made.now.seed) }
+{
+    let (dump, updates) = generate(alloc, made.routes, made.seed)?;
+    let mut names = Vec::with_capacity(alloc, 2)?;
+    names.push((String::from_str(alloc, MADE.dump)?, dump))?;
+    names.push((String::from_str(alloc, "updates")?, updates))?;
+    Ok(SureInputs::new(names))
+}
+
+/// Makes routes and updates, takes them as a run takes its inputs, and gives the rows of the counts.
+#[tactic(auto, unfolding(crate::specs::Due::made_at))]
+fn made_for(alloc: Global, made: &MakeWords) -> Result<Vec<u8>, Outcome>
+    requires { IsWithin (CommandWords.Make made.now) }
+    ensures due { GivesDue (λ v. v.items) result
+        (with_counts (made_at made.now.routes made.now.seed)) }
+    ensures stops { IfErr result (StopsIn (Make made.now.routes made.now.seed)) }
+    ensures sure { IfErr result (λ o. o ≡ Outcome.ReadFault → ⊥) }
+{
+    let Ok(mut inputs) = made_inputs(alloc, made) else {
         return Err(Outcome::NoMemory);
     };
-    let updates = updates_of(alloc, inputs, &mut state, command)?;
-    match write_text(alloc, state, &Fed { load, updates }, asks) {
+    let mut state = State::new(alloc, limits_of(&MADE));
+    let fed = feed_both(alloc, &mut inputs, &mut state, &MADE)?;
+    match write_counts(alloc, &state, &fed) {
         Ok(text) => Ok(text),
         Err(_) => Err(Outcome::NoMemory),
     }
@@ -213,6 +305,7 @@ fn run_for<I: Inputs>(
     inputs: &mut I,
     command: &RunWords<'_>,
 ) -> Result<Vec<u8>, Outcome>
+    requires { IsWithin (CommandWords.Run command.now) }
     ensures due { GivesDue (λ v. v.items) result
         (with_text (run_at (I.content inputs.old) (named_as command.now))) }
     ensures some { TextOfSome (I.content inputs.old) (named_as command.now) result }
@@ -262,6 +355,7 @@ fn reply_to<I: Inputs>(
     inputs: &mut I,
     command: &CommandWords<'_>,
 ) -> Result<Reply, Outcome>
+    requires { IsWithin command.now }
     ensures due { GivesDue reply_as result
         (with_reply (output_at (I.content inputs.old) (asked_as command.now))) }
     ensures some { GivesSome (I.content inputs.old) (Some (asked_as command.now)) result }
@@ -281,6 +375,10 @@ fn reply_to<I: Inputs>(
             Ok(reply_of(text))
         }
         CommandWords::Check(printed) => check_for(alloc, inputs, printed),
+        CommandWords::Make(made) => {
+            let text = made_for(alloc, made)?;
+            Ok(reply_of(text))
+        }
     }
 }
 

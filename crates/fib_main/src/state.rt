@@ -1,19 +1,20 @@
 //! What the inputs bring: candidates, the numbers of next hops, and the kept table with its changes.
 
-ghost use Rattle.std.specs.Prelude.{◌≡◌, ◌≤◌, ◌-◌, ◌++◌, ◌∷◌, [], ℕ, List, map, IfOk, OnOk};
+ghost use Rattle.std.specs.Prelude.{◌≡◌, ◌≤◌, ◌-◌, ◌++◌, ◌∷◌, [], ℕ, List, map, IfErr, IfOk, OnOk};
 ghost use Rattle.fib_delta.specs.Views.{change_as};
 ghost use Rattle.fib_prefix.specs.Views.{elem_as, event_as};
 ghost use Rattle.route_model.specs.Events.{Elem as model_elem};
 ghost use Rattle.route_model.specs.Choice.{after_elem};
 ghost use Rattle.feed_model.specs.Feed.{at_event};
 ghost use Rattle.fib_main.specs.Counts.{CountsFit, CountsOn};
-ghost use Rattle.fib_main.specs.Standing.{IsReady, of_input, of_read, refusal_at, StateStands, StateTakes, StateTakesAll};
-ghost use Rattle.fib_main.specs.Views.{changes_as};
+ghost use Rattle.fib_main.specs.Refusals.{Limits as ends};
+ghost use Rattle.fib_main.specs.Standing.{EndsShort, IsOfLoad, IsReady, of_input, of_read, refusal_at, StateStands, StateTakes, StateTakesAll};
+ghost use Rattle.fib_main.specs.Views.{changes_as, limits_as};
 ghost use Rattle.fib_main.specs.declared.state.FeedError.TheVariants.{Malformed as IsMalformed, NoMemory as IsNoMemory};
 
 use crate::outcome::MrtInput;
 use fib_delta::Change;
-use fib_engine::{Engine, EngineError, Limits};
+use fib_engine::{Engine, EngineError, Limits, TrieFull};
 use fib_io::ReadError;
 use fib_prefix::{Elem, Event};
 use mrt_read::{EventsError, Malformed};
@@ -32,6 +33,9 @@ pub enum FeedError {
     /// The elementary event of this number brings one hop too many.
     #[error("event {0} brings one hop too many")]
     HopsFull(u64),
+    /// Tries of the routes after the elementary event of this number need more places than an arena has; 0 is the load's end.
+    #[error("{1} at event {0}")]
+    TrieFull(u64, TrieFull),
     /// Memory ran out.
     #[error("no memory")]
     NoMemory,
@@ -116,29 +120,35 @@ fn push_changes(
 }
 
 impl State {
-    /// Nothing was brought; a snapshot will follow each so many elementary events of the updates, none where that is 0.
-    pub fn new(alloc: Global, every: u32) -> State
-        ensures stands { StateStands MrtInput.Dump every [] [] result }
+    /// Nothing was brought; snapshots and tries are within these limits.
+    pub fn new(alloc: Global, limits: Limits) -> State
+        ensures stands { StateStands MrtInput.Dump (limits_as limits) [] [] result }
         ensures ready { IsReady MrtInput.Dump 0 result.engine }
         ensures none { result.engine.candidates ≡ [] }
     {
         State {
-            engine: Engine::new(alloc, Limits { every }),
+            engine: Engine::new(alloc, limits),
             changes: Vec::new(alloc),
         }
     }
 
     /// Ends the load: the kept table is made, and what adds its entries are the changes of event 0.
-    pub fn finish_load(&mut self) -> Result<(), AllocError>
+    pub fn finish_load(&mut self) -> Result<(), FeedError>
         requires { IsReady MrtInput.Dump 0 self.old.engine }
-        ensures stands { OnOk result ((every : ℕ) (load : List model_elem)
-            → StateStands MrtInput.Dump every [] load self.old
-            → StateStands MrtInput.Updates every load [] self.new) }
+        ensures stands { OnOk result ((limits : ends) (load : List model_elem)
+            → StateStands MrtInput.Dump limits [] load self.old
+            → StateStands MrtInput.Updates limits load [] self.new) }
+        ensures short { IfErr result (λ error. (limits : ends) (load : List model_elem)
+            → StateStands MrtInput.Dump limits [] load self.old → EndsShort limits load error) }
+        ensures kinds { IfErr result IsOfLoad }
         ensures candidates { OnOk result (self.new.engine.candidates
             ≡ self.old.engine.candidates) }
         ensures ready { OnOk result (IsReady MrtInput.Updates 0 self.new.engine) }
     {
-        let changes = self.engine.finish_load()?;
+        let changes = match self.engine.finish_load() {
+            Ok(changes) => changes,
+            Err(error) => return Err(refusal_at(LOAD, error)),
+        };
         push_changes(&mut self.changes, LOAD, &changes)?;
         Ok(())
     }
@@ -150,6 +160,7 @@ fn refusal_at(event: u64, error: EngineError) -> FeedError
 {
     match error {
         EngineError::HopsFull => FeedError::HopsFull(event),
+        EngineError::TrieFull(full) => FeedError::TrieFull(event, full),
         EngineError::NoMemory => FeedError::NoMemory,
     }
 }

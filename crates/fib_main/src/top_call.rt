@@ -165,7 +165,7 @@ pub fn run_fib<I: Inputs, O: Sink, E: Sink>(
     // and has no more entries in either family than any table that does.
     ensures sum { IfDue (due_by words.now (I.content inputs.old)) SumsUp }
     ensures forwards { IfDue (due_by words.now (I.content inputs.old)) Forwards }
-    ensures answers { IfDue (due_by words.now (I.content inputs.old)) Answers }
+    ensures answers { IfRan (due_by words.now (I.content inputs.old)) Answers }
     ensures least { IfDue (due_by words.now (I.content inputs.old)) HasLeast }
 
     // On the way: what the changes add up to after each event sends every address where the routes send it then, after the load

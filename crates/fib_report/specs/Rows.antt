@@ -3,9 +3,9 @@ use Rattle.std.specs.Prelude.{ℕ, List, [], ◌∷◌, ◌++◌, map, flat_map}
 use Rattle.address_model.specs.Address.{Address, Prefix}
 use Rattle.table_model.specs.Changes.{Change, Add, Replace, Remove}
 use Rattle.fib_addr.specs.Hops.{hop_at}
-use Rattle.printed_model.specs.Rows.{Records, Skipped, Events, Routes, Entries, Treated, PrintedRow, add_row, replace_row, remove_row, answer_row, table_row, report_row, text_of}
+use Rattle.printed_model.specs.Rows.{Records, Skipped, Events, Routes, Entries, Nodes, Leaves, Treated, PrintedRow, add_row, replace_row, remove_row, answer_row, visits_row, table_row, report_row, text_of}
 use Rattle.printed_model.specs.Numbered.{of_route, of_least, of_cert}
-use Rattle.fib_report.specs.Views.{Told}
+use Rattle.fib_report.specs.Views.{Answer, Told}
 use Rattle.fib_report.specs.declared.run.Report.{Report}
 
 -- ---- the row of an item, with the address of its hop; a number that no hop has is no hop
@@ -18,14 +18,19 @@ change_row hops event (Remove p) = remove_row event p
 abbrev pub of_change : List Address → ℕ × Change → PrintedRow
 of_change hops c = change_row hops c.0 c.1
 
-abbrev pub of_answer : List Address → Address × ℕ → PrintedRow
-of_answer hops a = answer_row a.0 (hop_at hops a.1)
+-- the hop of an address, and then how many nodes its look-up visits
+abbrev pub of_answer : List Address → Answer → List PrintedRow
+of_answer hops a = answer_row a.addr (hop_at hops a.hop) ∷ visits_row a.addr a.visits ∷ []
 
 abbrev pub table_entry_row : List Address → Prefix × ℕ → PrintedRow
 table_entry_row hops e = table_row e.0 (hop_at hops e.1)
 
 abbrev pub report_rows : Report → List PrintedRow
-report_rows r = report_row Records r.records ∷ report_row Skipped r.skipped ∷ report_row Events r.events ∷ report_row Routes r.routes ∷ report_row Entries r.entries ∷ report_row Treated r.treated ∷ []
+report_rows r = report_row Records r.records ∷ report_row Skipped r.skipped ∷ report_row Events r.events ∷ report_row Routes r.routes ∷ report_row Entries r.entries ∷ report_row Nodes r.nodes ∷ report_row Leaves r.leaves ∷ report_row Treated r.treated ∷ []
+
+-- the counts alone
+abbrev pub report_text : Report → List ℕ
+report_text r = text_of (report_rows r)
 
 -- ---- a run
 
@@ -34,7 +39,7 @@ abbrev pub printed_rows : List Address → Told → List PrintedRow
 printed_rows hops run =
     flat_map (of_route hops) run.routes
     ++ map (of_change hops) run.changes
-    ++ map (of_answer hops) run.answers
+    ++ flat_map (of_answer hops) run.answers
     ++ map (table_entry_row hops) run.table
     ++ map (of_least hops) run.least
     ++ map (of_cert hops) run.cert

@@ -8,13 +8,23 @@ use Rattle.fib_addr.specs.Views.{addr_as, entry_as}
 use Rattle.cert_rows.specs.Views.{row_as}
 use Rattle.fib_delta.specs.Views.{change_as}
 use Rattle.fib_report.specs.declared.run.Report.{Report}
+use Rattle.fib_report.specs.declared.run.Answer as code_answer
 use Rattle.fib_report.specs.declared.run.Run as code_run
 
--- What a run tells: the routes, the changes with their events' numbers, the answers with their hops' numbers, the table, the least table, the certificate that it is least, and what was counted.
+-- an address that was asked for, the number of its hop, and how many nodes its look-up visits
+pub record Answer : Type 0 where
+  pub addr : Address
+  pub hop : ℕ
+  pub visits : ℕ
+
+abbrev pub answer_as : code_answer.Answer → Answer
+answer_as answer = record { addr = addr_as answer.addr; hop = answer.hop.0; visits = answer.visits }
+
+-- What a run tells: the routes, the changes with their events' numbers, the answers, the table, the least table, the certificate that it is least, and what was counted.
 pub record Told : Type 0 where
   pub routes : Entries
   pub changes : List (ℕ × Change)
-  pub answers : List (Address × ℕ)
+  pub answers : List Answer
   pub table : Entries
   pub least : Entries
   pub cert : List CertRow
@@ -25,7 +35,7 @@ abbrev pub run_as : code_run.Run → Told
 run_as run = record {
   routes = map entry_as run.routes.items;
   changes = map (λ c. (c.0, change_as c.1)) run.changes.items;
-  answers = map (λ a. (addr_as a.0, a.1.0)) run.answers.items;
+  answers = map answer_as run.answers.items;
   table = map entry_as run.table.items;
   least = map entry_as run.least.items;
   cert = map row_as run.cert.items;

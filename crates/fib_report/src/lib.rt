@@ -17,5 +17,5 @@ mod run;
 mod tests;
 
 pub use fields::{family_field, hop_field};
-pub use rows::{row_text, write_run};
-pub use run::{Report, Run};
+pub use rows::{report_text, row_text, write_run};
+pub use run::{Answer, Report, Run};

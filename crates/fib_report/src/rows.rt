@@ -4,12 +4,13 @@
 //!     change,EVENT,+,PREFIX,HOP    with = for a Replace
 //!     change,EVENT,-,PREFIX        for a Remove
 //!     answer,ADDRESS,HOP
+//!     visits,ADDRESS,COUNT         behind the answer of each address
 //!     table,PREFIX,HOP
 //!     least,PREFIX,HOP
 //!     cert,leaf,PREFIX,HOP
 //!     cert,join,PREFIX,K
 //!     cert,bound,FAMILY,COUNT      with 4 or 6 for the family
-//!     report,NAME,COUNT            for records, skipped, events, routes, entries and treated
+//!     report,NAME,COUNT            for records, skipped, events, routes, entries, nodes, leaves and treated
 //!
 //! HOP is the hop's address. Where no hop has the number it is `none` in an answer and a leaf, and `drop` in a change and a
 //! table; a route without a hop has no row. A run costs its rows' length, in one text of its own, which is then put behind the
@@ -17,22 +18,22 @@
 
 ghost use Rattle.std.specs.Prelude.{◌≡◌, ◌≤◌, [], ◌++◌, flat_map, length, map, IfOk, OnOk, OnErr, Some};
 ghost use Rattle.std.specs.List.{AllByRecursion};
-ghost use Rattle.fib_addr.specs.Views.{addr_as, entry_as};
+ghost use Rattle.fib_addr.specs.Views.{entry_as};
 ghost use Rattle.cost_cert.specs.Printed.{printed_row_as};
 ghost use Rattle.cert_rows.specs.Views.{row_as};
 ghost use Rattle.printed_model.specs.Rows.{IsRow, text_of, line};
-ghost use Rattle.fib_report.specs.Rows.{of_answer, of_change, table_entry_row, printed_rows, report_rows, run_text};
+ghost use Rattle.fib_report.specs.Rows.{of_answer, of_change, table_entry_row, printed_rows, report_rows, report_text, run_text};
 ghost use Rattle.printed_model.specs.Numbered.{of_cert, of_least, of_route};
 ghost use Rattle.fib_delta.specs.Views.{change_as};
-ghost use Rattle.fib_report.specs.Views.{run_as};
+ghost use Rattle.fib_report.specs.Views.{answer_as, run_as};
 ghost use Rattle.csv.specs.Writing.{text_written};
 ghost use Rattle.fib_report.specs.Writing.{AddsRows, IsAtRow};
 
 use crate::printed_row::{put_fields, put_row};
-use crate::run::{Report, Run};
+use crate::run::{Answer, Report, Run};
 use cost_cert::{Count, PrintedRow, Row};
 use csv::{QuoteStyle, Writer, WriterBuilder};
-use fib_addr::{Addr, Entry, Hop, HopTable};
+use fib_addr::{Entry, HopTable};
 use fib_delta::Change;
 use std::alloc::{AllocError, Global};
 use std::io::Write;
@@ -113,20 +114,38 @@ fn put_changes<W: Write + Drop>(
     Ok(())
 }
 
-/// Writes answers.
-fn put_answers<W: Write + Drop>(
+/// Writes the hop of an address, and then how many nodes its look-up visits.
+fn put_lookup<W: Write + Drop>(
     out: &mut Writer<W>,
-    answers: &[(Addr, Hop)],
+    answer: &Answer,
     hops: &HopTable,
 ) -> Result<(), AllocError>
     requires { IsAtRow out.old }
     ensures added { OnOk result (AddsRows W.contents out.old out.new
-        (text_of (map (of_answer hops.now.list) (map (λ a. (addr_as a.0, a.1.0)) answers.now)))) }
-    ensures proper { OnOk result (AllByRecursion IsRow (map (of_answer hops.now.list)
-        (map (λ a. (addr_as a.0, a.1.0)) answers.now))) }
+        (text_of (of_answer hops.now.list (answer_as answer.now)))) }
+    ensures proper { OnOk result (AllByRecursion IsRow (of_answer hops.now.list
+        (answer_as answer.now))) }
 {
-    for (addr, hop) in answers {
-        put_row(out, PrintedRow::Answer(*addr, hops.addr(*hop)))?;
+    put_row(out, PrintedRow::Answer(answer.addr, hops.addr(answer.hop)))?;
+    let visits = u64::from(answer.visits);
+    put_row(out, PrintedRow::Visits(answer.addr, visits))?;
+    Ok(())
+}
+
+/// Writes answers.
+fn put_answers<W: Write + Drop>(
+    out: &mut Writer<W>,
+    answers: &[Answer],
+    hops: &HopTable,
+) -> Result<(), AllocError>
+    requires { IsAtRow out.old }
+    ensures added { OnOk result (AddsRows W.contents out.old out.new
+        (text_of (flat_map (of_answer hops.now.list) (map answer_as answers.now)))) }
+    ensures proper { OnOk result (AllByRecursion IsRow (flat_map (of_answer hops.now.list)
+        (map answer_as answers.now))) }
+{
+    for answer in answers {
+        put_lookup(out, answer, hops)?;
     }
     Ok(())
 }
@@ -197,6 +216,8 @@ fn put_report<W: Write + Drop>(out: &mut Writer<W>, report: &Report) -> Result<(
     put_row(out, PrintedRow::Report(Count::Events, report.events))?;
     put_row(out, PrintedRow::Report(Count::Routes, report.routes))?;
     put_row(out, PrintedRow::Report(Count::Entries, report.entries))?;
+    put_row(out, PrintedRow::Report(Count::Nodes, report.nodes))?;
+    put_row(out, PrintedRow::Report(Count::Leaves, report.leaves))?;
     put_row(out, PrintedRow::Report(Count::Treated, report.treated))?;
     Ok(())
 }
@@ -221,6 +242,15 @@ pub fn row_text(alloc: Global, fields: &[&[u8]]) -> Result<Vec<u8>, AllocError>
 {
     let mut out = row_writer(alloc);
     put_fields(&mut out, fields)?;
+    out.into_inner().map_err(|_| AllocError)
+}
+
+/// The rows of the counts alone. An `Err` means that memory ran out.
+pub fn report_text(alloc: Global, report: &Report) -> Result<Vec<u8>, AllocError>
+    ensures { IfOk result (λ text. text.items ≡ report_text report.now) }
+{
+    let mut out = row_writer(alloc);
+    put_report(&mut out, report)?;
     out.into_inner().map_err(|_| AllocError)
 }
 

@@ -20,8 +20,23 @@ pub struct Report {
     pub routes: u64,
     /// The entries of the table.
     pub entries: u64,
+    /// The places that the nodes of both families' tries need.
+    pub nodes: u64,
+    /// The places that their leaves need.
+    pub leaves: u64,
     /// The messages that were treated as withdrawals (RFC 7606, section 2).
     pub treated: u64,
+}
+
+/// An address that was asked for.
+#[derive(Clone, Copy, Debug, PartialEq, Eq)]
+pub struct Answer {
+    /// The address.
+    pub addr: Addr,
+    /// Its hop's number, `Hop::NONE` where no hop was found.
+    pub hop: Hop,
+    /// How many nodes its look-up visits.
+    pub visits: u8,
 }
 
 /// What a run tells: the routes that it ended with, the changes with their events, the answers, the table, the least table with
@@ -32,8 +47,8 @@ pub struct Run {
     pub routes: Vec<Entry>,
     /// The changes to the table, each with its event's number.
     pub changes: Vec<(u64, Change)>,
-    /// The addresses asked for, each with its hop's number, `Hop::NONE` where no hop was found.
-    pub answers: Vec<(Addr, Hop)>,
+    /// The addresses asked for, with their answers.
+    pub answers: Vec<Answer>,
     /// The table at the end.
     pub table: Vec<Entry>,
     /// The least table; `Hop::NONE` drops.

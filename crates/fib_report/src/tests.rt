@@ -1,6 +1,6 @@
 //! Whole texts, written out by hand.
 
-use crate::{Report, Run, write_run};
+use crate::{Answer, Report, Run, report_text, write_run};
 use cost_cert::Row;
 use fib_addr::{Addr, Entry, Family, Hop, HopTable, Prefix};
 use fib_delta::Change;
@@ -18,8 +18,16 @@ fn one_route(rt: HostRuntime) -> Result<(), Fail> {
         routes: vec![in rt.alloc(); Entry { prefix: ten, hop }]?,
         changes: vec![in rt.alloc(); (0, Change::Add(ten, hop))]?,
         answers: vec![in rt.alloc();
-            (Addr::v4(0x0a01_0203), hop),
-            (Addr::v4(0x0b00_0001), Hop::NONE),
+            Answer {
+                addr: Addr::v4(0x0a01_0203),
+                hop,
+                visits: 2
+            },
+            Answer {
+                addr: Addr::v4(0x0b00_0001),
+                hop: Hop::NONE,
+                visits: 0
+            },
         ]?,
         table: vec![in rt.alloc(); Entry { prefix: ten, hop }]?,
         least: vec![in rt.alloc(); Entry { prefix: ten, hop }]?,
@@ -36,6 +44,8 @@ fn one_route(rt: HostRuntime) -> Result<(), Fail> {
             events: 1,
             routes: 1,
             entries: 1,
+            nodes: 2,
+            leaves: 5,
             treated: 3,
         },
     };
@@ -45,7 +55,9 @@ fn one_route(rt: HostRuntime) -> Result<(), Fail> {
 route,10.0.0.0/8,192.0.2.1
 change,0,+,10.0.0.0/8,192.0.2.1
 answer,10.1.2.3,192.0.2.1
+visits,10.1.2.3,2
 answer,11.0.0.1,none
+visits,11.0.0.1,0
 table,10.0.0.0/8,192.0.2.1
 least,10.0.0.0/8,192.0.2.1
 cert,leaf,0.0.0.0/1,none
@@ -58,8 +70,13 @@ report,skipped,0
 report,events,1
 report,routes,1
 report,entries,1
+report,nodes,2
+report,leaves,5
 report,treated,3
 ";
     assert_eq!(rt; out.as_slice(), want.as_bytes());
+    let report = report_text(rt.alloc(), &run.report)?;
+    assert!(rt; want.as_bytes().ends_with(&report));
+    assert!(rt; report.starts_with(b"report,records,2\n"));
     Ok(())
 }

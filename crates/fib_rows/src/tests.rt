@@ -1,21 +1,24 @@
 //! Rows over inputs and sinks in memory: what goes in, and the outcome, the status and all that comes out.
 
 use crate::records::{
-    ALL_TWICE, GONE_AND_BACK, HALVES, LONG_HEADER, LONGER, LOST, LOWER_HALF, OTHER, PATH_CUT,
-    PATH_WITHDRAWN, PEERS, PREFIX_OF_33, QUARTERS, SET_OF_THREE, SEVEN_EIGHTHS, SHORT_HOP, SIX,
-    TEN, TEN_ONE, TEN_ONE_BY_A, TEN_TWICE, TEN_WRONG_SEGMENT, TOO_WIDE, TWO_PATHS, TWO_PEERS,
-    UPPER_HALF, WIDE_WITHDRAWN, WITH_A_GAP, WRONG_LENGTH, WRONG_SEGMENT, WRONG_SEGMENT_AND_FLAGS,
+    ALL_TWICE, GONE_AND_BACK, HALVES, LONG_HEADER, LONGER, LOST, LOWER_HALF, ONE_ADDRESS,
+    ONE_OF_SIX, OTHER, PATH_CUT, PATH_WITHDRAWN, PEERS, PREFIX_OF_33, QUARTERS, SET_OF_THREE,
+    SEVEN_EIGHTHS, SHORT_HOP, SIX, TEN, TEN_ONE, TEN_ONE_BY_A, TEN_TWICE, TEN_WRONG_SEGMENT,
+    TOO_WIDE, TWO_PATHS, TWO_PEERS, UPPER_HALF, WIDE_WITHDRAWN, WITH_A_GAP, WRONG_LENGTH,
+    WRONG_SEGMENT, WRONG_SEGMENT_AND_FLAGS,
 };
 use crate::texts::{
-    CERTIFICATE_OF_NONE, PRINTED_TIE, ROWS_OF_BOTH, ROWS_OF_DROP, ROWS_OF_DROP_BEFORE_HOP,
-    ROWS_OF_GONE_AND_BACK, ROWS_OF_KEPT_HOP, ROWS_OF_LONGER, ROWS_OF_LOST, ROWS_OF_LOST_PATHS,
-    ROWS_OF_MEET, ROWS_OF_NO_SUCH_PATH, ROWS_OF_OTHER_PATH, ROWS_OF_REDUNDANT, ROWS_OF_REPAIR,
-    ROWS_OF_SET, ROWS_OF_SIX, ROWS_OF_SNAPSHOT, ROWS_OF_TEN, ROWS_OF_TIE, ROWS_OF_TREATED,
-    TIE_BOUNDS, TIE_LEAST, TIE_LEAVES, TIE_ROUTES, WRONG_JOIN, WRONG_LEAST,
+    CERTIFICATE_OF_NONE, PRINTED_TIE, REPORT_OF_MADE, REPORT_OF_ONE_MADE, ROWS_OF_BOTH,
+    ROWS_OF_DROP, ROWS_OF_DROP_BEFORE_HOP, ROWS_OF_GONE_AND_BACK, ROWS_OF_KEPT_HOP, ROWS_OF_LONGER,
+    ROWS_OF_LOST, ROWS_OF_LOST_PATHS, ROWS_OF_MEET, ROWS_OF_NO_SUCH_PATH, ROWS_OF_OTHER_PATH,
+    ROWS_OF_REDUNDANT, ROWS_OF_REPAIR, ROWS_OF_SET, ROWS_OF_SIX, ROWS_OF_SNAPSHOT, ROWS_OF_TEN,
+    ROWS_OF_TIE, ROWS_OF_TREATED, TIE_BOUNDS, TIE_LEAST, TIE_LEAVES, TIE_ROUTES, WRONG_JOIN,
+    WRONG_LEAST,
 };
 use fib_addr::{Addr, Family, Hop, Prefix};
 use fib_io::{MemInputs, MemSink};
 use fib_main::{No, Outcome, Which, run_fib};
+use made_input::generate;
 use std::alloc::Global;
 use std::process::Abort;
 use std::test::Fail;
@@ -114,11 +117,22 @@ const READ_FAULT: Expected<'static> = Expected {
 };
 
 /// Words that are no command.
-const NO_COMMANDS: [&[&str]; 10] = [
+const NO_COMMANDS: [&[&str]; 21] = [
     &[],
     &["fib", "run"],
     &["fib", "run", "dump", "--direct", "19"],
+    &["fib", "run", "dump", "--direct", "05"],
+    &["fib", "run", "dump", "--nodes", "25"],
+    &["fib", "run", "dump", "--nodes", "+5"],
+    &["fib", "run", "dump", "--leaves", "27"],
+    &["fib", "run", "dump", "--every", "4294967296"],
+    &["fib", "run", "dump", "--every", "18446744073709551616"],
     &["fib", "make", "0", "--seed", "1"],
+    &["fib", "make", "200001", "--seed", "1"],
+    &["fib", "make", "1", "--seed", "18446744073709551616"],
+    &["fib", "make", "1", "--seed", "01"],
+    &["fib", "make", "1"],
+    &["fib", "make", "--seed", "1"],
     &["fib", "run", "-dump", "--ask", "asks"],
     &["fib", "run", "dump", "--ask", "asks", "more"],
     &["fib", "help"],
@@ -193,6 +207,25 @@ fn inputs_of(alloc: Global, given: &Given) -> Result<MemInputs, Fail> {
     Ok(inputs)
 }
 
+/// What a run or a check came to, and what it wrote.
+#[derive(Drop)]
+struct Came {
+    outcome: Outcome,
+    out: MemSink,
+    err: MemSink,
+}
+
+/// Runs on these inputs.
+fn run_on(alloc: Global, given: &Given, mut inputs: MemInputs) -> Result<Came, Fail> {
+    let words = words_of(alloc, given.words)?;
+    let failing = Vec::from_slice(alloc, &[given.failing_write])?;
+    let mut out = MemSink::new(alloc, given.room, failing)?;
+    out.at_most(given.at_most.max(1));
+    let mut err = MemSink::new(alloc, 100, Vec::new(alloc))?;
+    let outcome = run_fib(alloc, &words, &mut inputs, &mut out, &mut err);
+    Ok(Came { outcome, out, err })
+}
+
 /// Runs and compares all that comes out.
 fn compare<R: Abort + Alloc<A = Global>>(
     rt: &R,
@@ -201,19 +234,13 @@ fn compare<R: Abort + Alloc<A = Global>>(
     expected: &Expected,
 ) -> Result<(), Fail> {
     let alloc = rt.alloc();
-    let words = words_of(alloc, given.words)?;
-    let mut inputs = inputs_of(alloc, given)?;
-    let failing = Vec::from_slice(alloc, &[given.failing_write])?;
-    let mut out = MemSink::new(alloc, given.room, failing)?;
-    out.at_most(given.at_most.max(1));
-    let mut err = MemSink::new(alloc, 100, Vec::new(alloc))?;
-    let outcome = run_fib(alloc, &words, &mut inputs, &mut out, &mut err);
-    assert_eq!(rt; outcome, expected.outcome, "{name}");
-    assert_eq!(rt; outcome.status(), expected.status, "{name}");
+    let came = run_on(alloc, given, inputs_of(alloc, given)?)?;
+    assert_eq!(rt; came.outcome, expected.outcome, "{name}");
+    assert_eq!(rt; came.outcome.status(), expected.status, "{name}");
     let mut text = text_of(alloc, expected.out)?;
     text.truncate(expected.out_len);
-    assert_eq!(rt; out.written(), text.as_slice(), "{name}");
-    assert_eq!(rt; err.written(), expected.err, "{name}");
+    assert_eq!(rt; came.out.written(), text.as_slice(), "{name}");
+    assert_eq!(rt; came.err.written(), expected.err, "{name}");
     Ok(())
 }
 
@@ -889,5 +916,254 @@ fn rows_of_paths_and_treated_messages(rt: HostRuntime) -> Result<(), Fail> {
         };
         compare(&rt, name, &given, &done)?;
     }
+    Ok(())
+}
+
+/// The rows of a text that begin with one of these words, in their order.
+fn rows_named(alloc: Global, text: &[u8], names: &[&str]) -> Result<Vec<u8>, Fail> {
+    let mut rows = Vec::new(alloc);
+    for row in text.split_inclusive(|octet| *octet == b'\n') {
+        if names.iter().any(|name| row.starts_with(name.as_bytes())) {
+            rows.extend_from_slice(row)?;
+        }
+    }
+    Ok(rows)
+}
+
+#[test]
+fn visits_and_needs(rt: HostRuntime) -> Result<(), Fail> {
+    let names = ["visits", "report,nodes", "report,leaves"];
+    let asks: &[u8] = b"10.1.2.3\n11.0.0.1\n192.0.0.1\n";
+    let cases: [(&[&str], Record, &[u8], &[&str]); 7] = [
+        (
+            &["--direct", "0"],
+            TEN,
+            asks,
+            &[
+                "visits,10.1.2.3,2",
+                "visits,11.0.0.1,2",
+                "visits,192.0.0.1,1",
+                "report,nodes,2",
+                "report,leaves,5",
+            ],
+        ),
+        (
+            &["--direct", "0", "--nodes", "1", "--leaves", "3"],
+            TEN,
+            b"",
+            &["report,nodes,2", "report,leaves,5"],
+        ),
+        (
+            &["--direct", "16"],
+            TEN,
+            asks,
+            &[
+                "visits,10.1.2.3,0",
+                "visits,11.0.0.1,0",
+                "visits,192.0.0.1,0",
+                "report,nodes,0",
+                "report,leaves,0",
+            ],
+        ),
+        (
+            &[],
+            ONE_ADDRESS,
+            b"10.0.0.1\n",
+            &["visits,10.0.0.1,3", "report,nodes,3", "report,leaves,6"],
+        ),
+        (
+            &["--direct=18"],
+            ONE_ADDRESS,
+            b"10.0.0.1\n",
+            &["visits,10.0.0.1,3", "report,nodes,3", "report,leaves,6"],
+        ),
+        (
+            &[],
+            ONE_OF_SIX,
+            b"2001:db8::1\n",
+            &[
+                "visits,2001:db8::1,19",
+                "report,nodes,19",
+                "report,leaves,22",
+            ],
+        ),
+        (
+            &["--direct", "18"],
+            ONE_OF_SIX,
+            b"2001:db8::1\n",
+            &[
+                "visits,2001:db8::1,19",
+                "report,nodes,19",
+                "report,leaves,22",
+            ],
+        ),
+    ];
+    let alloc = rt.alloc();
+    for (options, route, asks, rows) in cases {
+        let mut words = Vec::from_slice(alloc, WORDS)?;
+        words.extend_from_slice(options)?;
+        let given = Given {
+            words: &words,
+            dump: &[PEERS, route],
+            asks,
+            room: 100_000,
+            ..FIRST
+        };
+        let came = run_on(alloc, &given, inputs_of(alloc, &given)?)?;
+        assert_eq!(rt; came.outcome, Outcome::Done);
+        let told = rows_named(alloc, came.out.written(), &names)?;
+        assert_eq!(rt; told.as_slice(), text_of(alloc, &[rows])?.as_slice());
+    }
+    Ok(())
+}
+
+#[test]
+fn tries_that_are_too_small(rt: HostRuntime) -> Result<(), Fail> {
+    let routes: &[Record] = &[PEERS, TEN];
+    let six: &[Record] = &[PEERS, SIX];
+    let cases: [(&[&str], &[Record], (u64, u8, u64, u64), &[u8]); 6] = [
+        (
+            &["fib", "run", "dump", "--direct", "0", "--nodes", "0"],
+            routes,
+            (0, 0, 2, 1),
+            b"fib: trie full at event 0: arena 0 needs 2 of 1\n",
+        ),
+        (
+            &[
+                "fib", "run", "dump", "--direct", "0", "--nodes", "1", "--leaves", "2",
+            ],
+            routes,
+            (0, 1, 5, 4),
+            b"fib: trie full at event 0: arena 1 needs 5 of 4\n",
+        ),
+        (
+            &["fib", "run", "dump", "--nodes", "1"],
+            six,
+            (0, 2, 3, 2),
+            b"fib: trie full at event 0: arena 2 needs 3 of 2\n",
+        ),
+        (
+            &["fib", "run", "dump", "--leaves", "2"],
+            six,
+            (0, 3, 6, 4),
+            b"fib: trie full at event 0: arena 3 needs 6 of 4\n",
+        ),
+        (
+            // The load is judged before the updates are read.
+            &[
+                "fib",
+                "run",
+                "dump",
+                "--direct",
+                "0",
+                "--nodes",
+                "0",
+                "--updates",
+                "none",
+            ],
+            routes,
+            (0, 0, 2, 1),
+            b"fib: trie full at event 0: arena 0 needs 2 of 1\n",
+        ),
+        (
+            // It is withdrawn, which changes nothing, and then announced.
+            &[
+                "fib",
+                "run",
+                "dump",
+                "--direct",
+                "0",
+                "--nodes",
+                "0",
+                "--updates",
+                "updates",
+            ],
+            &[PEERS],
+            (2, 0, 2, 1),
+            b"fib: trie full at event 2: arena 0 needs 2 of 1\n",
+        ),
+    ];
+    for (words, dump, (event, arena, need, have), err) in cases {
+        let given = Given {
+            words,
+            dump,
+            updates: &[GONE_AND_BACK],
+            ..FIRST
+        };
+        let full = Expected {
+            outcome: Outcome::TrieFull {
+                event,
+                need,
+                have,
+                arena,
+            },
+            status: 6,
+            out: &[],
+            out_len: 0,
+            err,
+        };
+        compare(&rt, "a trie is full", &given, &full)?;
+    }
+    Ok(())
+}
+
+#[test]
+fn made_inputs(rt: HostRuntime) -> Result<(), Fail> {
+    let cases: [(&[&str], &[&str]); 2] = [
+        (&["fib", "make", "1", "--seed", "0"], REPORT_OF_ONE_MADE),
+        (&["fib", "make", "200", "--seed", "7"], REPORT_OF_MADE),
+    ];
+    for (words, rows) in cases {
+        let done = Expected {
+            outcome: Outcome::Done,
+            status: 0,
+            out: &[rows],
+            out_len: ALL,
+            err: b"",
+        };
+        // Nothing is read.
+        let given = Given {
+            words,
+            failing_read: 1,
+            ..FIRST
+        };
+        compare(&rt, "made inputs", &given, &done)?;
+    }
+    Ok(())
+}
+
+#[test]
+fn made_inputs_are_run_alike(rt: HostRuntime) -> Result<(), Fail> {
+    let alloc = rt.alloc();
+    let (dump, updates) = generate(alloc, 200, 7)?;
+    let mut names = Vec::new(alloc);
+    names.push((String::from_str(alloc, "dump")?, dump))?;
+    names.push((String::from_str(alloc, "updates")?, updates))?;
+    let given = Given {
+        words: &[
+            "fib",
+            "run",
+            "dump",
+            "--updates",
+            "updates",
+            "--every",
+            "1000",
+            "--direct",
+            "16",
+            "--nodes",
+            "20",
+            "--leaves",
+            "22",
+        ],
+        room: 1_000_000,
+        ..FIRST
+    };
+    let came = run_on(alloc, &given, MemInputs::new(names, Vec::new(alloc)))?;
+    assert_eq!(rt; came.outcome, Outcome::Done);
+    let report = rows_named(alloc, came.out.written(), &["report"])?;
+    assert_eq!(rt;
+        report.as_slice(),
+        text_of(alloc, &[REPORT_OF_MADE])?.as_slice()
+    );
     Ok(())
 }

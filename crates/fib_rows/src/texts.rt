@@ -30,7 +30,9 @@ pub const ROWS_OF_TEN: &[&[&str]] = &[
         "route,10.0.0.0/8,192.0.2.1",
         "change,0,+,10.0.0.0/8,192.0.2.1",
         "answer,10.1.2.3,192.0.2.1",
+        "visits,10.1.2.3,0",
         "answer,11.0.0.1,none",
+        "visits,11.0.0.1,0",
         "table,10.0.0.0/8,192.0.2.1",
         "least,10.0.0.0/8,192.0.2.1",
     ],
@@ -41,6 +43,8 @@ pub const ROWS_OF_TEN: &[&[&str]] = &[
         "report,events,1",
         "report,routes,1",
         "report,entries,1",
+        "report,nodes,0",
+        "report,leaves,0",
         "report,treated,0",
     ],
 ];
@@ -52,7 +56,9 @@ pub const ROWS_OF_BOTH: &[&[&str]] = &[&[
     "change,0,+,10.0.0.0/8,192.0.2.1",
     "change,0,+,10.1.0.0/16,192.0.2.2",
     "answer,10.1.2.3,192.0.2.2",
+    "visits,10.1.2.3,0",
     "answer,10.2.0.1,192.0.2.1",
+    "visits,10.2.0.1,0",
     "table,10.0.0.0/8,192.0.2.1",
     "table,10.1.0.0/16,192.0.2.2",
     "least,10.0.0.0/8,192.0.2.1",
@@ -98,6 +104,8 @@ pub const ROWS_OF_BOTH: &[&[&str]] = &[&[
     "report,events,2",
     "report,routes,2",
     "report,entries,2",
+    "report,nodes,0",
+    "report,leaves,0",
     "report,treated,0",
 ]];
 
@@ -106,7 +114,9 @@ pub const ROWS_OF_SIX: &[&[&str]] = &[&[
     "route,2001:db8::/32,2001:db8::1",
     "change,0,+,2001:db8::/32,2001:db8::1",
     "answer,2001:db8::5,2001:db8::1",
+    "visits,2001:db8::5,3",
     "answer,::,none",
+    "visits,::,0",
     "table,2001:db8::/32,2001:db8::1",
     "least,2001:db8::/32,2001:db8::1",
     "cert,leaf,0.0.0.0/0,none",
@@ -182,6 +192,8 @@ pub const ROWS_OF_SIX: &[&[&str]] = &[&[
     "report,events,1",
     "report,routes,1",
     "report,entries,1",
+    "report,nodes,3",
+    "report,leaves,6",
     "report,treated,0",
 ]];
 
@@ -217,6 +229,8 @@ pub const ROWS_OF_LONGER: &[&[&str]] = &[&[
     "report,events,3",
     "report,routes,1",
     "report,entries,1",
+    "report,nodes,0",
+    "report,leaves,0",
     "report,treated,0",
 ]];
 
@@ -237,6 +251,8 @@ pub const ROWS_OF_GONE_AND_BACK: &[&[&str]] = &[
         "report,events,3",
         "report,routes,1",
         "report,entries,1",
+        "report,nodes,0",
+        "report,leaves,0",
         "report,treated,0",
     ],
 ];
@@ -256,6 +272,8 @@ pub const ROWS_OF_LOST: &[&[&str]] = &[&[
     "report,events,4",
     "report,routes,0",
     "report,entries,0",
+    "report,nodes,0",
+    "report,leaves,0",
     "report,treated,0",
 ]];
 
@@ -274,6 +292,8 @@ pub const ROWS_OF_SET: &[&[&str]] = &[
         "report,events,2",
         "report,routes,1",
         "report,entries,1",
+        "report,nodes,0",
+        "report,leaves,0",
         "report,treated,0",
     ],
 ];
@@ -308,6 +328,8 @@ pub const ROWS_OF_TIE: &[&[&str]] = &[&[
     "report,events,4",
     "report,routes,4",
     "report,entries,3",
+    "report,nodes,0",
+    "report,leaves,0",
     "report,treated,0",
 ]];
 
@@ -341,6 +363,8 @@ pub const ROWS_OF_DROP: &[&[&str]] = &[&[
     "report,events,7",
     "report,routes,7",
     "report,entries,2",
+    "report,nodes,0",
+    "report,leaves,0",
     "report,treated,0",
 ]];
 
@@ -360,6 +384,8 @@ pub const ROWS_OF_MEET: &[&[&str]] = &[&[
     "report,events,2",
     "report,routes,2",
     "report,entries,1",
+    "report,nodes,0",
+    "report,leaves,0",
     "report,treated,0",
 ]];
 
@@ -379,6 +405,8 @@ pub const ROWS_OF_REDUNDANT: &[&[&str]] = &[
         "report,events,2",
         "report,routes,2",
         "report,entries,1",
+        "report,nodes,0",
+        "report,leaves,0",
         "report,treated,0",
     ],
 ];
@@ -398,6 +426,8 @@ pub const ROWS_OF_REPAIR: &[&[&str]] = &[
         "report,events,2",
         "report,routes,2",
         "report,entries,2",
+        "report,nodes,0",
+        "report,leaves,0",
         "report,treated,0",
     ],
 ];
@@ -419,6 +449,8 @@ pub const ROWS_OF_SNAPSHOT: &[&[&str]] = &[
         "report,events,2",
         "report,routes,2",
         "report,entries,1",
+        "report,nodes,0",
+        "report,leaves,0",
         "report,treated,0",
     ],
 ];
@@ -460,6 +492,8 @@ pub const ROWS_OF_KEPT_HOP: &[&[&str]] = &[&[
     "report,events,3",
     "report,routes,2",
     "report,entries,2",
+    "report,nodes,0",
+    "report,leaves,0",
     "report,treated,0",
 ]];
 
@@ -492,6 +526,8 @@ pub const ROWS_OF_DROP_BEFORE_HOP: &[&[&str]] = &[&[
     "report,events,3",
     "report,routes,3",
     "report,entries,3",
+    "report,nodes,0",
+    "report,leaves,0",
     "report,treated,0",
 ]];
 
@@ -541,6 +577,8 @@ pub const TIE_BOUNDS: &[&str] = &[
     "report,events,4",
     "report,routes,4",
     "report,entries,3",
+    "report,nodes,0",
+    "report,leaves,0",
     "report,treated,0",
     "report,nodes,0",
     "report,leaves,0",
@@ -604,6 +642,8 @@ pub const ROWS_OF_OTHER_PATH: &[&[&str]] = &[&[
     "report,events,3",
     "report,routes,1",
     "report,entries,1",
+    "report,nodes,0",
+    "report,leaves,0",
     "report,treated,0",
 ]];
 
@@ -621,6 +661,8 @@ pub const ROWS_OF_LOST_PATHS: &[&[&str]] = &[&[
     "report,events,4",
     "report,routes,0",
     "report,entries,0",
+    "report,nodes,0",
+    "report,leaves,0",
     "report,treated,0",
 ]];
 
@@ -655,6 +697,8 @@ pub const ROWS_OF_NO_SUCH_PATH: &[&[&str]] = &[&[
     "report,events,2",
     "report,routes,1",
     "report,entries,1",
+    "report,nodes,0",
+    "report,leaves,0",
     "report,treated,0",
 ]];
 
@@ -671,5 +715,31 @@ pub const ROWS_OF_TREATED: &[&[&str]] = &[&[
     "report,events,3",
     "report,routes,0",
     "report,entries,0",
+    "report,nodes,0",
+    "report,leaves,0",
     "report,treated,1",
 ]];
+
+/// Of one made route, and no update.
+pub const REPORT_OF_ONE_MADE: &[&str] = &[
+    "report,records,2",
+    "report,skipped,0",
+    "report,events,1",
+    "report,routes,1",
+    "report,entries,1",
+    "report,nodes,0",
+    "report,leaves,0",
+    "report,treated,0",
+];
+
+/// Of 200 routes made of the number 7, and their 100 updates.
+pub const REPORT_OF_MADE: &[&str] = &[
+    "report,records,301",
+    "report,skipped,0",
+    "report,events,300",
+    "report,routes,180",
+    "report,entries,179",
+    "report,nodes,110",
+    "report,leaves,291",
+    "report,treated,0",
+];

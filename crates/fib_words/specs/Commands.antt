@@ -1,5 +1,5 @@
 -- The command line, as clap's definition of it.
-use Rattle.std.specs.Prelude.{◌≡◌, ℕ, ◌^◌, codes, Option, Some, None, Result, Ok, Err, Bool, true, false, List, [], ◌∷◌, option_map, if◌then◌else◌}
+use Rattle.std.specs.Prelude.{◌≡◌, ℕ, zero, suc, ◌≤◌, ◌^◌, codes, Option, Some, None, Result, Ok, Err, Bool, true, false, List, [], ◌∷◌, option_map, if◌then◌else◌}
 use Rattle.std.specs.Option.{option_and_then}
 use Rattle.std.specs.Str.{bytes_eq}
 use Rattle.clap.specs.declared.builder.Command.{Command}
@@ -20,13 +20,21 @@ word_rule id = record (new_rule id) { required = true }
 abbrev pub option_rule : List ℕ → Rule
 option_rule id = record (new_rule id) { long = Some id }
 
--- `run DUMP [--updates F] [--ask F] [--every K]`
+-- an option with a value, which has to be there
+abbrev pub due_option_rule : List ℕ → Rule
+due_option_rule id = record (new_rule id) { long = Some id; required = true }
+
+-- `run DUMP [--updates F] [--ask F] [--every K] [--direct S] [--nodes N] [--leaves N]`
 abbrev pub run_app : App
-run_app = with_rule (with_rule (with_rule (with_rule (new_app (codes "run")) (word_rule (codes "dump"))) (option_rule (codes "updates"))) (option_rule (codes "ask"))) (option_rule (codes "every"))
+run_app = with_rule (with_rule (with_rule (with_rule (with_rule (with_rule (with_rule (new_app (codes "run")) (word_rule (codes "dump"))) (option_rule (codes "updates"))) (option_rule (codes "ask"))) (option_rule (codes "every"))) (option_rule (codes "direct"))) (option_rule (codes "nodes"))) (option_rule (codes "leaves"))
 
 -- `check PRINTED`
 abbrev pub check_app : App
 check_app = with_rule (new_app (codes "check")) (word_rule (codes "printed"))
+
+-- `make N --seed X`
+abbrev pub make_app : App
+make_app = with_rule (with_rule (new_app (codes "make")) (word_rule (codes "routes"))) (due_option_rule (codes "seed"))
 
 -- a command has to be there
 abbrev pub with_commands : App → App
@@ -34,21 +42,30 @@ with_commands app = record { top = record app.top { subcommand_required = true }
 
 -- `fib COMMAND`
 abbrev pub fib_app : App
-fib_app = with_subcommand (with_subcommand (with_commands (new_app (codes "fib"))) run_app.top) check_app.top
+fib_app = with_subcommand (with_subcommand (with_subcommand (with_commands (new_app (codes "fib"))) run_app.top) check_app.top) make_app.top
 
 -- ---- what the words name
 
--- the inputs of a run, and how many elementary events of the updates a snapshot follows; 0 is never
+-- The inputs of a run; how many elementary events of the updates a snapshot follows, where 0 is never; and of each family's trie the
+-- direct bits and the orders of its arenas of nodes and of leaves.
 pub record Named : Type 0 where
   pub dump : Text
   pub updates : Option Text
   pub asks : Option Text
   pub every : ℕ
+  pub direct : ℕ
+  pub nodes : ℕ
+  pub leaves : ℕ
 
--- the number below 2^32 that the word after `--every` writes, in decimal without a sign and without leading zeros; 0 where there is no such word
-abbrev pub every_by : Option Text → Option ℕ
-every_by None = Some 0
-every_by (Some word) = number_below (2 ^ 32) word
+-- the number below a bound that the word after an option writes, in decimal without a sign and without leading zeros; the usual one where there is no such word
+abbrev pub number_or : ℕ → ℕ → Option Text → Option ℕ
+number_or usual bound None = Some usual
+number_or usual bound (Some word) = number_below bound word
+
+-- a number that isn't 0
+abbrev pub from_one : ℕ → Option ℕ
+from_one zero = None
+from_one (suc n) = Some (suc n)
 
 abbrev pub is_empty : {A : Type 0} → List A → Bool
 is_empty [] = true
@@ -58,23 +75,48 @@ is_empty (x ∷ xs) = false
 abbrev pub takes : List Text → Bool
 takes words = is_empty (fault_of fib_app words)
 
--- a run with these names, if it names a dump and a number
-abbrev pub named_with : Option Text → Option Text → Option Text → Option Text → Option Named
-named_with dump updates asks every = option_and_then (λ d. option_map (λ k. record { dump = d; updates = updates; asks = asks; every = k }) (every_by every)) dump
+-- what is read from a value, where there is one
+infixl 10 ◌>>=◌
+abbrev ◌>>=◌ : {A B : Type 0} → Option A → (A → Option B) → Option B
+o >>= f = option_and_then f o
+
+-- A run with these names, if it names a dump and its numbers are such: snapshots from 0 to 2^32 - 1, direct bits to 18, orders to 24 and 26
+abbrev pub named_with : Option Text → Option Text → Option Text → Option Text → Option Text → Option Text → Option Text → Option Named
+named_with dump updates asks every direct nodes leaves = do
+  d ← dump
+  k ← number_or 0 (2 ^ 32) every
+  s ← number_or 16 19 direct
+  n ← number_or 16 25 nodes
+  l ← number_or 18 27 leaves
+  Some (record { dump = d; updates = updates; asks = asks; every = k; direct = s; nodes = n; leaves = l })
 
 abbrev pub named_by : List Row → Option Named
-named_by rows = named_with (first_of (codes "dump") rows) (first_of (codes "updates") rows) (first_of (codes "ask") rows) (first_of (codes "every") rows)
+named_by rows = named_with (first_of (codes "dump") rows) (first_of (codes "updates") rows) (first_of (codes "ask") rows) (first_of (codes "every") rows) (first_of (codes "direct") rows) (first_of (codes "nodes") rows) (first_of (codes "leaves") rows)
 
--- a run, or the check of a printed text
+-- A run; the check of a printed text; or a run on so many routes that are made from a seed
 pub data Asked : Type 0 where
   Run : Named → Asked
   Check : Text → Asked
+  Make : ℕ → ℕ → Asked
+
+-- so many routes, from 1 to 200,000, made from a seed below 2^64
+abbrev pub made_with : Option Text → Option Text → Option Asked
+made_with routes seed = do
+  r ← routes
+  n ← option_and_then from_one (number_below 200001 r)
+  s ← seed
+  x ← number_below (2 ^ 64) s
+  Some (Make n x)
+
+abbrev pub made_by : List Row → Option Asked
+made_by rows = made_with (first_of (codes "routes") rows) (first_of (codes "seed") rows)
 
 -- what a command with its names asks for
 abbrev pub asked_in : Text × List Row → Option Asked
 asked_in entered =
     if bytes_eq entered.0 (codes "run") then option_map Run (named_by entered.1)
-    else (if bytes_eq entered.0 (codes "check") then option_map Check (first_of (codes "printed") entered.1) else None)
+    else (if bytes_eq entered.0 (codes "check") then option_map Check (first_of (codes "printed") entered.1)
+    else (if bytes_eq entered.0 (codes "make") then made_by entered.1 else None))
 
 -- what the words ask for, where the definition takes them
 unfoldable pub command_of : List Text → Option Asked
@@ -84,11 +126,18 @@ command_of words = if takes words then option_and_then asked_in (subcommand_of f
 
 -- what is named, without where it lies in memory
 abbrev pub named_as : RunWords → Named
-named_as run = record { dump = run.dump.now; updates = option_map (λ name. name.now) run.updates; asks = option_map (λ name. name.now) run.asks; every = run.every }
+named_as run = record { dump = run.dump.now; updates = option_map (λ name. name.now) run.updates; asks = option_map (λ name. name.now) run.asks; every = run.every; direct = run.direct; nodes = run.nodes; leaves = run.leaves }
 
 abbrev pub asked_as : CommandWords → Asked
 asked_as (code.Run run) = Run (named_as run)
 asked_as (code.Check printed) = Check printed.now
+asked_as (code.Make made) = Make made.routes made.seed
+
+-- the numbers are no greater than they may be
+abbrev pub IsWithin : CommandWords → Type 0
+IsWithin (code.Run run) = (run.direct ≤ 18) × (run.nodes ≤ 24) × (run.leaves ≤ 26)
+IsWithin (code.Check printed) = Unit {0}
+IsWithin (code.Make made) = (1 ≤ made.routes) × (made.routes ≤ 200000)
 
 -- what a reading of words returned is what the words ask for, unless memory ran out
 abbrev pub IsCommand : Result CommandWords WordsError → Option Asked → Type 0

@@ -4,12 +4,13 @@
 //! Usage, `help`, `--help` and `--version` among them. Names borrow from the words.
 #![tactic(auto)]
 
-ghost use Rattle.std.specs.Prelude.{◌≡◌, ◌≢◌, ◌↔◌, IfOk, map, option_map};
+ghost use Rattle.std.specs.Prelude.{◌≡◌, ◌≢◌, ◌≤◌, ◌+◌, ◌^◌, ◌↔◌, IfOk, IfSome, map, option_map};
 ghost use Rattle.std.specs.Option.{option_and_then};
 ghost use Rattle.std.specs.String.{string_bytes};
 ghost use Rattle.clap.specs.Words.{app_of, found_of, rows_of, subcommand_rows_of, with_rule};
 ghost use Rattle.clap.specs.Values.{kind_of};
-ghost use Rattle.fib_words.specs.Commands.{asked_as, asked_in, check_app, command_of, every_by, fib_app, HasApp, IsCommand, IsLocal, named_as, named_by, option_rule, run_app, word_rule};
+ghost use Rattle.fib_words.specs.Commands.{asked_as, asked_in, check_app, command_of, due_option_rule, fib_app, from_one, HasApp, IsCommand, IsLocal, IsWithin, made_by, make_app, named_as, named_by, number_or, option_rule, run_app, word_rule};
+ghost use Rattle.fib_addr.specs.Text.{number_below};
 ghost use Rattle.fib_words.specs.declared.WordsError.TheVariants.{NoMemory};
 
 use clap::error::ErrorKind;
@@ -28,6 +29,21 @@ pub struct RunWords<'a> {
     pub asks: Option<&'a str>,
     /// How many elementary events of the updates a snapshot follows; 0 is never.
     pub every: u32,
+    /// The direct bits of a trie: 18 at most.
+    pub direct: u8,
+    /// The order of a trie's arena of nodes: 24 at most.
+    pub nodes: u8,
+    /// The order of a trie's arena of leaves: 26 at most.
+    pub leaves: u8,
+}
+
+/// Routes that are made, as the words ask for them.
+#[derive(Clone, Copy, Debug)]
+pub struct MakeWords {
+    /// What all is drawn from.
+    pub seed: u64,
+    /// How many routes: from 1 to 200,000.
+    pub routes: u32,
 }
 
 /// What the words ask for.
@@ -37,7 +53,16 @@ pub enum CommandWords<'a> {
     Run(RunWords<'a>),
     /// A check of the printed text of this name.
     Check(&'a str),
+    /// A run on routes that are made.
+    Make(MakeWords),
 }
+
+/// The orders and direct bits of a run whose words name none.
+const USUAL_DIRECT: u8 = 16;
+
+const USUAL_NODES: u8 = 16;
+
+const USUAL_LEAVES: u8 = 18;
 
 /// Why the words gave no command.
 #[derive(Clone, Copy, Debug, PartialEq, Eq, thiserror::Error)]
@@ -72,6 +97,20 @@ fn with_option<'a>(
     command.arg(option)
 }
 
+/// The command with one more option, which has to be there.
+fn with_due_option<'a>(
+    alloc: Global,
+    command: Command<'a>,
+    name: &'a str,
+) -> Result<Command<'a>, AllocError>
+    requires { IsLocal command }
+    ensures { IfOk result (λ c. HasApp c (with_rule (app_of command.entry)
+        (due_option_rule name.entry.now))) }
+{
+    let option = Arg::new(alloc, name).long(name).required(true);
+    command.arg(option)
+}
+
 /// The command with one more word that has to be there.
 fn with_word<'a>(
     alloc: Global,
@@ -86,14 +125,17 @@ fn with_word<'a>(
     command.arg(word)
 }
 
-/// `run DUMP [--updates F] [--ask F] [--every K]`.
+/// `run DUMP [--updates F] [--ask F] [--every K] [--direct S] [--nodes N] [--leaves N]`.
 fn run_command<'a>(alloc: Global) -> Result<Command<'a>, AllocError>
     ensures { IfOk result (λ c. HasApp c run_app) }
 {
     let command = with_word(alloc, Command::new(alloc, "run"), "dump")?;
     let command = with_option(alloc, command, "updates")?;
     let command = with_option(alloc, command, "ask")?;
-    with_option(alloc, command, "every")
+    let command = with_option(alloc, command, "every")?;
+    let command = with_option(alloc, command, "direct")?;
+    let command = with_option(alloc, command, "nodes")?;
+    with_option(alloc, command, "leaves")
 }
 
 /// `check PRINTED`.
@@ -103,22 +145,32 @@ fn check_command<'a>(alloc: Global) -> Result<Command<'a>, AllocError>
     with_word(alloc, Command::new(alloc, "check"), "printed")
 }
 
+/// `make N --seed X`.
+fn make_command<'a>(alloc: Global) -> Result<Command<'a>, AllocError>
+    ensures { IfOk result (λ c. HasApp c make_app) }
+{
+    let command = with_word(alloc, Command::new(alloc, "make"), "routes")?;
+    with_due_option(alloc, command, "seed")
+}
+
 /// `fib COMMAND`.
 fn fib_command<'a>(alloc: Global) -> Result<Command<'a>, AllocError>
     ensures { IfOk result (λ c. HasApp c fib_app) }
 {
     let run = run_command(alloc)?;
     let check = check_command(alloc)?;
+    let make = make_command(alloc)?;
     Command::new(alloc, "fib")
         .subcommand_required(true)
         .subcommand(run)?
-        .subcommand(check)
+        .subcommand(check)?
+        .subcommand(make)
 }
 
-/// The number that the word after `--every` writes, 0 where there is none. `None` exactly where the word isn't a number from 0
-/// to 4,294,967,295 in plain decimal.
+/// How many events a snapshot follows, by the word after `--every`, and 0 where there is none. `None` exactly where the word isn't
+/// a number from 0 to 4,294,967,295 in plain decimal.
 fn every_of(word: Option<&str>) -> Option<u32>
-    ensures { result ≡ every_by (option_map (λ w. w.now) word.entry) }
+    ensures { result ≡ number_or 0 (2 ^ 32) (option_map (λ w. w.now) word.entry) }
 {
     match word {
         Some(word) => {
@@ -129,17 +181,70 @@ fn every_of(word: Option<&str>) -> Option<u32>
     }
 }
 
+/// Direct bits, or the order of an arena: the number that the word writes, or the usual one where there is none. `None` exactly
+/// where the word isn't a number from 0 to `most` in plain decimal.
+fn size_of(word: Option<&str>, usual: u8, most: u8) -> Option<u8>
+    requires { usual ≤ most }
+    ensures same { result ≡ number_or usual (most + 1) (option_map (λ w. w.now) word.entry) }
+    ensures within { IfSome result (λ size. size ≤ most) }
+{
+    match word {
+        Some(word) => {
+            let number = read_number(word.as_bytes(), u64::from(most))?;
+            Some(number as u8)
+        }
+        None => Some(usual),
+    }
+}
+
 /// What the matches of `run` name.
 fn run_words<'a>(matches: &ArgMatches<'a>) -> Option<RunWords<'a>>
-    ensures { option_map named_as result ≡ named_by (rows_of (found_of matches.now)) }
+    ensures same { option_map named_as result ≡ named_by (rows_of (found_of matches.now)) }
+    ensures within { IfSome result (λ run. IsWithin (CommandWords.Run run)) }
 {
     let dump = matches.get_str("dump")?;
+    let every = every_of(matches.get_str("every"))?;
+    let direct = size_of(matches.get_str("direct"), USUAL_DIRECT, 18)?;
+    let nodes = size_of(matches.get_str("nodes"), USUAL_NODES, 24)?;
+    let leaves = size_of(matches.get_str("leaves"), USUAL_LEAVES, 26)?;
     Some(RunWords {
         dump,
         updates: matches.get_str("updates"),
         asks: matches.get_str("ask"),
-        every: every_of(matches.get_str("every"))?,
+        every,
+        direct,
+        nodes,
+        leaves,
     })
+}
+
+/// How many routes the word asks for. `None` exactly where it isn't a number from 1 to 200,000 in plain decimal.
+fn routes_of(word: &str) -> Option<u32>
+    ensures same { result ≡ option_and_then from_one (number_below 200001 word.now) }
+    ensures within { IfSome result (λ routes. (1 ≤ routes) × (routes ≤ 200000)) }
+{
+    match read_number(word.as_bytes(), 200_000)? {
+        0 => None,
+        routes => Some(routes as u32),
+    }
+}
+
+/// What all is drawn from, by its word. `None` exactly where it isn't a number below 2^64 in plain decimal.
+fn seed_of(word: &str) -> Option<u64>
+    ensures { result ≡ number_below (2 ^ 64) word.now }
+{
+    read_number(word.as_bytes(), u64::MAX)
+}
+
+/// What the matches of `make` ask for.
+fn make_words(matches: &ArgMatches<'_>) -> Option<MakeWords>
+    ensures same { option_map (λ made. asked_as (CommandWords.Make made)) result
+        ≡ made_by (rows_of (found_of matches.now)) }
+    ensures within { IfSome result (λ made. IsWithin (CommandWords.Make made)) }
+{
+    let routes = routes_of(matches.get_str("routes")?)?;
+    let seed = seed_of(matches.get_str("seed")?)?;
+    Some(MakeWords { seed, routes })
 }
 
 /// Why clap refused the words.
@@ -155,24 +260,31 @@ fn why(error: &Error) -> WordsError
 
 /// The command in the matches.
 fn command_in<'a>(matches: &ArgMatches<'a>) -> Option<CommandWords<'a>>
-    ensures { option_map asked_as result ≡ option_and_then asked_in
+    ensures same { option_map asked_as result ≡ option_and_then asked_in
         (subcommand_rows_of matches.now) }
+    ensures within { IfSome result IsWithin }
 {
     if let Some(run) = matches.subcommand_matches("run") {
         let names = run_words(run)?;
         return Some(CommandWords::Run(names));
     }
-    let check = matches.subcommand_matches("check")?;
-    let printed = check.get_str("printed")?;
-    Some(CommandWords::Check(printed))
+    if let Some(check) = matches.subcommand_matches("check") {
+        let printed = check.get_str("printed")?;
+        return Some(CommandWords::Check(printed));
+    }
+    let make = matches.subcommand_matches("make")?;
+    let made = make_words(make)?;
+    Some(CommandWords::Make(made))
 }
 
 /// Reads the words of the command line, the program's name first.
 ///
 /// Unless memory runs out, `Usage` comes exactly where the words are no command: where clap's definition of the command
-/// line doesn't take them, what it takes names no command with its word, or the word after `--every` is no such number.
+/// line doesn't take them, what it takes names no command with its words, or a word that should be a number is none, or is out of
+/// its range. What comes is in its ranges.
 pub fn read_words<'a>(alloc: Global, words: &'a [String]) -> Result<CommandWords<'a>, WordsError>
-    ensures { IsCommand result (command_of (map string_bytes words.now)) }
+    ensures command { IsCommand result (command_of (map string_bytes words.now)) }
+    ensures within { IfOk result IsWithin }
 {
     let command: Command<'a> = fib_command(alloc)?;
     let matches = match command.try_get_matches_from(words) {

@@ -10,7 +10,7 @@ type Case<'a> = (
     Option<(&'a str, Option<&'a str>, Option<&'a str>, u32)>,
 );
 
-const CASES: [Case<'static>; 34] = [
+const CASES: [Case<'static>; 32] = [
     (&["fib", "run", "D"], Some(("D", None, None, 0))),
     (
         &["fib", "run", "D", "--ask", "A"],
@@ -64,14 +64,63 @@ const CASES: [Case<'static>; 34] = [
     (&["fib", "run", "D", "--ask"], None),
     (&["fib", "run", "D", "--ask", "-A"], None),
     (&["fib", "run", "D", "--ask", "A", "--ask", "A"], None),
-    (&["fib", "run", "D", "--direct", "19"], None),
-    (&["fib", "make", "0", "--seed", "1"], None),
     (&["fib", "run", "--help"], None),
     (&["fib", "--help"], None),
     (&["fib", "--version"], None),
     (&["fib", "help"], None),
     (&["fib", "check"], None),
     (&["fib", "check", "P", "--ask", "A"], None),
+];
+
+/// Words, and the numbers that they ask for: how many events a snapshot follows, the direct bits, and the orders of the arenas
+/// of nodes and of leaves.
+type SizeCase<'a> = (&'a [&'a str], Option<(u32, u8, u8, u8)>);
+
+const SIZES: [SizeCase<'static>; 17] = [
+    (&[], Some((0, 16, 16, 18))),
+    (&["--direct", "0"], Some((0, 0, 16, 18))),
+    (&["--direct", "18"], Some((0, 18, 16, 18))),
+    (&["--nodes=24", "--leaves=26"], Some((0, 16, 24, 26))),
+    (&["--nodes", "0", "--leaves", "0"], Some((0, 16, 0, 0))),
+    (
+        &["--leaves", "9", "--every", "3", "--direct", "8"],
+        Some((3, 8, 16, 9)),
+    ),
+    (&["--direct", "19"], None),
+    (&["--nodes", "25"], None),
+    (&["--leaves", "27"], None),
+    (&["--direct", "05"], None),
+    (&["--direct", "+5"], None),
+    (&["--direct", "-1"], None),
+    (&["--nodes", "00"], None),
+    (&["--leaves", "256"], None),
+    (&["--leaves", "18446744073709551634"], None),
+    (&["--direct", ""], None),
+    (&["--direct", "8", "--direct", "8"], None),
+];
+
+/// Words, and how many routes are to be made from which seed, if the words ask for any.
+type MakeCase<'a> = (&'a [&'a str], Option<(u32, u64)>);
+
+const MAKES: [MakeCase<'static>; 12] = [
+    (&["fib", "make", "1", "--seed", "0"], Some((1, 0))),
+    (&["fib", "make", "--seed=7", "200000"], Some((200_000, 7))),
+    (
+        &["fib", "make", "200", "--seed", "18446744073709551615"],
+        Some((200, u64::MAX)),
+    ),
+    (&["fib", "make", "0", "--seed", "1"], None),
+    (&["fib", "make", "200001", "--seed", "1"], None),
+    (&["fib", "make", "01", "--seed", "1"], None),
+    (
+        &["fib", "make", "1", "--seed", "18446744073709551616"],
+        None,
+    ),
+    (&["fib", "make", "1", "--seed", "+1"], None),
+    (&["fib", "make", "1", "--seed", "00"], None),
+    (&["fib", "make", "1"], None),
+    (&["fib", "make", "--seed", "1"], None),
+    (&["fib", "make", "1", "--seed", "1", "--every", "1"], None),
 ];
 
 /// The words, in memory.
@@ -95,7 +144,7 @@ fn takes_what_the_definition_takes(rt: HostRuntime) -> Result<(), Fail> {
                     expected
                 );
             }
-            Ok(CommandWords::Check(_)) => assert!(rt; false, "no check is asked for"),
+            Ok(_) => assert!(rt; false, "a run is asked for"),
             Err(error) => {
                 assert_eq!(rt; error, WordsError::Usage);
                 assert_eq!(rt; expected, None);
@@ -104,5 +153,45 @@ fn takes_what_the_definition_takes(rt: HostRuntime) -> Result<(), Fail> {
     }
     let words = words_of(alloc, &["fib", "check", "P"])?;
     assert!(rt; matches!(read_words(alloc, &words), Ok(CommandWords::Check("P"))));
+    Ok(())
+}
+
+#[test]
+fn numbers_are_plain_and_in_their_ranges(rt: HostRuntime) -> Result<(), Fail> {
+    let alloc = rt.alloc();
+    for (options, expected) in SIZES {
+        let mut words = words_of(alloc, &["fib", "run", "D"])?;
+        words.append(&mut words_of(alloc, options)?)?;
+        match read_words(alloc, &words) {
+            Ok(CommandWords::Run(run)) => {
+                let numbers = (run.every, run.direct, run.nodes, run.leaves);
+                assert_eq!(rt; Some(numbers), expected);
+            }
+            Ok(_) => assert!(rt; false, "a run is asked for"),
+            Err(error) => {
+                assert_eq!(rt; error, WordsError::Usage);
+                assert_eq!(rt; expected, None);
+            }
+        }
+    }
+    Ok(())
+}
+
+#[test]
+fn routes_are_made_from_a_seed(rt: HostRuntime) -> Result<(), Fail> {
+    let alloc = rt.alloc();
+    for (texts, expected) in MAKES {
+        let words = words_of(alloc, texts)?;
+        match read_words(alloc, &words) {
+            Ok(CommandWords::Make(made)) => {
+                assert_eq!(rt; Some((made.routes, made.seed)), expected);
+            }
+            Ok(_) => assert!(rt; false, "routes are to be made"),
+            Err(error) => {
+                assert_eq!(rt; error, WordsError::Usage);
+                assert_eq!(rt; expected, None);
+            }
+        }
+    }
     Ok(())
 }

@@ -4,10 +4,11 @@ use Rattle.fib_words.specs.Commands.{asked_as}
 use Rattle.fib_words.proofs.Words.{check_is}
 use Rattle.fib_words.proofs.command_in.Goals as goal
 
-pub returns-in_err-printed : goal.returns-in_err-printed
-returns-in_err-printed c =
+pub returns-in_err-printed-clause-same : goal.returns-in_err-printed-clause-same
+returns-in_err-printed-clause-same c =
     ap (option_map asked_as) c.from_residual-in_err-printed.ensures
-    ∙ sym (check_is c.args.matches.now c.in_ok-check.check.now None (c.in_ok-check.ensures.found.0 refl) c.in_ok-check.ensures.rows c.in_err-printed.ensures)
+    ∙ sym (check_is c.args.matches.now c.in-Some-subcommand_matches.check.now None (c.in-Some-subcommand_matches.ensures.found.0 refl) c.in-Some-subcommand_matches.ensures.rows c.in_err-printed.ensures)
 
-pub returns : goal.returns
-returns c = sym (check_is c.args.matches.now c.in_ok-check.check.now (Some c.in_ok-printed.printed.now) (c.in_ok-check.ensures.found.0 refl) c.in_ok-check.ensures.rows c.in_ok-printed.ensures)
+pub returns-in-Some-subcommand_matches-clause-same : goal.returns-in-Some-subcommand_matches-clause-same
+returns-in-Some-subcommand_matches-clause-same c =
+    sym (check_is c.args.matches.now c.in-Some-subcommand_matches.check.now (Some c.in_ok-printed.printed.now) (c.in-Some-subcommand_matches.ensures.found.0 refl) c.in-Some-subcommand_matches.ensures.rows c.in_ok-printed.ensures)

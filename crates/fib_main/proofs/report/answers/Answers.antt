@@ -1,5 +1,10 @@
-use Rattle.fib_main.proofs.Reporting.{one_answer}
+use Rattle.std.proofs.Common.{subst}
+use Rattle.fib_engine.specs.Held.{if_loaded, routes_in}
+use Rattle.route_tries.specs.Tries.{AreTriesOf}
 use Rattle.fib_main.proofs.report.answers.Goals as goal
 
-pub loop-ask-preserved : goal.loop-ask-preserved
-loop-ask-preserved c = λ load elems s. one_answer _ _ _ c.ask-item.result _ _ _ c.loop-ask-test.true c.ask-item.is (c.answer.ensures.routes load elems s) (c.loop-ask.invariant load elems s) c.in_ok-push.ensures.items
+pub returns : goal.returns
+returns c =
+    let e = c.args.engine.now in
+    let t = subst (λ b. AreTriesOf e.sizes.direct (if_loaded b (routes_in e)) c.in_ok-tries.tries) c.requires c.in_ok-tries.ensures in
+    c.look_up_all.ensures e.sizes.direct (routes_in e) t

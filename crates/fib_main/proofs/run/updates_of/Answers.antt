@@ -4,4 +4,4 @@ use Rattle.fib_main.proofs.run.updates_of.Goals as goal
 
 pub returns-in-None-clause-due : goal.returns-in-None-clause-due
 unfolding feed_at
-returns-in-None-clause-due g c = λ every before s. (no_feed, record { counted = record { records = refl; skipped = refl; treated = refl; events = refl }; stands = s }, rw c.in-None.is refl)
+returns-in-None-clause-due g c = λ limits before s. (no_feed, record { counted = record { records = refl; skipped = refl; treated = refl; events = refl }; stands = s }, rw c.in-None.is refl)

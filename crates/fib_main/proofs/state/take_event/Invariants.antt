@@ -2,6 +2,7 @@ use Rattle.std.proofs.Common.{◌≡◌, ℕ, ◌+◌, List, ◌++◌, length, t
 use Rattle.route_model.specs.Events.{Elem}
 use Rattle.route_model.specs.Choice.{after_elems}
 use Rattle.fib_prefix.specs.Views.{elem_as}
+use Rattle.fib_main.specs.Refusals.{Limits}
 use Rattle.fib_main.specs.Standing.{IsReady, StateStands}
 use Rattle.fib_main.proofs.state.take_event.Given as goal
 
@@ -11,5 +12,5 @@ invariant-loop-elem l = record {
   counted : l.count ≡ l.fn.before + length (map elem_as (take l.elem-index l.elem-items));
   candidates : l.state.engine.candidates ≡ after_elems l.fn.state.engine.candidates (map elem_as (take l.elem-index l.elem-items));
   ready : IsReady l.fn.which l.count l.state.engine;
-  taken : (every : ℕ) (before done : List Elem) → l.fn.before ≡ length done → StateStands l.fn.which every before done l.fn.state → (l.count ≡ length (done ++ map elem_as (take l.elem-index l.elem-items))) × StateStands l.fn.which every before (done ++ map elem_as (take l.elem-index l.elem-items)) l.state;
+  taken : (limits : Limits) (before done : List Elem) → l.fn.before ≡ length done → StateStands l.fn.which limits before done l.fn.state → (l.count ≡ length (done ++ map elem_as (take l.elem-index l.elem-items))) × StateStands l.fn.which limits before (done ++ map elem_as (take l.elem-index l.elem-items)) l.state;
 }

@@ -2,6 +2,7 @@ use Rattle.std.proofs.Common.{◌≡◌, ℕ, List, ◌++◌, length, take, map}
 use Rattle.route_model.specs.Events.{Elem}
 use Rattle.fib_prefix.specs.Views.{event_as}
 use Rattle.fib_main.specs.Counts.{CountsOn}
+use Rattle.fib_main.specs.Refusals.{Limits}
 use Rattle.fib_main.specs.Standing.{IsReady, StateStands, next_elems}
 use Rattle.fib_main.proofs.state.take_events.Given as goal
 
@@ -10,5 +11,5 @@ abbrev pub invariant-loop-event : goal.invariant-loop-event
 invariant-loop-event l = record {
   counts : CountsOn l.fn.state.engine.candidates (map event_as (take l.event-index l.events)) l.fn.before l.count l.state.engine.candidates;
   ready : IsReady l.fn.which l.count l.state.engine;
-  taken : (every : ℕ) (before done : List Elem) → l.fn.before ≡ length done → StateStands l.fn.which every before done l.fn.state → (l.count ≡ length (done ++ next_elems before done (map event_as (take l.event-index l.events)))) × StateStands l.fn.which every before (done ++ next_elems before done (map event_as (take l.event-index l.events))) l.state;
+  taken : (limits : Limits) (before done : List Elem) → l.fn.before ≡ length done → StateStands l.fn.which limits before done l.fn.state → (l.count ≡ length (done ++ next_elems before done (map event_as (take l.event-index l.events)))) × StateStands l.fn.which limits before (done ++ next_elems before done (map event_as (take l.event-index l.events))) l.state;
 }

@@ -1,9 +1,10 @@
 use Rattle.std.proofs.Common.{◌++◌, Some, flat_map, map}
-use Rattle.fib_addr.specs.Views.{addr_as, entry_as}
+use Rattle.fib_addr.specs.Views.{entry_as}
 use Rattle.cert_rows.specs.Views.{row_as}
 use Rattle.fib_report.specs.Rows.{of_answer, of_change, table_entry_row, report_rows}
 use Rattle.printed_model.specs.Numbered.{of_cert, of_least, of_route}
 use Rattle.fib_delta.specs.Views.{change_as}
+use Rattle.fib_report.specs.Views.{answer_as}
 use Rattle.fib_report.proofs.Loops.{AddsRows-four, text_written-rows, IfOk-passed}
 use Rattle.fib_report.proofs.Proper.{both_proper, on_ok}
 use Rattle.fib_report.proofs.rows.text_of_run.Goals as goal
@@ -13,7 +14,7 @@ returns-clause-text c =
     let hops = c.args.hops.now.list in
     let routes = flat_map (of_route hops) (map entry_as c.deref.result.now) in
     let changes = map (of_change hops) (map (λ x. (x.0, change_as x.1)) c.deref-2.result.now) in
-    let answers = map (of_answer hops) (map (λ a. (addr_as a.0, a.1.0)) c.deref-3.result.now) in
+    let answers = flat_map (of_answer hops) (map answer_as c.deref-3.result.now) in
     let table = map (table_entry_row hops) (map entry_as c.deref-4.result.now) in
     let least = map (of_least hops) (map entry_as c.deref-5.result.now) in
     let cert = map (of_cert hops) (map row_as c.deref-6.result.now) in
@@ -28,7 +29,7 @@ returns-clause-proper c =
     let hops = c.args.hops.now.list in
     let routes = flat_map (of_route hops) (map entry_as c.deref.result.now) in
     let changes = map (of_change hops) (map (λ x. (x.0, change_as x.1)) c.deref-2.result.now) in
-    let answers = map (of_answer hops) (map (λ a. (addr_as a.0, a.1.0)) c.deref-3.result.now) in
+    let answers = flat_map (of_answer hops) (map answer_as c.deref-3.result.now) in
     let table = map (table_entry_row hops) (map entry_as c.deref-4.result.now) in
     let least = map (of_least hops) (map entry_as c.deref-5.result.now) in
     let cert = map (of_cert hops) (map row_as c.deref-6.result.now) in

@@ -1,9 +1,15 @@
 use Rattle.std.proofs.Common.{ap, map, ◌∙◌}
 use Rattle.fib_delta.specs.Views.{change_as}
-use Rattle.fib_main.proofs.Steps.{load_ended}
+use Rattle.fib_main.proofs.Steps.{ends_short, load_ended, of_load}
 use Rattle.fib_main.proofs.state.State.finish_load.Goals as goal
 
 pub returns-clause-stands : goal.returns-clause-stands
-returns-clause-stands c = λ every load s.
-    let told = c.in_ok-changes.ensures in
-    load_ended every load c.args.self.now _ _ told.ends told.stands (ap (map change_as) c.deref.ensures.value ∙ told.changes) c.in_ok-push_changes.ensures s
+returns-clause-stands c = λ limits load s.
+    let told = c.in-Ok.ensures in
+    load_ended limits load c.args.self.now _ _ told.ends told.stands (ap (map change_as) c.deref.ensures.value ∙ told.changes) c.in_ok-push_changes.ensures s
+
+pub returns-in-Err-clause-short : goal.returns-in-Err-clause-short
+returns-in-Err-clause-short c = λ limits load s. ends_short limits load c.args.self.now c.in-Err.error c.refusal_at.result c.refusal_at.ensures c.in-Err.ensures.hops c.in-Err.ensures.short s
+
+pub returns-in-Err-clause-kinds : goal.returns-in-Err-clause-kinds
+returns-in-Err-clause-kinds c = of_load c.in-Err.error c.refusal_at.result c.refusal_at.ensures c.in-Err.ensures.hops

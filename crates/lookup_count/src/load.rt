@@ -1,0 +1,65 @@
+//! A dump's routes, in an engine whose load has ended.
+
+ghost use Rattle.std.specs.Prelude.{◌≡◌, ◌<◌, length, true, IfOk, false};
+
+use fib_engine::{Engine, Limits, Sizes};
+use fib_io::{Inputs, piece_room, read_piece};
+use mrt_read::Reader;
+use std::alloc::Global;
+
+/// Room for a whole table of today.
+const SIZES: Sizes = Sizes {
+    direct: 16,
+    nodes: 22,
+    leaves: 24,
+};
+
+/// Loads what an input's records say, through this room.
+fn load_through<I: Inputs>(
+    alloc: Global,
+    inputs: &mut I,
+    name: &str,
+    engine: &mut Engine,
+    room: &mut [u8],
+) -> anyhow::Result<()>
+    requires some { 0 < length room.old }
+    requires loading { engine.old.loaded ≡ false }
+    ensures loading { engine.new.loaded ≡ false }
+{
+    let mut reader = Reader::new(alloc);
+    let mut events = Vec::new(alloc);
+    let mut at = 0;
+    loop {
+        let n = read_piece(inputs, name, at, room)?;
+        if n == 0 {
+            reader.finish()?;
+            return Ok(());
+        }
+        reader.feed(&room[..n])?;
+        at += n as u64;
+        while reader.read_events(&mut events)? {
+            for event in &events {
+                for elem in &engine.elementary(event)? {
+                    engine.load(elem)?;
+                }
+            }
+        }
+    }
+}
+
+/// Loads a dump to its end.
+pub fn load<I: Inputs>(alloc: Global, inputs: &mut I, name: &str) -> anyhow::Result<Engine>
+    ensures { IfOk result (λ engine. engine.loaded ≡ true) }
+{
+    let mut engine = Engine::new(
+        alloc,
+        Limits {
+            every: 0,
+            sizes: SIZES,
+        },
+    );
+    let mut room = piece_room(alloc)?;
+    load_through(alloc, inputs, name, &mut engine, &mut room)?;
+    engine.finish_load()?;
+    Ok(engine)
+}
