@@ -4,12 +4,15 @@ _fib() {
     local word=${COMP_WORDS[COMP_CWORD]} before=${COMP_WORDS[COMP_CWORD - 1]} words=
     COMPREPLY=()
     if [ "$COMP_CWORD" -eq 1 ]; then
-        words="run check"
-    elif [[ ${COMP_WORDS[1]} == run && $word == -* && $before != --updates && $before != --ask && $before != --every ]]; then
+        words="run check make"
+    elif [[ $word == -* && $before != --* ]]; then
         # An option may be given once.
-        [[ " ${COMP_WORDS[*]} " == *" --updates "* ]] || words="--updates"
-        [[ " ${COMP_WORDS[*]} " == *" --ask "* ]] || words="$words --ask"
-        [[ " ${COMP_WORDS[*]} " == *" --every "* ]] || words="$words --every"
+        local option options=
+        [[ ${COMP_WORDS[1]} == run ]] && options="--updates --ask --every --direct --nodes --leaves"
+        [[ ${COMP_WORDS[1]} == make ]] && options="--seed"
+        for option in $options; do
+            [[ " ${COMP_WORDS[*]} " == *" $option "* ]] || words="$words${words:+ }$option"
+        done
     fi
     if [ -n "$words" ]; then
         mapfile -t COMPREPLY < <(compgen -W "$words" -- "$word")
