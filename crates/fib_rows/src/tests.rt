@@ -930,14 +930,29 @@ fn rows_named(alloc: Global, text: &[u8], names: &[&str]) -> Result<Vec<u8>, Fai
     Ok(rows)
 }
 
+/// Runs and compares the rows of look-ups' visits and of nodes and leaves.
+fn compare_visits<R: Abort + Alloc<A = Global>>(
+    rt: &R,
+    given: &Given,
+    rows: &[&str],
+) -> Result<(), Fail> {
+    let alloc = rt.alloc();
+    let came = run_on(alloc, given, inputs_of(alloc, given)?)?;
+    assert_eq!(rt; came.outcome, Outcome::Done);
+    let names: &[&str] = &["visits", "report,nodes", "report,leaves"];
+    let told = rows_named(alloc, came.out.written(), names)?;
+    let expected = text_of(alloc, &[rows])?;
+    assert_eq!(rt; told.as_slice(), expected.as_slice());
+    Ok(())
+}
+
 #[test]
 fn visits_and_needs(rt: HostRuntime) -> Result<(), Fail> {
-    let names = ["visits", "report,nodes", "report,leaves"];
     let asks: &[u8] = b"10.1.2.3\n11.0.0.1\n192.0.0.1\n";
-    let cases: [(&[&str], Record, &[u8], &[&str]); 7] = [
+    let cases: [(&[&str], &[Record], &[u8], &[&str]); 7] = [
         (
-            &["--direct", "0"],
-            TEN,
+            &["fib", "run", "dump", "--ask", "asks", "--direct", "0"],
+            &[PEERS, TEN],
             asks,
             &[
                 "visits,10.1.2.3,2",
@@ -948,14 +963,16 @@ fn visits_and_needs(rt: HostRuntime) -> Result<(), Fail> {
             ],
         ),
         (
-            &["--direct", "0", "--nodes", "1", "--leaves", "3"],
-            TEN,
+            &[
+                "fib", "run", "dump", "--direct", "0", "--nodes", "1", "--leaves", "3",
+            ],
+            &[PEERS, TEN],
             b"",
             &["report,nodes,2", "report,leaves,5"],
         ),
         (
-            &["--direct", "16"],
-            TEN,
+            &["fib", "run", "dump", "--ask", "asks", "--direct", "16"],
+            &[PEERS, TEN],
             asks,
             &[
                 "visits,10.1.2.3,0",
@@ -966,20 +983,20 @@ fn visits_and_needs(rt: HostRuntime) -> Result<(), Fail> {
             ],
         ),
         (
-            &[],
-            ONE_ADDRESS,
+            WORDS,
+            &[PEERS, ONE_ADDRESS],
             b"10.0.0.1\n",
             &["visits,10.0.0.1,3", "report,nodes,3", "report,leaves,6"],
         ),
         (
-            &["--direct=18"],
-            ONE_ADDRESS,
+            &["fib", "run", "dump", "--ask", "asks", "--direct=18"],
+            &[PEERS, ONE_ADDRESS],
             b"10.0.0.1\n",
             &["visits,10.0.0.1,3", "report,nodes,3", "report,leaves,6"],
         ),
         (
-            &[],
-            ONE_OF_SIX,
+            WORDS,
+            &[PEERS, ONE_OF_SIX],
             b"2001:db8::1\n",
             &[
                 "visits,2001:db8::1,19",
@@ -988,8 +1005,8 @@ fn visits_and_needs(rt: HostRuntime) -> Result<(), Fail> {
             ],
         ),
         (
-            &["--direct", "18"],
-            ONE_OF_SIX,
+            &["fib", "run", "dump", "--ask", "asks", "--direct", "18"],
+            &[PEERS, ONE_OF_SIX],
             b"2001:db8::1\n",
             &[
                 "visits,2001:db8::1,19",
@@ -998,21 +1015,14 @@ fn visits_and_needs(rt: HostRuntime) -> Result<(), Fail> {
             ],
         ),
     ];
-    let alloc = rt.alloc();
-    for (options, route, asks, rows) in cases {
-        let mut words = Vec::from_slice(alloc, WORDS)?;
-        words.extend_from_slice(options)?;
+    for (words, dump, asks, rows) in cases {
         let given = Given {
-            words: &words,
-            dump: &[PEERS, route],
+            words,
+            dump,
             asks,
-            room: 100_000,
             ..FIRST
         };
-        let came = run_on(alloc, &given, inputs_of(alloc, &given)?)?;
-        assert_eq!(rt; came.outcome, Outcome::Done);
-        let told = rows_named(alloc, came.out.written(), &names)?;
-        assert_eq!(rt; told.as_slice(), text_of(alloc, &[rows])?.as_slice());
+        compare_visits(&rt, &given, rows)?;
     }
     Ok(())
 }
