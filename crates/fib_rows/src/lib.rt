@@ -44,6 +44,10 @@ pub fn run_memory(
 }
 
 #[cfg(test)]
+mod harness;
+#[cfg(test)]
+mod hostile;
+#[cfg(test)]
 mod records;
 #[cfg(test)]
 mod tests;

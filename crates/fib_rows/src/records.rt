@@ -428,3 +428,26 @@ pub const TEN_WRONG_SEGMENT: &[&str] = &[
     "400206 0501 0000fbf4",
     HOP_A,
 ];
+
+/// 10.0.0.0/8 with an Entry Count of two, of which one is there.
+pub const TEN_OF_TWO: &[&str] = &[RIB, "00000000 08 0a 0002", FIRST_ENTRY, ORIGIN, PATH, HOP_A];
+
+/// 10.0.0.0/8 where ORIGIN's flags give it a length of two octets, which is 256.
+pub const TEN_LONG_ORIGIN: &[&str] = &[
+    RIB,
+    "00000000 08 0a 0001",
+    FIRST_ENTRY,
+    "500101 00",
+    PATH,
+    HOP_A,
+];
+
+/// 10.0.0.0/8 where AS_PATH's segment has two AS numbers.
+pub const TEN_SHORT_SEGMENT: &[&str] = &[
+    RIB,
+    "00000000 08 0a 0001",
+    FIRST_ENTRY,
+    ORIGIN,
+    "400206 0202 0000fbf4",
+    HOP_A,
+];

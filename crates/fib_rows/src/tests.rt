@@ -1,11 +1,15 @@
 //! Rows over inputs and sinks in memory: what goes in, and the outcome, the status and all that comes out.
 
+use crate::harness::{
+    ALL, CHECK, Expected, FIRST, Given, READ_FAULT, Record, Rows, USAGE, WITH_SNAPSHOTS,
+    WITH_UPDATES, WORDS, YES, compare, inputs_of, malformed, run_on, text_of,
+};
 use crate::records::{
     ALL_TWICE, GONE_AND_BACK, HALVES, LONG_HEADER, LONGER, LOST, LOWER_HALF, ONE_ADDRESS,
     ONE_OF_SIX, OTHER, PATH_CUT, PATH_WITHDRAWN, PEERS, PREFIX_OF_33, QUARTERS, SET_OF_THREE,
-    SEVEN_EIGHTHS, SHORT_HOP, SIX, TEN, TEN_ONE, TEN_ONE_BY_A, TEN_TWICE, TEN_WRONG_SEGMENT,
-    TOO_WIDE, TWO_PATHS, TWO_PEERS, UPPER_HALF, WIDE_WITHDRAWN, WITH_A_GAP, WRONG_LENGTH,
-    WRONG_SEGMENT, WRONG_SEGMENT_AND_FLAGS,
+    SEVEN_EIGHTHS, SHORT_HOP, SIX, TEN, TEN_LONG_ORIGIN, TEN_OF_TWO, TEN_ONE, TEN_ONE_BY_A,
+    TEN_SHORT_SEGMENT, TEN_TWICE, TEN_WRONG_SEGMENT, TOO_WIDE, TWO_PATHS, TWO_PEERS, UPPER_HALF,
+    WIDE_WITHDRAWN, WITH_A_GAP, WRONG_LENGTH, WRONG_SEGMENT, WRONG_SEGMENT_AND_FLAGS,
 };
 use crate::texts::{
     CERTIFICATE_OF_NONE, PRINTED_TIE, REPORT_OF_MADE, REPORT_OF_ONE_MADE, ROWS_OF_BOTH,
@@ -16,105 +20,12 @@ use crate::texts::{
     WRONG_LEAST,
 };
 use fib_addr::{Addr, Family, Hop, Prefix};
-use fib_io::{MemInputs, MemSink};
-use fib_main::{No, Outcome, Which, run_fib};
+use fib_io::MemInputs;
+use fib_main::{No, Outcome, Which};
 use made_input::generate;
 use std::alloc::Global;
 use std::process::Abort;
 use std::test::Fail;
-
-/// The fields of a record, in hexadecimal digits.
-type Record<'a> = &'a [&'a str];
-
-/// Rows of text, a list after the other.
-type Rows<'a> = &'a [&'a [&'a str]];
-
-/// What a run or a check is given. Reads and writes are counted from 1, and 0 fails none.
-#[derive(Clone, Copy)]
-struct Given<'a> {
-    words: &'a [&'a str],
-    dump: &'a [Record<'a>],
-    // so many octets of the dump are there
-    dump_len: usize,
-    updates: &'a [Record<'a>],
-    asks: &'a [u8],
-    printed: Rows<'a>,
-    // follows the printed rows
-    printed_end: &'a [u8],
-    failing_read: u64,
-    failing_write: u64,
-    room: usize,
-    // the most octets that a read gives and a write takes
-    at_most: usize,
-}
-
-/// What it is to come to.
-#[derive(Clone, Copy)]
-struct Expected<'a> {
-    outcome: Outcome,
-    status: u8,
-    out: Rows<'a>,
-    // so many octets of the rows are there
-    out_len: usize,
-    err: &'a [u8],
-}
-
-const WORDS: &[&str] = &["fib", "run", "dump", "--ask", "asks"];
-
-const CHECK_WORDS: &[&str] = &["fib", "check", "printed"];
-
-const WITH_UPDATES: &[&str] = &["fib", "run", "--updates=updates", "dump"];
-
-const WITH_SNAPSHOTS: &[&str] = &["fib", "run", "dump", "--updates", "updates", "--every", "1"];
-
-/// No limit to a length.
-const ALL: usize = usize::MAX;
-
-/// The first run.
-const FIRST: Given<'static> = Given {
-    words: WORDS,
-    dump: &[PEERS, TEN],
-    dump_len: ALL,
-    updates: &[],
-    asks: b"10.1.2.3\n11.0.0.1\n",
-    printed: &[],
-    printed_end: b"",
-    failing_read: 0,
-    failing_write: 0,
-    room: 10_000,
-    at_most: 100_000,
-};
-
-/// The check of a printed text that is proved.
-const CHECK: Given<'static> = Given {
-    words: CHECK_WORDS,
-    printed: PRINTED_TIE,
-    ..FIRST
-};
-
-const YES: Expected<'static> = Expected {
-    outcome: Outcome::Done,
-    status: 0,
-    out: &[&["yes"]],
-    out_len: ALL,
-    err: b"",
-};
-
-const USAGE: Expected<'static> = Expected {
-    outcome: Outcome::Usage,
-    status: 2,
-    out: &[],
-    out_len: 0,
-    err: b"fib: usage\n",
-};
-
-const READ_FAULT: Expected<'static> = Expected {
-    outcome: Outcome::ReadFault,
-    status: 3,
-    out: &[],
-    out_len: 0,
-    err: b"fib: read fault\n",
-};
 
 /// Words that are no command.
 const NO_COMMANDS: [&[&str]; 21] = [
@@ -140,109 +51,6 @@ const NO_COMMANDS: [&[&str]; 21] = [
     &["fib", "check"],
     &["fib", "check", "printed", "more"],
 ];
-
-/// The words, in memory.
-fn words_of(alloc: Global, texts: &[&str]) -> Result<Vec<String>, Fail> {
-    let mut words = Vec::new(alloc);
-    for text in texts {
-        words.push(String::from_str(alloc, text)?)?;
-    }
-    Ok(words)
-}
-
-/// Adds the octets of hexadecimal digits, two of each; all else is passed over.
-fn push_hex(octets: &mut Vec<u8>, text: &str) -> Result<(), Fail> {
-    let mut high = None;
-    for digit in text.chars().filter_map(|c| c.to_digit(16)) {
-        let digit = digit as u8;
-        match high.take() {
-            None => high = Some(digit),
-            Some(high) => octets.push(high << 4 | digit)?,
-        }
-    }
-    Ok(())
-}
-
-/// The octets of records, one after another.
-fn octets_of(alloc: Global, records: &[Record]) -> Result<Vec<u8>, Fail> {
-    let mut octets = Vec::new(alloc);
-    for record in records {
-        for field in *record {
-            push_hex(&mut octets, field)?;
-        }
-    }
-    Ok(octets)
-}
-
-/// The text of rows, a line feed after each.
-fn text_of(alloc: Global, rows: Rows) -> Result<Vec<u8>, Fail> {
-    let mut text = Vec::new(alloc);
-    for list in rows {
-        for row in *list {
-            text.extend_from_slice(row.as_bytes())?;
-            text.push(b'\n')?;
-        }
-    }
-    Ok(text)
-}
-
-/// The inputs `dump`, `updates`, `asks` and `printed`; the dump isn't held where it has no records.
-fn inputs_of(alloc: Global, given: &Given) -> Result<MemInputs, Fail> {
-    let mut names = Vec::new(alloc);
-    let asks = Vec::from_slice(alloc, given.asks)?;
-    names.push((String::from_str(alloc, "asks")?, asks))?;
-    let updates = octets_of(alloc, given.updates)?;
-    names.push((String::from_str(alloc, "updates")?, updates))?;
-    let mut printed = text_of(alloc, given.printed)?;
-    printed.extend_from_slice(given.printed_end)?;
-    names.push((String::from_str(alloc, "printed")?, printed))?;
-    if !given.dump.is_empty() {
-        let mut dump = octets_of(alloc, given.dump)?;
-        dump.truncate(given.dump_len);
-        names.push((String::from_str(alloc, "dump")?, dump))?;
-    }
-    let failing = Vec::from_slice(alloc, &[given.failing_read])?;
-    let mut inputs = MemInputs::new(names, failing);
-    inputs.at_most(given.at_most.max(1));
-    Ok(inputs)
-}
-
-/// What a run or a check came to, and what it wrote.
-#[derive(Drop)]
-struct Came {
-    outcome: Outcome,
-    out: MemSink,
-    err: MemSink,
-}
-
-/// Runs on these inputs.
-fn run_on(alloc: Global, given: &Given, mut inputs: MemInputs) -> Result<Came, Fail> {
-    let words = words_of(alloc, given.words)?;
-    let failing = Vec::from_slice(alloc, &[given.failing_write])?;
-    let mut out = MemSink::new(alloc, given.room, failing)?;
-    out.at_most(given.at_most.max(1));
-    let mut err = MemSink::new(alloc, 100, Vec::new(alloc))?;
-    let outcome = run_fib(alloc, &words, &mut inputs, &mut out, &mut err);
-    Ok(Came { outcome, out, err })
-}
-
-/// Runs and compares all that comes out.
-fn compare<R: Abort + Alloc<A = Global>>(
-    rt: &R,
-    name: &str,
-    given: &Given,
-    expected: &Expected,
-) -> Result<(), Fail> {
-    let alloc = rt.alloc();
-    let came = run_on(alloc, given, inputs_of(alloc, given)?)?;
-    assert_eq!(rt; came.outcome, expected.outcome, "{name}");
-    assert_eq!(rt; came.outcome.status(), expected.status, "{name}");
-    let mut text = text_of(alloc, expected.out)?;
-    text.truncate(expected.out_len);
-    assert_eq!(rt; came.out.written(), text.as_slice(), "{name}");
-    assert_eq!(rt; came.err.written(), expected.err, "{name}");
-    Ok(())
-}
 
 #[test]
 fn rows_of_routes_and_updates(rt: HostRuntime) -> Result<(), Fail> {
@@ -561,18 +369,9 @@ fn faults(rt: HostRuntime) -> Result<(), Fail> {
     Ok(())
 }
 
-/// A record of this input is refused by this rule.
-const fn malformed(input: Which, number: u64, rule: u8) -> Outcome {
-    Outcome::Malformed {
-        input,
-        number,
-        rule,
-    }
-}
-
 #[test]
 fn malformed_records(rt: HostRuntime) -> Result<(), Fail> {
-    let cases: [(&str, &[Record], usize, &[Record], Outcome, &[u8]); 11] = [
+    let cases: [(&str, &[Record], usize, &[Record], Outcome, &[u8]); 12] = [
         (
             "a peer index that isn't there",
             &[PEERS, TOO_WIDE],
@@ -580,22 +379,6 @@ fn malformed_records(rt: HostRuntime) -> Result<(), Fail> {
             &[],
             malformed(Which::Dump, 1, 7),
             b"fib: malformed dump record 1 rule 7\n",
-        ),
-        (
-            "a cut header",
-            &[PEERS],
-            11,
-            &[],
-            malformed(Which::Dump, 0, 1),
-            b"fib: malformed dump record 0 rule 1\n",
-        ),
-        (
-            "a cut body",
-            &[PEERS],
-            20,
-            &[],
-            malformed(Which::Dump, 0, 2),
-            b"fib: malformed dump record 0 rule 2\n",
         ),
         (
             "a prefix of 33 bits",
@@ -656,6 +439,30 @@ fn malformed_records(rt: HostRuntime) -> Result<(), Fail> {
         (
             "a wrong segment in a RIB",
             &[PEERS, TEN_WRONG_SEGMENT],
+            ALL,
+            &[],
+            malformed(Which::Dump, 1, 10),
+            b"fib: malformed dump record 1 rule 10\n",
+        ),
+        (
+            "two entries of which one is there",
+            &[PEERS, TEN_OF_TWO],
+            ALL,
+            &[],
+            malformed(Which::Dump, 1, 8),
+            b"fib: malformed dump record 1 rule 8\n",
+        ),
+        (
+            "an ORIGIN longer than its list",
+            &[PEERS, TEN_LONG_ORIGIN],
+            ALL,
+            &[],
+            malformed(Which::Dump, 1, 9),
+            b"fib: malformed dump record 1 rule 9\n",
+        ),
+        (
+            "a segment of two AS numbers of which one is there",
+            &[PEERS, TEN_SHORT_SEGMENT],
             ALL,
             &[],
             malformed(Which::Dump, 1, 10),
@@ -815,45 +622,6 @@ fn certificates_that_are_wrong(rt: HostRuntime) -> Result<(), Fail> {
             err: b"fib: no\n",
         };
         compare(&rt, name, &Given { printed, ..CHECK }, &expected)?;
-    }
-    Ok(())
-}
-
-#[test]
-fn texts_that_are_not_printed(rt: HostRuntime) -> Result<(), Fail> {
-    let cases: [(&[u8], u64, u8, &[u8]); 3] = [
-        (
-            b"\nroute,10.0.0.0/8,drop\n",
-            2,
-            1,
-            b"fib: bad line printed 2 why 1\n",
-        ),
-        (
-            b"cert,leaf,10.0.0.0/8\n",
-            1,
-            3,
-            b"fib: bad line printed 1 why 3\n",
-        ),
-        (b"cert,bound,4,01", 1, 5, b"fib: bad line printed 1 why 5\n"),
-    ];
-    for (printed_end, line, why, err) in cases {
-        let expected = Expected {
-            outcome: Outcome::BadLine {
-                input: Which::Printed,
-                line,
-                why,
-            },
-            status: 8,
-            out: &[],
-            out_len: 0,
-            err,
-        };
-        let given = Given {
-            printed: &[],
-            printed_end,
-            ..CHECK
-        };
-        compare(&rt, "a bad line", &given, &expected)?;
     }
     Ok(())
 }
