@@ -33,14 +33,15 @@ impl Draws {
 
 /// An address of a route: its bits, and then drawn ones.
 fn addr_in(route: &Entry, draws: &mut Draws) -> Addr {
+    let len = u32::from(route.prefix.len);
     let drawn = draws.bits();
     match route.prefix.family {
-        Family::V4 => Addr::v4(
-            ((route.prefix.bits | drawn >> route.prefix.len >> 96) & 0xffff_ffff) as u32,
-        ),
-        Family::V6 => Addr::v6(
-            route.prefix.bits | (drawn >> 1 >> (route.prefix.len.saturating_sub(1)).min(127)),
-        ),
+        Family::V4 => {
+            let first = u32::try_from(route.prefix.bits).unwrap_or(0);
+            let drawn = (drawn & u128::from(u32::MAX)) as u32;
+            Addr::v4(first | drawn.checked_shr(len).unwrap_or(0))
+        }
+        Family::V6 => Addr::v6(route.prefix.bits | drawn.checked_shr(len).unwrap_or(0)),
     }
 }
 

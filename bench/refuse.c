@@ -1,0 +1,42 @@
+/* Refuses one growth of a run: of the blocks of memory that a program asks for once it runs, the one whose number stands in REFUSE,
+ * from 1, isn't given. Where it was reached, an octet goes to descriptor 3. To be preloaded: bench/refuse_growths.py does so. */
+#include <errno.h>
+#include <stddef.h>
+#include <stdlib.h>
+#include <unistd.h>
+
+extern void *__libc_malloc(size_t);
+extern void *__libc_calloc(size_t, size_t);
+extern void *__libc_realloc(void *, size_t);
+extern void *__libc_memalign(size_t, size_t);
+
+static long left;
+
+__attribute__((constructor)) static void arm(void) {
+    const char *number = getenv("REFUSE");
+    left = number ? atol(number) : 0;
+}
+
+static int is_refused(void) {
+    if (left == 0 || --left != 0)
+        return 0;
+    if (write(3, "r", 1) != 1)
+        abort();
+    errno = ENOMEM;
+    return 1;
+}
+
+void *malloc(size_t size) { return is_refused() ? NULL : __libc_malloc(size); }
+
+void *calloc(size_t count, size_t size) { return is_refused() ? NULL : __libc_calloc(count, size); }
+
+void *realloc(void *block, size_t size) { return is_refused() ? NULL : __libc_realloc(block, size); }
+
+void *memalign(size_t align, size_t size) { return is_refused() ? NULL : __libc_memalign(align, size); }
+
+void *aligned_alloc(size_t align, size_t size) { return memalign(align, size); }
+
+int posix_memalign(void **block, size_t align, size_t size) {
+    *block = memalign(align, size);
+    return *block ? 0 : ENOMEM;
+}

@@ -1,0 +1,99 @@
+#!/usr/bin/env python3
+"""Refuses each growth of some runs in turn: python3 bench/refuse_growths.py PROGRAM
+
+Every run ends with status 9 and writes nothing to standard output, or it ends as it does where memory suffices. Needs a C
+compiler (cc) and the GNU C library; bench/refuse.c is what refuses."""
+
+import os
+import subprocess
+import sys
+import tempfile
+
+HERE = os.path.dirname(os.path.abspath(__file__))
+EXAMPLES = os.path.join(HERE, "..", "examples")
+NO_MEMORY = 9
+
+PEERS = "00000000000d000100000015000000000000000102c0000201c00002010000fbf4"
+ROUTE = (
+    "00000000000d0002000000240000000008 0a 0001 0000 00000000 0014"
+    "40010100 400206 0201 0000fbf4 400304 c0000201"
+)
+
+
+def update(hop):
+    """The peer announces 10.0.0.0/8 by 192.0.2.HOP (RFC 4271, section 4.3)."""
+    attributes = "40010100 400206 0201 0000fbf4 400304 c00002%02x" % hop
+    message = "ff" * 16 + "002d 02 0000 0014" + attributes + "08 0a"
+    return "00000000 0010 0004 00000041 0000fbf4 0000fbff 0000 0001 c0000201 c00002fe" + message
+
+
+def octets(*records):
+    return bytes.fromhex("".join(records).replace(" ", ""))
+
+
+def run(program, words, refused, library):
+    """Status, output, and whether the growth of this number was reached; 0 refuses none."""
+    reader, writer = os.pipe()
+    env = dict(os.environ, LD_PRELOAD=library, REFUSE=str(refused))
+    os.dup2(writer, 3)
+    done = subprocess.run([program] + words, env=env, pass_fds=[3], capture_output=True, timeout=60)
+    os.close(3)
+    if writer != 3:
+        os.close(writer)
+    reached = os.read(reader, 1) == b"r"
+    os.close(reader)
+    return done.returncode, done.stdout, reached
+
+
+def refuse_each(program, words, library):
+    """How many growths a run has; each was refused in turn."""
+    status, out, _ = run(program, words, 0, library)
+    told = 0
+    for number in range(1, 1 << 20):
+        ended, printed, reached = run(program, words, number, library)
+        if not reached:
+            return number - 1, told, status
+        if ended == NO_MEMORY and printed == b"":
+            told += 1
+        elif (ended, printed) != (status, out):
+            sys.exit("growth %d of fib %s: status %d" % (number, " ".join(words), ended))
+    sys.exit("there is no end")
+
+
+def main():
+    program = os.path.abspath(sys.argv[1])
+    with tempfile.TemporaryDirectory() as room:
+        library = os.path.join(room, "refuse.so")
+        subprocess.run(
+            ["cc", "-O2", "-shared", "-fPIC", os.path.join(HERE, "refuse.c"), "-o", library],
+            check=True,
+        )
+
+        def held(name, content):
+            path = os.path.join(room, name)
+            with open(path, "wb") as file:
+                file.write(content)
+            return path
+
+        def example(name):
+            return os.path.join(EXAMPLES, name)
+
+        dump = held("dump", octets(PEERS, ROUTE))
+        updates = held("updates", octets(*(update(2 - i % 2) for i in range(100))))
+        printed = held("printed", run(program, ["run", dump], 0, library)[1])
+        small = ["--direct", "0", "--nodes", "1", "--leaves", "3"]
+        runs = [
+            ["run", example("dump.mrt"), "--ask", example("asks.txt")],
+            ["run", example("two_peers.mrt"), "--updates", example("updates.mrt"), "--every", "1"],
+            ["run", example("addpath.mrt"), "--updates", example("addpath_updates.mrt")],
+            ["run", dump, "--updates", updates, "--every", "1"] + small,
+            ["check", printed],
+            ["make", "20", "--seed", "7"],
+        ]
+        for words in runs:
+            growths, told, status = refuse_each(program, words, library)
+            names = " ".join(os.path.basename(word) for word in words)
+            print("fib %s: status %d; %d growths, %d of them end it" % (names, status, growths, told))
+
+
+main()
