@@ -18,6 +18,8 @@ pub mod Branching
 pub mod Within
 pub mod Standing
 pub mod Mending
+pub mod Stopping
+pub mod Fitting
 pub mod Growing
 pub mod Halving
 pub mod Laying

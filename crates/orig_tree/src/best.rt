@@ -71,6 +71,13 @@ impl Best {
         Ok(Best { hops: joint.set, k })
     }
 
+    /// Whether two regions keep the same.
+    pub(crate) fn is_same(&self, other: &Best) -> bool
+        ensures { result ≡ true → self.now ≡ other.now }
+    {
+        self.k == other.k && self.hops.is_same(&other.hops)
+    }
+
     /// The same once more.
     pub(crate) fn copied(&self, alloc: Global) -> Result<Best, AllocError>
         ensures { IfOk result (λ x. x ≡ self.now) }
