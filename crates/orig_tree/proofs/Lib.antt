@@ -2,6 +2,7 @@ pub mod Paths
 pub mod Lists
 pub mod Steps
 pub mod Covers
+pub mod Once
 pub mod Kept
 pub mod Places
 pub mod Telling
