@@ -165,6 +165,13 @@ impl HopSet {
         listed(&self.hops)
     }
 
+    /// Whether the two sets are one.
+    pub fn is_same(&self, other: &HopSet) -> bool
+        ensures { IsTrue result ↔ (self.now ≡ other.now) }
+    {
+        self.as_slice() == other.as_slice()
+    }
+
     /// Whether the hop is in the set.
     pub fn contains(&self, hop: u16) -> bool
         ensures { result ≡ is_in hop self.now }

@@ -21,6 +21,7 @@ use Rattle.orig_tree.specs.declared.node.Node.{Node}
 use Rattle.orig_tree.specs.declared.node.Label.{Label}
 use Rattle.orig_tree.specs.declared.node.Label.TheVariants.{Route, Entry}
 use Rattle.orig_tree.proofs.Covers.{bare_cover, cover_level}
+use Rattle.orig_tree.proofs.Once.{one_cover}
 use Rattle.orig_tree.proofs.Steps.{rows_nothing, side_of, answer_here, answer_half, assign_high, assign_low, allowed_high, allowed_low, edited_nothing}
 use Rattle.orig_tree.proofs.Above.{above_half}
 use Rattle.orig_tree.proofs.Kept.{uniform_here, uniform_high_step, uniform_low_step, told_covers, told_covers_high, told_covers_here, told_here, told_high, told_low}
@@ -273,6 +274,26 @@ renode : (label : Label) (hop : Option ℕ) (cl ch : Cover) (n : Node) (walks : 
 renode Route hop cl ch n walks S long name p c w k = (refl, record { covers = c; pair = w; halves = λ b. elim b as (λ b. IfHalf (S b) (half_place (retold Route hop cl ch n) b)) [ true ↦ k true | false ↦ k false ] })
 renode Entry hop cl ch n walks S long name p c w k = (refl, record { covers = c; pair = w; halves = λ b. elim b as (λ b. IfHalf (S b) (half_place (retold Entry hop cl ch n) b)) [ true ↦ k true | false ↦ k false ] })
 
+pub tree_named : (d : ℕ) (cells : List Node) (name : ℕ → Place) (i : ℕ) (p : List Bool) → IsTree d cells name i p → name i ≡ At p
+unfolding IsTree
+tree_named zero cells name i p t = absurd t
+tree_named (suc d) cells name i p t = t.0
+
+stored_cover : (label : Label) (n : Node) (low high : Walks) → AreCovers n.route n.entry low high → IsCover (join (labelled label n.route.hop n.entry.hop) (rows_of label low) (rows_of label high)) (cover_of label n)
+stored_cover Route n low high c = c.routes
+stored_cover Entry n low high c = c.entries
+
+pub tree_long : (d : ℕ) (cells : List Node) (name : ℕ → Place) (i : ℕ) (p : List Bool) → IsTree d cells name i p → i < length cells
+unfolding IsTree
+tree_long zero cells name i p t = absurd t
+tree_long (suc d) cells name i p t = t.1
+
+-- a node whose covers serve still
+kept_told : (label : Label) (n : Node) (low high : Walks) → IsCover (join (labelled label n.route.hop n.entry.hop) (rows_of label low) (rows_of label high)) (cover_of label n) →
+    Retold label (labelled label n.route.hop n.entry.hop) n.route n.entry n.route n.entry low high
+kept_told Route n low high c = (refl, c, refl)
+kept_told Entry n low high c = (refl, c, refl)
+
 module _ (label : Label) (q left : ℕ) (hop : Option ℕ) (old : List Node) (i : ℕ) (n : Node) (at : n ≡ node_at old i) where
   pub set_here : (new : List Node) (n' : Node) (d : ℕ) (name : ℕ → Place) (p : List Bool) → left ≡ 0 →
       n' ≡ retold label hop (cover_at old label (half_place n false)) (cover_at old label (half_place n true)) n → new ≡ slice_set old i n' →
@@ -332,6 +353,76 @@ module _ (label : Label) (q left : ℕ) (hop : Option ℕ) (old : List Node) (i 
     ap (from_half (walks_at d mid)) e ∙ s.walks ∙ sym (ap (λ o. edited label r hop (from_half (walks_at d old) o)) e),
     subst (λ (o : Option ℕ). IfHalf (λ j. IsTree d mid name j (p ++ (b ∷ []))) o) (sym e) s.tree,
   )
+
+  -- the half beside the way has the cover that it had
+  other_cover : (b c : Bool) (mid : List Node) (d : ℕ) (name : ℕ → Place) (p : List Bool) → ((r : List Bool) → begins (p ++ (b ∷ [])) r ≡ true → begins (p ++ (c ∷ [])) r ≡ true → ⊥) → Keeps (p ++ (b ∷ [])) old mid name →
+      (o : Option ℕ) → IfHalf (λ j. IsTree d old name j (p ++ (c ∷ []))) o → cover_at mid label o ≡ cover_at old label o
+  other_cover b c mid d name p apart k None t = refl
+  other_cover b c mid d name p apart k (Some j) t =
+      ap (cover_of label) (k.same j (ap (is_in (p ++ (b ∷ []))) (tree_named d old name j (p ++ (c ∷ [])) t) ∙ not_true (begins (p ++ (b ∷ [])) (p ++ (c ∷ []))) (λ e. apart (p ++ (c ∷ [])) e (begins_self (p ++ (c ∷ []))))))
+
+  -- the half on the way has the cover that it had: so has the node, and it stays
+  pub set_stop : (mid : List Node) (b : Bool) (k : ℕ) (d : ℕ) (name : ℕ → Place) (p : List Bool) → left ≢ 0 → b ≡ nat_eq (bit_at q (left - 1)) 1 → half_place n b ≡ Some k →
+      ((e : ℕ) (v : List Bool) → left - 1 < e → IsTree e old name k v → Allowed (bits_of (left - 1) q) hop (walks_at e old k).nodes → IsSet e label (bits_of (left - 1) q) hop old mid name k v × (cover_of label (node_at mid k) ≡ cover_of label (node_at old k))) →
+      left < d → IsTree d old name i p → Allowed (bits_of left q) hop (walks_at d old i).nodes → IsSet d label (bits_of left q) hop old mid name i p × (cover_of label (node_at mid i) ≡ cover_of label (node_at old i))
+  unfolding walks_at IsTree
+  set_stop mid b k zero name p z y e below l t a = absurd t
+  set_stop mid b k (suc d) name p z y e below l t a =
+      let f = walks_at d old in
+      let g = walks_at d mid in
+      let low = from_half f (half_place n false) in
+      let high = from_half f (half_place n true) in
+      let low' = from_half g (half_place n false) in
+      let high' = from_half g (half_place n true) in
+      let own = labelled label n.route.hop n.entry.hop in
+      let cl = cover_at old label (half_place n false) in
+      let ch = cover_at old label (half_place n true) in
+      let w : walks_by f n ≡ walks_by f (node_at old i) = ap (walks_by f) at in
+      let kn : IsNode f (λ b j. IsTree d old name j (p ++ (b ∷ []))) (length old) name p n = subst (λ (x : Node). IsNode f (λ b j. IsTree d old name j (p ++ (b ∷ []))) (length old) name p x) (sym at) t.2 in
+      let there : (x : Bool) → half_place n x ≡ Some k → Allowed (bits_of (left - 1) q) hop (from_half f (half_place n x)).nodes → IsSet d label (bits_of (left - 1) q) hop old mid name k (p ++ (x ∷ [])) × (cover_of label (node_at mid k) ≡ cover_of label (node_at old k)) =
+      λ x h v. below d (p ++ (x ∷ [])) (omega arith) (subst (λ (o : Option ℕ). IfHalf (λ j. IsTree d old name j (p ++ (x ∷ []))) o) h (kn.halves x)) (subst (λ (o : Option ℕ). Allowed (bits_of (left - 1) q) hop (from_half f o).nodes) h v) in
+      let is : cover_of label n ≡ covered own cl ch =
+      one_cover (join own (rows_of label low) (rows_of label high)) (cover_of label n) (covered own cl ch) (stored_cover label n low high kn.covers)
+      (cover_level own (rows_of label low) (rows_of label high) cl ch (cover_half label d old name (p ++ (false ∷ [])) (half_place n false) (kn.halves false)) (cover_half label d old name (p ++ (true ∷ [])) (half_place n true) (kn.halves true))) in
+      let told : cover_at mid label (half_place n false) ≡ cl → cover_at mid label (half_place n true) ≡ ch → ((x : Bool) → IfHalf (λ j. IsTree d mid name j (p ++ (x ∷ []))) (half_place n x)) → Retold label own n.route n.entry n.route n.entry low' high' =
+      λ u v h. kept_told label n low' high' (subst (λ (x : Cover). IsCover (join own (rows_of label low') (rows_of label high')) x)
+      (ap (λ x. covered own x (cover_at mid label (half_place n true))) u ∙ (ap (covered own cl) v ∙ sym is))
+      (cover_level own (rows_of label low') (rows_of label high') (cover_at mid label (half_place n false)) (cover_at mid label (half_place n true)) (cover_half label d mid name (p ++ (false ∷ [])) (half_place n false) (h false)) (cover_half label d mid name (p ++ (true ∷ [])) (half_place n true) (h true)))) in
+      let same : (x : Bool) → Keeps (p ++ (x ∷ [])) old mid name → node_at mid i ≡ node_at old i = λ x c. c.same i (ap (is_in (p ++ (x ∷ []))) t.0 ∙ begins_self_not p x) in
+      let done : (x : Bool) → Keeps (p ++ (x ∷ [])) old mid name → AreCovers n.route n.entry low' high' → ((x : Bool) → IfHalf (λ j. IsTree d mid name j (p ++ (x ∷ []))) (half_place n x)) → walks_of n.route.hop n.entry.hop low' high' ≡ edited label (bits_of left q) hop (walks_by f (node_at old i)) →
+      IsSet (suc d) label (bits_of left q) hop old mid name i p × (cover_of label (node_at mid i) ≡ cover_of label (node_at old i)) =
+      λ x c v h u. (
+        record {
+          walks = ap (walks_by g) (same x c ∙ sym at) ∙ u;
+          tree = (
+            t.0,
+            omega (arith, c.long, t.1),
+            subst (λ (y : Node). IsNode g (λ b j. IsTree d mid name j (p ++ (b ∷ []))) (length mid) name p y) (at ∙ sym (same x c))
+                (record { covers = v; pair = λ m. let o = kn.pair m in record { low = o.low; high = o.high; inside = omega (arith, c.long, o.inside) }; halves = h }),
+          );
+          keeps = record { long = c.long; same = λ j r. c.same j (is_in_deeper p x (name j) r) };
+        },
+        ap (cover_of label) (same x c),
+      ) in
+      let P : Bool → Type 0 = λ x. x ≡ nat_eq (bit_at q (left - 1)) 1 → half_place n x ≡ Some k → IsSet (suc d) label (bits_of left q) hop old mid name i p × (cover_of label (node_at mid i) ≡ cover_of label (node_at old i)) in
+      (elim b as P [
+        | true ↦ λ x h.
+            let c = there true h (allowed_high hop n.route.hop n.entry.hop low high _ left q z x w a) in
+            let mine = the_half true k mid d name p (bits_of (left - 1) q) h c.0 in
+            let rest = other_half true false mid d name p (λ v u o. begins_other p v u o) c.0.keeps (kn.halves false) in
+            let halves : (x : Bool) → IfHalf (λ j. IsTree d mid name j (p ++ (x ∷ []))) (half_place n x) = λ x. elim x as (λ x. IfHalf (λ j. IsTree d mid name j (p ++ (x ∷ []))) (half_place n x)) [ true ↦ mine.1 | false ↦ rest.1 ] in
+            let v = told (other_cover true false mid d name p (λ v u o. begins_other p v u o) c.0.keeps (half_place n false) (kn.halves false)) (ap (cover_at mid label) h ∙ (c.1 ∙ sym (ap (cover_at old label) h))) halves in
+            done true c.0.keeps (told_covers_high (bits_of (left - 1) q) hop label own n.route n.entry n.route n.entry low' high high' (subst (λ (u : Walks). AreCovers n.route n.entry u high) (sym rest.0) kn.covers) mine.0 v) halves
+            (told_high label hop own n.route n.entry n.route n.entry low' high _ high' left q z x (ap (λ u. walks_of n.route.hop n.entry.hop u high) rest.0 ∙ w) refl mine.0 v)
+        | false ↦ λ x h.
+            let c = there false h (allowed_low hop n.route.hop n.entry.hop low high _ left q z x w a) in
+            let mine = the_half false k mid d name p (bits_of (left - 1) q) h c.0 in
+            let rest = other_half false true mid d name p (λ v u o. begins_other p v o u) c.0.keeps (kn.halves true) in
+            let halves : (x : Bool) → IfHalf (λ j. IsTree d mid name j (p ++ (x ∷ []))) (half_place n x) = λ x. elim x as (λ x. IfHalf (λ j. IsTree d mid name j (p ++ (x ∷ []))) (half_place n x)) [ true ↦ rest.1 | false ↦ mine.1 ] in
+            let v = told (ap (cover_at mid label) h ∙ (c.1 ∙ sym (ap (cover_at old label) h))) (other_cover false true mid d name p (λ v u o. begins_other p v o u) c.0.keeps (half_place n true) (kn.halves true)) halves in
+            done false c.0.keeps (told_covers (bits_of (left - 1) q) hop label own n.route n.entry n.route n.entry low low' high high' kn.covers mine.0 rest.0 v) halves
+            (told_low label hop own n.route n.entry n.route n.entry low high' _ low' left q z x (ap (λ u. walks_of n.route.hop n.entry.hop low u) rest.0 ∙ w) refl mine.0 v)
+      ]) y e
 
   module _ (own : Option ℕ) (mid new : List Node) (n' : Node) (own_is : own ≡ labelled label n.route.hop n.entry.hop)
       (r : n' ≡ retold label own (cover_at mid label (half_place n false)) (cover_at mid label (half_place n true)) n) (s : new ≡ slice_set mid i n') where
@@ -399,3 +490,7 @@ module _ (label : Label) (q left : ℕ) (hop : Option ℕ) (old : List Node) (i 
               (λ told. told_covers (bits_of (left - 1) q) hop label own n.route n.entry m.route m.entry low after high (from_half g (half_place n true)) kn.covers mine.0 rest.0 told) in
               done false c.keeps (v.1 ∙ told_low label hop own n.route n.entry m.route m.entry low (from_half g (half_place n true)) _ after left q z x (ap (λ u. walks_of n.route.hop n.entry.hop low u) rest.0 ∙ w) own_is mine.0 v.0) v.2
         ]) y e
+
+-- a node that was put has the cover that it was given
+pub renewed : (label : Label) (old mid new : List Node) (i : ℕ) (n m : Node) → n ≡ node_at old i → i < length mid → new ≡ slice_set mid i m → cover_of label m ≡ cover_of label n → cover_of label (node_at new i) ≡ cover_of label (node_at old i)
+renewed label old mid new i n m at l s e = ap (cover_of label) (ap (λ (cs : List Node). node_at cs i) s ∙ get_or-set_same mid i m blank l) ∙ (e ∙ ap (cover_of label) at)

@@ -2,6 +2,7 @@ pub mod Paths
 pub mod Lists
 pub mod Steps
 pub mod Covers
+pub mod Once
 pub mod Kept
 pub mod Places
 pub mod Telling
@@ -18,6 +19,8 @@ pub mod Branching
 pub mod Within
 pub mod Standing
 pub mod Mending
+pub mod Stopping
+pub mod Fitting
 pub mod Growing
 pub mod Halving
 pub mod Laying

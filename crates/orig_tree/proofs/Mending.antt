@@ -1,5 +1,5 @@
 -- A node's region from those of its halves, where a route changes.
-use Rattle.std.proofs.Common.{get_or, drop, slice_set, ◌≡◌, ◌≢◌, ℕ, zero, suc, ◌+◌, ◌-◌, ◌<◌, ◌≤◌, List, [], ◌∷◌, ◌++◌, length, Bool, true, false, cond, not, refl, sym, ap, ◌∙◌, subst, arith, Option, Some, None, nat_eq}
+use Rattle.std.proofs.Common.{get_or, drop, slice_set, ◌≡◌, ◌≢◌, ℕ, zero, suc, ◌+◌, ◌-◌, ◌<◌, ◌≤◌, List, [], ◌∷◌, ◌++◌, length, Bool, true, false, cond, not, ◌&&◌, refl, sym, ap, ◌∙◌, subst, arith, Option, Some, None, nat_eq}
 use Rattle.std.proofs.lemmas.Bool.{ne_eqb}
 use Rattle.std.specs.Int.{bit_at}
 use Rattle.std.proofs.lemmas.List.{drop_more, drop-set-lt}
@@ -11,6 +11,7 @@ use Rattle.least_model.specs.Sets.{side}
 use Rattle.least_model.specs.Regions.{join}
 use Rattle.least_model.proofs.Join.{root_join, low_join, high_join}
 use Rattle.orig_tree.specs.Edits.{edit}
+use Rattle.orig_tree.specs.Packed.{cover_in}
 use Rattle.orig_tree.specs.Walk.{Walks}
 use Rattle.orig_tree.specs.Arena.{Place, At, node_at, half_place, from_half, IfHalf, IsTree, walks_at, walks_by}
 use Rattle.orig_tree.specs.Bests.{Stands, best_one, best_behind, AreBest, put_at, changed, under, Untouched, UntouchedElse, IsMended, HalfMended}
@@ -23,6 +24,7 @@ use Rattle.orig_tree.proofs.Rooms.{eq_is, at_same, no, no_begin, both_not, tree_
 use Rattle.orig_tree.proofs.Paths.{no_bits, first_bit}
 use Rattle.orig_tree.proofs.Lists.{edit_low, edit_high, edit_own}
 use Rattle.orig_tree.proofs.Steps.{level_half, level_root, given_is}
+use Rattle.orig_tree.proofs.Fitting.{walk_fits, covered_gets}
 use Rattle.orig_tree.proofs.Standing.{stands_one, stands_alike, if_half, both_half, best_alike, best_carry, best_same}
 
 -- ---- answers at a node and in its halves
@@ -160,7 +162,7 @@ both_mended d cells name i p f S0 S1 S2 low high x t l h s =
     }
 
 -- what is kept is the same everywhere
-mended_same : (d : ℕ) (cells : List Node) (name : ℕ → Place) (i : ℕ) (p : List Bool) (f : List Bool → ℕ) (S0 T S : ℕ → Best) (x : Best) → ((j : ℕ) → S j ≡ T j) → T i ≡ x → IsMended d cells name i p f S0 T x → IsMended d cells name i p f S0 S (S i)
+pub mended_same : (d : ℕ) (cells : List Node) (name : ℕ → Place) (i : ℕ) (p : List Bool) (f : List Bool → ℕ) (S0 T S : ℕ → Best) (x : Best) → ((j : ℕ) → S j ≡ T j) → T i ≡ x → IsMended d cells name i p f S0 T x → IsMended d cells name i p f S0 S (S i)
 mended_same d cells name i p f S0 T S x e h m = record {
   stands = subst (λ (y : Best). Stands d f y) (sym (e i ∙ h)) m.stands;
   best = best_same (suc d) cells T S f i e m.best;
@@ -210,7 +212,7 @@ below_old d cells S n b h (Some j) e k =
     best_alike d cells S (side b (λ a. lpm (walks_by (walks_at d cells) n).routes a h)) (λ a. lpm (walks_at d cells j).routes a (inherit n.route.hop h)) j
     (λ a l. half_gets (walks_at d cells) n b h a ∙ ap (λ o. lpm (from_half (walks_at d cells) o).routes a (inherit n.route.hop h)) (sym e)) k
 
-untouched_half : (name : ℕ → Place) (p : List Bool) (b : Bool) (S S' : ℕ → Best) → Untouched p name S S' → Untouched (p ++ (b ∷ [])) name S S'
+pub untouched_half : (name : ℕ → Place) (p : List Bool) (b : Bool) (S S' : ℕ → Best) → Untouched p name S S' → Untouched (p ++ (b ∷ [])) name S S'
 untouched_half name p b S S' u j r e h = u j r e (begins_less p r b h)
 
 untouched_after : (name : ℕ → Place) (p : List Bool) (b c : Bool) (S S' S'' : ℕ → Best) → b ≢ c → Untouched p name S S' → UntouchedElse (p ++ (b ∷ [])) name S' S'' → Untouched (p ++ (c ∷ [])) name S S''
@@ -229,11 +231,11 @@ module _ (cells : List Node) (i : ℕ) (n : Node) (at : n ≡ node_at cells i) (
   half_is : (b : Bool) (o : Option ℕ) → o ≡ half_place n b → o ≡ half_place (node_at cells i) b
   half_is b o e = e ∙ ap (λ x. half_place x b) at
 
-  trees_of : (name : ℕ → Place) (p : List Bool) (b : Bool) (o : Option ℕ) → o ≡ half_place n b → IsTree (suc (suc m)) cells name i p → Trees o name (p ++ (b ∷ []))
+  pub trees_of : (name : ℕ → Place) (p : List Bool) (b : Bool) (o : Option ℕ) → o ≡ half_place n b → IsTree (suc (suc m)) cells name i p → Trees o name (p ++ (b ∷ []))
   unfolding IsTree
   trees_of name p b o e t = subst (λ (y : Option ℕ). IfHalf (λ j. IsTree (suc m) cells name j (p ++ (b ∷ []))) y) (sym (half_is b o e)) (t.2.halves b)
 
-  olds_of : (S : ℕ → Best) (b : Bool) (o : Option ℕ) (h : ℕ) → o ≡ half_place n b → AreBest (suc (suc m)) cells S (λ a. lpm (walks_at (suc (suc m)) cells i).routes a h) i → Olds o S (inherit n.route.hop h)
+  pub olds_of : (S : ℕ → Best) (b : Bool) (o : Option ℕ) (h : ℕ) → o ≡ half_place n b → AreBest (suc (suc m)) cells S (λ a. lpm (walks_at (suc (suc m)) cells i).routes a h) i → Olds o S (inherit n.route.hop h)
   unfolding AreBest walks_at
   olds_of S b o h e k =
       below_old (suc m) cells S n b h o e
@@ -323,21 +325,37 @@ tree_root : (d : ℕ) (cells : List Node) (j : ℕ) (n : Node) → n ≡ node_at
 unfolding walks_at
 tree_root d cells j n e = own_route (walks_at d cells) (node_at cells j) ∙ sym (ap (λ (x : Node). x.route.hop) e)
 
+pub open_own : (o : Option ℕ) (passes b : Bool) → b ≡ (not (is_some o) && passes) → b ≡ true → o ≡ None
+open_own None passes b e t = refl
+open_own (Some g) passes b e t = let x : false ≡ true = sym e ∙ t in cc
+
+-- no address of a node's region gets what the node inherits
+shut_gets : (d : ℕ) (cells : List Node) (j : ℕ) (n : Node) → n ≡ node_at cells j → (name : ℕ → Place) (p : List Bool) → IsTree (suc d) cells name j p → (h k : ℕ) → (not (is_some n.route.hop) && (cover_in n.route).passes) ≡ false →
+    (a : List Bool) → length a ≡ d → lpm (walks_at (suc d) cells j).routes a h ≡ lpm (walks_at (suc d) cells j).routes a k
+unfolding walks_at IsTree
+shut_gets d cells j n at name p t h k shut a l = by_own n.route.hop refl
+  where
+    by_own : (o : Option ℕ) → n.route.hop ≡ o → lpm (walks_at (suc d) cells j).routes a h ≡ lpm (walks_at (suc d) cells j).routes a k
+    by_own (Some g) e = kept_route (walks_at (suc d) cells j).routes g h k a (tree_root d cells j n at ∙ e)
+    by_own None e =
+        covered_gets (walks_at (suc d) cells j).routes (cover_in (node_at cells j).route) d t.2.covers.routes (walk_fits d cells j)
+        (ap (λ (x : Node). (cover_in x.route).passes) (sym at) ∙ (ap (λ o. not (is_some o) && (cover_in n.route).passes) (sym e) ∙ shut)) h k a l
+
 module _ (cells : List Node) (depth hop : ℕ) (o : Option ℕ) (j : ℕ) (n : Node) (at : n ≡ node_at cells j) (some : o ≡ Some j) (name : ℕ → Place) (p : List Bool) where
   -- a half that stays as it was
-  pub half_stays : (g h : ℕ) (S S0 : ℕ → Best) (x : Best) → n.route.hop ≡ Some g → x ≡ S j →
+  pub half_stays : (h : ℕ) (S S0 : ℕ → Best) (x : Best) → (not (is_some n.route.hop) && (cover_in n.route).passes) ≡ false → x ≡ S j →
       IfHalf (λ j. IsTree (suc depth) cells name j p) o → IfHalf (λ j. AreBest (suc depth) cells S (λ a. lpm (walks_at (suc depth) cells j).routes a h) j) o → Untouched p name S S0 →
       HalfMended depth cells name o p (λ a. lpm (from_half (walks_at (suc depth) cells) o).routes a hop) S0 S0 x
   unfolding AreBest
-  half_stays g h S S0 x own y t k u =
+  half_stays h S S0 x shut y t k u =
       let R = (walks_at (suc depth) cells j).routes in
       let t' : IsTree (suc depth) cells name j p = subst (λ (z : Option ℕ). IfHalf (λ j. IsTree (suc depth) cells name j p) z) some t in
       let k' : AreBest (suc depth) cells S (λ a. lpm R a h) j = subst (λ (z : Option ℕ). IfHalf (λ j. AreBest (suc depth) cells S (λ a. lpm (walks_at (suc depth) cells j).routes a h) j) z) some k in
-      let gets : (a : List Bool) → lpm R a h ≡ lpm R a hop = λ a. kept_route R g h hop a (tree_root depth cells j n at ∙ own) in
+      let gets : (a : List Bool) → length a ≡ depth → lpm R a h ≡ lpm R a hop = shut_gets depth cells j n at name p t' h hop shut in
       subst (λ (z : Option ℕ). HalfMended depth cells name z p (λ a. lpm (from_half (walks_at (suc depth) cells) z).routes a hop) S0 S0 x) (sym some)
       (record {
-        stands = stands_alike depth (λ a. lpm R a h) (λ a. lpm R a hop) x (λ a l. gets a) (subst (λ (z : Best). Stands depth (λ a. lpm R a h) z) (sym y) k'.0);
-        best = best_alike (suc depth) cells S0 (λ a. lpm R a h) (λ a. lpm R a hop) j (λ a l. gets a) (best_carry (suc depth) cells cells S S0 name (λ a. lpm R a h) j p t' (λ z q e b. (refl, u z q e b)) k');
+        stands = stands_alike depth (λ a. lpm R a h) (λ a. lpm R a hop) x gets (subst (λ (z : Best). Stands depth (λ a. lpm R a h) z) (sym y) k'.0);
+        best = best_alike (suc depth) cells S0 (λ a. lpm R a h) (λ a. lpm R a hop) j (λ a l. gets a (omega (arith, l))) (best_carry (suc depth) cells cells S S0 name (λ a. lpm R a h) j p t' (λ z q e b. (refl, u z q e b)) k');
         keeps = λ z q e b. refl;
       })
 
@@ -448,14 +466,6 @@ pub way_some : (cells : List Node) (depth left q inherited j : ℕ) (set o : Opt
 way_some cells depth left q inherited j set o S S0 S1 x name p e f t k =
     let m = f (subst (λ (z : Option ℕ). IfHalf (λ j. IsTree (suc depth) cells name j p) z) e t) (subst (λ (z : Option ℕ). IfHalf (λ j. AreBest (suc depth) cells S (λ a. lpm (walks_at (suc depth) cells j).routes a inherited) j) z) e k) in
     subst (λ (z : Option ℕ). HalfMended depth cells name z p (λ a. lpm (edit (bits_of left q) set (from_half (walks_at (suc depth) cells) z).routes) a inherited) S0 S1 x) (sym e) (record { stands = m.stands; best = m.best; keeps = m.keeps })
-
-pub some_of : (o : Option ℕ) (b : Bool) → b ≡ is_some o → b ≡ true → (g : ℕ) × (o ≡ Some g)
-some_of None b e h = let x : false ≡ true = sym e ∙ h in cc
-some_of (Some g) b e h = (g, refl)
-
-pub none_of : (o : Option ℕ) (b : Bool) → b ≡ is_some o → b ≡ false → o ≡ None
-none_of None b e h = refl
-none_of (Some g) b e h = let x : true ≡ false = sym e ∙ h in cc
 
 -- ---- changes are made
 

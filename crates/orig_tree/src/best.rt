@@ -71,6 +71,13 @@ impl Best {
         Ok(Best { hops: joint.set, k })
     }
 
+    /// Whether two regions keep the same.
+    pub(crate) fn is_same(&self, other: &Best) -> bool
+        ensures { result ≡ true → self.now ≡ other.now }
+    {
+        self.k == other.k && self.hops.is_same(&other.hops)
+    }
+
     /// The same once more.
     pub(crate) fn copied(&self, alloc: Global) -> Result<Best, AllocError>
         ensures { IfOk result (λ x. x ≡ self.now) }
@@ -129,11 +136,13 @@ pub(crate) fn best_at<'a>(bests: &'a Bests, i: usize, none: &'a Best) -> &'a Bes
     }
 }
 
-/// No changes yet, with room for those on a way of so many bits.
-pub(crate) fn no_changes(alloc: Global, depth: u8) -> Result<Vec<Change>, AllocError>
+/// No changes yet, with room for those on a way of so many bits. The list's own room is used again.
+pub(crate) fn no_changes(mut spare: Vec<Change>, depth: u8) -> Result<Vec<Change>, AllocError>
     ensures { IfOk result (λ v. v.items ≡ []) }
 {
-    Vec::with_capacity(alloc, depth as usize + 1)
+    spare.clear();
+    spare.reserve(depth as usize + 1)?;
+    Ok(spare)
 }
 
 /// Exchanges what a place keeps.
@@ -165,8 +174,8 @@ pub(crate) fn commit(bests: &mut Bests, changes: &mut Vec<Change>)
     }
 }
 
-/// Takes changes back, the last first. It takes no memory.
-pub(crate) fn revert(bests: &mut Bests, mut changes: Vec<Change>)
+/// Takes changes back, the last first, and hands back the room that they took. It takes no memory.
+pub(crate) fn revert(bests: &mut Bests, mut changes: Vec<Change>) -> Vec<Change>
     ensures kept { (j : ℕ) → j ≤ vec_len bests.old.pairs
         → best_in bests.new j ≡ back changes.items (best_in bests.old) j }
     ensures len { vec_len bests.new.pairs ≡ vec_len bests.old.pairs }
@@ -174,6 +183,7 @@ pub(crate) fn revert(bests: &mut Bests, mut changes: Vec<Change>)
     while let Some(mut last) = changes.pop() {
         exchange(bests, last.place, &mut last.best);
     }
+    changes
 }
 
 /// Makes more places, so many in all. None keeps anything else than before.

@@ -1,17 +1,18 @@
-//! What the nodes are to keep where a route changes: those on the way to its prefix, and those within it that no route of
-//! their own keeps from it.
+//! What the nodes are to keep where a route changes: those on the way to its prefix, and those within it with an address that
+//! no other route keeps from it.
 
-ghost use Rattle.std.specs.Prelude.{◌≡◌, ◌≢◌, ◌≤◌, ◌++◌, ℕ, suc, List, Bool, true, false, [], ◌∷◌, Option, IfOk, OnOk, not, vec_len};
-ghost use Rattle.std.specs.Option.{unwrap_or};
+ghost use Rattle.std.specs.Prelude.{◌≡◌, ◌≢◌, ◌≤◌, ◌++◌, ℕ, suc, List, Bool, true, false, [], ◌∷◌, Option, IfOk, OnOk, not, ◌&&◌, vec_len};
+ghost use Rattle.std.specs.Option.{unwrap_or, is_some};
 ghost use Rattle.address_model.specs.Bits.{bits_of};
 ghost use Rattle.table_model.specs.Table.{lpm};
 ghost use Rattle.least_model.specs.Sets.{side};
 ghost use Rattle.orig_tree.specs.Edits.{edit};
+ghost use Rattle.orig_tree.specs.Packed.{cover_in};
 ghost use Rattle.orig_tree.specs.Arena.{cells_of, Place, IfHalf, IsTree, walks_at, from_half};
-ghost use Rattle.orig_tree.specs.Bests.{Stands, best_one, best_in, best_behind, changed, under, AreBest, Untouched, IsMended, HalfMended};
+ghost use Rattle.orig_tree.specs.Bests.{Stands, best_one, best_in, best_behind, kept_or, changed, under, AreBest, Untouched, IsMended, HalfMended};
 
 use crate::best::{Best, Bests, Change, best_at, fresh};
-use crate::node::{Nodes, read};
+use crate::node::{Node, Nodes, read};
 use fib_addr::bit_at;
 use std::alloc::{AllocError, Global};
 
@@ -80,7 +81,15 @@ fn mend(
     Ok(best)
 }
 
-/// The same of a half, which inherits the hop. A route of its own keeps all that is there from it.
+/// Whether some address of a node's region may get a hop from above the node: its own route keeps all of them from it, and
+/// so do routes that cover the region.
+fn is_open(node: Node) -> bool
+    ensures { result ≡ (not (is_some node.route.hop) && (cover_in node.route).passes) }
+{
+    node.route.hop.is_none() && node.route.kept.open().passes
+}
+
+/// The same of a half, which inherits the hop, where it gets to any address there.
 #[cycle(mend)]
 fn mend_half(
     alloc: Global,
@@ -103,17 +112,18 @@ fn mend_half(
     match half {
         None => Ok(Best::one(hop)),
         Some(j) => {
-            if read(nodes, j).route.hop.is_some() {
-                let none = Best::one(0);
-                return best_at(bests, j, &none).copied(alloc);
+            if is_open(read(nodes, j)) {
+                return mend(alloc, nodes, bests, j, hop, depth, out);
             }
-            mend(alloc, nodes, bests, j, hop, depth, out)
+            let none = Best::one(0);
+            best_at(bests, j, &none).copied(alloc)
         }
     }
 }
 
 /// The region of a node, of `depth` bits, that inherits the hop, where the route at the path `q` below it becomes this one,
-/// with the changes to what is kept there. The path needs no node.
+/// with the changes to what is kept there. The path needs no node. None is told where the region keeps what it did: no region
+/// above it then keeps anything else.
 #[cycle(plan)]
 pub(crate) fn plan(
     alloc: Global,
@@ -126,7 +136,7 @@ pub(crate) fn plan(
     inherited: u16,
     set: Option<u16>,
     out: &mut Vec<Change>,
-) -> Result<Best, AllocError>
+) -> Result<Option<Best>, AllocError>
     requires few { left ≤ depth }
     requires most { depth ≤ 128 }
     ensures { IfOk result (λ x. (name : ℕ → Place) (p : List Bool)
@@ -136,16 +146,17 @@ pub(crate) fn plan(
         → Untouched p name (best_in bests.now) (changed out.old.items (best_in bests.now))
         → IsMended depth (cells_of nodes.now) name i p (λ a. lpm (edit (bits_of left q) set (walks_at
         (suc depth) (cells_of nodes.now) i).routes) a inherited) (changed out.old.items (best_in
-        bests.now)) (changed out.new.items (best_in bests.now)) x) }
+        bests.now)) (changed out.new.items (best_in bests.now)) (kept_or x (best_in bests.now i))) }
 {
     if left == 0 {
-        return mend(alloc, nodes, bests, i, set.unwrap_or(inherited), depth, out);
+        let mended = mend(alloc, nodes, bests, i, set.unwrap_or(inherited), depth, out)?;
+        return Ok(Some(mended));
     }
     let node = read(nodes, i);
     let hop = node.route.hop.unwrap_or(inherited);
     let at = left - 1;
     let bit = bit_at(q, at);
-    let near = plan_half(
+    let planned = plan_half(
         alloc,
         nodes,
         bests,
@@ -157,12 +168,18 @@ pub(crate) fn plan(
         set,
         out,
     )?;
+    let Some(near) = planned else {
+        return Ok(None);
+    };
     let none = Best::one(0);
     let bare = Best::one(hop);
     let far = half_best(bests, node.half(!bit), &none, &bare);
     let best = join_sides(alloc, bit, &near, far)?;
+    if best.is_same(best_at(bests, i, &none)) {
+        return Ok(None);
+    }
     note(alloc, i, &best, out)?;
-    Ok(best)
+    Ok(Some(best))
 }
 
 /// The same of a half.
@@ -178,7 +195,7 @@ fn plan_half(
     inherited: u16,
     set: Option<u16>,
     out: &mut Vec<Change>,
-) -> Result<Best, AllocError>
+) -> Result<Option<Best>, AllocError>
     requires few { left ≤ depth }
     requires most { depth ≤ 128 }
     ensures { IfOk result (λ x. (name : ℕ → Place) (p : List Bool)
@@ -188,10 +205,11 @@ fn plan_half(
         → Untouched p name (best_in bests.now) (changed out.old.items (best_in bests.now))
         → HalfMended depth (cells_of nodes.now) name half p (λ a. lpm (edit (bits_of left q) set
         (from_half (walks_at (suc depth) (cells_of nodes.now)) half).routes) a inherited) (changed
-        out.old.items (best_in bests.now)) (changed out.new.items (best_in bests.now)) x) }
+        out.old.items (best_in bests.now)) (changed out.new.items (best_in bests.now)) (kept_or x
+        (best_behind (best_in bests.now) half (best_one inherited)))) }
 {
     match half {
-        None => Ok(fresh(left, inherited, set)),
+        None => Ok(Some(fresh(left, inherited, set))),
         Some(j) => plan(alloc, nodes, bests, j, q, left, depth, inherited, set, out),
     }
 }

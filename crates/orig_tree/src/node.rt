@@ -199,8 +199,33 @@ fn retell(nodes: &Nodes, node: Node, label: Label, hop: Option<u16>) -> Node
     }
 }
 
-/// Sets the hop of a path that has a node, or takes the path's hop away.
-pub(crate) fn assign(nodes: &mut Nodes, i: usize, label: Label, q: u128, left: u8, hop: Option<u16>)
+/// Puts a node at its place with one of its labels set and its cover told from those of the halves, and tells whether that is
+/// another than it was.
+fn renew(nodes: &mut Nodes, i: usize, node: Node, label: Label, hop: Option<u16>) -> bool
+    ensures cells { cells_of nodes.new ≡ slice_set (cells_of nodes.old) i (retold label hop (cover_at
+        (cells_of nodes.old) label (half_place node false)) (cover_at (cells_of nodes.old) label
+        (half_place node true)) node) }
+    ensures same { result ≡ false → cover_of label (retold label hop (cover_at (cells_of nodes.old)
+        label (half_place node false)) (cover_at (cells_of nodes.old) label (half_place node true))
+        node) ≡ cover_of label node }
+    ensures free { nodes.new.free ≡ nodes.old.free }
+    ensures len { vec_len nodes.new.pairs ≡ vec_len nodes.old.pairs }
+{
+    let new = retell(nodes, node, label, hop);
+    put(nodes, i, new);
+    !cover(new, label).is_same(cover(node, label))
+}
+
+/// Sets the hop of a path that has a node, or takes the path's hop away. Covers are told again on the way up as far as they
+/// change; whether the node's own has is told.
+pub(crate) fn assign(
+    nodes: &mut Nodes,
+    i: usize,
+    label: Label,
+    q: u128,
+    left: u8,
+    hop: Option<u16>,
+) -> bool
     requires few { left ≤ 128 }
     ensures len { vec_len nodes.new.pairs ≡ vec_len nodes.old.pairs }
     ensures halves { HalvesStay (cells_of nodes.old) (cells_of nodes.new) }
@@ -209,21 +234,25 @@ pub(crate) fn assign(nodes: &mut Nodes, i: usize, label: Label, q: u128, left: u
         → IsTree d (cells_of nodes.old) name i p → Allowed (bits_of left q) hop (walks_at d
         (cells_of nodes.old) i).nodes → IsSet d label (bits_of left q) hop (cells_of nodes.old)
         (cells_of nodes.new) name i p }
+    ensures same { (d : ℕ) (name : ℕ → Place) (p : List Bool) → left < d
+        → IsTree d (cells_of nodes.old) name i p → Allowed (bits_of left q) hop (walks_at d
+        (cells_of nodes.old) i).nodes → result ≡ false → cover_of label (node_at (cells_of nodes.new)
+        i) ≡ cover_of label (node_at (cells_of nodes.old) i) }
 {
     let node = read(nodes, i);
     if left == 0 {
-        let new = retell(nodes, node, label, hop);
-        put(nodes, i, new);
-        return;
+        return renew(nodes, i, node, label, hop);
     }
     let at = left - 1;
     let own = node.hop(label);
     match node.half(bit_at(q, at)) {
-        None => (),
+        None => false,
         Some(j) => {
-            assign(nodes, j, label, q, at, hop);
-            let new = retell(nodes, node, label, own);
-            put(nodes, i, new);
+            let changed = assign(nodes, j, label, q, at, hop);
+            if changed {
+                return renew(nodes, i, node, label, own);
+            }
+            false
         }
     }
 }

@@ -19,7 +19,7 @@ ghost use Rattle.orig_tree.specs.Arena.{cells_of, whole};
 ghost use Rattle.orig_tree.specs.Trims.{AreTrimmed};
 ghost use Rattle.orig_tree.specs.Within.{nodes_in, told};
 
-use crate::best::{Bests, root_best};
+use crate::best::{Bests, Change, root_best};
 use crate::count::count_within;
 use crate::load::{lay_all, settle_all};
 use crate::node::{Label, Nodes, answer, inherited, is_node, tell, uniform};
@@ -27,11 +27,12 @@ use crate::node_ref::NodeRef;
 use crate::parts::{route_at, tell_within};
 use crate::path::path_bits;
 use crate::region::{Region, below};
-use crate::undo::{Undo, keep_if};
+use crate::undo::{Undo, keep_if, room_of};
 use crate::whole::{alter, change, drop_unused, empty, lay, make_room, take_back};
 use fib_addr::{Addr, Entry, Family, Hop, Prefix};
 use std::alloc::{AllocError, Global};
 use std::marker::Model;
+use std::mem;
 
 /// The routes and the entries of one family. Contracts see both in the order of prefixes, each prefix once, and the
 /// prefixes that are nodes.
@@ -42,6 +43,8 @@ pub struct Tree {
     nodes: Nodes,
     bests: Bests,
     undo: Option<Undo>,
+    /// Room for the changes of the next call.
+    spare: Vec<Change>,
 }
 
 impl Model for Tree {
@@ -93,6 +96,7 @@ impl Tree {
             nodes: empty(alloc, family),
             bests: root_best(alloc),
             undo: None,
+            spare: Vec::new(alloc),
         }
     }
 
@@ -119,6 +123,7 @@ impl Tree {
             nodes,
             bests,
             undo: None,
+            spare: Vec::new(alloc),
         })
     }
 
@@ -351,6 +356,7 @@ impl Tree {
     {
         let q = path_bits(prefix);
         let was_node = is_node(&self.nodes, 0, q, prefix.len);
+        let spare = mem::replace(&mut self.spare, Vec::new(self.alloc));
         let undo = alter(
             self.alloc,
             self.family,
@@ -359,7 +365,9 @@ impl Tree {
             q,
             prefix.len,
             None,
+            spare,
         )?;
+        self.spare = room_of(self.alloc, self.undo.take());
         self.undo = keep_if(was_node, undo);
         Ok(())
     }
@@ -378,7 +386,9 @@ impl Tree {
     {
         match self.undo.take() {
             None => {}
-            Some(undo) => take_back(self.family, &mut self.nodes, &mut self.bests, undo),
+            Some(undo) => {
+                self.spare = take_back(self.family, &mut self.nodes, &mut self.bests, undo);
+            }
         }
     }
 
@@ -419,6 +429,7 @@ impl Tree {
         ensures err { OnErr result (self.new ≡ self.old) }
     {
         let q = path_bits(prefix);
+        let spare = mem::replace(&mut self.spare, Vec::new(self.alloc));
         if is_node(&self.nodes, 0, q, prefix.len) {
             let undo = alter(
                 self.alloc,
@@ -428,11 +439,13 @@ impl Tree {
                 q,
                 prefix.len,
                 Some(hop.0),
+                spare,
             )?;
+            self.spare = room_of(self.alloc, self.undo.take());
             self.undo = Some(undo);
             return Ok(());
         }
-        lay(
+        let room = lay(
             self.alloc,
             self.family,
             &mut self.nodes,
@@ -440,7 +453,9 @@ impl Tree {
             q,
             prefix.len,
             hop.0,
+            spare,
         )?;
+        self.spare = room;
         self.undo = None;
         Ok(())
     }

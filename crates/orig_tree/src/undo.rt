@@ -3,6 +3,7 @@
 ghost use Rattle.std.specs.Prelude.{◌≡◌, Option, Some, None, cond};
 
 use crate::best::Change;
+use std::alloc::Global;
 
 /// What a path had for a route, and what the nodes kept then: the changes that put it back, the last first.
 #[derive(Drop)]
@@ -18,4 +19,12 @@ pub(crate) fn keep_if(was_node: bool, undo: Undo) -> Option<Undo>
     ensures { result ≡ cond was_node (Some undo) None }
 {
     if was_node { Some(undo) } else { None }
+}
+
+/// The room that the changes of an undo took.
+pub(crate) fn room_of(alloc: Global, undo: Option<Undo>) -> Vec<Change> {
+    match undo {
+        Some(undo) => undo.changes,
+        None => Vec::new(alloc),
+    }
 }

@@ -10,7 +10,7 @@ ghost use Rattle.orig_tree.specs.Bests.{best_in, KeepsBest, IsLaid};
 ghost use Rattle.orig_tree.specs.Undos.{TakesBack, CanUndo};
 ghost use Rattle.orig_tree.specs.declared.node.Label.TheVariants.{Route, Entry};
 
-use crate::best::{Bests, commit, no_changes, revert};
+use crate::best::{Bests, Change, commit, no_changes, revert};
 use crate::drops::trim;
 use crate::mend::plan;
 use crate::node::{Label, Nodes, assign, grow, is_node, reserve, root_alone};
@@ -73,7 +73,8 @@ pub(crate) fn make_room(
     Ok(())
 }
 
-/// Makes a path a node and sets its route, with what is kept for the regions that it changes.
+/// Makes a path a node and sets its route, with what is kept for the regions that it changes. The list is room for the
+/// changes, and is handed back.
 ///
 /// # Errors
 ///
@@ -86,7 +87,8 @@ pub(crate) fn lay(
     q: u128,
     len: u8,
     hop: u16,
-) -> Result<(), AllocError>
+    spare: Vec<Change>,
+) -> Result<Vec<Change>, AllocError>
     requires few { len ≤ width family }
     requires arena { IsArena family (cells_of nodes.old) nodes.old.free }
     requires best { KeepsBest family (cells_of nodes.old) (best_in bests.old) }
@@ -101,7 +103,7 @@ pub(crate) fn lay(
 {
     reserve(nodes, bests, 2 * len as usize)?;
     let depth = family.width();
-    let mut changes = no_changes(alloc, depth)?;
+    let mut changes = no_changes(spare, depth)?;
     plan(
         alloc,
         nodes,
@@ -117,11 +119,11 @@ pub(crate) fn lay(
     commit(bests, &mut changes);
     grow(nodes, bests, 0, q, len, 0, Some(hop));
     assign(nodes, 0, Label::Route, q, len, Some(hop));
-    Ok(())
+    Ok(changes)
 }
 
 /// Sets the route of a path that has a node, or takes the path's route away, with what is kept for the regions that it
-/// changes. How that is taken back is given.
+/// changes. How that is taken back is given; the list is room for it.
 ///
 /// # Errors
 ///
@@ -134,6 +136,7 @@ pub(crate) fn alter(
     q: u128,
     len: u8,
     set: Option<u16>,
+    spare: Vec<Change>,
 ) -> Result<Undo, AllocError>
     requires few { len ≤ width family }
     requires arena { IsArena family (cells_of nodes.old) nodes.old.free }
@@ -153,7 +156,7 @@ pub(crate) fn alter(
 {
     let hop = route_at(nodes, 0, q, len);
     let depth = family.width();
-    let mut changes = no_changes(alloc, depth)?;
+    let mut changes = no_changes(spare, depth)?;
     plan(alloc, nodes, bests, 0, q, len, depth, 0, set, &mut changes)?;
     commit(bests, &mut changes);
     assign(nodes, 0, Label::Route, q, len, set);
@@ -165,8 +168,13 @@ pub(crate) fn alter(
     })
 }
 
-/// Takes a change of a route back, with what was kept before. It takes no memory.
-pub(crate) fn take_back(family: Family, nodes: &mut Nodes, bests: &mut Bests, undo: Undo)
+/// Takes a change of a route back, with what was kept before, and hands back the room that it took. It takes no memory.
+pub(crate) fn take_back(
+    family: Family,
+    nodes: &mut Nodes,
+    bests: &mut Bests,
+    undo: Undo,
+) -> Vec<Change>
     requires arena { IsArena family (cells_of nodes.old) nodes.old.free }
     requires long { vec_len nodes.old.pairs ≤ vec_len bests.old.pairs }
     requires undo { CanUndo family (cells_of nodes.old) (best_in bests.old) (Some undo) }
@@ -177,8 +185,9 @@ pub(crate) fn take_back(family: Family, nodes: &mut Nodes, bests: &mut Bests, un
         undo.hop (whole family (cells_of nodes.old)) }
 {
     let _ = family;
-    revert(bests, undo.changes);
+    let room = revert(bests, undo.changes);
     assign(nodes, 0, Label::Route, undo.q, undo.len, undo.hop);
+    room
 }
 
 /// Sets the entry of a path that has a node, or takes the path's entry away.

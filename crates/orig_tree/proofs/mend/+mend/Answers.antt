@@ -1,9 +1,10 @@
-use Rattle.std.proofs.Common.{◌≡◌, ℕ, suc, ◌-◌, List, Bool, arith, ◌∙◌}
+use Rattle.std.proofs.Common.{◌≡◌, ℕ, suc, ◌-◌, List, Bool, arith, sym, ◌∙◌}
 use Rattle.std.proofs.lemmas.Result.{IfOk-weaker}
 use Rattle.table_model.specs.Table.{lpm}
 use Rattle.orig_tree.specs.Arena.{cells_of, Place, IfHalf, IsTree, walks_at, from_half}
 use Rattle.orig_tree.specs.Bests.{best_in, changed, under, AreBest, Untouched, IsMended, HalfMended}
-use Rattle.orig_tree.proofs.Mending.{mend_end, mend_node, half_none, half_stays, half_mended, some_of, none_of}
+use Rattle.orig_tree.specs.Packed.{cover_in}
+use Rattle.orig_tree.proofs.Mending.{mend_end, mend_node, half_none, half_stays, half_mended, open_own}
 use Rattle.orig_tree.proofs.mend.+mend.Goals as goal
 
 pub mend-returns-then-depth-eq0 : goal.mend-returns-then-depth-eq0
@@ -17,21 +18,20 @@ mend-returns t c = mend_node (cells_of c.args.nodes.now) c.args.i c.read-node.re
 pub mend_half-returns-in-None : goal.mend_half-returns-in-None
 mend_half-returns-in-None t c = λ name p h s k u. half_none (cells_of c.args.nodes.now) c.args.depth c.args.hop c.args.half (changed c.args.out.now.items (best_in c.args.bests.now)) c.one.result c.in-None.is c.one.ensures name p
 
-pub mend_half-returns-then-is_some : goal.mend_half-returns-then-is_some
-mend_half-returns-then-is_some t c =
-    let own = some_of c.read.result.route.hop c.is_some.result c.is_some.ensures c.if-is_some.true in
+pub mend_half-returns-else-is_open : goal.mend_half-returns-else-is_open
+mend_half-returns-else-is_open t c =
     let S = best_in c.args.bests.now in
     let S0 = changed c.args.out.now.items S in
     let cells = cells_of c.args.nodes.now in
     IfOk-weaker c.copied.result (λ x. x ≡ c.best_at.result.now)
     (λ x. (name : ℕ → Place) (p : List Bool) (h : ℕ) → IfHalf (λ j. IsTree (suc c.args.depth) cells name j p) c.args.half → IfHalf (λ j. AreBest (suc c.args.depth) cells S (λ a. lpm (walks_at (suc c.args.depth) cells j).routes a h) j) c.args.half → Untouched p name S S0 →
     HalfMended c.args.depth cells name c.args.half p (λ a. lpm (from_half (walks_at (suc c.args.depth) cells) c.args.half).routes a c.args.hop) S0 S0 x)
-    (λ x e name p h s k u. half_stays cells c.args.depth c.args.hop c.args.half c.in-Some.j c.read.result c.read.ensures c.in-Some.is name p own.0 h S S0 x own.1 (e ∙ c.best_at.ensures) s k u)
+    (λ x e name p h s k u. half_stays cells c.args.depth c.args.hop c.args.half c.in-Some.j c.read.result c.read.ensures c.in-Some.is name p h S S0 x (sym c.is_open.ensures ∙ c.if-is_open.false) (e ∙ c.best_at.ensures) s k u)
     c.copied.ensures
 
-pub mend_half-returns-else-is_some : goal.mend_half-returns-else-is_some
-mend_half-returns-else-is_some t c =
-    let own = none_of c.read.result.route.hop c.is_some.result c.is_some.ensures c.if-is_some.false in
+pub mend_half-returns-then-is_open : goal.mend_half-returns-then-is_open
+mend_half-returns-then-is_open t c =
+    let own = open_own c.read.result.route.hop (cover_in c.read.result.route).passes c.is_open.result c.is_open.ensures c.if-is_open.true in
     let S = best_in c.args.bests.now in
     let S0 = changed c.args.out.now.items S in
     let S1 = changed c.mend.new.out.items S in

@@ -68,12 +68,12 @@ returns-then-is_node-clause-before c = λ there.
     let few = few_bits c.args.prefix.now f (c.requires ∙ sym (ap (λ (s : Labels). s.family) c.self.view_is)) in
     ap (of_table f) (c.in_ok-undo.ensures.back (sym (c.is_node.ensures (suc (width f)) (omega (arith, few))) ∙ c.if-is_node.true)).routes ∙ ap (λ (s : Labels). s.routes) c.self.view_is
 
-pub invariant_of-self-in_err-lay : goal.invariant_of-self-in_err-lay
-invariant_of-self-in_err-lay c =
+pub invariant_of-self-in_err-room : goal.invariant_of-self-in_err-room
+invariant_of-self-in_err-room c =
     let f = c.self.inside.family in
     let old = cells_of c.self.inside.nodes in
     let new = cells_of c.lay.new.nodes in
-    let e = c.in_err-lay.ensures.err in (
+    let e = c.in_err-room.ensures.err in (
       c.lay.ensures.arena,
       same_rows f (whole f old).routes (whole f new).routes (ap (λ (cs : List Node). (whole f cs).routes) e.0) c.self.invariant.1,
       same_rows f (whole f old).entries (whole f new).entries (ap (λ (cs : List Node). (whole f cs).entries) e.0) c.self.invariant.2,
@@ -87,14 +87,14 @@ invariant_of-self-2 c =
     let p = c.args.prefix.now in
     let fam : p.family ≡ c.self.inside.family = c.requires ∙ sym (ap (λ (s : Labels). s.family) c.self.view_is) in
     let l : length (bits_of p.len c.path_bits-q.result) ≤ width c.self.inside.family = omega (arith, length-bits_of p.len c.path_bits-q.result, p.fits, ap width fam) in
-    let laid = c.in_ok-lay.ensures.laid in
+    let laid = c.in_ok-room.ensures.laid in
     let old = whole c.self.inside.family (cells_of c.self.inside.nodes) in
     let new = whole c.self.inside.family (cells_of c.lay.new.nodes) in (
-      c.in_ok-lay.ensures.arena,
+      c.in_ok-room.ensures.arena,
       in_place_put c.self.inside.family (bits_of p.len c.path_bits-q.result) c.args.hop.0 laid.middle.routes new.routes l (ap (λ (n : Walks). n.routes) laid.set) (same_rows c.self.inside.family old.routes laid.middle.routes laid.room.routes c.self.invariant.1),
       same_rows c.self.inside.family old.entries new.entries (ap (λ (n : Walks). n.entries) laid.set ∙ laid.room.entries) c.self.invariant.2,
-      c.in_ok-lay.ensures.best,
-      c.in_ok-lay.ensures.long,
+      c.in_ok-room.ensures.best,
+      c.in_ok-room.ensures.long,
       tt,
     )
 
@@ -103,7 +103,7 @@ returns-clause-routes c =
     let p = c.args.prefix.now in
     let fam : p.family ≡ c.self.inside.family = c.requires ∙ sym (ap (λ (s : Labels). s.family) c.self.view_is) in
     let l : length (bits_of p.len c.path_bits-q.result) ≤ width c.self.inside.family = omega (arith, length-bits_of p.len c.path_bits-q.result, p.fits, ap width fam) in
-    let laid = c.in_ok-lay.ensures.laid in
+    let laid = c.in_ok-room.ensures.laid in
     entries_put c.self.inside.family p.family (bits_of p.len c.path_bits-q.result) c.args.hop.0 (whole c.self.inside.family (cells_of c.self.inside.nodes)).routes (whole c.self.inside.family (cells_of c.lay.new.nodes)).routes laid.middle.routes c.args.self.now.routes l fam laid.room.routes (ap (λ (n : Walks). n.routes) laid.set) (ap (λ (s : Labels). s.routes) c.self.view_is) c.self.invariant.1
     ∙ ap (λ b. with_entry c.args.self.now.routes ((let x : Prefix = record { family = p.family; bits = b } in x), c.args.hop.0)) c.path_bits-q.ensures
 
