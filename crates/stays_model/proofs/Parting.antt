@@ -1,8 +1,8 @@
 -- Parts of tables, put together.
-use Rattle.std.proofs.Common.{◌≡◌, ◌≤◌, ℕ, zero, suc, List, [], ◌∷◌, ◌++◌, Bool, true, false, Option, Some, None, refl, sym, ap, ◌∙◌, arith, inl, inr}
-use Rattle.table_model.specs.Table.{Table, IsTable, half, root, inherit, here, cut}
+use Rattle.std.proofs.Common.{◌≡◌, ℕ, zero, List, [], ◌∷◌, Bool, true, false, Option, Some, None, refl, sym, ap, ◌∙◌, inl, inr}
+use Rattle.table_model.specs.Table.{Table, IsTable, half, root, here, cut}
 use Rattle.least_model.specs.Regions.{join, entry_at, SameEntries}
-use Rattle.least_model.specs.Sets.{set_of, own, side, agg}
+use Rattle.least_model.specs.Sets.{set_of, own, agg}
 use Rattle.least_model.proofs.Join.{root_join, low_join, high_join}
 use Rattle.least_model.proofs.Same.{cut_nil}
 use Rattle.least_model.proofs.Patch.{no_half}

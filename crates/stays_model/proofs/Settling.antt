@@ -1,13 +1,12 @@
 -- Regions off the marks.
-use Rattle.std.proofs.Common.{◌≡◌, ℕ, zero, suc, ◌-◌, ◌≤◌, List, [], ◌∷◌, ◌++◌, ◌||◌, Bool, true, false, length, Option, Some, None, refl, sym, ap, subst, ◌∙◌, arith}
+use Rattle.std.proofs.Common.{◌≡◌, ℕ, zero, suc, ◌-◌, ◌≤◌, List, [], ◌∷◌, ◌++◌, ◌||◌, Bool, true, false, length, None, refl, sym, ap, subst, ◌∙◌, arith, length-append}
 use Rattle.address_model.specs.Bits.{begins}
 use Rattle.table_model.specs.Table.{Table, half, root, inherit, cut, lpm, hop_or, longest}
-use Rattle.least_model.specs.Regions.{above, entry_at, strictly_containing, SameEntries, SameOutside}
+use Rattle.least_model.specs.Regions.{above, entry_at, SameEntries, SameOutside}
 use Rattle.least_model.specs.Sets.{side, agg, answers}
 use Rattle.least_model.proofs.Above.{above_cut, none_above}
 use Rattle.least_model.proofs.Patch.{begins_trans, cut_cut}
 use Rattle.least_model.proofs.Order.{answers_outside}
-use Rattle.least_model.proofs.Region.{begins_append}
 use Rattle.stays_model.specs.Stays.{Stays, IsOff, Settled, IsMarked}
 use Rattle.stays_model.proofs.Again.{agg_same, stays_half}
 
@@ -101,3 +100,12 @@ module _ (w : ℕ) (p : List Bool) (R S T U M N : Table) (h : ℕ) (r : SameOuts
 
       above_same : above q T h ≡ above q U h
       above_same = above_alike q T U h (λ y e. t y (not_within p q y here.0 e))
+
+-- ---- the same answers, more marks
+
+pub settled_alike : (d : ℕ) (f g : List Bool → ℕ) (L : Table) (h : ℕ) (M : Table) → ((a : List Bool) → length a ≡ d → f a ≡ g a) → Settled d f L h M → Settled d g L h M
+settled_alike d f g L h M e s q n o = λ z.
+    ap (entry_at z) (agg_same (d - length q) (λ a. g (q ++ a)) (λ a. f (q ++ a)) (cut q L) (cut q L) (above q L h) (λ a l. sym (e (q ++ a) (length-append q a ∙ omega (arith, l, n)))) (λ y. refl)) ∙ s q n o z
+
+pub settled_more : (d : ℕ) (f : List Bool → ℕ) (L : Table) (h : ℕ) (M N : Table) → ((r : List Bool) → entry_at r N ≡ None → entry_at r M ≡ None) → Settled d f L h M → Settled d f L h N
+settled_more d f L h M N k s q n o = s q n (λ r e. k r (o r e))
