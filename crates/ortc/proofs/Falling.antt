@@ -67,7 +67,7 @@ agg_other (suc d) f L x h u n =
     ap (λ o. join o (agg d (side false f) (half false L) (inherit o h)) (agg d (side true f) (half true L) (inherit o h))) e
     ∙ uniform_step (Some x) _ _ (agg_same d (side false f) (half false L) x low) (agg_same d (side true f) (half true L) x high)
 
-leaf_agg : (d : ℕ) (f : List Bool → ℕ) (L : Table) (x h : ℕ) → ((a : List Bool) → length a ≡ d → f a ≡ x) → here (cond (nat_eq x h) None (Some x)) ≡ agg d f L h
+pub leaf_agg : (d : ℕ) (f : List Bool → ℕ) (L : Table) (x h : ℕ) → ((a : List Bool) → length a ≡ d → f a ≡ x) → here (cond (nat_eq x h) None (Some x)) ≡ agg d f L h
 leaf_agg d f L x h u =
     elim (cases_Bool (nat_eq x h)) [
       | inl e ↦ ap (λ (b : Bool). here (cond b None (Some x))) e ∙ sym (ap (agg d f L) (sym (eqb-true x h e)) ∙ agg_same d f L x u)

@@ -36,7 +36,7 @@ fn leaf_hop(hop: u16, inherited: u16) -> Option<u16>
 
 /// The hop of a region's own entry, if it gets one: none where what it inherits is best for it, else the old entry's hop
 /// where that is best, else the least of the best hops.
-fn own_hop(region: &Region<'_>, inherited: u16) -> Option<u16>
+pub fn own_hop(region: &Region<'_>, inherited: u16) -> Option<u16>
     ensures { result ≡ own (set_of region.now.bits (answers_in region.now)) (root region.now.entries)
         inherited }
 {

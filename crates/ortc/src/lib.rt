@@ -8,7 +8,7 @@ mod down;
 mod rows;
 mod table;
 
-pub use down::{fresh, within};
+pub use down::{fresh, own_hop, within};
 pub use table::Fresh;
 
 #[cfg(test)]

@@ -2,13 +2,14 @@
 //!
 //! The downward pass keeps an old entry's hop where that is best (least_model). So a pass over entries that a pass gave, with
 //! nothing changed since and the same hop inherited, gives them again, and that holds in each region below, under what it
-//! inherits there. A pass may leave out such a region.
+//! inherits there. A pass may leave out such a region. Marks say where something changed: what is off all marks stays.
 #![tactic(auto)]
 
-ghost use Rattle.std.specs.Prelude.{ℕ, suc, List, Bool};
+ghost use Rattle.std.specs.Prelude.{◌≡◌, ℕ, suc, List, [], Bool, None};
 ghost use Rattle.table_model.specs.Table.{Table, half, root, inherit};
-ghost use Rattle.least_model.specs.Sets.{side, agg};
-ghost use Rattle.stays_model.specs.Stays.{Stays};
+ghost use Rattle.least_model.specs.Regions.{entry_at, SameOutside};
+ghost use Rattle.least_model.specs.Sets.{side, agg, answers};
+ghost use Rattle.stays_model.specs.Stays.{Stays, Settled, IsMarked};
 
 /// What a pass gave stays in the next.
 pub fn again_law()
@@ -19,4 +20,22 @@ pub fn again_law()
 pub fn halves_law()
     ensures { (d : ℕ) (f : List Bool → ℕ) (L : Table) (h : ℕ) (b : Bool) → Stays (suc d) f L h
         → Stays d (side b f) (half b L) (inherit (root L) h) }
+{}
+
+/// Where a region's entries stay, every region in it is settled, whatever is marked. So is every region off the marks in a half,
+/// where the whole region isn't marked itself; and a settled region without a mark stays.
+pub fn settled_law()
+    ensures all { (d : ℕ) (f : List Bool → ℕ) (L : Table) (h : ℕ) (M : Table) → Stays d f L h
+        → Settled d f L h M }
+    ensures halves { (d : ℕ) (f : List Bool → ℕ) (L : Table) (h : ℕ) (M : Table) (b : Bool) →
+        Settled (suc d) f L h M → root M ≡ None
+        → Settled d (side b f) (half b L) (inherit (root L) h) (half b M) }
+    ensures clean { (d : ℕ) (f : List Bool → ℕ) (L : Table) (h : ℕ) (M : Table) →
+        Settled d f L h M → ((r : List Bool) → entry_at r M ≡ None) → Stays d f L h }
+{}
+
+/// Where routes and entries change within a prefix alone, and it is marked, what is off the marks stays settled.
+pub fn change_law()
+    ensures { (w : ℕ) (p : List Bool) (R S T U M N : Table) (h : ℕ) → SameOutside p R S → SameOutside p T U →
+        IsMarked p M N → Settled w (answers R []) T h M → Settled w (answers S []) U h N }
 {}
