@@ -138,9 +138,9 @@ word_places k d f g =
 pub slots_places : (k j d : ℕ) (f : List Bool → ℕ) (h : ℕ → List Bool → ℕ) → (node_places (slots_asks k j d f h) ≤ trie_nodes j k d f) × (leaf_places (slots_asks k j d f h) ≤ trie_leaves j k d f)
 slots_places k j d f h = (
   (let a = nodes_listed (λ v. word_asks k d (part (bits_of j v) f) (h v)) (λ v. trie_nodes 0 k d (part (bits_of j v) f)) (2 ^ j) (λ v. (word_places k d (part (bits_of j v) f) (h v)).0) in
-  omega (arith, a, nodes_total k d j f)),
+      omega (arith, a, nodes_total k d j f)),
   (let a = leaves_listed (λ v. word_asks k d (part (bits_of j v) f) (h v)) (λ v. trie_leaves 0 k d (part (bits_of j v) f)) (2 ^ j) (λ v. (word_places k d (part (bits_of j v) f) (h v)).1) in
-  omega (arith, a, leaves_total k d j f)),
+      omega (arith, a, leaves_total k d j f)),
 )
 
 -- ---- met, they take no more than these places
