@@ -31,7 +31,7 @@ pub enum Oldest {
 /// An update that is ready: the token for its stores, which `Live::end` or `Live::cancel` spends.
 pub struct Pending {
     /// How many of its stores were made.
-    made: usize,
+    pub(crate) made: usize,
 }
 
 /// A trie with what its pending update has ready. Its direct words stand for the table after the update where a store that was

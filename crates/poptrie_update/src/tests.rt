@@ -4,13 +4,12 @@ ghost use Rattle.std.specs.Prelude.{◌≡◌, ◌∷◌, [], ◌≤◌};
 ghost use Rattle.fib_addr.specs.Views.{prefix_as};
 ghost use Rattle.table_model.proofs.Once.{once_in_order};
 
-use crate::{At, Live, NotReady, Oldest};
+use crate::{At, Live, NotReady, Oldest, Pending};
 use buddy_arena::Full;
 use fib_addr::{Addr, Answers, Family, Hop, Prefix};
 use fib_regions::PrefixRegion;
 use poptrie_build::TrieFull;
 use std::alloc::{AllocError, Global};
-use std::mem::forget;
 use std::test::Fail;
 
 /// A table of one route.
@@ -109,16 +108,18 @@ fn a_short_route(rt: HostRuntime) -> Result<(), Fail> {
     Ok(())
 }
 
-/// What becomes of an update: whether a first and a second store are made, and the time after it; or why it isn't made ready.
+/// What becomes of an update: whether a first and a second store are made, and the time after it, or how many are made where some
+/// are left; or why it isn't made ready.
 #[derive(Clone, Copy, Debug, PartialEq, Eq)]
 enum Update {
     Stored(bool, bool, u64),
+    Left(usize),
     NotBuilt,
     NotReady(NotReady),
 }
 
 /// The update from one table to another of a trie without direct words, in arenas of these orders.
-fn update(
+fn tell_update(
     alloc: Global,
     table: &OneRoute,
     changed: &OneRoute,
@@ -129,8 +130,9 @@ fn update(
     requires small { (nodes ≤ 26) × (leaves ≤ 26) }
 {
     let mut live = Live::new(alloc, table.prefix.family, 0, nodes, leaves)?;
-    if live.build(table).is_err() {
-        return Ok(Update::NotBuilt);
+    match live.build(table) {
+        Ok(()) => {}
+        Err(_full) => return Ok(Update::NotBuilt),
     }
     match live.prepare(
         &PrefixRegion::whole(changed),
@@ -142,10 +144,10 @@ fn update(
             let mut pending = token;
             let first = live.store(&mut pending);
             let second = live.store(&mut pending);
-            if let Err(left) = live.end(pending) {
-                forget(left);
+            match live.end(pending) {
+                Ok(()) => Ok(Update::Stored(first, second, live.time())),
+                Err(Pending { made }) => Ok(Update::Left(made)),
             }
-            Ok(Update::Stored(first, second, live.time()))
         }
     }
 }
@@ -167,15 +169,15 @@ fn another_hop(rt: HostRuntime) -> Result<(), Fail> {
         largest: None,
     };
     assert_eq!(rt;
-        update(rt.alloc(), &table, &changed, 2, 4)?,
+        tell_update(rt.alloc(), &table, &changed, 2, 4)?,
         Update::Stored(true, false, 1)
     );
     assert_eq!(rt;
-        update(rt.alloc(), &table, &table, 1, 3)?,
+        tell_update(rt.alloc(), &table, &table, 1, 3)?,
         Update::Stored(false, false, 1)
     );
     assert_eq!(rt;
-        update(rt.alloc(), &table, &changed, 1, 3)?,
+        tell_update(rt.alloc(), &table, &changed, 1, 3)?,
         Update::NotReady(NotReady::NodesOut(out))
     );
     Ok(())
