@@ -1,17 +1,14 @@
 -- The slots that are stored are those at which an address gets another answer.
-use Rattle.std.proofs.Common.{◌≡◌, ◌≢◌, ℕ, zero, suc, ◌+◌, ◌-◌, ◌^◌, ◌<◌, ◌≤◌, List, [], ◌∷◌, ◌++◌, Bool, true, false, cond, nat_eq, Option, Some, None, length, take, drop, refl, sym, ap, ◌∙◌, arith, subst}
-use Rattle.std.specs.Prelude.{◌↔◌, ◌||◌, slice_index}
+use Rattle.std.proofs.Common.{◌≡◌, ◌≢◌, ℕ, zero, suc, ◌+◌, ◌-◌, ◌^◌, ◌<◌, List, [], ◌∷◌, ◌++◌, Bool, true, false, cond, nat_eq, Option, Some, None, length, drop, refl, sym, ap, ◌∙◌, arith, subst}
+use Rattle.std.specs.Prelude.{◌||◌, slice_index}
 use Rattle.std.specs.List.{AllByRecursion}
 use Rattle.std.proofs.lemmas.Bool.{eqb-true, eqb-false, eq-eqb, ne_eqb}
 use Rattle.std.proofs.lemmas.List.{length-append, length-drop, take-append-drop, take_at}
 use Rattle.address_model.specs.Bits.{bits_of}
-use Rattle.address_model.specs.Address.{Address}
 use Rattle.address_model.specs.Width.{width}
 use Rattle.address_model.specs.declared.family.Family.{Family}
 use Rattle.address_model.proofs.BitLaws.{length-bits_of}
 use Rattle.table_model.specs.Entries.{Entries, match_in}
-use Rattle.buddy_arena.specs.Space.{Space}
-use Rattle.block_pool.specs.Places.{is_out}
 use Rattle.fib_regions.specs.Answers.{part, one_answer, all_answers}
 use Rattle.fib_regions.proofs.OneAnswer.{one_answer_is}
 use Rattle.poptrie_build.specs.Bits.{rank_of}
@@ -26,7 +23,6 @@ use Rattle.poptrie_copy.specs.Stores.{stored, AreStores}
 use Rattle.poptrie_copy.proofs.Same.{same_hops, whole_alike}
 use Rattle.poptrie_update.specs.Lives.{covers, stores_of}
 use Rattle.poptrie_update.specs.Prepares.{SameAt}
-use Rattle.poptrie_update.proofs.Copied_version.{not_covered}
 
 -- ---- a node stands for one list of answers
 pub node_one : (k : ℕ) (nodes : List Node) (N : ℕ → Bool) (leaves : List ℕ) (L : ℕ → Bool) (n : Node) (d : ℕ) (f g : List Bool → ℕ) → StandsIn k nodes N leaves L n d f → StandsIn k nodes N leaves L n d g → Alike d f g

@@ -1,10 +1,9 @@
 -- An update that was made ready beside all that is out, or wasn't.
-use Rattle.std.proofs.Common.{◌≡◌, ℕ, suc, ◌+◌, ◌-◌, ◌*◌, ◌^◌, ◌<◌, ◌≤◌, List, [], ◌∷◌, ◌++◌, Bool, true, false, length, get_or, refl, sym, ap, ◌∙◌, arith, subst, Result, Ok, Err}
-use Rattle.std.specs.Prelude.{OnOk, OnErr, IfOk, IfErr, slice_index, ◌&&◌}
-use Rattle.std.specs.List.{AllByRecursion}
-use Rattle.std.proofs.lemmas.List.{length-append, append-nil}
+use Rattle.std.proofs.Common.{◌≡◌, ℕ, suc, ◌+◌, ◌*◌, ◌^◌, ◌<◌, ◌≤◌, List, [], ◌++◌, Bool, true, false, length, get_or, sym, ap, ◌∙◌, arith, subst, Result, Ok, Err}
+use Rattle.std.specs.Prelude.{OnOk, OnErr, IfErr, slice_index, ◌&&◌}
+use Rattle.std.proofs.lemmas.List.{length-append}
 use Rattle.address_model.specs.Bits.{bits_of, begins}
-use Rattle.address_model.specs.Address.{Address, Prefix, same_family, contains}
+use Rattle.address_model.specs.Address.{Prefix, same_family}
 use Rattle.address_model.specs.Width.{width}
 use Rattle.address_model.specs.declared.family.Family.{Family}
 use Rattle.address_model.specs.declared.family.Family.TheVariants.{V4, V6}
@@ -13,7 +12,7 @@ use Rattle.address_model.proofs.Same.{same_family_itself}
 use Rattle.table_model.specs.Entries.{Entries}
 use Rattle.buddy_arena.specs.Space.{Space, IsSized}
 use Rattle.buddy_arena.specs.Space as arena
-use Rattle.block_pool.specs.Places.{count_free, is_out}
+use Rattle.block_pool.specs.Places.{is_out}
 use Rattle.block_pool.specs.Arrays.{Array, AreApart, places_of}
 use Rattle.block_pool.specs.Blocks.{Held, Retired, AreHeldIn, blocks_of, cancelled}
 use Rattle.block_pool.proofs.Sets.{places_append}
@@ -27,17 +26,15 @@ use Rattle.poptrie_build.specs.declared.node.Node.{Node}
 use Rattle.poptrie_build.proofs.Filled.{strides_do}
 use Rattle.poptrie_copy.specs.declared.slots.Store.{Store as Stored}
 use Rattle.poptrie_copy.specs.declared.blocks.Refusal.{Refusal}
-use Rattle.poptrie_copy.specs.declared.blocks.Refusal.TheVariants as refusal
 use Rattle.poptrie_copy.specs.Changes.{Gains}
 use Rattle.poptrie_copy.specs.Words.{IsWord, WordRow}
 use Rattle.poptrie_copy.specs.Stores.{stored, AreStores}
-use Rattle.poptrie_copy.specs.Asks.{Ask, StandFor, slots_asks, Runs, IsOut}
+use Rattle.poptrie_copy.specs.Asks.{Ask, StandFor, Runs, IsOut}
 use Rattle.poptrie_copy.proofs.Retiring.{asks_left, slots_places}
 use Rattle.poptrie_copy.proofs.Word_row.{word_stays}
-use Rattle.poptrie_update.specs.Rooms.{Room}
 use Rattle.poptrie_update.specs.Version.{IsVersion}
-use Rattle.poptrie_update.specs.Lives.{Living, Beside, Shows, IsLive, IsQuiet, covers, stores_of}
-use Rattle.poptrie_update.specs.Fits.{Open, ReadsIn, Fits}
+use Rattle.poptrie_update.specs.Lives.{Living, Shows, IsLive, IsQuiet, covers, stores_of}
+use Rattle.poptrie_update.specs.Fits.{Open, Fits}
 use Rattle.poptrie_update.specs.Past.{Past, retired_at}
 use Rattle.poptrie_update.specs.Renewals.{AgreeBeside, Renews, SetsAside, MeetsRenewal, MeetsNotRenewal, KeepsRenewal, Restores}
 use Rattle.poptrie_update.specs.Reasons.{Explains, IsReason}
@@ -49,7 +46,7 @@ use Rattle.poptrie_update.proofs.Changed_slots.{word_one, same_alike, alike_same
 use Rattle.poptrie_update.proofs.Fitting.{fits_all, prepare_fits}
 use Rattle.poptrie_update.proofs.Kept.{Grows, version_grown}
 use Rattle.poptrie_update.proofs.Lived.{seen_as}
-use Rattle.poptrie_update.proofs.Prepared.{prepared, quiet_version}
+use Rattle.poptrie_update.proofs.Prepared.{quiet_version}
 use Rattle.poptrie_update.proofs.Read_on.{reads_again}
 use Rattle.poptrie_update.proofs.Restored.{taken_held}
 use Rattle.poptrie_update.proofs.Safe.{safe_out}

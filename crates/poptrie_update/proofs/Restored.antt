@@ -1,11 +1,10 @@
 -- Blocks that were taken are given back: the arena is as it was, but for what its free places hold.
-use Rattle.std.proofs.Common.{◌≡◌, ℕ, zero, suc, ◌+◌, ◌^◌, ◌<◌, ◌≤◌, List, [], ◌∷◌, ◌++◌, Bool, true, false, length, get_or, refl, sym, ap, ◌∙◌, arith, subst}
-use Rattle.std.specs.Prelude.{not}
+use Rattle.std.proofs.Common.{◌≡◌, ℕ, suc, ◌^◌, ◌≤◌, List, [], ◌∷◌, ◌++◌, Bool, true, false, length, get_or, refl, sym, ap, ◌∙◌, arith, subst}
 use Rattle.buddy_arena.specs.Space.{Space, IsSized}
 use Rattle.buddy_arena.specs.Space as arena
-use Rattle.block_pool.specs.Places.{count_free, is_out, since}
+use Rattle.block_pool.specs.Places.{is_out, since}
 use Rattle.block_pool.specs.Arrays.{Array, AreApart, places_of}
-use Rattle.block_pool.specs.Blocks.{Held, Gives, AreHeldIn, blocks_of}
+use Rattle.block_pool.specs.Blocks.{Held, Gives, blocks_of}
 use Rattle.block_pool.proofs.Parting.{since_not}
 use Rattle.block_pool.proofs.Sets.{among_in, not_among}
 use Rattle.poptrie_copy.specs.Changes.{Gains}

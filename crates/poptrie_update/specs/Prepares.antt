@@ -1,5 +1,5 @@
 -- An update that is made ready.
-use Rattle.std.specs.Prelude.{◌≡◌, ◌↔◌, ℕ, ◌^◌, ◌<◌, List, Bool, false, take}
+use Rattle.std.specs.Prelude.{◌≡◌, ◌↔◌, ℕ, ◌^◌, ◌<◌, List, false, take}
 use Rattle.address_model.specs.Address.{Address, Prefix, IsAddress, contains}
 use Rattle.address_model.specs.Bits.{bits_of}
 use Rattle.address_model.specs.declared.family.Family.{Family}

@@ -1,5 +1,5 @@
-use Rattle.std.proofs.Common.{rules, ℕ, List, Bool, ◌≡◌, ◌+◌, ◌-◌, ◌*◌, ◌/◌, ◌%◌, ◌^◌, ◌<◌, ◌≤◌, refl, sym, ap, ◌∙◌, arith, subst}
-use Rattle.std.specs.Prelude.{[], slice_index}
+use Rattle.std.proofs.Common.{rules, ℕ, List, Bool, ◌≡◌, ◌+◌, ◌-◌, ◌*◌, ◌/◌, ◌%◌, ◌^◌, ◌<◌, ◌≤◌, refl, ap, arith, subst}
+use Rattle.std.specs.Prelude.{slice_index}
 use Rattle.address_model.specs.Width.{width}
 use Rattle.fib_addr.specs.Views.{prefix_as}
 use Rattle.poptrie_copy.specs.Words.{IsWord}

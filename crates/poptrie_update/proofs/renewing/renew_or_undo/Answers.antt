@@ -1,4 +1,4 @@
-use Rattle.std.proofs.Common.{◌≡◌, List, [], ap, ◌∙◌}
+use Rattle.std.proofs.Common.{ap}
 use Rattle.block_pool.specs.Blocks.{Held}
 use Rattle.poptrie_build.specs.Stands.{blank}
 use Rattle.poptrie_update.proofs.Ready.{undone}

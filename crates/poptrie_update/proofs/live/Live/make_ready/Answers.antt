@@ -1,4 +1,4 @@
-use Rattle.std.proofs.Common.{◌≡◌, ℕ, List, Bool, true, false, ◌-◌, ◌<◌, ◌^◌, refl, sym, ap, ◌∙◌, arith, subst}
+use Rattle.std.proofs.Common.{◌≡◌, ℕ, List, true, false, ◌-◌, sym, ap, ◌∙◌, subst}
 use Rattle.address_model.specs.Width.{width}
 use Rattle.block_pool.specs.Places.{is_out}
 use Rattle.block_pool.specs.Blocks.{blocks_of}
@@ -10,7 +10,7 @@ use Rattle.poptrie_update.specs.Lives.{Living, Shows, stores_of}
 use Rattle.poptrie_update.specs.Fits.{Fits}
 use Rattle.poptrie_update.specs.Prepares.{StoresChanges, AsksRun, AsksRunOut}
 use Rattle.poptrie_update.proofs.Lived.{seen_as}
-use Rattle.poptrie_update.proofs.Ready.{agree_beside, words_are, Renewed, ready_is, ready_fits, ready_held, ready_asks, ready_shows, ready_changes, ready_kept, back_is, back_shows, back_fits, back_kept, quiet_held, refused_reason}
+use Rattle.poptrie_update.proofs.Ready.{agree_beside, words_are, Renewed, ready_is, ready_fits, ready_held, ready_asks, ready_shows, ready_changes, ready_kept, back_shows, back_fits, back_kept, refused_reason}
 use Rattle.poptrie_update.proofs.Prepared.{quiet_version}
 use Rattle.poptrie_copy.specs.Words.{IsWord}
 use Rattle.std.specs.Prelude.{slice_index}

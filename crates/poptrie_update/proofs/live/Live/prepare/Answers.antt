@@ -1,15 +1,14 @@
-use Rattle.std.proofs.Common.{◌≡◌, ℕ, sym, ap, ◌∙◌, arith, subst}
+use Rattle.std.proofs.Common.{◌≡◌, ℕ, sym, ap, ◌∙◌, subst}
 use Rattle.address_model.specs.declared.family.Family.{Family}
 use Rattle.table_model.specs.Entries.{Entries}
 use Rattle.fib_addr.specs.Views.{prefix_as}
 use Rattle.fib_regions.specs.Answers.{all_answers}
 use Rattle.poptrie_build.specs.Tries.{node_need, leaf_need}
 use Rattle.poptrie_copy.specs.Asks.{Runs}
-use Rattle.poptrie_update.specs.Lives.{Living, Shows}
+use Rattle.poptrie_update.specs.Lives.{Shows}
 use Rattle.poptrie_update.specs.Fits.{until}
 use Rattle.poptrie_update.specs.Reasons.{IsReason}
 use Rattle.poptrie_update.specs.Prepares.{AgreeOutside, StoresChanges, asks_of, AsksRunOut, AsksRefused}
-use Rattle.poptrie_update.specs.declared.reasons.NotReady.{NotReady}
 use Rattle.poptrie_update.proofs.Ready.{ok_map, err_map, err_both, past_same}
 use Rattle.poptrie_update.proofs.live.Live.prepare.Goals as goal
 
