@@ -8,7 +8,8 @@ mod down;
 mod rows;
 mod table;
 
-pub use down::{fresh, within};
+pub use down::{fresh, least_table, within};
+pub use rows::certify;
 pub use table::Fresh;
 
 #[cfg(test)]
