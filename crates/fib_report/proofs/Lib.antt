@@ -1,3 +1,4 @@
 mod Joined
 mod Loops
 mod Proper
+pub mod Sections

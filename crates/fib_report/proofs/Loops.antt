@@ -57,15 +57,6 @@ known : (o : Option (List ℕ)) (rows : List ℕ) → Appends (Some []) o rows �
 known None rows h = absurd h
 known (Some text) rows h = ap Some h
 
--- lists of rows, one after the other
-two : {W : Type 0} (contents : W → Option (List ℕ)) (u v w : Writer W) (a b : List PrintedRow)
-    → AddsRows contents u v (text_of a) → AddsRows contents v w (text_of b) → AddsRows contents u w (text_of (a ++ b))
-two contents u v w a b p q = subst (AddsRows contents u w) (sym (flat_map-append line_of a b)) (AddsRows-more contents u v w _ _ p q)
-
-pub AddsRows-four : {W : Type 0} (contents : W → Option (List ℕ)) (u v w x y : Writer W) (a b c d : List PrintedRow)
-    → AddsRows contents u v (text_of a) → AddsRows contents v w (text_of b) → AddsRows contents w x (text_of c) → AddsRows contents x y (text_of d) → AddsRows contents u y (text_of (a ++ b ++ c ++ d))
-AddsRows-four contents u v w x y a b c d p q r s = two contents u x y (a ++ b ++ c) d (two contents u w x (a ++ b) c (two contents u v w a b p q) r) s
-
 -- one row
 pub AddsRows-one : {W : Type 0} (contents : W → Option (List ℕ)) (u v : Writer W) (a : PrintedRow) → AddsRows contents u v (line_of a) → AddsRows contents u v (text_of (a ∷ []))
 AddsRows-one contents u v a p = subst (AddsRows contents u v) (sym (one_row a)) p

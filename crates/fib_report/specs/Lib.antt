@@ -1,3 +1,4 @@
 pub mod Views
 pub mod Rows
 pub mod Writing
+pub mod Sections

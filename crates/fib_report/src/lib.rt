@@ -13,9 +13,13 @@ mod fields;
 mod printed_row;
 mod rows;
 mod run;
+mod run_text;
 #[cfg(test)]
 mod tests;
+mod whole_run;
 
 pub use fields::{family_field, hop_field};
-pub use rows::{report_text, row_text, write_run};
+pub use rows::{report_text, row_text};
 pub use run::{Answer, Report, Run};
+pub use run_text::RunText;
+pub use whole_run::write_run;

@@ -13,8 +13,7 @@
 //!     report,NAME,COUNT            for records, skipped, events, routes, entries, nodes, leaves and treated
 //!
 //! HOP is the hop's address. Where no hop has the number it is `none` in an answer and a leaf, and `drop` in a change and a
-//! table; a route without a hop has no row. A run costs its rows' length, in one text of its own, which is then put behind the
-//! caller's.
+//! table; a route without a hop has no row.
 
 ghost use Rattle.std.specs.Prelude.{◌≡◌, ◌≤◌, [], ◌++◌, flat_map, length, map, IfOk, OnOk, OnErr, Some};
 ghost use Rattle.std.specs.List.{AllByRecursion};
@@ -68,7 +67,7 @@ fn change_row(event: u64, change: &Change, hops: &HopTable) -> PrintedRow
 }
 
 /// The row of a part of a certificate.
-fn cert_row(row: &Row, hops: &HopTable) -> PrintedRow
+pub(crate) fn cert_row(row: &Row, hops: &HopTable) -> PrintedRow
     ensures { printed_row_as result ≡ of_cert hops.now.list (row_as row.now) }
 {
     match *row {
@@ -79,7 +78,7 @@ fn cert_row(row: &Row, hops: &HopTable) -> PrintedRow
 }
 
 /// Writes routes.
-fn put_routes<W: Write + Drop>(
+pub(crate) fn put_routes<W: Write + Drop>(
     out: &mut Writer<W>,
     routes: &[Entry],
     hops: &HopTable,
@@ -97,7 +96,7 @@ fn put_routes<W: Write + Drop>(
 }
 
 /// Writes changes.
-fn put_changes<W: Write + Drop>(
+pub(crate) fn put_changes<W: Write + Drop>(
     out: &mut Writer<W>,
     changes: &[(u64, Change)],
     hops: &HopTable,
@@ -133,7 +132,7 @@ fn put_lookup<W: Write + Drop>(
 }
 
 /// Writes answers.
-fn put_answers<W: Write + Drop>(
+pub(crate) fn put_answers<W: Write + Drop>(
     out: &mut Writer<W>,
     answers: &[Answer],
     hops: &HopTable,
@@ -151,7 +150,7 @@ fn put_answers<W: Write + Drop>(
 }
 
 /// Writes the table.
-fn put_table<W: Write + Drop>(
+pub(crate) fn put_table<W: Write + Drop>(
     out: &mut Writer<W>,
     table: &[Entry],
     hops: &HopTable,
@@ -169,7 +168,7 @@ fn put_table<W: Write + Drop>(
 }
 
 /// Writes the least table.
-fn put_least<W: Write + Drop>(
+pub(crate) fn put_least<W: Write + Drop>(
     out: &mut Writer<W>,
     least: &[Entry],
     hops: &HopTable,
@@ -187,7 +186,7 @@ fn put_least<W: Write + Drop>(
 }
 
 /// Writes the certificate.
-fn put_cert<W: Write + Drop>(
+pub(crate) fn put_cert<W: Write + Drop>(
     out: &mut Writer<W>,
     cert: &[Row],
     hops: &HopTable,
@@ -205,7 +204,10 @@ fn put_cert<W: Write + Drop>(
 }
 
 /// Writes the counts.
-fn put_report<W: Write + Drop>(out: &mut Writer<W>, report: &Report) -> Result<(), AllocError>
+pub(crate) fn put_report<W: Write + Drop>(
+    out: &mut Writer<W>,
+    report: &Report,
+) -> Result<(), AllocError>
     requires { IsAtRow out.old }
     ensures added { OnOk result (AddsRows W.contents out.old out.new
         (text_of (report_rows report.now))) }
@@ -223,7 +225,7 @@ fn put_report<W: Write + Drop>(out: &mut Writer<W>, report: &Report) -> Result<(
 }
 
 /// A writer of rows into memory.
-fn row_writer(alloc: Global) -> Writer<Vec<u8>>
+pub(crate) fn row_writer(alloc: Global) -> Writer<Vec<u8>>
     ensures at { IsAtRow result }
     ensures empty { text_written (λ v. Some v.items) result ≡ Some [] }
 {
@@ -252,45 +254,4 @@ pub fn report_text(alloc: Global, report: &Report) -> Result<Vec<u8>, AllocError
     let mut out = row_writer(alloc);
     put_report(&mut out, report)?;
     out.into_inner().map_err(|_| AllocError)
-}
-
-/// The text of a run.
-fn text_of_run(alloc: Global, run: &Run, hops: &HopTable) -> Result<Vec<u8>, AllocError>
-    ensures text { IfOk result (λ text. text.items ≡ run_text hops.now.list (run_as run.now)) }
-    ensures proper { OnOk result (AllByRecursion IsRow (printed_rows hops.now.list
-        (run_as run.now))) }
-{
-    let mut out = row_writer(alloc);
-    put_routes(&mut out, &run.routes, hops)?;
-    put_changes(&mut out, &run.changes, hops)?;
-    put_answers(&mut out, &run.answers, hops)?;
-    put_table(&mut out, &run.table, hops)?;
-    put_least(&mut out, &run.least, hops)?;
-    put_cert(&mut out, &run.cert, hops)?;
-    put_report(&mut out, &run.report)?;
-    out.into_inner().map_err(|_| AllocError)
-}
-
-/// Appends the rows of a run to a text: first the routes, then the changes, the answers, the table, the least table, its certificate
-/// and the report. Where the hop table does not hold a hop's number, an answer and a leaf say `none`, a change and a table `drop`,
-/// and a route has no row. An `Err` changes nothing and means that memory ran out, as does each failure of csv's writer, which
-/// writes to memory here. Each row that was written is one that a checker reads as it is.
-pub fn write_run(
-    alloc: Global,
-    out: &mut Vec<u8>,
-    run: &Run,
-    hops: &HopTable,
-) -> Result<(), AllocError>
-    ensures ok { OnOk result (out.new.items ≡ out.old.items
-        ++ run_text hops.now.list (run_as run.now)) }
-    ensures err { OnErr result (out.new.items ≡ out.old.items) }
-    ensures proper { OnOk result (AllByRecursion IsRow (printed_rows hops.now.list
-        (run_as run.now))) }
-{
-    let text = text_of_run(alloc, run, hops)?;
-    if out.is_empty() {
-        *out = text;
-        return Ok(());
-    }
-    out.extend_from_slice(&text)
 }

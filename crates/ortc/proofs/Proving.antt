@@ -1,6 +1,5 @@
 -- The rows of regions.
-use Rattle.std.proofs.Common.{◌≡◌, ◌≢◌, ℕ, zero, suc, ◌+◌, ◌-◌, List, [], ◌∷◌, ◌++◌, Bool, true, false, None, length, map, refl, sym, ap, ◌∙◌, arith, append_assoc}
-use Rattle.std.proofs.lemmas.List.{map-append}
+use Rattle.std.proofs.Common.{◌≡◌, ◌≢◌, ℕ, zero, suc, ◌+◌, ◌-◌, List, [], ◌∷◌, ◌++◌, Bool, true, false, None, length, refl, sym, ap, subst, ◌∙◌, arith}
 use Rattle.address_model.specs.Address.{Prefix}
 use Rattle.address_model.specs.Width.{width}
 use Rattle.address_model.specs.Regions.{half_at}
@@ -17,15 +16,9 @@ use Rattle.cert_model.specs.Right.{bound_by}
 use Rattle.cert_model.proofs.Answers.{one_answer_from}
 use Rattle.cert_model.proofs.Postorder.{have_bound, few}
 use Rattle.orig_tree.proofs.Telling.{whole_len}
-use Rattle.cert_rows.specs.Views.{row_as}
-use Rattle.cert_rows.specs.declared.row.Row as code_row
 use Rattle.orig_tree.specs.Spots.{Spot, answers_in}
 use Rattle.least_model.proofs.Cost.{set_alike, k_alike}
 use Rattle.ortc.proofs.Alike.{rows_alike, two_answers, some_bit, half_answers}
-
--- a row behind those that there are
-pub pushed : (x : code_row.Row) (xs ys : List code_row.Row) → ys ≡ xs ++ x ∷ [] → map row_as ys ≡ map row_as xs ++ row_as x ∷ []
-pushed x xs ys e = ap (map row_as) e ∙ map-append row_as xs (x ∷ [])
 
 -- the rows of a region with one answer
 rows_leaf : (d : ℕ) (f : List Bool → ℕ) (h : ℕ) (p : Prefix) → ((a : List Bool) → length a ≡ d → f a ≡ h) → region_rows d f p ≡ leaf_row p h ∷ []
@@ -34,59 +27,13 @@ rows_leaf zero f h p e = ap (λ x. leaf_row p x ∷ []) (e [] refl)
 rows_leaf (suc d) f h p e =
     ap (λ o. leaf_or o p (region_rows d (side false f) (half_at false p) ++ (region_rows d (side true f) (half_at true p) ++ (join_row p (k_of (suc d) f) ∷ [])))) (one_answer_from (suc d) f h e)
 
-pub listed_leaf : (p : Prefix) (d : ℕ) (f : List Bool → ℕ) (h : ℕ) (X Y : List CertRow) → ((a : List Bool) → length a ≡ d → f a ≡ h) → Y ≡ X ++ leaf_row p h ∷ [] → Y ≡ X ++ region_rows d f p
-listed_leaf p d f h X Y u y = y ∙ ap (λ z. X ++ z) (sym (rows_leaf d f h p u))
-
 -- and with more than one
 rows_join : (d : ℕ) (f : List Bool → ℕ) (p : Prefix) → one_answer (suc d) f ≡ None → region_rows (suc d) f p ≡ region_rows d (side false f) (half_at false p) ++ (region_rows d (side true f) (half_at true p) ++ (join_row p (k_of (suc d) f) ∷ []))
 unfolding region_rows
 rows_join d f p e = ap (λ o. leaf_or o p (region_rows d (side false f) (half_at false p) ++ (region_rows d (side true f) (half_at true p) ++ (join_row p (k_of (suc d) f) ∷ [])))) e
 
-rows_more : (d k : ℕ) (f : List Bool → ℕ) (p : Prefix) (X Y Z W : List CertRow) → one_answer (suc d) f ≡ None → k ≡ k_of (suc d) f
-    → Y ≡ X ++ region_rows d (side false f) (half_at false p)
-    → Z ≡ Y ++ region_rows d (side true f) (half_at true p)
-    → W ≡ Z ++ join_row p k ∷ []
-    → W ≡ X ++ region_rows (suc d) f p
-rows_more d k f p X Y Z W n e y z w =
-    let A = region_rows d (side false f) (half_at false p) in
-    let B = region_rows d (side true f) (half_at true p) in
-    let C : List CertRow = join_row p (k_of (suc d) f) ∷ [] in
-    w ∙ (ap (λ x. Z ++ join_row p x ∷ []) e ∙ (ap (λ x. x ++ C) (z ∙ ap (λ x. x ++ B) y) ∙ (append_assoc (X ++ A) B C ∙ (append_assoc X A (B ++ C) ∙ ap (λ x. X ++ x) (sym (rows_join d f p n))))))
-
--- what a half's rows are
-rows_half : (p q : code.Prefix) (s t : Spot) (b : Bool) (e : ℕ) (Y Z : List CertRow) → suc t.bits ≡ s.bits → suc e ≡ s.bits → t.routes ≡ half b s.routes → t.hop ≡ inherit (root s.routes) s.hop → prefix_as q ≡ half_at b (prefix_as p)
-    → Z ≡ Y ++ region_rows t.bits (answers_in t) (prefix_as q) → Z ≡ Y ++ region_rows e (side b (answers_in s)) (half_at b (prefix_as p))
-rows_half p q s t b e Y Z n m r h k z =
-    let is : t.bits ≡ e = omega (arith, n, m) in
-    z ∙ ap (λ x. Y ++ x) (rows_alike t.bits (answers_in t) (side b (answers_in s)) (prefix_as q) (λ a u. half_answers s t b r h a) ∙ (ap (λ d. region_rows d (side b (answers_in s)) (prefix_as q)) is ∙ ap (region_rows e (side b (answers_in s))) k))
-
-pub listed_join : (p q r : code.Prefix) (s low high : Spot) (k : ℕ) (X Y Z W : List CertRow) → k_of s.bits (answers_in s) ≢ 0 → k ≡ k_of s.bits (answers_in s)
-    → suc low.bits ≡ s.bits → low.routes ≡ half false s.routes → low.hop ≡ inherit (root s.routes) s.hop
-    → suc high.bits ≡ s.bits → high.routes ≡ half true s.routes → high.hop ≡ inherit (root s.routes) s.hop
-    → prefix_as q ≡ half_at false (prefix_as p) → prefix_as r ≡ half_at true (prefix_as p)
-    → Y ≡ X ++ region_rows low.bits (answers_in low) (prefix_as q)
-    → Z ≡ Y ++ region_rows high.bits (answers_in high) (prefix_as r)
-    → W ≡ Z ++ join_row (prefix_as p) k ∷ []
-    → W ≡ X ++ region_rows s.bits (answers_in s) (prefix_as p)
-listed_join p q r s low high k X Y Z W some ke ln lr lh hn hr hh eq er y z w =
-    let f = answers_in s in
-    let P = prefix_as p in
-    let e = s.bits - 1 in
-    let n : suc e ≡ s.bits = omega (arith, some_bit s.bits f some) in
-    let one : one_answer (suc e) f ≡ None = ap (λ d. one_answer d f) n ∙ two_answers s.bits f some in
-    rows_more e k f P X Y Z W one (ke ∙ ap (λ d. k_of d f) (sym n)) (rows_half p q s low false e X Y ln n lr lh eq y) (rows_half p r s high true e Y Z hn n hr hh er z) w
-    ∙ ap (λ d. X ++ region_rows d f P) n
-
--- the rows of the whole, and the bound
-pub proved : (p : code.Prefix) (s : Spot) (n : ℕ) (E X Y : List CertRow) → E ≡ [] → n ≡ bound_by (set_of s.bits (answers_in s)) (k_of s.bits (answers_in s))
-    → X ≡ E ++ region_rows s.bits (answers_in s) (prefix_as p) → Y ≡ X ++ bound_row p.family n ∷ []
-    → Y ≡ region_rows s.bits (answers_in s) (prefix_as p) ++ bound_row p.family (bound_by (set_of s.bits (answers_in s)) (k_of s.bits (answers_in s))) ∷ []
-proved p s n E X Y e b x y =
-    let rows = region_rows s.bits (answers_in s) (prefix_as p) in
-    y ∙ (ap (λ z. z ++ bound_row p.family n ∷ []) (x ∙ ap (λ z. z ++ rows) e) ∙ ap (λ z. rows ++ bound_row p.family z ∷ []) b)
-
 -- the region of the whole space
-pub fresh_proved : (f : Family) (p : code.Prefix) (R : Entries) (s : Spot) (W : List CertRow) → prefix_as p ≡ record { family = f; bits = [] } → s.bits + p.len ≡ width f
+fresh_proved : (f : Family) (p : code.Prefix) (R : Entries) (s : Spot) (W : List CertRow) → prefix_as p ≡ record { family = f; bits = [] } → s.bits + p.len ≡ width f
     → ((a : List Bool) → answers_in s a ≡ answers (of_family f R) (prefix_as p).bits a)
     → W ≡ region_rows s.bits (answers_in s) (prefix_as p) ++ bound_row p.family (bound_by (set_of s.bits (answers_in s)) (k_of s.bits (answers_in s))) ∷ []
     → W ≡ family_rows f R
@@ -102,6 +49,55 @@ fresh_proved f p R s W e b g w =
     ∙ (ap (λ (x : Prefix). region_rows s.bits (answers T x.bits) x ++ bound_row x.family (bound_by (set_of s.bits (answers T x.bits)) (k_of s.bits (answers T x.bits))) ∷ []) e
     ∙ (ap (λ d. region_rows d (answers T []) (whole_prefix f) ++ bound_row f (bound_by (set_of d (answers T [])) (k_of d (answers T []))) ∷ []) n
     ∙ ap (λ d. region_rows (width f) (answers T []) (whole_prefix f) ++ bound_row f (bound_by (set_of d (answers T [])) (k_of d (answers T []))) ∷ []) z)))))
+
+-- what a half's rows are
+rows_half : (p q : code.Prefix) (s t : Spot) (b : Bool) (e : ℕ) → suc t.bits ≡ s.bits → suc e ≡ s.bits → t.routes ≡ half b s.routes → t.hop ≡ inherit (root s.routes) s.hop → prefix_as q ≡ half_at b (prefix_as p)
+    → region_rows t.bits (answers_in t) (prefix_as q) ≡ region_rows e (side b (answers_in s)) (half_at b (prefix_as p))
+rows_half p q s t b e n m r h k =
+    let is : t.bits ≡ e = omega (arith, n, m) in
+    rows_alike t.bits (answers_in t) (side b (answers_in s)) (prefix_as q) (λ a u. half_answers s t b r h a) ∙ (ap (λ d. region_rows d (side b (answers_in s)) (prefix_as q)) is ∙ ap (region_rows e (side b (answers_in s))) k)
+
+-- ---- who takes the rows
+
+module _ {S : Type 0} (Takes : S → List CertRow → S → Type 0) where
+  -- of a region with one answer
+  pub handed_leaf : (p : Prefix) (d : ℕ) (f : List Bool → ℕ) (h : ℕ) (X Y : S) → ((a : List Bool) → length a ≡ d → f a ≡ h) → Takes X (leaf_row p h ∷ []) Y → Takes X (region_rows d f p) Y
+  handed_leaf p d f h X Y u y = subst (λ rows. Takes X rows Y) (sym (rows_leaf d f h p u)) y
+
+  module _ (joins : (a b c : S) (rows more : List CertRow) → Takes a rows b → Takes b more c → Takes a (rows ++ more) c) where
+    -- of any other region
+    pub handed_join : (p q r : code.Prefix) (s low high : Spot) (k : ℕ) (X Y Z W : S) → k_of s.bits (answers_in s) ≢ 0 → k ≡ k_of s.bits (answers_in s)
+        → suc low.bits ≡ s.bits → low.routes ≡ half false s.routes → low.hop ≡ inherit (root s.routes) s.hop
+        → suc high.bits ≡ s.bits → high.routes ≡ half true s.routes → high.hop ≡ inherit (root s.routes) s.hop
+        → prefix_as q ≡ half_at false (prefix_as p) → prefix_as r ≡ half_at true (prefix_as p)
+        → Takes X (region_rows low.bits (answers_in low) (prefix_as q)) Y
+        → Takes Y (region_rows high.bits (answers_in high) (prefix_as r)) Z
+        → Takes Z (join_row (prefix_as p) k ∷ []) W
+        → Takes X (region_rows s.bits (answers_in s) (prefix_as p)) W
+    handed_join p q r s low high k X Y Z W some ke ln lr lh hn hr hh eq er y z w =
+        let f = answers_in s in
+        let P = prefix_as p in
+        let e = s.bits - 1 in
+        let n : suc e ≡ s.bits = omega (arith, some_bit s.bits f some) in
+        let one : one_answer (suc e) f ≡ None = ap (λ d. one_answer d f) n ∙ two_answers s.bits f some in
+        let A = region_rows e (side false f) (half_at false P) in
+        let B = region_rows e (side true f) (half_at true P) in
+        let C : List CertRow = join_row P (k_of (suc e) f) ∷ [] in
+        let first = subst (λ rows. Takes X rows Y) (rows_half p q s low false e ln n lr lh eq) y in
+        let second = subst (λ rows. Takes Y rows Z) (rows_half p r s high true e hn n hr hh er) z in
+        let last = subst (λ x. Takes Z (join_row P x ∷ []) W) (ke ∙ ap (λ d. k_of d f) (sym n)) w in
+        subst (λ d. Takes X (region_rows d f P) W) n (subst (λ rows. Takes X rows W) (sym (rows_join e f P one)) (joins X Y W A (B ++ C) first (joins Y Z W B C second last)))
+
+    -- of the whole space, and the bound
+    pub handed_all : (f : Family) (p : code.Prefix) (R : Entries) (s : Spot) (n : ℕ) (X Y Z : S) → prefix_as p ≡ record { family = f; bits = [] } → s.bits + p.len ≡ width f
+        → ((a : List Bool) → answers_in s a ≡ answers (of_family f R) (prefix_as p).bits a)
+        → n ≡ bound_by (set_of s.bits (answers_in s)) (k_of s.bits (answers_in s))
+        → Takes X (region_rows s.bits (answers_in s) (prefix_as p)) Y
+        → Takes Y (bound_row p.family n ∷ []) Z
+        → Takes X (family_rows f R) Z
+    handed_all f p R s n X Y Z e b g is rows bound =
+        let all : List CertRow = region_rows s.bits (answers_in s) (prefix_as p) ++ bound_row p.family n ∷ [] in
+        subst (λ xs. Takes X xs Z) (fresh_proved f p R s all e b g (ap (λ x. region_rows s.bits (answers_in s) (prefix_as p) ++ bound_row p.family x ∷ []) is)) (joins X Y Z (region_rows s.bits (answers_in s) (prefix_as p)) (bound_row p.family n ∷ []) rows bound)
 
 -- they prove a least table least
 pub certified : (f : Family) (R T : Entries) (rows : List CertRow) → rows ≡ family_rows f R → Least (width f) (of_family f R) (of_family f T) → ProveLeast f R T rows

@@ -21,7 +21,7 @@ ghost use Rattle.orig_tree.specs.Spots.{answers_in};
 ghost use Rattle.ortc.specs.Proved.{ProveLeast};
 ghost use Rattle.ortc.specs.Tables.{IsAggregateOf};
 
-use crate::rows::prove;
+use crate::rows::certify;
 use crate::table::Fresh;
 use fib_addr::{Entry, Hop, Prefix, push_entry};
 use orig_tree::{Region, Tree};
@@ -116,8 +116,28 @@ pub fn within(
 }
 
 /// The least table with the answers of the tree's routes: of all such tables the one that the best hops fix, with the
-/// tree's entries as the old table, in the order of prefixes; and the rows that prove it least. It costs the tree's nodes:
-/// what is best for them they keep.
+/// tree's entries as the old table, in the order of prefixes. It costs the tree's nodes: what is best for them they keep.
+///
+/// # Errors
+///
+/// No memory.
+pub fn least_table(alloc: Global, tree: &Tree) -> Result<Vec<Entry>, AllocError>
+    ensures aggregate { IfOk result (λ v. map entry_as v.items
+        ≡ aggregate_in tree.now.family tree.now.routes tree.now.entries) }
+    ensures best { IfOk result (λ v. IsAggregateOf tree.now [] 0 (map entry_as v.items)) }
+    ensures order { IfOk result (λ v. IsStrictlySortedBy prefix_cmp
+        (keys_of (map entry_as v.items))) }
+    ensures least { IfOk result (λ v. Least (width tree.now.family)
+        (of_family tree.now.family tree.now.routes) (of_family tree.now.family
+        (map entry_as v.items))) }
+{
+    let whole = Prefix::whole(tree.family());
+    let mut table = Vec::new(alloc);
+    descend(&tree.region(&whole), Hop::NONE.0, whole, &mut table)?;
+    Ok(table)
+}
+
+/// The least table, and the rows that prove it least, as lists.
 ///
 /// # Errors
 ///
@@ -136,10 +156,8 @@ pub fn fresh(alloc: Global, tree: &Tree) -> Result<Fresh, AllocError>
     ensures certificate { IfOk result (λ v. ProveLeast tree.now.family tree.now.routes
         (map entry_as v.table.items) (map row_as v.proof.items)) }
 {
-    let whole = Prefix::whole(tree.family());
-    let region = tree.region(&whole);
-    let mut table = Vec::new(alloc);
-    descend(&region, Hop::NONE.0, whole, &mut table)?;
-    let proof = prove(alloc, &region, whole)?;
+    let table = least_table(alloc, tree)?;
+    let mut proof = Vec::new(alloc);
+    certify(tree, &mut proof)?;
     Ok(Fresh { table, proof })
 }

@@ -8,7 +8,8 @@ mod down;
 mod rows;
 mod table;
 
-pub use down::{fresh, own_hop, within};
+pub use down::{fresh, least_table, own_hop, within};
+pub use rows::certify;
 pub use table::Fresh;
 
 #[cfg(test)]

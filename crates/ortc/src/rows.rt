@@ -1,38 +1,39 @@
 //! The rows that prove a table least.
 //!
 //! A region that is a leaf has a leaf row; any other has the rows of its lower half, those of its upper half, and a join row.
-//! There is one row for each region, and one for the bound.
+//! There is one row for each region, and one for the bound. Rows are handed on one by one: no list of them is made here.
 
-ghost use Rattle.std.specs.Prelude.{◌≡◌, ◌+◌, ℕ, ◌++◌, List, Bool, [], ◌∷◌, map, IfOk, OnOk};
+ghost use Rattle.std.specs.Prelude.{◌≡◌, ◌+◌, ℕ, ◌++◌, List, Bool, [], ◌∷◌, IfOk, OnOk};
 ghost use Rattle.address_model.specs.Width.{width};
 ghost use Rattle.least_model.specs.Sets.{set_of, k_of};
-ghost use Rattle.cert_model.specs.Rows.{bound_row, region_rows};
+ghost use Rattle.cert_model.specs.Rows.{bound_row, family_rows, region_rows};
 ghost use Rattle.cert_model.specs.Right.{bound_by};
 ghost use Rattle.fib_addr.specs.Views.{prefix_as};
-ghost use Rattle.cert_rows.specs.Views.{row_as};
 ghost use Rattle.orig_tree.specs.Spots.{answers_in};
 
-use cert_rows::Row;
+use cert_rows::{Row, RowSink};
 use fib_addr::{Hop, Prefix};
-use orig_tree::Region;
-use std::alloc::{AllocError, Global};
+use orig_tree::{Region, Tree};
+use std::alloc::AllocError;
 
-/// The rows of the region of a prefix, behind those that there are.
-fn list_rows(region: &Region<'_>, prefix: Prefix, out: &mut Vec<Row>) -> Result<(), AllocError>
-    requires { region.now.bits + prefix.len ≡ width prefix.family }
-    ensures { OnOk result (map row_as out.new.items ≡ map row_as out.old.items ++ region_rows
-        region.now.bits (answers_in region.now) (prefix_as prefix)) }
+/// Hands on the rows of the region of a prefix.
+fn hand_rows<S: RowSink>(region: &Region<'_>, prefix: Prefix, out: &mut S) -> Result<(), AllocError>
+    requires bits { region.now.bits + prefix.len ≡ width prefix.family }
+    requires ready { S.ready out.old }
+    ensures ready { OnOk result (S.ready out.new) }
+    ensures takes { OnOk result (S.takes out.old (region_rows region.now.bits
+        (answers_in region.now) (prefix_as prefix)) out.new) }
 {
     if let Some(hop) = region.leaf() {
-        out.push(Row::Leaf(prefix, Hop(hop)))?;
+        out.put(Row::Leaf(prefix, Hop(hop)))?;
         return Ok(());
     }
     if prefix.len == prefix.family.width() {
         return Ok(());
     }
-    list_rows(&region.half(false), prefix.half(false), out)?;
-    list_rows(&region.half(true), prefix.half(true), out)?;
-    out.push(Row::Join(prefix, region.k()))?;
+    hand_rows(&region.half(false), prefix.half(false), out)?;
+    hand_rows(&region.half(true), prefix.half(true), out)?;
+    out.put(Row::Join(prefix, region.k()))?;
     Ok(())
 }
 
@@ -47,16 +48,22 @@ fn bound_of(region: &Region<'_>) -> Result<u64, AllocError>
     region.k().checked_add(1).ok_or(AllocError)
 }
 
-/// The rows of the region of a whole family, and its bound.
-pub fn prove(alloc: Global, region: &Region<'_>, whole: Prefix) -> Result<Vec<Row>, AllocError>
-    requires { region.now.bits + whole.len ≡ width whole.family }
-    ensures { IfOk result (λ v. map row_as v.items ≡ region_rows region.now.bits
-        (answers_in region.now) (prefix_as whole) ++ bound_row whole.family (bound_by
-        (set_of region.now.bits (answers_in region.now)) (k_of region.now.bits
-        (answers_in region.now))) ∷ []) }
+/// Hands on the rows that prove how many entries a least table with the answers of the tree's routes has: those of the regions,
+/// the lower half's and the upper half's before a region's own, and the bound. It costs the tree's nodes, and takes no memory
+/// of its own: what is best for the nodes they keep.
+///
+/// # Errors
+///
+/// No memory; then a front of the rows was taken.
+pub fn certify<S: RowSink>(tree: &Tree, out: &mut S) -> Result<(), AllocError>
+    requires { S.ready out.old }
+    ensures ready { OnOk result (S.ready out.new) }
+    ensures takes { OnOk result (S.takes out.old (family_rows tree.now.family tree.now.routes)
+        out.new) }
 {
-    let mut rows = Vec::new(alloc);
-    list_rows(region, whole, &mut rows)?;
-    rows.push(Row::Bound(whole.family, bound_of(region)?))?;
-    Ok(rows)
+    let whole = Prefix::whole(tree.family());
+    let region = tree.region(&whole);
+    hand_rows(&region, whole, out)?;
+    out.put(Row::Bound(whole.family, bound_of(&region)?))?;
+    Ok(())
 }

@@ -24,10 +24,11 @@ use crate::idle::{trim_at, trim_left};
 use crate::plan::plan_moves;
 use crate::repair::{Moved, Repair};
 use crate::routes::{former_prefix, planned_prefix, put_back_planned, set, set_planned};
+use cert_rows::RowSink;
 use fib_addr::{Entry, Family, Hop, Prefix};
 use fib_delta::Change;
 use orig_tree::Tree;
-use ortc::{Fresh, fresh};
+use ortc::{Fresh, certify, fresh, least_table};
 use std::alloc::{AllocError, Global};
 use std::marker::Model;
 
@@ -236,6 +237,32 @@ impl Keep {
             (map entry_as v.table.items) (map row_as v.proof.items)) }
     {
         fresh(self.alloc, &self.tree)
+    }
+
+    /// The least table of the routes alone, with the kept one as the old table.
+    ///
+    /// # Errors
+    ///
+    /// No memory.
+    pub fn least_table(&self) -> Result<Vec<Entry>, AllocError>
+        ensures { IfOk result (λ v. map entry_as v.items
+            ≡ aggregate_in self.now.family self.now.routes self.now.entries) }
+    {
+        least_table(self.alloc, &self.tree)
+    }
+
+    /// Hands on the rows that prove a table of the routes least, one by one.
+    ///
+    /// # Errors
+    ///
+    /// No memory; then a front of the rows was taken.
+    pub fn certify<S: RowSink>(&self, out: &mut S) -> Result<(), AllocError>
+        requires { S.ready out.old }
+        ensures ready { OnOk result (S.ready out.new) }
+        ensures takes { OnOk result (S.takes out.old
+            (family_rows self.now.family self.now.routes) out.new) }
+    {
+        certify(&self.tree, out)
     }
 
     /// The tree of the routes and the table's entries.

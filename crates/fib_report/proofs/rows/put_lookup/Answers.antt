@@ -1,4 +1,4 @@
-use Rattle.std.proofs.Common.{List, [], ◌∷◌, ap, subst}
+use Rattle.std.proofs.Common.{[], ◌∷◌, ap, subst}
 use Rattle.fib_addr.specs.Hops.{hop_at}
 use Rattle.fib_addr.specs.Views.{addr_as}
 use Rattle.printed_model.specs.Rows.{PrintedRow, answer_row, visits_row, line_of}
