@@ -40,7 +40,7 @@ use Rattle.poptrie_update.specs.Renewals.{AgreeBeside, Renews, SetsAside, MeetsR
 use Rattle.poptrie_update.specs.Reasons.{Explains, IsReason}
 use Rattle.poptrie_update.specs.Prepares.{AgreeOutside, SameAt, StoresChanges, asks_of}
 use Rattle.poptrie_update.specs.declared.reasons.NotReady.{NotReady}
-use Rattle.poptrie_update.specs.declared.reasons.NotReady.TheVariants as not
+use Rattle.poptrie_update.specs.declared.reasons.NotReady.TheVariants as why
 use Rattle.poptrie_update.proofs.Copied_version.{applied, version_row, copied_version, copied_shows, gains_grow, not_covered}
 use Rattle.poptrie_update.proofs.Changed_slots.{word_one, same_alike, alike_same_at, stored_there}
 use Rattle.poptrie_update.proofs.Fitting.{fits_all, prepare_fits}
@@ -268,10 +268,10 @@ module _ (f : Family) (s : ℕ) (words : List ℕ) (nodes nodes2 : Space Node) (
 
 -- ---- why
 pub reason_is : (e : NotReady) (r : Refusal) (asks : List Ask) (s : Space Node) (t : Space ℕ) (n l : ℕ) → Explains e r n l (2 ^ s.order) (2 ^ t.order) → IsOut s.order t.order asks (s.free, t.free) r → IsReason e asks s t n l
-reason_is not.Memory r asks s t n l x o = tt
-reason_is (not.TooMuch f) r asks s t n l x o = x
-reason_is (not.NodesOut f) r asks s t n l x o = (x.1, x.2, subst (λ (z : Refusal). IsOut s.order t.order asks (s.free, t.free) z) x.0 o)
-reason_is (not.LeavesOut f) r asks s t n l x o = (x.1, x.2, subst (λ (z : Refusal). IsOut s.order t.order asks (s.free, t.free) z) x.0 o)
+reason_is why.Memory r asks s t n l x o = tt
+reason_is (why.TooMuch f) r asks s t n l x o = x
+reason_is (why.NodesOut f) r asks s t n l x o = (x.1, x.2, subst (λ (z : Refusal). IsOut s.order t.order asks (s.free, t.free) z) x.0 o)
+reason_is (why.LeavesOut f) r asks s t n l x o = (x.1, x.2, subst (λ (z : Refusal). IsOut s.order t.order asks (s.free, t.free) z) x.0 o)
 
 -- nothing is pending, and no block is held but the retired ones
 pub quiet_held : (stores : List Stored) (made : ℕ) (a b : Held) → IsQuiet stores made a b → (a ≡ cancelled a) × (b ≡ cancelled b)
