@@ -253,7 +253,7 @@ static void time_v6(size_t count)
 
 int main(int argc, char **argv)
 {
-    char *eal[] = { argv[0], "--no-huge", "--no-pci", "-m", "3072", "--no-shconf", "--no-telemetry", "--log-level=1", "-l", "0" };
+    char *eal[] = { argv[0], "--no-huge", "--no-pci", "-m", "6144", "--no-shconf", "--no-telemetry", "--log-level=1", "-l", "0" };
     if (rte_eal_init(sizeof eal / sizeof *eal, eal) < 0)
         die("DPDK doesn't start");
     if (argc == 4 && strcmp(argv[1], "answers") == 0) {

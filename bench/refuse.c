@@ -1,5 +1,6 @@
 /* Refuses one growth of a run: of the blocks of memory that a program asks for once it runs, the one whose number stands in REFUSE,
- * from 1, isn't given. Where it was reached, an octet goes to descriptor 3. To be preloaded: bench/refuse_growths.py does so. */
+ * from 1, isn't given. Where it was reached, an octet goes to the descriptor in REFUSED. To be preloaded: bench/refuse_growths.py
+ * does so. */
 #include <errno.h>
 #include <stddef.h>
 #include <stdlib.h>
@@ -11,16 +12,19 @@ extern void *__libc_realloc(void *, size_t);
 extern void *__libc_memalign(size_t, size_t);
 
 static long left;
+static int told;
 
 __attribute__((constructor)) static void arm(void) {
     const char *number = getenv("REFUSE");
-    left = number ? atol(number) : 0;
+    const char *descriptor = getenv("REFUSED");
+    left = number && descriptor ? atol(number) : 0;
+    told = left ? atoi(descriptor) : -1;
 }
 
 static int is_refused(void) {
     if (left == 0 || --left != 0)
         return 0;
-    if (write(3, "r", 1) != 1)
+    if (write(told, "r", 1) != 1)
         abort();
     errno = ENOMEM;
     return 1;

@@ -1,8 +1,9 @@
 #!/usr/bin/env python3
 """Refuses each growth of some runs in turn: python3 bench/refuse_growths.py PROGRAM
 
-Every run ends with status 9 and writes nothing to standard output, or it ends as it does where memory suffices. Needs a C
-compiler (cc) and the GNU C library; bench/refuse.c is what refuses."""
+Every run ends with status 9 and writes nothing to standard output, or it ends as it does where memory suffices; where the growth
+is one that opening a file takes, it ends with status 3 and writes nothing. Needs a C compiler (cc) and the GNU C library;
+bench/refuse.c is what refuses."""
 
 import os
 import subprocess
@@ -12,6 +13,7 @@ import tempfile
 HERE = os.path.dirname(os.path.abspath(__file__))
 EXAMPLES = os.path.join(HERE, "..", "examples")
 NO_MEMORY = 9
+READ_FAULT = 3
 
 PEERS = "00000000000d000100000015000000000000000102c0000201c00002010000fbf4"
 ROUTE = (
@@ -34,27 +36,26 @@ def octets(*records):
 def run(program, words, refused, library):
     """Status, output, and whether the growth of this number was reached; 0 refuses none."""
     reader, writer = os.pipe()
-    env = dict(os.environ, LD_PRELOAD=library, REFUSE=str(refused))
-    os.dup2(writer, 3)
-    done = subprocess.run([program] + words, env=env, pass_fds=[3], capture_output=True, timeout=60)
-    os.close(3)
-    if writer != 3:
-        os.close(writer)
+    env = dict(os.environ, LD_PRELOAD=library, REFUSE=str(refused), REFUSED=str(writer))
+    done = subprocess.run(
+        [program] + words, env=env, pass_fds=[writer], capture_output=True, timeout=60
+    )
+    os.close(writer)
     reached = os.read(reader, 1) == b"r"
     os.close(reader)
     return done.returncode, done.stdout, reached
 
 
 def refuse_each(program, words, library):
-    """How many growths a run has; each was refused in turn."""
+    """The status of a run, how many growths it has, and how many of them end it by each status; each was refused in turn."""
     status, out, _ = run(program, words, 0, library)
-    told = 0
+    told = {NO_MEMORY: 0, READ_FAULT: 0}
     for number in range(1, 1 << 20):
         ended, printed, reached = run(program, words, number, library)
         if not reached:
-            return number - 1, told, status
-        if ended == NO_MEMORY and printed == b"":
-            told += 1
+            return status, number - 1, told
+        if ended in told and printed == b"":
+            told[ended] += 1
         elif (ended, printed) != (status, out):
             sys.exit("growth %d of fib %s: status %d" % (number, " ".join(words), ended))
     sys.exit("there is no end")
@@ -91,9 +92,10 @@ def main():
             ["make", "20", "--seed", "7"],
         ]
         for words in runs:
-            growths, told, status = refuse_each(program, words, library)
+            status, growths, told = refuse_each(program, words, library)
             names = " ".join(os.path.basename(word) for word in words)
-            print("fib %s: status %d; %d growths, %d of them end it" % (names, status, growths, told))
+            ends = (names, status, growths, told[NO_MEMORY], told[READ_FAULT])
+            print("fib %s: status %d; of %d growths %d end it with 9, %d with 3" % ends)
 
 
 main()

@@ -1,9 +1,10 @@
 //! A dump's routes, in an engine whose load has ended.
 
-ghost use Rattle.std.specs.Prelude.{◌≡◌, ◌<◌, length, true, IfOk, false};
+ghost use Rattle.std.specs.Prelude.{◌≡◌, ◌<◌, length, true, IfOk, OnOk, false};
 
 use fib_engine::{Engine, Limits, Sizes};
 use fib_io::{Inputs, piece_room, read_piece};
+use fib_prefix::Event;
 use mrt_read::Reader;
 use std::alloc::Global;
 
@@ -13,6 +14,28 @@ const SIZES: Sizes = Sizes {
     nodes: 22,
     leaves: 24,
 };
+
+/// Loads what an event says.
+fn load_event(engine: &mut Engine, event: &Event) -> anyhow::Result<()>
+    requires { engine.old.loaded ≡ false }
+    ensures { OnOk result (engine.new.loaded ≡ false) }
+{
+    for elem in &engine.elementary(event)? {
+        engine.load(elem)?;
+    }
+    Ok(())
+}
+
+/// Loads what events say.
+fn load_events(engine: &mut Engine, events: &[Event]) -> anyhow::Result<()>
+    requires { engine.old.loaded ≡ false }
+    ensures { OnOk result (engine.new.loaded ≡ false) }
+{
+    for event in events {
+        load_event(engine, event)?;
+    }
+    Ok(())
+}
 
 /// Loads what an input's records say, through this room.
 fn load_through<I: Inputs>(
@@ -24,10 +47,10 @@ fn load_through<I: Inputs>(
 ) -> anyhow::Result<()>
     requires some { 0 < length room.old }
     requires loading { engine.old.loaded ≡ false }
-    ensures loading { engine.new.loaded ≡ false }
+    ensures loading { OnOk result (engine.new.loaded ≡ false) }
 {
     let mut reader = Reader::new(alloc);
-    let mut events = Vec::new(alloc);
+    let mut more = Vec::new(alloc);
     let mut at = 0;
     loop {
         let n = read_piece(inputs, name, at, room)?;
@@ -37,12 +60,8 @@ fn load_through<I: Inputs>(
         }
         reader.feed(&room[..n])?;
         at += n as u64;
-        while reader.read_events(&mut events)? {
-            for event in &events {
-                for elem in &engine.elementary(event)? {
-                    engine.load(elem)?;
-                }
-            }
+        while reader.read_events(&mut more)? {
+            load_events(engine, &more)?;
         }
     }
 }
