@@ -23,3 +23,6 @@ pub mod Asking
 pub mod Asked
 pub mod Word_asked
 pub mod Deeper
+pub mod Retiring
+pub mod Alike_row
+pub mod Kept_word

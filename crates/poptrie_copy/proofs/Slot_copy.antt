@@ -37,11 +37,11 @@ pub stored_beyond : (stores : List Store) (words : List ℕ) (first u : ℕ) →
 stored_beyond [] words first u a l = refl
 stored_beyond (s ∷ rest) words first u a l = other_is s rest words u (λ e. absurd (let h = a.0 in omega (arith, h, l, e))) ∙ stored_beyond rest words first u a.1 l
 
-stored_here : (stores : List Store) (words : List ℕ) (first w : ℕ) → AllByRecursion (λ (s : Store). s.slot < first) stores → stored (stores ++ record { slot = first; word = w } ∷ []) words first ≡ w
+pub stored_here : (stores : List Store) (words : List ℕ) (first w : ℕ) → AllByRecursion (λ (s : Store). s.slot < first) stores → stored (stores ++ record { slot = first; word = w } ∷ []) words first ≡ w
 stored_here [] words first w a = first_is (record { slot = first; word = w }) [] words first refl
 stored_here (s ∷ rest) words first w a = other_is s (rest ++ record { slot = first; word = w } ∷ []) words first (λ e. absurd (let h = a.0 in omega (arith, h, e))) ∙ stored_here rest words first w a.1
 
-stored_other : (stores : List Store) (words : List ℕ) (first w u : ℕ) → u ≢ first → stored (stores ++ record { slot = first; word = w } ∷ []) words u ≡ stored stores words u
+pub stored_other : (stores : List Store) (words : List ℕ) (first w u : ℕ) → u ≢ first → stored (stores ++ record { slot = first; word = w } ∷ []) words u ≡ stored stores words u
 stored_other [] words first w u n = other_is (record { slot = first; word = w }) [] words u n
 stored_other (s ∷ rest) words first w u n = by (stored_other rest words first w u n) (nat_eq u s.slot) refl
   where

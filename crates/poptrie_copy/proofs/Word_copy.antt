@@ -239,7 +239,7 @@ pub up_one : up 1 ≡ 1
 unfolding up up_from
 up_one = refl
 
-word_alike : (k : ℕ) (nodes : List Node) (N : ℕ → Bool) (leaves : List ℕ) (L : ℕ → Bool) (w d : ℕ) (f g : List Bool → ℕ) → Alike d g f → WordIn w k nodes N leaves L d g → WordIn w k nodes N leaves L d f
+pub word_alike : (k : ℕ) (nodes : List Node) (N : ℕ → Bool) (leaves : List ℕ) (L : ℕ → Bool) (w d : ℕ) (f g : List Bool → ℕ) → Alike d g f → WordIn w k nodes N leaves L d g → WordIn w k nodes N leaves L d f
 word_alike k nodes N leaves L w d f g al s = by (one_answer d g) (one_answer d f) (one_alike d g f al) s
   where
     by : (x y : Option ℕ) → x ≡ y → BySlot x ((w < 2 ^ 31) × (N w ≡ true) × (w < length nodes) × StandsIn k nodes N leaves L (node_at nodes w) d g) (λ h. (h < 2 ^ 16) × (w ≡ 2 ^ 31 + h)) → BySlot y ((w < 2 ^ 31) × (N w ≡ true) × (w < length nodes) × StandsIn k nodes N leaves L (node_at nodes w) d f) (λ h. (h < 2 ^ 16) × (w ≡ 2 ^ 31 + h))

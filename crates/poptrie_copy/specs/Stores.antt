@@ -1,5 +1,5 @@
 -- Direct words to be stored.
-use Rattle.std.specs.Prelude.{◌≢◌, ℕ, ◌+◌, ◌-◌, ◌*◌, ◌^◌, ◌<◌, ◌≤◌, List, [], ◌∷◌, ◌++◌, Bool, cond, nat_eq, nat_le, nat_lt, ◌&&◌, slice_index}
+use Rattle.std.specs.Prelude.{◌≡◌, ◌≢◌, ℕ, ◌+◌, ◌-◌, ◌*◌, ◌^◌, ◌<◌, ◌≤◌, List, [], ◌∷◌, ◌++◌, Bool, cond, nat_eq, nat_le, nat_lt, ◌&&◌, slice_index}
 use Rattle.std.specs.List.{AllByRecursion}
 use Rattle.address_model.specs.Bits.{bits_of}
 use Rattle.buddy_arena.specs.Space.{Space}
@@ -8,7 +8,7 @@ use Rattle.block_pool.specs.Blocks.{Held}
 use Rattle.fib_regions.specs.Answers.{part}
 use Rattle.poptrie_build.specs.declared.node.Node.{Node}
 use Rattle.poptrie_copy.specs.declared.slots.Store.{Store}
-use Rattle.poptrie_copy.specs.Words.{WordRow}
+use Rattle.poptrie_copy.specs.Words.{WordRow, KeepsWord}
 
 -- the words with those that are to be stored
 abbrev pub stored : List Store → List ℕ → ℕ → ℕ
@@ -34,3 +34,9 @@ under first j f h u = cond (nat_le first u && nat_lt u (first + 2 ^ j)) (part (b
 abbrev pub ReplacesWords : Space Node → Held → Space ℕ → Held → (ℕ → ℕ) → Space Node → Held → Space ℕ → Held → (ℕ → ℕ) → (first j d : ℕ) → (List Bool → ℕ) → Type 0
 ReplacesWords nodes nb leaves lb words nodes2 nb2 leaves2 lb2 words2 first j d f =
     (k n : ℕ) (h : ℕ → List Bool → ℕ) (x y : List Array) (m m2 : ℕ) → first + 2 ^ j ≤ n → d ≤ 6 * k → WordRow k n nodes leaves words d h (nb.replaced ++ x) (lb.replaced ++ y) m m2 → WordRow k n nodes2 leaves2 words2 d (under first j f h) (nb2.replaced ++ x) (lb2.replaced ++ y) m m2
+
+-- of the slots before the first nothing more is stored, and of the 2 ^ j slots from the first on only those where an address gets
+-- another answer
+pub record KeepsSlots (nodes : Space Node) (leaves : Space ℕ) (words : List ℕ) (stores stores2 : List Store) (first j d : ℕ) (f : List Bool → ℕ) : Type 0 where
+  pub before : (u : ℕ) → u < first → stored stores2 words u ≡ stored stores words u
+  pub each : (v : ℕ) → v < 2 ^ j → KeepsWord nodes leaves (slice_index words (first + v)) (stored stores2 words (first + v)) d (part (bits_of j v) f)

@@ -10,6 +10,7 @@ use Rattle.poptrie_build.specs.Build.{WordIn}
 use Rattle.poptrie_build.specs.Arrays.{gather, node_arrays, leaf_arrays}
 use Rattle.poptrie_build.specs.Strides.{total}
 use Rattle.poptrie_build.specs.declared.node.Node.{Node}
+use Rattle.poptrie_copy.specs.Alike.{Alike}
 
 -- its node, where it is no hop
 abbrev pub node_of : List Node → ℕ → Option Node
@@ -42,6 +43,11 @@ pub record WordPart (k : ℕ) (nodes : Space Node) (leaves : Space ℕ) (w d : �
 abbrev pub ReplacesWord : Space Node → Held → Space ℕ → Held → ℕ → Space Node → Held → Space ℕ → Held → ℕ → ℕ → (List Bool → ℕ) → Type 0
 ReplacesWord nodes nb leaves lb w nodes2 nb2 leaves2 lb2 w2 d f =
     (k : ℕ) (g : List Bool → ℕ) (beside beside2 : List Array) (m m2 : ℕ) → d ≤ 6 * k → WordPart k nodes leaves w d g (nb.replaced ++ beside) (lb.replaced ++ beside2) m m2 → WordPart k nodes2 leaves2 w2 d f (nb2.replaced ++ beside) (lb2.replaced ++ beside2) m m2
+
+-- the word is as it was where no address gets another answer
+abbrev pub KeepsWord : Space Node → Space ℕ → ℕ → ℕ → ℕ → (List Bool → ℕ) → Type 0
+KeepsWord nodes leaves w w2 d f =
+    (k : ℕ) (g : List Bool → ℕ) → WordIn w k nodes.cells (is_out nodes.free) leaves.cells (is_out leaves.free) d g → Alike d f g → w2 ≡ w
 
 -- n words, each of which stands for its slot's answers, and whose arrays share no place with each other nor with what is beside them
 pub record WordRow (k n : ℕ) (nodes : Space Node) (leaves : Space ℕ) (words : ℕ → ℕ) (d : ℕ) (h : ℕ → List Bool → ℕ) (beside beside2 : List Array) (m m2 : ℕ) : Type 0 where

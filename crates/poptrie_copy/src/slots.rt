@@ -5,7 +5,7 @@ ghost use Rattle.buddy_arena.specs.Space.{IsSized};
 ghost use Rattle.poptrie_build.specs.Stands.{blank};
 ghost use Rattle.poptrie_copy.specs.Changes.{Gains};
 ghost use Rattle.poptrie_copy.specs.Words.{IsWord};
-ghost use Rattle.poptrie_copy.specs.Stores.{stored, AreStores, ReplacesWords};
+ghost use Rattle.poptrie_copy.specs.Stores.{stored, AreStores, KeepsSlots, ReplacesWords};
 ghost use Rattle.poptrie_copy.specs.Asks.{MeetsSlots, MeetsNotSlots};
 
 use crate::blocks::Refusal;
@@ -61,6 +61,8 @@ pub fn copy_slots<R: Region>(
         leaf_blocks.old (stored stores.old.items words.now) nodes.new node_blocks.new leaves.new
         leaf_blocks.new (stored stores.new.items words.now) first depth (R.bits region.now - depth)
         (R.answers region.now)) }
+    ensures kept { OnOk result (KeepsSlots nodes.old leaves.old words.now stores.old.items
+        stores.new.items first depth (R.bits region.now - depth) (R.answers region.now)) }
     ensures met { OnOk result (MeetsSlots nodes.old leaves.old words.now nodes.new leaves.new
         first depth (R.bits region.now - depth) (R.answers region.now)) }
     ensures refused { IfErr result (λ e. MeetsNotSlots nodes.old leaves.old words.now first depth

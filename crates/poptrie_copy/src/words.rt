@@ -6,7 +6,7 @@ ghost use Rattle.fib_regions.specs.Answers.{one_answer};
 ghost use Rattle.poptrie_build.specs.Stands.{blank};
 ghost use Rattle.poptrie_copy.specs.Changes.{Gains};
 ghost use Rattle.poptrie_copy.specs.Aside.{OnlyAside};
-ghost use Rattle.poptrie_copy.specs.Words.{IsWord, node_of, own_of, ReplacesWord};
+ghost use Rattle.poptrie_copy.specs.Words.{IsWord, node_of, own_of, ReplacesWord, KeepsWord};
 ghost use Rattle.poptrie_copy.specs.Asks.{MeetsWord, MeetsNotWord, MeetsChangedWord, MeetsNotChangedWord};
 
 use crate::aside::set_aside_all;
@@ -82,6 +82,7 @@ fn leave_word(
         → one_answer bits f ≡ Some hop.0
         → ReplacesWord nodes.now node_blocks.old leaves leaf_blocks.old word nodes.now
         node_blocks.new leaves leaf_blocks.new new bits f) }
+    ensures hop { IfOk result (λ new. new ≡ 2 ^ 31 + hop.0) }
 {
     let was = word_node(word, nodes);
     set_aside_word(word, node_blocks)?;
@@ -159,6 +160,8 @@ pub fn copy_word<R: Region>(
     ensures replaces { IfOk result (λ new. ReplacesWord nodes.old node_blocks.old leaves.old
         leaf_blocks.old word nodes.new node_blocks.new leaves.new leaf_blocks.new new
         (R.bits region.now) (R.answers region.now)) }
+    ensures kept { IfOk result (λ new. KeepsWord nodes.old leaves.old word new (R.bits region.now)
+        (R.answers region.now)) }
     ensures met { IfOk result (λ new. MeetsWord nodes.old leaves.old word nodes.new leaves.new
         (R.bits region.now) (R.answers region.now)) }
     ensures refused { IfErr result (λ e. MeetsNotWord nodes.old leaves.old word

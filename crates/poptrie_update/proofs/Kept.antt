@@ -45,7 +45,7 @@ pub record Grows {T : Type 0} (empty : T) (old new : Space T) (more : List Array
   pub apart : AreApart (since (is_out old.free) (is_out new.free)) more
   pub left : count_free new + places_of more ≡ count_free old
 
-more_apart : (old new : ℕ → Bool) (more xs : List Array) → ((i : ℕ) → old i ≡ true → new i ≡ true) → AreApart (since old new) more → AreApart old xs → AreApart new (more ++ xs)
+pub more_apart : (old new : ℕ → Bool) (more xs : List Array) → ((i : ℕ) → old i ≡ true → new i ≡ true) → AreApart (since old new) more → AreApart old xs → AreApart new (more ++ xs)
 more_apart old new more xs s a b = apart_append (since old new) old new more xs (λ i q. since_not (old i) (new i) q) (λ i q. since_now (old i) (new i) q) s a b
 
 module _ (f : Family) (s : ℕ) (nodes nodes2 : Space Node) (leaves leaves2 : Space ℕ) (direct : List ℕ) (L : Entries) (beside beside2 more more2 : List Array) (v : IsVersion f s nodes leaves direct L beside beside2) (a : Grows blank nodes nodes2 more) (b : Grows 0 leaves leaves2 more2) where

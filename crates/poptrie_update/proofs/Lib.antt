@@ -11,4 +11,8 @@ pub mod Passed
 pub mod Quiet
 pub mod First_read
 pub mod On_way
+pub mod Renewed
+pub mod Restored
 pub mod Copied_version
+pub mod Changed_slots
+pub mod Ready

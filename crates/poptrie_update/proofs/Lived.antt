@@ -14,7 +14,7 @@ use Rattle.poptrie_update.specs.Rooms.{room_of, room_at_end}
 use Rattle.poptrie_update.specs.Lives.{Living, Store, Beside, Shows, IsLive, stores_of}
 use Rattle.poptrie_update.specs.Fits.{Open, Fits}
 use Rattle.poptrie_update.specs.Past.{Past}
-use Rattle.poptrie_update.specs.declared.live.Store.{Store as Stored}
+use Rattle.poptrie_copy.specs.declared.slots.Store.{Store as Stored}
 use Rattle.poptrie_update.proofs.Steps.{store_shows, end_shows, cancel_shows, at_its_end, at_its_cancel, blocks_append}
 use Rattle.poptrie_update.proofs.Fitting.{store_fits}
 use Rattle.poptrie_update.proofs.Passed.{end_past}

@@ -17,7 +17,7 @@ use Rattle.poptrie_update.specs.Fits.{Open, IsOldest, until}
 use Rattle.poptrie_update.specs.declared.live.Oldest.{Oldest}
 use Rattle.poptrie_update.specs.declared.live.Oldest.TheVariants as oldest
 use Rattle.poptrie_update.specs.Past.{Past, retired_at}
-use Rattle.poptrie_update.specs.declared.live.Store.{Store as Stored}
+use Rattle.poptrie_copy.specs.declared.slots.Store.{Store as Stored}
 use Rattle.poptrie_update.proofs.Steps.{version_given}
 use Rattle.poptrie_update.proofs.Passed.{late_past}
 use Rattle.poptrie_update.proofs.Lived.{seen_as}

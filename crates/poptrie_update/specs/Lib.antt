@@ -5,3 +5,6 @@ pub mod Reading
 pub mod First
 pub mod Past
 pub mod Fits
+pub mod Renewals
+pub mod Reasons
+pub mod Prepares

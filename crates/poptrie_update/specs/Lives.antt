@@ -10,7 +10,7 @@ use Rattle.block_pool.specs.Blocks.{Held, blocks_of, AreHeldIn}
 use Rattle.poptrie_build.specs.Tries.{node_need, leaf_need, IsTooMuch}
 use Rattle.poptrie_build.specs.declared.filling.TrieFull.{TrieFull}
 use Rattle.poptrie_build.specs.declared.node.Node.{Node}
-use Rattle.poptrie_update.specs.declared.live.Store.{Store as Stored}
+use Rattle.poptrie_copy.specs.declared.slots.Store.{Store as Stored}
 use Rattle.poptrie_update.specs.declared.live.Pending.{Pending}
 use Rattle.poptrie_update.specs.Rooms.{Room}
 use Rattle.poptrie_update.specs.Version.{IsVersion}

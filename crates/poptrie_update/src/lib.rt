@@ -5,14 +5,18 @@
 //! given back once no lookup is open that started before that end. Time is the number of ends so far.
 //!
 //! This crate has what makes each step safe: what a live trie shows of the table before the update and of the one after it, the
-//! steps of an update that is ready, and the reads of a lookup, paused or not. What makes an update ready isn't here yet.
+//! steps of an update, and the reads of a lookup, paused or not. An update is made ready beside the old version in the same arenas
+//! alone: where it fits into them but not beside what is in use, it is refused.
 #![tactic(auto)]
 
 mod live;
 mod reading;
+mod reasons;
+mod renewing;
 
 pub use live::{Live, Oldest, Pending};
 pub use reading::At;
+pub use reasons::NotReady;
 
 #[cfg(test)]
 mod tests;

@@ -1,11 +1,14 @@
 //! A trie that is changed one word at a time.
 
 use crate::reading::{At, visit};
+use crate::reasons::{NotReady, reason};
+use crate::renewing::renew_or_undo;
 use block_pool::Blocks;
 use buddy_arena::Arena;
-use fib_addr::{Addr, Answers, Family, Hop};
+use fib_addr::{Addr, Answers, Family, Hop, Prefix};
 use fib_regions::{PrefixRegion, Region};
 use poptrie_build::{Found, HOP, Node, TrieFull, empty_words, fill_all, key_of};
+use poptrie_copy::Store;
 use std::alloc::{AllocError, Global};
 use std::marker::Model;
 use std::sync::ledger::Ledger;
@@ -25,17 +28,10 @@ pub enum Oldest {
     },
 }
 
-/// A direct word to be stored.
-#[derive(Clone, Copy)]
-pub(crate) struct Store {
-    pub(crate) slot: u32,
-    pub(crate) word: u32,
-}
-
 /// An update that is ready: the token for its stores, which `Live::end` or `Live::cancel` spends.
 pub struct Pending {
     /// How many of its stores were made.
-    made: usize,
+    pub(crate) made: usize,
 }
 
 /// A trie with what its pending update has ready. Its direct words stand for the table after the update where a store that was
@@ -79,7 +75,7 @@ impl Model for Live {
 impl Live {
     ghost use Rattle.std.specs.Prelude.{◌≡◌, ℕ, List, [], ◌∷◌, ◌++◌, suc, ◌+◌, ◌*◌, ◌≤◌, ◌<◌, Bool, true, false, length, IfOk, OnOk, OnErr, IfErr};
     ghost use Rattle.address_model.specs.Width.{width};
-    ghost use Rattle.fib_addr.specs.Views.{addr_as};
+    ghost use Rattle.fib_addr.specs.Views.{addr_as, prefix_as};
     ghost use Rattle.table_model.specs.Entries.{Entries, match_in};
     ghost use Rattle.fib_regions.specs.Answers.{all_answers};
     ghost use Rattle.block_pool.specs.Blocks.{Gives, late};
@@ -89,6 +85,7 @@ impl Live {
     ghost use Rattle.poptrie_update.specs.Past.{Past};
     ghost use Rattle.poptrie_update.specs.Reading.{ReadsOn, CanRead, Leads, key_after};
     ghost use Rattle.poptrie_update.specs.First.{IsShowing, Starts, published};
+    ghost use Rattle.poptrie_update.specs.Prepares.{AgreeOutside, StoresChanges, GaveBack, AsksMet, AsksRefused, AsksRun, AsksRunOut};
     ghost use Rattle.poptrie_update.specs.declared.live.Oldest.TheVariants as Oldest;
 
     /// A trie that answers none everywhere, at time 0, with arenas of these orders.
@@ -192,6 +189,8 @@ impl Live {
             ≡ late (until oldest self.old.time) self.old.leaves.retired }
         ensures all { oldest ≡ Oldest.Nobody
             → (self.new.nodes.retired ≡ []) × (self.new.leaves.retired ≡ []) }
+        ensures given { GaveBack (until oldest self.old.time) self.old self.new.nodes.space
+            self.new.leaves.space }
         ensures shows { (L M : Entries) → Shows self.old L M → Shows self.new L M }
         ensures fits { (os : List Open) → IsOldest oldest os → Fits self.old os
             → Fits self.new os }
@@ -203,6 +202,124 @@ impl Live {
         };
         self.node_blocks.release(&mut self.nodes, since);
         self.leaf_blocks.release(&mut self.leaves, since);
+    }
+
+    /// Makes an update ready that changes the answers of a prefix's addresses at most: first gives back what no open lookup may be in,
+    /// and then makes what has other answers anew beside the old, for the region of all addresses of the new table. Nothing that a
+    /// lookup reads is written, so the answers stay until the stores are made.
+    ///
+    /// # Errors
+    ///
+    /// No memory, or the new table's trie is larger than the arenas, or it would fit, but not beside what is in use. But for what was
+    /// given back, all is as it was.
+    pub fn prepare<R: Region>(
+        &mut self,
+        region: &R,
+        prefix: &Prefix,
+        oldest: Oldest,
+    ) -> Result<Pending, NotReady>
+        requires family { prefix.now.family ≡ self.old.family }
+        requires bits { R.bits region.now ≡ width self.old.family }
+        requires quiet { self.old.pending ≡ false }
+        requires time { self.old.time < 18446744073709551615 }
+        requires showing { IsShowing self.old }
+        ensures shape { HasShapeOf self.old self.new }
+        ensures kept { (self.new.words ≡ self.old.words) × (self.new.time ≡ self.old.time) }
+        ensures token { IfOk result (λ p. IsTokenOf p self.new × (self.new.made ≡ 0)) }
+        ensures quiet { OnErr result (self.new.pending ≡ false) }
+        ensures retired { (self.new.nodes.retired
+            ≡ late (until oldest self.old.time) self.old.nodes.retired)
+            × (self.new.leaves.retired
+            ≡ late (until oldest self.old.time) self.old.leaves.retired) }
+        ensures all { oldest ≡ Oldest.Nobody
+            → (self.new.nodes.retired ≡ []) × (self.new.leaves.retired ≡ []) }
+        ensures shows { OnOk result ((L M : Entries) → Shows self.old L L
+            → R.answers region.now ≡ all_answers self.old.family M
+            → AgreeOutside (prefix_as prefix.now) L M → Shows self.new L M) }
+        ensures changes { OnOk result ((L M : Entries) → Shows self.old L L
+            → R.answers region.now ≡ all_answers self.old.family M
+            → AgreeOutside (prefix_as prefix.now) L M
+            → StoresChanges self.old.family self.old.direct_bits L M self.new.stores) }
+        ensures still { OnErr result ((L M : Entries) → Shows self.old L M
+            → Shows self.new L M) }
+        ensures asks { OnOk result ((L M : Entries) → Shows self.old L L
+            → R.answers region.now ≡ all_answers self.old.family M
+            → AgreeOutside (prefix_as prefix.now) L M
+            → AsksMet (until oldest self.old.time) self.old self.new L M) }
+        ensures refused { IfErr result (λ e. (L M : Entries) → Shows self.old L L
+            → R.answers region.now ≡ all_answers self.old.family M
+            → AgreeOutside (prefix_as prefix.now) L M
+            → AsksRefused (until oldest self.old.time) self.old self.new L M e) }
+        ensures fits { (os : List Open) → IsOldest oldest os → Fits self.old os
+            → Fits self.new os }
+        ensures past { (ns ls : List ℕ) → Past self.old ns ls → Past self.new ns ls }
+    {
+        self.give_back(oldest);
+        self.make_ready(region, prefix)
+    }
+
+    /// Makes an update ready beside all that is out.
+    ///
+    /// # Errors
+    ///
+    /// As `prepare`'s; all is as it was.
+    fn make_ready<R: Region>(&mut self, region: &R, prefix: &Prefix) -> Result<Pending, NotReady>
+        requires family { prefix.now.family ≡ self.old.family }
+        requires bits { R.bits region.now ≡ width self.old.family }
+        requires quiet { self.old.pending ≡ false }
+        requires time { self.old.time < 18446744073709551615 }
+        requires showing { IsShowing self.old }
+        ensures shape { HasShapeOf self.old self.new }
+        ensures kept { (self.new.words ≡ self.old.words) × (self.new.time ≡ self.old.time) }
+        ensures retired { (self.new.nodes.retired ≡ self.old.nodes.retired)
+            × (self.new.leaves.retired ≡ self.old.leaves.retired) }
+        ensures token { IfOk result (λ p. IsTokenOf p self.new × (self.new.made ≡ 0)) }
+        ensures quiet { OnErr result (self.new.pending ≡ false) }
+        ensures shows { OnOk result ((L M : Entries) → Shows self.old L L
+            → R.answers region.now ≡ all_answers self.old.family M
+            → AgreeOutside (prefix_as prefix.now) L M → Shows self.new L M) }
+        ensures changes { OnOk result ((L M : Entries) → Shows self.old L L
+            → R.answers region.now ≡ all_answers self.old.family M
+            → AgreeOutside (prefix_as prefix.now) L M
+            → StoresChanges self.old.family self.old.direct_bits L M self.new.stores) }
+        ensures still { OnErr result ((L M : Entries) → Shows self.old L M
+            → Shows self.new L M) }
+        ensures free { OnErr result (
+            (self.new.nodes.space.free ≡ self.old.nodes.space.free)
+            × (self.new.leaves.space.free ≡ self.old.leaves.space.free)) }
+        ensures asks { OnOk result ((L M : Entries) → Shows self.old L L
+            → R.answers region.now ≡ all_answers self.old.family M
+            → AgreeOutside (prefix_as prefix.now) L M
+            → AsksRun self.old self.new L M) }
+        ensures refused { IfErr result (λ e. (L M : Entries) → Shows self.old L L
+            → R.answers region.now ≡ all_answers self.old.family M
+            → AgreeOutside (prefix_as prefix.now) L M → AsksRunOut self.old L M e) }
+        ensures fits { (os : List Open) → Fits self.old os → Fits self.new os }
+    {
+        let made = renew_or_undo(
+            region,
+            prefix,
+            self.direct_bits,
+            &self.words,
+            &mut self.nodes,
+            &mut self.node_blocks,
+            &mut self.leaves,
+            &mut self.leaf_blocks,
+            &mut self.stores,
+        );
+        match made {
+            Ok(()) => {
+                self.pending = true;
+                Ok(Pending { made: 0 })
+            }
+            Err(refusal) => Err(reason(
+                region,
+                self.direct_bits,
+                refusal,
+                &self.nodes,
+                &self.leaves,
+            )),
+        }
     }
 
     /// The first read of a lookup: the direct word of its address.

@@ -1,11 +1,13 @@
-//! The first reads of a live trie of one route, and its refusal.
+//! The first reads of a live trie of one route, its refusal, and its update.
 
 ghost use Rattle.std.specs.Prelude.{◌≡◌, ◌∷◌, [], ◌≤◌};
 ghost use Rattle.fib_addr.specs.Views.{prefix_as};
 ghost use Rattle.table_model.proofs.Once.{once_in_order};
 
-use crate::{At, Live, Oldest};
+use crate::{At, Live, NotReady, Oldest, Pending};
+use buddy_arena::Full;
 use fib_addr::{Addr, Answers, Family, Hop, Prefix};
+use fib_regions::PrefixRegion;
 use poptrie_build::TrieFull;
 use std::alloc::{AllocError, Global};
 use std::test::Fail;
@@ -102,6 +104,81 @@ fn a_short_route(rt: HostRuntime) -> Result<(), Fail> {
     assert_eq!(rt;
         tell(rt.alloc(), &table, 0, 2, &inside, &beside)?,
         Told::Refused(full)
+    );
+    Ok(())
+}
+
+/// What becomes of an update: whether a first and a second store are made, and the time after it, or how many are made where some
+/// are left; or why it isn't made ready.
+#[derive(Clone, Copy, Debug, PartialEq, Eq)]
+enum Update {
+    Stored(bool, bool, u64),
+    Left(usize),
+    NotBuilt,
+    NotReady(NotReady),
+}
+
+/// The update from one table to another of a trie without direct words, in arenas of these orders.
+fn tell_update(
+    alloc: Global,
+    table: &OneRoute,
+    changed: &OneRoute,
+    nodes: u8,
+    leaves: u8,
+) -> Result<Update, AllocError>
+    requires family { changed.now.prefix.family ≡ table.now.prefix.family }
+    requires small { (nodes ≤ 26) × (leaves ≤ 26) }
+{
+    let mut live = Live::new(alloc, table.prefix.family, 0, nodes, leaves)?;
+    match live.build(table) {
+        Ok(()) => {}
+        Err(_full) => return Ok(Update::NotBuilt),
+    }
+    match live.prepare(
+        &PrefixRegion::whole(changed),
+        &changed.prefix,
+        Oldest::Nobody,
+    ) {
+        Err(why) => Ok(Update::NotReady(why)),
+        Ok(token) => {
+            let mut pending = token;
+            let first = live.store(&mut pending);
+            let second = live.store(&mut pending);
+            match live.end(pending) {
+                Ok(()) => Ok(Update::Stored(first, second, live.time())),
+                Err(Pending { made }) => Ok(Update::Left(made)),
+            }
+        }
+    }
+}
+
+/// 10.0.0.0/8 with another hop: two nodes and five leaves, each in blocks of its own, are made beside the old ones where they fit.
+#[test]
+fn another_hop(rt: HostRuntime) -> Result<(), Fail> {
+    let prefix = Prefix::new(&Addr::v4(0x0a00_0000), 8);
+    let table = OneRoute {
+        prefix,
+        hop: Hop(1),
+    };
+    let changed = OneRoute {
+        prefix,
+        hop: Hop(2),
+    };
+    let out = Full {
+        order: 0,
+        largest: None,
+    };
+    assert_eq!(rt;
+        tell_update(rt.alloc(), &table, &changed, 2, 4)?,
+        Update::Stored(true, false, 1)
+    );
+    assert_eq!(rt;
+        tell_update(rt.alloc(), &table, &table, 1, 3)?,
+        Update::Stored(false, false, 1)
+    );
+    assert_eq!(rt;
+        tell_update(rt.alloc(), &table, &changed, 1, 3)?,
+        Update::NotReady(NotReady::NodesOut(out))
     );
     Ok(())
 }

@@ -11,6 +11,7 @@ use Rattle.std.proofs.lemmas.Result.{err_from_is_err_and}
 use Rattle.fib_regions.specs.Answers.{side}
 use Rattle.std.specs.Prelude.{true}
 use Rattle.poptrie_copy.specs.Asks.{MeetsNotSlots}
+use Rattle.poptrie_copy.proofs.Kept_word.{kept_stored, kept_same, kept_halves}
 use Rattle.poptrie_copy.proofs.Word_asked.{slot_met, slot_refused, halves_met, low_refused, high_refused}
 use Rattle.poptrie_copy.proofs.Slot_copy.{on_ok, if_err, stores_more, stores_one, slot_stored, slot_same, halves_copied, word_gained}
 use Rattle.poptrie_copy.proofs.slots.+copy_slots.Goals as goal
@@ -197,3 +198,22 @@ returns-clause-refused g t c =
     (g.R.Region.bits c.args.region.now - c.args.depth) (g.R.Region.bits c.half.result - (c.args.depth - 1)) (g.R.Region.bits c.half-2.result - (c.args.depth - 1)) (g.R.Region.answers c.args.region.now) (g.R.Region.answers c.half.result) (g.R.Region.answers c.half-2.result)
     (omega (arith, c.if-depth-eq0.false)) n (omega (arith, c.half.ensures.bits, c.if-depth-eq0.false)) (omega (arith, c.half-2.ensures.bits, c.if-depth-eq0.false)) c.half.ensures.answers c.half-2.ensures.answers
     e c.copy_slots.ensures.nodes.keeps c.copy_slots.ensures.leaves.keeps c.copy_slots.ensures.nodes.order c.copy_slots.ensures.leaves.order c.in_ok-copy_slots.ensures.met m)
+
+pub returns-in_ok-reserve-clause-kept : goal.returns-in_ok-reserve-clause-kept
+returns-in_ok-reserve-clause-kept g t c =
+    kept_stored c.args.nodes.now c.args.leaves.now c.args.words.now c.args.stores.now.items c.push_reserved.new.self.items c.args.first c.in_ok-new.new (g.R.Region.bits c.args.region.now) (g.R.Region.answers c.args.region.now) c.in_ok-new.ensures.kept
+    c.args.depth (g.R.Region.bits c.args.region.now - c.args.depth) c.if-depth-eq0.true (omega (arith, c.if-depth-eq0.true)) c.requires.stores (c.push_reserved.ensures.items ∙ ap (λ (x : List Store). x ++ record { slot = c.args.first; word = c.in_ok-new.new } ∷ []) c.reserve.ensures.items)
+
+pub returns-else-new-word-clause-kept : goal.returns-else-new-word-clause-kept
+returns-else-new-word-clause-kept g t c =
+    kept_same c.args.nodes.now c.args.leaves.now c.args.words.now c.args.stores.now.items c.args.stores.now.items c.args.first c.in_ok-new.new (g.R.Region.bits c.args.region.now) (g.R.Region.answers c.args.region.now) c.in_ok-new.ensures.kept
+    c.args.depth (g.R.Region.bits c.args.region.now - c.args.depth) c.if-depth-eq0.true (omega (arith, c.if-depth-eq0.true)) c.requires.stores refl c.if-new-word.false
+
+pub returns-clause-kept : goal.returns-clause-kept
+returns-clause-kept g t c =
+    let n = next_is c.args.first c.args.depth c.requires.shallow in
+    on_ok c.copy_slots-2.result c.copy_slots-2.ensures.kept
+    (λ k. kept_halves c.args.nodes.now c.copy_slots.new.nodes c.args.leaves.now c.copy_slots.new.leaves c.args.words.now c.args.stores.now.items c.copy_slots.new.stores.items c.copy_slots-2.new.stores.items c.args.first (c.args.first + 1 * 2 ^ (c.args.depth - 1) % 4294967296) c.args.depth (c.args.depth - 1)
+    (g.R.Region.bits c.args.region.now - c.args.depth) (g.R.Region.bits c.half.result - (c.args.depth - 1)) (g.R.Region.bits c.half-2.result - (c.args.depth - 1)) (g.R.Region.answers c.args.region.now) (g.R.Region.answers c.half.result) (g.R.Region.answers c.half-2.result)
+    (omega (arith, c.if-depth-eq0.false)) n (omega (arith, c.half.ensures.bits, c.if-depth-eq0.false)) (omega (arith, c.half-2.ensures.bits, c.if-depth-eq0.false)) c.half.ensures.answers c.half-2.ensures.answers
+    c.copy_slots.ensures.nodes.keeps c.copy_slots.ensures.leaves.keeps c.in_ok-copy_slots.ensures.kept k)

@@ -1,4 +1,4 @@
-use Rattle.std.proofs.Common.{ℕ, sym, ap, ◌∙◌, subst}
+use Rattle.std.proofs.Common.{ℕ, refl, sym, ap, ◌∙◌, subst}
 use Rattle.fib_regions.specs.Answers.{one_answer}
 use Rattle.poptrie_build.specs.Stands.{blank}
 use Rattle.poptrie_copy.specs.Words.{ReplacesWord}
@@ -6,6 +6,7 @@ use Rattle.poptrie_copy.proofs.Gaining.{gains_none, only_none}
 use Rattle.std.proofs.lemmas.Result.{err_from_is_err_and}
 use Rattle.poptrie_copy.specs.Asks.{MeetsNotWord}
 use Rattle.poptrie_copy.proofs.Word_asked.{WordChanges, word_meets_same, word_meets_uniform, word_changes_node, word_changes_none}
+use Rattle.poptrie_copy.proofs.Kept_word.{kept_hop, kept_changed}
 use Rattle.poptrie_copy.proofs.Word_copy.{word_shared}
 use Rattle.poptrie_copy.proofs.words.copy_word.Goals.{in-Some-word_node+else-is_same, in_default}
 use Rattle.poptrie_copy.proofs.words.copy_word.Goals as goal
@@ -64,3 +65,17 @@ returns-in_err-word-in-None-clause-refused g c =
     let out : MeetsNotWord c.args.nodes.now c.args.leaves.now c.args.word (g.R.Region.bits c.args.region.now) (g.R.Region.answers c.args.region.now) c.in_err-word-in-None.field-0.0 = λ k h few s. c.in_err-word-in-None.ensures.refused k h few s (changes k h s) in
     let p = err_from_is_err_and c.from_residual-in_err-word-in-None.result c.from_residual-in_err-word-in-None.ensures.1 in
     rw (p.1, p.2) out
+
+pub returns-then-is_same-clause-kept : goal.returns-then-is_same-clause-kept
+returns-then-is_same-clause-kept g c = λ k h s a. refl
+
+pub returns-in_ok-word-in-Some-clause-kept : goal.returns-in_ok-word-in-Some-clause-kept
+returns-in_ok-word-in-Some-clause-kept g c = kept_hop c.args.nodes.now c.args.leaves.now c.args.word c.in_ok-word-in-Some.word c.in-Some.hop.0 (g.R.Region.bits c.args.region.now) (g.R.Region.answers c.args.region.now) c.in-Some.ensures.one c.in_ok-word-in-Some.ensures.hop
+
+pub returns-in_ok-word-in-None-clause-kept : goal.returns-in_ok-word-in-None-clause-kept
+returns-in_ok-word-in-None-clause-kept g c =
+    let changes : WordChanges c.args.nodes.now c.args.leaves.now c.args.word (g.R.Region.bits c.args.region.now) (g.R.Region.answers c.args.region.now) = elim c.match-word_node.branch [
+      | in-Some-word_node+else-is_same w ↦ word_changes_node c.args.nodes.now c.args.leaves.now c.args.word (g.R.Region.bits c.args.region.now) (g.R.Region.answers c.args.region.now) w.in-Some-word_node.node w.is_same.result (sym c.word_node.ensures ∙ w.in-Some-word_node.is) (λ k N L h s al. (w.is_same.ensures.alike k N L h s).1 al) w.if-is_same.false
+      | in_default w ↦ word_changes_none c.args.nodes.now c.args.leaves.now c.args.word (g.R.Region.bits c.args.region.now) (g.R.Region.answers c.args.region.now) (sym c.word_node.ensures ∙ w.in_default.is) c.in-None.ensures.differ
+    ] in
+    kept_changed c.args.nodes.now c.args.leaves.now c.args.word c.in_ok-word-in-None.word (g.R.Region.bits c.args.region.now) (g.R.Region.answers c.args.region.now) changes

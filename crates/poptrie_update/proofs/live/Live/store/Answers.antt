@@ -1,7 +1,7 @@
 use Rattle.std.proofs.Common.{rules, ◌≡◌, ◌<◌, ◌≤◌, ◌+◌, suc, length, get_or, refl, sym, ap, ◌∙◌, arith, subst}
 use Rattle.poptrie_update.specs.Lives.{Living, Shows, stores_of}
 use Rattle.poptrie_update.specs.Fits.{Fits}
-use Rattle.poptrie_update.specs.declared.live.Store.{Store as Stored}
+use Rattle.poptrie_copy.specs.declared.slots.Store.{Store as Stored}
 use Rattle.poptrie_update.proofs.Lived.{length_stores, store_at, store_step, store_keeps_fits, seen_as}
 use Rattle.poptrie_update.proofs.live.Live.store.Goals as goal
 
