@@ -4,7 +4,7 @@ ghost use Rattle.std.specs.Prelude.{◌≡◌, ◌≤◌, ◌^◌, List, [], Som
 ghost use Rattle.fib_addr.specs.Views.{addr_as};
 ghost use Rattle.fib_main.specs.Asking.{ask_refusal};
 ghost use Rattle.fib_main.specs.Counts.{AddUp, AreFew};
-ghost use Rattle.fib_main.specs.Due.{asks_at, checked, feed_at, input_at, limits_of, made_at, output_at, reply_at, run_at, told_at, used_at, with_counts, with_reply, with_text};
+ghost use Rattle.fib_main.specs.Due.{asks_at, checked, feed_at, input_at, limits_of, made_at, made_named, output_at, reply_at, run_at, told_at, used_at, with_counts, with_reply, with_text};
 ghost use Rattle.fib_main.specs.Ends.{feeds_named, reads_asked, reads_named, ReadsName, ReadsNames};
 ghost use Rattle.fib_main.specs.Owned.{IsOf, Owns, StopsAt, StopsIn};
 ghost use Rattle.fib_main.specs.Proves.{ChecksYes, IfRan, IsRun, PrintsYes};
@@ -278,8 +278,31 @@ fn made_inputs(alloc: Global, made: &MakeWords) -> Result<SureInputs, AllocError
     Ok(SureInputs::new(names))
 }
 
-/// Makes routes and updates, takes them as a run takes its inputs, and gives the rows of the counts.
+/// Takes both made inputs as a run takes its inputs, and gives the rows of the counts.
 #[tactic(auto, unfolding(crate::specs::Due::made_at))]
+fn take_made(
+    alloc: Global,
+    made: &MakeWords,
+    inputs: &mut SureInputs,
+    state: &mut State,
+) -> Result<Vec<u8>, Outcome>
+    requires ready { IsReady MrtInput.Dump 0 state.old.engine }
+    requires none { state.old.engine.candidates ≡ [] }
+    requires stands { StateStands MrtInput.Dump (limits_of made_named) [] [] state.old }
+    requires holds { HoldsMade made.now.routes made.now.seed inputs.old }
+    ensures due { GivesDue (λ v. v.items) result
+        (with_counts (made_at made.now.routes made.now.seed)) }
+    ensures stops { IfErr result (StopsIn (Make made.now.routes made.now.seed)) }
+    ensures sure { IfErr result (λ o. o ≡ Outcome.ReadFault → ⊥) }
+{
+    let fed = feed_both(alloc, inputs, state, &MADE)?;
+    match write_counts(alloc, state, &fed) {
+        Ok(text) => Ok(text),
+        Err(_) => Err(Outcome::NoMemory),
+    }
+}
+
+/// Makes routes and updates, takes them as a run takes its inputs, and gives the rows of the counts.
 fn made_for(alloc: Global, made: &MakeWords) -> Result<Vec<u8>, Outcome>
     requires { IsWithin (CommandWords.Make made.now) }
     ensures due { GivesDue (λ v. v.items) result
@@ -291,11 +314,7 @@ fn made_for(alloc: Global, made: &MakeWords) -> Result<Vec<u8>, Outcome>
         return Err(Outcome::NoMemory);
     };
     let mut state = State::new(alloc, limits_of(&MADE));
-    let fed = feed_both(alloc, &mut inputs, &mut state, &MADE)?;
-    match write_counts(alloc, &state, &fed) {
-        Ok(text) => Ok(text),
-        Err(_) => Err(Outcome::NoMemory),
-    }
+    take_made(alloc, made, &mut inputs, &mut state)
 }
 
 /// Takes the asks, the dump and the updates, and gives the text.
