@@ -1,0 +1,95 @@
+//! A dump's routes, in an engine whose load has ended.
+
+ghost use Rattle.std.specs.Prelude.{◌≡◌, ◌<◌, length, OnOk, false};
+
+use fib_engine::{Engine, Limits, Sizes};
+use fib_io::{Inputs, piece_room, read_piece};
+use fib_prefix::Event;
+use mrt_read::Reader;
+use std::alloc::Global;
+
+/// Room for a whole table of today.
+const SIZES: Sizes = Sizes {
+    direct: 16,
+    nodes: 22,
+    leaves: 24,
+};
+
+/// Loads what an event says.
+fn load_event(engine: &mut Engine, event: &Event) -> anyhow::Result<()>
+    requires { engine.old.loaded ≡ false }
+    ensures { OnOk result (engine.new.loaded ≡ false) }
+{
+    for elem in &engine.elementary(event)? {
+        engine.load(elem)?;
+    }
+    Ok(())
+}
+
+/// Loads what events say.
+fn load_events(engine: &mut Engine, events: &[Event]) -> anyhow::Result<()>
+    requires { engine.old.loaded ≡ false }
+    ensures { OnOk result (engine.new.loaded ≡ false) }
+{
+    for event in events {
+        load_event(engine, event)?;
+    }
+    Ok(())
+}
+
+/// Loads what an input's records say, through this room.
+fn load_through<I: Inputs>(
+    alloc: Global,
+    inputs: &mut I,
+    name: &str,
+    engine: &mut Engine,
+    room: &mut [u8],
+) -> anyhow::Result<()>
+    requires some { 0 < length room.old }
+    requires loading { engine.old.loaded ≡ false }
+    ensures loading { OnOk result (engine.new.loaded ≡ false) }
+{
+    let mut reader = Reader::new(alloc);
+    let mut more = Vec::new(alloc);
+    let mut at = 0;
+    loop {
+        let n = read_piece(inputs, name, at, room)?;
+        if n == 0 {
+            reader.finish()?;
+            return Ok(());
+        }
+        reader.feed(&room[..n])?;
+        at += n as u64;
+        while reader.read_events(&mut more)? {
+            load_events(engine, &more)?;
+        }
+    }
+}
+
+/// Loads a dump to its end.
+fn load_all<I: Inputs>(
+    alloc: Global,
+    inputs: &mut I,
+    name: &str,
+    engine: &mut Engine,
+) -> anyhow::Result<()>
+    requires { engine.old.loaded ≡ false }
+{
+    let mut room = piece_room(alloc)?;
+    load_through(alloc, inputs, name, engine, &mut room)?;
+    engine.finish_load()?;
+    Ok(())
+}
+
+/// An engine that has loaded a dump.
+pub fn load<I: Inputs>(alloc: Global, inputs: &mut I, name: &str) -> anyhow::Result<Engine> {
+    let mut engine = Engine::new(
+        alloc,
+        Limits {
+            every: 0,
+            sizes: SIZES,
+        },
+    );
+    load_all(alloc, inputs, name, &mut engine)?;
+    Ok(engine)
+}
