@@ -1,6 +1,6 @@
 //! A dump's routes, in an engine whose load has ended.
 
-ghost use Rattle.std.specs.Prelude.{◌≡◌, ◌<◌, length, OnOk, false};
+ghost use Rattle.std.specs.Prelude.{◌≡◌, ◌<◌, length, IfOk, OnOk, true, false};
 
 use fib_engine::{Engine, Limits, Sizes};
 use fib_io::{Inputs, piece_room, read_piece};
@@ -74,6 +74,7 @@ fn load_all<I: Inputs>(
     engine: &mut Engine,
 ) -> anyhow::Result<()>
     requires { engine.old.loaded ≡ false }
+    ensures { OnOk result (engine.new.loaded ≡ true) }
 {
     let mut room = piece_room(alloc)?;
     load_through(alloc, inputs, name, engine, &mut room)?;
@@ -82,7 +83,9 @@ fn load_all<I: Inputs>(
 }
 
 /// An engine that has loaded a dump.
-pub fn load<I: Inputs>(alloc: Global, inputs: &mut I, name: &str) -> anyhow::Result<Engine> {
+pub fn load<I: Inputs>(alloc: Global, inputs: &mut I, name: &str) -> anyhow::Result<Engine>
+    ensures { IfOk result (λ engine. engine.loaded ≡ true) }
+{
     let mut engine = Engine::new(
         alloc,
         Limits {
