@@ -363,7 +363,7 @@ module _ (label : Label) (q left : ℕ) (hop : Option ℕ) (old : List Node) (i 
 
   -- the half on the way has the cover that it had: so has the node, and it stays
   pub set_stop : (mid : List Node) (b : Bool) (k : ℕ) (d : ℕ) (name : ℕ → Place) (p : List Bool) → left ≢ 0 → b ≡ nat_eq (bit_at q (left - 1)) 1 → half_place n b ≡ Some k →
-      ((e : ℕ) (v : List Bool) → left - 1 < e → IsTree e old name k v → Allowed (bits_of (left - 1) q) hop (walks_at e old k).nodes → IsSet e label (bits_of (left - 1) q) hop old mid name k v × (cover_of label (node_at mid k) ≡ cover_of label (node_at old k))) →
+      ((e : ℕ) (v : List Bool) → suc e ≡ d → left - 1 < e → IsTree e old name k v → Allowed (bits_of (left - 1) q) hop (walks_at e old k).nodes → IsSet e label (bits_of (left - 1) q) hop old mid name k v × (cover_of label (node_at mid k) ≡ cover_of label (node_at old k))) →
       left < d → IsTree d old name i p → Allowed (bits_of left q) hop (walks_at d old i).nodes → IsSet d label (bits_of left q) hop old mid name i p × (cover_of label (node_at mid i) ≡ cover_of label (node_at old i))
   unfolding walks_at IsTree
   set_stop mid b k zero name p z y e below l t a = absurd t
@@ -380,7 +380,7 @@ module _ (label : Label) (q left : ℕ) (hop : Option ℕ) (old : List Node) (i 
       let w : walks_by f n ≡ walks_by f (node_at old i) = ap (walks_by f) at in
       let kn : IsNode f (λ b j. IsTree d old name j (p ++ (b ∷ []))) (length old) name p n = subst (λ (x : Node). IsNode f (λ b j. IsTree d old name j (p ++ (b ∷ []))) (length old) name p x) (sym at) t.2 in
       let there : (x : Bool) → half_place n x ≡ Some k → Allowed (bits_of (left - 1) q) hop (from_half f (half_place n x)).nodes → IsSet d label (bits_of (left - 1) q) hop old mid name k (p ++ (x ∷ [])) × (cover_of label (node_at mid k) ≡ cover_of label (node_at old k)) =
-      λ x h v. below d (p ++ (x ∷ [])) (omega arith) (subst (λ (o : Option ℕ). IfHalf (λ j. IsTree d old name j (p ++ (x ∷ []))) o) h (kn.halves x)) (subst (λ (o : Option ℕ). Allowed (bits_of (left - 1) q) hop (from_half f o).nodes) h v) in
+      λ x h v. below d (p ++ (x ∷ [])) refl (omega arith) (subst (λ (o : Option ℕ). IfHalf (λ j. IsTree d old name j (p ++ (x ∷ []))) o) h (kn.halves x)) (subst (λ (o : Option ℕ). Allowed (bits_of (left - 1) q) hop (from_half f o).nodes) h v) in
       let is : cover_of label n ≡ covered own cl ch =
       one_cover (join own (rows_of label low) (rows_of label high)) (cover_of label n) (covered own cl ch) (stored_cover label n low high kn.covers)
       (cover_level own (rows_of label low) (rows_of label high) cl ch (cover_half label d old name (p ++ (false ∷ [])) (half_place n false) (kn.halves false)) (cover_half label d old name (p ++ (true ∷ [])) (half_place n true) (kn.halves true))) in
@@ -448,7 +448,7 @@ module _ (label : Label) (q left : ℕ) (hop : Option ℕ) (old : List Node) (i 
         (told, ap (λ y. walks_at (suc d) y i) e ∙ x.0 ∙ g.0, subst (λ (y : List Node). IsTree (suc d) y name i p) (sym e) x.1)
 
     pub set_below : (b : Bool) (k : ℕ) (d : ℕ) (name : ℕ → Place) (p : List Bool) → left ≢ 0 → b ≡ nat_eq (bit_at q (left - 1)) 1 → half_place n b ≡ Some k →
-        ((e : ℕ) (v : List Bool) → left - 1 < e → IsTree e old name k v → Allowed (bits_of (left - 1) q) hop (walks_at e old k).nodes → IsSet e label (bits_of (left - 1) q) hop old mid name k v) →
+        ((e : ℕ) (v : List Bool) → suc e ≡ d → left - 1 < e → IsTree e old name k v → Allowed (bits_of (left - 1) q) hop (walks_at e old k).nodes → IsSet e label (bits_of (left - 1) q) hop old mid name k v) →
         left < d → IsTree d old name i p → Allowed (bits_of left q) hop (walks_at d old i).nodes → IsSet d label (bits_of left q) hop old new name i p
     unfolding walks_at IsTree
     set_below b k zero name p z y e below l t a = absurd t
@@ -463,7 +463,7 @@ module _ (label : Label) (q left : ℕ) (hop : Option ℕ) (old : List Node) (i 
         let w : walks_by f n ≡ walks_by f (node_at old i) = ap (walks_by f) at in
         let kn : IsNode f (λ b j. IsTree d old name j (p ++ (b ∷ []))) (length old) name p n = subst (λ (x : Node). IsNode f (λ b j. IsTree d old name j (p ++ (b ∷ []))) (length old) name p x) (sym at) t.2 in
         let there : (x : Bool) → half_place n x ≡ Some k → Allowed (bits_of (left - 1) q) hop (from_half f (half_place n x)).nodes → IsSet d label (bits_of (left - 1) q) hop old mid name k (p ++ (x ∷ [])) =
-        λ x h v. below d (p ++ (x ∷ [])) (omega arith) (subst (λ (o : Option ℕ). IfHalf (λ j. IsTree d old name j (p ++ (x ∷ []))) o) h (kn.halves x)) (subst (λ (o : Option ℕ). Allowed (bits_of (left - 1) q) hop (from_half f o).nodes) h v) in
+        λ x h v. below d (p ++ (x ∷ [])) refl (omega arith) (subst (λ (o : Option ℕ). IfHalf (λ j. IsTree d old name j (p ++ (x ∷ []))) o) h (kn.halves x)) (subst (λ (o : Option ℕ). Allowed (bits_of (left - 1) q) hop (from_half f o).nodes) h v) in
         let done : (x : Bool) → Keeps (p ++ (x ∷ [])) old mid name → walks_at (suc d) new i ≡ edited label (bits_of left q) hop (walks_by f (node_at old i)) → IsTree (suc d) new name i p → IsSet (suc d) label (bits_of left q) hop old new name i p =
         λ x c v u. record {
           walks = v;

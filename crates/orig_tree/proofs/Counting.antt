@@ -16,7 +16,7 @@ deeper_all : (b : Bool) (a : List (List Bool)) → length (map (λ p. b ∷ p) a
 deeper_all b [] = refl
 deeper_all b (q ∷ a) = ap suc (deeper_all b a)
 
-count_level : (route entry : Option ℕ) (low high : Walks) → length (walks_of route entry low high).nodes ≡ 1 + (length low.nodes + length high.nodes)
+pub count_level : (route entry : Option ℕ) (low high : Walks) → length (walks_of route entry low high).nodes ≡ 1 + (length low.nodes + length high.nodes)
 count_level route entry low high =
     let all : length (walks_of route entry low high).nodes ≡ suc (length (map (λ p. false ∷ p) low.nodes ++ map (λ p. true ∷ p) high.nodes)) = refl in
     omega (arith, all, length-append (map (λ p. false ∷ p) low.nodes) (map (λ p. true ∷ p) high.nodes), deeper_all false low.nodes, deeper_all true high.nodes)
@@ -40,6 +40,36 @@ count_end cells i zero z =
     one_told n a b e f g = omega (arith, e, f, g)
 count_end cells i (suc d) z = absurd (omega (arith, z))
 
+nodes_none : (b c : Bool) (p : List Bool) (a : List (List Bool)) → (b ≡ c → ⊥) → nodes_in (b ∷ p) (map (λ q. c ∷ q) a) ≡ 0
+nodes_none b c p [] ne = refl
+nodes_none true true p (q ∷ a) ne = absurd (ne refl)
+nodes_none true false p (q ∷ a) ne = nodes_none true false p a ne
+nodes_none false true p (q ∷ a) ne = nodes_none false true p a ne
+nodes_none false false p (q ∷ a) ne = absurd (ne refl)
+
+by_test : (t : Bool) (x y : List Bool) (a b : List (List Bool)) → length a ≡ length b → length (cond t (x ∷ a) a) ≡ length (cond t (y ∷ b) b)
+by_test true x y a b e = ap suc e
+by_test false x y a b e = e
+
+nodes_same : (b : Bool) (p : List Bool) (a : List (List Bool)) → nodes_in (b ∷ p) (map (λ q. b ∷ q) a) ≡ nodes_in p a
+nodes_same b p [] = refl
+nodes_same true p (q ∷ a) = by_test (begins p q) (true ∷ q) q (filter (λ r. begins (true ∷ p) r) (map (λ r. true ∷ r) a)) (filter (λ r. begins p r) a) (nodes_same true p a)
+nodes_same false p (q ∷ a) = by_test (begins p q) (false ∷ q) q (filter (λ r. begins (false ∷ p) r) (map (λ r. false ∷ r) a)) (filter (λ r. begins p r) a) (nodes_same false p a)
+
+nodes_both : (p : List Bool) (a b : List (List Bool)) → nodes_in p (a ++ b) ≡ nodes_in p a + nodes_in p b
+nodes_both p [] b = omega arith
+nodes_both p (q ∷ a) b = by_bit (begins p q) (nodes_both p a b)
+  where
+    by_bit : (t : Bool) → nodes_in p (a ++ b) ≡ nodes_in p a + nodes_in p b → length (cond t (q ∷ filter (λ r. begins p r) (a ++ b)) (filter (λ r. begins p r) (a ++ b))) ≡ length (cond t (q ∷ filter (λ r. begins p r) a) (filter (λ r. begins p r) a)) + nodes_in p b
+    by_bit true e = omega (arith, e)
+    by_bit false e = e
+
+pub nodes_half : (b : Bool) (p : List Bool) (route entry : Option ℕ) (low high : Walks) → nodes_in (b ∷ p) (walks_of route entry low high).nodes ≡ nodes_in p (side_of b low high).nodes
+nodes_half true p route entry low high =
+    omega (arith, nodes_both (true ∷ p) (map (λ q. false ∷ q) low.nodes) (map (λ q. true ∷ q) high.nodes), nodes_none true false p low.nodes (λ e. cc), nodes_same true p high.nodes)
+nodes_half false p route entry low high =
+    omega (arith, nodes_both (false ∷ p) (map (λ q. false ∷ q) low.nodes) (map (λ q. true ∷ q) high.nodes), nodes_none false true p high.nodes (λ e. cc), nodes_same false p low.nodes)
+
 module _ (cells : List Node) (i m depth : ℕ) (n : Node) (at : n ≡ node_at cells i) (dm : suc m ≡ depth) where
   pub count_node : (lo ho : Option ℕ) (low high sum all : ℕ) → lo ≡ half_place n false → ho ≡ half_place n true →
       low ≡ told (length (from_half (walks_at (suc m) cells) lo).nodes) → high ≡ told (length (from_half (walks_at (suc m) cells) ho).nodes) →
@@ -55,50 +85,24 @@ module _ (cells : List Node) (i m depth : ℕ) (n : Node) (at : n ≡ node_at ce
       ∙ (ap told (sym (count_level (node_at cells i).route.hop (node_at cells i).entry.hop (from_half F (half_place (node_at cells i) false)) (from_half F (half_place (node_at cells i) true))))
       ∙ ap (λ d. told (length (walks_at (suc d) cells i).nodes)) dm)
 
-  nodes_none : (b c : Bool) (p : List Bool) (a : List (List Bool)) → (b ≡ c → ⊥) → nodes_in (b ∷ p) (map (λ q. c ∷ q) a) ≡ 0
-  nodes_none b c p [] ne = refl
-  nodes_none true true p (q ∷ a) ne = absurd (ne refl)
-  nodes_none true false p (q ∷ a) ne = nodes_none true false p a ne
-  nodes_none false true p (q ∷ a) ne = nodes_none false true p a ne
-  nodes_none false false p (q ∷ a) ne = absurd (ne refl)
-
-  by_test : (t : Bool) (x y : List Bool) (a b : List (List Bool)) → length a ≡ length b → length (cond t (x ∷ a) a) ≡ length (cond t (y ∷ b) b)
-  by_test true x y a b e = ap suc e
-  by_test false x y a b e = e
-
-  nodes_same : (b : Bool) (p : List Bool) (a : List (List Bool)) → nodes_in (b ∷ p) (map (λ q. b ∷ q) a) ≡ nodes_in p a
-  nodes_same b p [] = refl
-  nodes_same true p (q ∷ a) = by_test (begins p q) (true ∷ q) q (filter (λ r. begins (true ∷ p) r) (map (λ r. true ∷ r) a)) (filter (λ r. begins p r) a) (nodes_same true p a)
-  nodes_same false p (q ∷ a) = by_test (begins p q) (false ∷ q) q (filter (λ r. begins (false ∷ p) r) (map (λ r. false ∷ r) a)) (filter (λ r. begins p r) a) (nodes_same false p a)
-
-  nodes_both : (p : List Bool) (a b : List (List Bool)) → nodes_in p (a ++ b) ≡ nodes_in p a + nodes_in p b
-  nodes_both p [] b = omega arith
-  nodes_both p (q ∷ a) b = by_bit (begins p q) (nodes_both p a b)
-    where
-      by_bit : (t : Bool) → nodes_in p (a ++ b) ≡ nodes_in p a + nodes_in p b → length (cond t (q ∷ filter (λ r. begins p r) (a ++ b)) (filter (λ r. begins p r) (a ++ b))) ≡ length (cond t (q ∷ filter (λ r. begins p r) a) (filter (λ r. begins p r) a)) + nodes_in p b
-      by_bit true e = omega (arith, e)
-      by_bit false e = e
-
-  nodes_half : (b : Bool) (p : List Bool) (route entry : Option ℕ) (low high : Walks) → nodes_in (b ∷ p) (walks_of route entry low high).nodes ≡ nodes_in p (side_of b low high).nodes
-  nodes_half true p route entry low high =
-      omega (arith, nodes_both (true ∷ p) (map (λ q. false ∷ q) low.nodes) (map (λ q. true ∷ q) high.nodes), nodes_none true false p low.nodes (λ e. cc), nodes_same true p high.nodes)
-  nodes_half false p route entry low high =
-      omega (arith, nodes_both (false ∷ p) (map (λ q. false ∷ q) low.nodes) (map (λ q. true ∷ q) high.nodes), nodes_none false true p high.nodes (λ e. cc), nodes_same false p low.nodes)
-
-  pub within_step : (left q : ℕ) (b : Bool) (o : Option ℕ) (all : ℕ) → left ≢ 0 → b ≡ nat_eq (bit_at q (left - 1)) 1 → o ≡ half_place n b → all ≡ told (nodes_in (bits_of (left - 1) q) (from_half (walks_at (suc m) cells) o).nodes) →
-      all ≡ told (nodes_in (bits_of left q) (walks_at (suc depth) cells i).nodes)
+  pub within_is : (left q : ℕ) (b : Bool) (o : Option ℕ) → left ≢ 0 → b ≡ nat_eq (bit_at q (left - 1)) 1 → o ≡ half_place n b →
+      nodes_in (bits_of (left - 1) q) (from_half (walks_at (suc m) cells) o).nodes ≡ nodes_in (bits_of left q) (walks_at (suc depth) cells i).nodes
   unfolding walks_at
-  within_step left q b o all z bit oe a =
+  within_is left q b o z bit oe =
       let F = walks_at (suc m) cells in
       let nd = node_at cells i in
       let P = bits_of (left - 1) q in
-      a ∙ (ap (λ y. told (nodes_in P (from_half F y).nodes)) (oe ∙ ap (λ n. half_place n b) at)
-      ∙ (ap (λ (w : Walks). told (nodes_in P w.nodes)) (side_half F nd b)
-      ∙ (ap told (sym (nodes_half b P nd.route.hop nd.entry.hop (from_half F (half_place nd false)) (from_half F (half_place nd true))))
-      ∙ (ap (λ p. told (nodes_in p (walks_by F nd).nodes)) (sym (first_bit left q b z bit))
-      ∙ ap (λ d. told (nodes_in (bits_of left q) (walks_at (suc d) cells i).nodes)) dm))))
+      ap (λ y. nodes_in P (from_half F y).nodes) (oe ∙ ap (λ n. half_place n b) at)
+      ∙ (ap (λ (w : Walks). nodes_in P w.nodes) (side_half F nd b)
+      ∙ (sym (nodes_half b P nd.route.hop nd.entry.hop (from_half F (half_place nd false)) (from_half F (half_place nd true)))
+      ∙ (ap (λ p. nodes_in p (walks_by F nd).nodes) (sym (first_bit left q b z bit))
+      ∙ ap (λ d. nodes_in (bits_of left q) (walks_at (suc d) cells i).nodes) dm)))
 
-all_in : (a : List (List Bool)) → nodes_in [] a ≡ length a
+  pub within_step : (left q : ℕ) (b : Bool) (o : Option ℕ) (all : ℕ) → left ≢ 0 → b ≡ nat_eq (bit_at q (left - 1)) 1 → o ≡ half_place n b → all ≡ told (nodes_in (bits_of (left - 1) q) (from_half (walks_at (suc m) cells) o).nodes) →
+      all ≡ told (nodes_in (bits_of left q) (walks_at (suc depth) cells i).nodes)
+  within_step left q b o all z bit oe a = a ∙ ap told (within_is left q b o z bit oe)
+
+pub all_in : (a : List (List Bool)) → nodes_in [] a ≡ length a
 all_in [] = refl
 all_in (q ∷ a) = ap suc (all_in a)
 

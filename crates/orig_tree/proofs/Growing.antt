@@ -130,6 +130,10 @@ grown_end d cells name i p f S k = record { best = k; keeps = λ j r e h. refl }
 grown_alike : (d : ℕ) (new : List Node) (name : ℕ → Place) (i : ℕ) (p : List Bool) (f g : List Bool → ℕ) (S S' : ℕ → Best) → ((a : List Bool) → f a ≡ g a) → IsGrown d new name i p f S S' → IsGrown d new name i p g S S'
 grown_alike d new name i p f g S S' e k = record { best = best_alike d new S' f g i (λ a l. e a) k.best; keeps = k.keeps }
 
+pub tree_side : (d : ℕ) (cells : List Node) (name : ℕ → Place) (i j : ℕ) (p : List Bool) (b : Bool) → half_place (node_at cells i) b ≡ Some j → IsTree (suc d) cells name i p → IsTree d cells name j (p ++ (b ∷ []))
+unfolding IsTree
+tree_side d cells name i j p b is t = subst (λ (o : Option ℕ). IfHalf (λ x. IsTree d cells name x (p ++ (b ∷ []))) o) is (t.2.halves b)
+
 module _ (left q h hop : ℕ) (b : Bool) (set : Option ℕ) (n : Node) (old : List Node) (i : ℕ) (at : n ≡ node_at old i) (z : left ≢ 0) (bit : b ≡ nat_eq (bit_at q (left - 1)) 1) (hop_is : hop ≡ unwrap_or n.route.hop h) where
   -- the answers of the half, told from the node
   from_node : (d j : ℕ) → half_place (node_at old i) b ≡ Some j → (a : List Bool) → side b (laid_answers set (bits_of left q) h (walks_at (suc d) old i)) a ≡ laid_answers set (bits_of (left - 1) q) hop (walks_at d old j) a
@@ -145,6 +149,16 @@ module _ (left q h hop : ℕ) (b : Bool) (set : Option ℕ) (n : Node) (old : Li
     subst (λ (y : Option ℕ). IfHalf (λ x. AreBest d old S (side b f) x) y) is (k.1 b),
   )
 
+  pub grown_at : (new : List Node) (free' j d : ℕ) (name : ℕ → Place) (p : List Bool) (S S' : ℕ → Best) → half_place (node_at old i) b ≡ Some j → IsTree (suc d) old name i p → HasRoom d (bits_of (left - 1) q) old new free' name j (p ++ (b ∷ [])) →
+      (AreBest d old S (laid_answers set (bits_of (left - 1) q) hop (walks_at d old j)) j → IsGrown d new name j (p ++ (b ∷ [])) (laid_answers set (bits_of (left - 1) q) hop (walks_at d old j)) S S') →
+      AreBest (suc d) old S (laid_answers set (bits_of left q) h (walks_at (suc d) old i)) i → IsGrown (suc d) new name i p (laid_answers set (bits_of left q) h (walks_at (suc d) old i)) S S'
+  grown_at new free' j d name p S S' is t r g k =
+      let f = laid_answers set (bits_of left q) h (walks_at (suc d) old i) in
+      let c = child_of d j name p S f is t k in
+      grown_below d old new free' i j name p (bits_of (left - 1) q) b f S S' is t r k
+      (grown_alike d new name j (p ++ (b ∷ [])) (laid_answers set (bits_of (left - 1) q) hop (walks_at d old j)) (side b f) S S' (λ a. sym (from_node d j is a))
+      (g (best_alike d old S (side b f) (laid_answers set (bits_of (left - 1) q) hop (walks_at d old j)) j (λ a u. from_node d j is a) c.1)))
+
   pub some_grown : (new : List Node) (free free' j d m : ℕ) (o : Option ℕ) (name : ℕ → Place) (p : List Bool) (S S' : ℕ → Best) → o ≡ half_place n b → o ≡ Some j → left < d → IsTree d old name i p → IsHeld old free name m →
       ((e : ℕ) (name1 : ℕ → Place) (k : ℕ) (v : List Bool) → left - 1 < e → IsTree e old name1 j v → IsHeld old free name1 k → HasRoom e (bits_of (left - 1) q) old new free' name1 j v) →
       ((e : ℕ) (name1 : ℕ → Place) (k : ℕ) (v : List Bool) → left - 1 < e → IsTree e old name1 j v → IsHeld old free name1 k → AreBest e old S (laid_answers set (bits_of (left - 1) q) hop (walks_at e old j)) j → IsGrown e new name1 j v (laid_answers set (bits_of (left - 1) q) hop (walks_at e old j)) S S') →
@@ -152,12 +166,9 @@ module _ (left q h hop : ℕ) (b : Bool) (set : Option ℕ) (n : Node) (old : Li
   some_grown new free free' j zero m o name p S S' e some l t held r g k = absurd (omega (arith, l))
   some_grown new free free' j (suc d) m o name p S S' e some l t held r g k =
       let is : half_place (node_at old i) b ≡ Some j = ap (λ x. half_place x b) (sym at) ∙ sym e ∙ some in
-      let f = laid_answers set (bits_of left q) h (walks_at (suc d) old i) in
-      let c = child_of d j name p S f is t k in
       let low : left - 1 < d = omega (arith, l, z) in
-      grown_below d old new free' i j name p (bits_of (left - 1) q) b f S S' is t (r d name m (p ++ (b ∷ [])) low c.0 held) k
-      (grown_alike d new name j (p ++ (b ∷ [])) (laid_answers set (bits_of (left - 1) q) hop (walks_at d old j)) (side b f) S S' (λ a. sym (from_node d j is a))
-      (g d name m (p ++ (b ∷ [])) low c.0 held (best_alike d old S (side b f) (laid_answers set (bits_of (left - 1) q) hop (walks_at d old j)) j (λ a u. from_node d j is a) c.1)))
+      let u = tree_side d old name i j p b is t in
+      grown_at new free' j d name p S S' is t (r d name m (p ++ (b ∷ [])) low u held) (λ v. g d name m (p ++ (b ∷ [])) low u held v) k
 
 route_is : (d : ℕ) (cells : List Node) (i : ℕ) → root (walks_at (suc d) cells i).routes ≡ (node_at cells i).route.hop
 unfolding walks_at
@@ -172,27 +183,39 @@ half_stands e left q h hop b set n old i x at z bit hop_is gone s =
     ∙ (ap (λ o. lpm (laid set (bits_of (left - 1) q) (from_half (walks_at (suc e) old) o).routes) a hop) (ap (λ y. half_place y b) (sym at) ∙ gone)
     ∙ ap (λ R. lpm R a hop) (laid_nothing set (bits_of (left - 1) q))))) s
 
+-- what is kept after a half became a node, told from before
+pub split_grown : (left q h hop : ℕ) (b : Bool) (set : Option ℕ) (n : Node) (old mid new : List Node) (free1 i j d : ℕ) (name : ℕ → Place) (p : List Bool) (S S1 S' : ℕ → Best) (x : Best) →
+    n ≡ node_at old i → left ≢ 0 → b ≡ nat_eq (bit_at q (left - 1)) 1 → hop ≡ unwrap_or n.route.hop h → half_place n b ≡ None → left < d → IsTree d old name i p →
+    (s : IsSplit d b old mid free1 name i p j) → ((k : ℕ) (r : List Bool) → name k ≡ At r → k ≢ j → S1 k ≡ S k) → S1 j ≡ x → ((e q : ℕ) → left - 1 ≤ e → Stands e (λ a. lpm (edit (bits_of (left - 1) q) set []) a hop) x) →
+    (hop ≡ unwrap_or (node_at mid i).route.hop h)
+    × ((AreBest d mid S1 (laid_answers set (bits_of left q) h (walks_at d mid i)) i → IsGrown d new s.name' i p (laid_answers set (bits_of left q) h (walks_at d mid i)) S1 S') →
+    AreBest d old S (laid_answers set (bits_of left q) h (walks_at d old i)) i → IsGrown d new name i p (laid_answers set (bits_of left q) h (walks_at d old i)) S S')
+split_grown left q h hop b set n old mid new free1 i j zero name p S S1 S' x at z bit hop_is gone l t s same here fr = absurd (omega (arith, l))
+split_grown left q h hop b set n old mid new free1 i j (suc zero) name p S S1 S' x at z bit hop_is gone l t s same here fr = absurd (omega (arith, l, z))
+split_grown left q h hop b set n old mid new free1 i j (suc (suc e)) name p S S1 S' x at z bit hop_is gone l t s same here fr =
+    let f = laid_answers set (bits_of left q) h (walks_at (suc (suc e)) old i) in
+    let f1 = laid_answers set (bits_of left q) h (walks_at (suc (suc e)) mid i) in
+    let routes = (s.walks []).routes in
+    let alike : (a : List Bool) → f a ≡ f1 a = λ a. ap (λ R. lpm (laid set (bits_of left q) R) a h) (sym routes) in (
+      hop_is ∙ ap (λ o. unwrap_or o h) (ap (λ (y : Node). y.route.hop) at ∙ sym (sym (route_is (suc e) mid i) ∙ (ap root routes ∙ route_is (suc e) old i))),
+      λ g k.
+          let k1 = split_best e old mid free1 i j name p b f S S1 x t s same here (half_stands e left q h hop b set n old i x at z bit hop_is gone (fr e q (omega (arith, l, z)))) k in
+          let y = g (best_alike (suc (suc e)) mid S1 f f1 i (λ a u. alike a) k1) in
+          record {
+            best = best_alike (suc (suc e)) new S' f1 f i (λ a u. sym (alike a)) y.best;
+            keeps = λ c v w out. y.keeps c v (s.keeps.same c v w out).1 out ∙ same c v w (λ c_is. let a : v ≡ p ++ (b ∷ []) = s.mine v (ap name (sym c_is) ∙ w) in let u : true ≡ false = sym (begins_front p (b ∷ [])) ∙ ap (begins p) (sym a) ∙ out in cc);
+          },
+    )
+
 pub none_grown : (left q h hop : ℕ) (b : Bool) (set : Option ℕ) (n : Node) (old mid new : List Node) (free free1 free' i j d m : ℕ) (name : ℕ → Place) (p : List Bool) (S S1 S' : ℕ → Best) (x : Best) →
     n ≡ node_at old i → left ≢ 0 → b ≡ nat_eq (bit_at q (left - 1)) 1 → hop ≡ unwrap_or n.route.hop h → half_place n b ≡ None → left < d → IsTree d old name i p → IsHeld old free name m →
     IsSplit d b old mid free1 name i p j → ((k : ℕ) (r : List Bool) → name k ≡ At r → k ≢ j → S1 k ≡ S k) → S1 j ≡ x → ((e q : ℕ) → left - 1 ≤ e → Stands e (λ a. lpm (edit (bits_of (left - 1) q) set []) a hop) x) →
     ((e : ℕ) (name1 : ℕ → Place) (k : ℕ) (v : List Bool) → left - 1 < e → IsTree e mid name1 j v → IsHeld mid free1 name1 k → HasRoom e (bits_of (left - 1) q) mid new free' name1 j v) →
     ((e : ℕ) (name1 : ℕ → Place) (k : ℕ) (v : List Bool) → left - 1 < e → IsTree e mid name1 j v → IsHeld mid free1 name1 k → AreBest e mid S1 (laid_answers set (bits_of (left - 1) q) hop (walks_at e mid j)) j → IsGrown e new name1 j v (laid_answers set (bits_of (left - 1) q) hop (walks_at e mid j)) S1 S') →
     AreBest d old S (laid_answers set (bits_of left q) h (walks_at d old i)) i → IsGrown d new name i p (laid_answers set (bits_of left q) h (walks_at d old i)) S S'
-none_grown left q h hop b set n old mid new free free1 free' i j zero m name p S S1 S' x at z bit hop_is gone l t held s same here fr r g k = absurd (omega (arith, l))
-none_grown left q h hop b set n old mid new free free1 free' i j (suc zero) m name p S S1 S' x at z bit hop_is gone l t held s same here fr r g k = absurd (omega (arith, l, z))
-none_grown left q h hop b set n old mid new free free1 free' i j (suc (suc e)) m name p S S1 S' x at z bit hop_is gone l t held s same here fr r g k =
-    let f = laid_answers set (bits_of left q) h (walks_at (suc (suc e)) old i) in
-    let f1 = laid_answers set (bits_of left q) h (walks_at (suc (suc e)) mid i) in
-    let routes = (s.walks []).routes in
-    let alike : (a : List Bool) → f a ≡ f1 a = λ a. ap (λ R. lpm (laid set (bits_of left q) R) a h) (sym routes) in
-    let own : hop ≡ unwrap_or (node_at mid i).route.hop h = hop_is ∙ ap (λ o. unwrap_or o h) (ap (λ (y : Node). y.route.hop) at ∙ sym (sym (route_is (suc e) mid i) ∙ (ap root routes ∙ route_is (suc e) old i))) in
-    let k1 = split_best e old mid free1 i j name p b f S S1 x t s same here (half_stands e left q h hop b set n old i x at z bit hop_is gone (fr e q (omega (arith, l, z)))) k in
-    let k2 = best_alike (suc (suc e)) mid S1 f f1 i (λ a u. alike a) k1 in
-    let y = some_grown left q h hop b set (node_at mid i) mid i refl z bit own new free1 free' j (suc (suc e)) s.spares (half_place (node_at mid i) b) s.name' p S1 S' refl s.half l s.tree s.held (λ d n1 c v u w a. r d n1 c v u w a) (λ d n1 c v u w a o. g d n1 c v u w a o) k2 in
-    record {
-      best = best_alike (suc (suc e)) new S' f1 f i (λ a u. sym (alike a)) y.best;
-      keeps = λ c v w out. y.keeps c v (s.keeps.same c v w out).1 out ∙ same c v w (λ c_is. let a : v ≡ p ++ (b ∷ []) = s.mine v (ap name (sym c_is) ∙ w) in let u : true ≡ false = sym (begins_front p (b ∷ [])) ∙ ap (begins p) (sym a) ∙ out in cc);
-    }
+none_grown left q h hop b set n old mid new free free1 free' i j d m name p S S1 S' x at z bit hop_is gone l t held s same here fr r g k =
+    let w = split_grown left q h hop b set n old mid new free1 i j d name p S S1 S' x at z bit hop_is gone l t s same here fr in
+    w.1 (some_grown left q h hop b set (node_at mid i) mid i refl z bit w.0 new free1 free' j d s.spares (half_place (node_at mid i) b) s.name' p S1 S' refl s.half l s.tree s.held (λ d n1 c v u w a. r d n1 c v u w a) (λ d n1 c v u w a o. g d n1 c v u w a o)) k
 
 pub tree_inside : (d : ℕ) (cells : List Node) (name : ℕ → Place) (i : ℕ) (p : List Bool) → IsTree d cells name i p → i < length cells
 unfolding IsTree

@@ -17,6 +17,7 @@ use Rattle.orig_tree.proofs.Roots.{same_whole, room_whole, set_whole}
 use Rattle.orig_tree.proofs.Standing.{stands_one, best_same, best_alike, best_fewer, best_carry}
 use Rattle.orig_tree.proofs.Growing.{within_it}
 use Rattle.orig_tree.proofs.Undoing.{Assigns, put_in}
+use Rattle.orig_tree.proofs.Placing.{Places, placed_whole}
 
 -- ---- the root alone
 
@@ -81,21 +82,15 @@ module _ (f : Family) (q len : ℕ) (few : len ≤ width f) (old mid : List Node
       best_carry (suc (width f)) mid mid (changed C S1) S2 a1.name (λ a. lpm (edit (bits_of len q) set (whole f mid).routes) a 0) 0 [] a1.tree
       (λ j r e b. (refl, made j (omega (arith, l, within_it mid free1 a1.spares j a1.name r a1.held e)))) m.best
 
-  pub is_laid : (hop depth n : ℕ) (O C : List Change) (x : Best) (S2 S3 : ℕ → Best) (m3 new : List Node) (free3 free' : ℕ) → depth ≡ width f → O ≡ [] → length mid ≤ n + 1 → Plans (Some hop) depth O C x → ((j : ℕ) → j ≤ n → S2 j ≡ changed C S1 j) →
-      GrowsNodes (bits_of len q) len mid free1 m3 free3 → GrowsBest (Some hop) (bits_of len q) len mid free1 m3 S2 S3 → free' ≡ free3 →
-      ((d : ℕ) (name : ℕ → Place) (r : List Bool) → len < d → IsTree d m3 name 0 r → Allowed (bits_of len q) (Some hop) (walks_at d m3 0).nodes → IsSet d Route (bits_of len q) (Some hop) m3 new name 0 r) →
-      HalvesStay m3 new → IsArena f new free' × KeepsBest f new S3 × IsLaid (bits_of len q) hop (whole f old) (whole f new)
-  is_laid hop depth n O C x S2 S3 m3 new free3 free' w o l plan made gn gb g set stay =
-      let F = λ (a : List Bool). lpm (edit (bits_of len q) (Some hop) (whole f mid).routes) a 0 in
+  pub is_laid : (hop depth n : ℕ) (O C : List Change) (x : Best) (S2 S3 : ℕ → Best) (new : List Node) (free' : ℕ) (more : Bool) → depth ≡ width f → O ≡ [] → length mid ≤ n + 1 → Plans (Some hop) depth O C x → ((j : ℕ) → j ≤ n → S2 j ≡ changed C S1 j) →
+      Places Route hop q len mid free1 new free' S2 S3 more → IsArena f new free' × KeepsBest f new S3 × IsLaid Route (bits_of len q) hop (whole f old) (whole f new)
+  is_laid hop depth n O C x S2 S3 new free' more w o l plan made placed =
       let k2 = after_plan (Some hop) depth n O C x S2 w o l plan made in
-      let k3 = gb (suc (width f)) a1.name a1.spares [] (omega (arith, few)) a1.tree a1.held k2 in
-      let r = room_whole f q len free1 free3 mid m3 few a1 gn in
-      let s = set_whole f Route q len free3 free' (Some hop) m3 new few g r.2 r.1 set in (
-        s.1,
-        best_alike (suc (width f)) new S3 F (λ a. lpm (whole f new).routes a 0) 0
-            (λ a u. ap (λ R. lpm R a 0) (sym (ap (λ (y : Walks). y.routes) s.0 ∙ ap (edit (bits_of len q) (Some hop)) r.0.routes)))
-            (best_fewer (suc (width f)) m3 new S3 F 0 stay k3.best),
-        record { middle = whole f m3; room = subst (λ (y : Walks). IsRoomier (bits_of len q) y (whole f m3)) (ap (whole f) same) r.0; there = r.1; set = s.0 },
+      let y = placed_whole f Route q len hop free1 free' mid new S2 S3 more few a1 placed in (
+        y.0,
+        best_alike (suc (width f)) new S3 (λ a. lpm (edit (bits_of len q) (Some hop) (whole f mid).routes) a 0) (λ a. lpm (whole f new).routes a 0) 0
+            (λ a u. ap (λ R. lpm R a 0) (sym (ap (λ (w : Walks). w.routes) y.1.set ∙ ap (edit (bits_of len q) (Some hop)) y.1.room.routes))) (y.2 k2),
+        subst (λ (w : Walks). IsLaid Route (bits_of len q) hop w (whole f new)) (ap (whole f) same) y.1,
       )
 
   pub is_altered : (o : Option ℕ) (depth n : ℕ) (O C : List Change) (x : Best) (S2 : ℕ → Best) (new : List Node) (free' : ℕ) → Allowed (bits_of len q) o (whole f mid).nodes → depth ≡ width f → O ≡ [] → length mid ≤ n + 1 → Plans o depth O C x →

@@ -24,7 +24,9 @@ pub mod Fitting
 pub mod Growing
 pub mod Halving
 pub mod Laying
-pub mod Regions
 pub mod Counting
+pub mod Regions
 pub mod Undoing
 pub mod Loading
+pub mod Placing
+pub mod Costing

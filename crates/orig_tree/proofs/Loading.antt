@@ -26,9 +26,6 @@ use Rattle.orig_tree.specs.Walk.{Walks}
 use Rattle.orig_tree.specs.Arena.{IsArena, IsRoomier, whole}
 use Rattle.orig_tree.specs.Bests.{IsLaid, KeepsBest}
 use Rattle.orig_tree.proofs.Places.{in_place_put, same_rows, entries_put}
-use Rattle.orig_tree.proofs.Roots.{same_whole, room_whole, set_whole}
-use Rattle.orig_tree.proofs.Laying.{GrowsNodes}
-use Rattle.orig_tree.proofs.Undoing.{Assigns}
 use Rattle.orig_tree.specs.declared.node.Label.TheVariants.{Route}
 
 pub settled_none : (cells : List Node) (depth hop : ℕ) (o : Option ℕ) (S : ℕ → Best) → o ≡ None → (name : ℕ → Place) (p : List Bool) →
@@ -44,17 +41,7 @@ settled_some cells depth hop j o S S' e f name p =
     subst (λ (o : Option ℕ). IfHalf (λ j. IsTree (suc depth) cells name j p) o → HalfMended depth cells name o p (λ a. lpm (from_half (walks_at (suc depth) cells) o).routes a hop) S S' (best_behind S' o (best_one hop))) (sym e)
     (λ t. let m = f name p t in record { stands = m.stands; best = m.best; keeps = m.keeps })
 
--- ---- a route is laid
-
-pub laid_bare : (f : Family) (q len hop free free1 free3 free' : ℕ) (old mid m3 new : List Node) → len ≤ width f → IsArena f old free → mid ≡ old → free1 ≡ free → GrowsNodes (bits_of len q) len mid free1 m3 free3 → free' ≡ free3 → Assigns (Some hop) len q m3 new →
-    IsArena f new free' × IsLaid (bits_of len q) hop (whole f old) (whole f new)
-laid_bare f q len hop free free1 free3 free' old mid m3 new few a same frees gn g assigned =
-    let a1 = (same_whole f q len free free1 old mid a same frees).2 in
-    let r = room_whole f q len free1 free3 mid m3 few a1 gn in
-    let s = set_whole f Route q len free3 free' (Some hop) m3 new few g r.2 r.1 assigned in (
-      s.1,
-      record { middle = whole f m3; room = subst (λ (y : Walks). IsRoomier (bits_of len q) y (whole f m3)) (ap (whole f) same) r.0; there = r.1; set = s.0 },
-    )
+-- ---- routes are laid
 
 -- the family's routes, one by one
 abbrev pub routes_of : Family → List code_entry.Entry → Entries
@@ -86,7 +73,7 @@ one_own f rs k r l e = by_test (same_family f (entry_as r).0.family) refl
     by_test false h = sym (one_other f rs k r l e h)
 
 -- one more route of the family is set
-pub laid_routes : (f : Family) (q : ℕ) (r : code_entry.Entry) (old new : Walks) (E : Entries) → same_family f (entry_as r).0.family ≡ true → bits_of r.prefix.len q ≡ (prefix_as r.prefix).bits → IsLaid (bits_of r.prefix.len q) r.hop.0 old new → InPlace (of_table f old.routes) → of_table f old.routes ≡ E →
+pub laid_routes : (f : Family) (q : ℕ) (r : code_entry.Entry) (old new : Walks) (E : Entries) → same_family f (entry_as r).0.family ≡ true → bits_of r.prefix.len q ≡ (prefix_as r.prefix).bits → IsLaid Route (bits_of r.prefix.len q) r.hop.0 old new → InPlace (of_table f old.routes) → of_table f old.routes ≡ E →
     (of_table f new.routes ≡ with_entry E (entry_as r)) × InPlace (of_table f new.routes) × (new.entries ≡ old.entries)
 laid_routes f q r old new E h path laid i e =
     let p = r.prefix in

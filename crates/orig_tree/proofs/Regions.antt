@@ -30,6 +30,9 @@ use Rattle.least_model.proofs.Both.{family_is}
 use Rattle.orig_tree.specs.Arena.{whole}
 use Rattle.orig_tree.specs.Bests.{KeepsBest}
 use Rattle.orig_tree.proofs.Paths.{no_bits, first_bit}
+use Rattle.orig_tree.proofs.Counting.{count_level, nodes_half, all_in}
+use Rattle.orig_tree.specs.Within.{nodes_in}
+use Rattle.std.specs.Prelude.{◌+◌}
 
 -- ---- where a region costs nothing, its addresses get one hop
 
@@ -181,3 +184,43 @@ pub region_of : (f g : Family) (cells : List Node) (w : ℕ) (r : Spot) (p q : L
     ((a : List Bool) → answers_in r a ≡ answers (of_family g RS) q a) × (r.entries ≡ cut q (of_family g ES))
 region_of f g cells w r p q RS ES m e b v k h i =
     subst (λ (x : Family). ((a : List Bool) → answers_in r a ≡ answers (of_family x RS) q a) × (r.entries ≡ cut q (of_family x ES))) m (region_is f cells w r p q RS ES e b v k h i)
+
+-- ---- the nodes there
+
+-- of a region that is a node
+pub spot_nodes : (cells : List Node) (o : Option ℕ) (i bits hop : ℕ) → o ≡ Some i → (s : Spot) → spot_at cells o bits hop ≡ s → length s.nodes ≡ 1 + (nodes_in (false ∷ []) s.nodes + nodes_in (true ∷ []) s.nodes)
+unfolding walks_at
+spot_nodes cells o i bits hop e s v =
+    let F = walks_at bits cells in
+    let nd = node_at cells i in
+    let low = from_half F (half_place nd false) in
+    let high = from_half F (half_place nd true) in
+    let is : s.nodes ≡ (walks_by F nd).nodes = sym (ap (λ (x : Spot). x.nodes) v) ∙ ap (λ y. (from_half (walks_at (suc bits) cells) y).nodes) e in
+    let all : length s.nodes ≡ 1 + (length low.nodes + length high.nodes) = ap length is ∙ count_level nd.route.hop nd.entry.hop low high in
+    let a : nodes_in (false ∷ []) s.nodes ≡ length low.nodes = ap (λ x. nodes_in (false ∷ []) x) is ∙ (nodes_half false [] nd.route.hop nd.entry.hop low high ∙ all_in low.nodes) in
+    let b : nodes_in (true ∷ []) s.nodes ≡ length high.nodes = ap (λ x. nodes_in (true ∷ []) x) is ∙ (nodes_half true [] nd.route.hop nd.entry.hop low high ∙ all_in high.nodes) in
+    omega (arith, all, a, b)
+
+-- and of its halves
+pub half_nodes : (cells : List Node) (o h : Option ℕ) (i bits m w hop hop' : ℕ) (b : Bool) (n : Node) → o ≡ Some i → suc m ≡ bits → w ≡ m → n ≡ node_at cells i → h ≡ half_place n b → (s : Spot) → spot_at cells o bits hop ≡ s → (p : List Bool) →
+    nodes_in p (spot_at cells h w hop').nodes ≡ nodes_in (b ∷ p) s.nodes
+unfolding walks_at
+half_nodes cells o h i bits m w hop hop' b n e z y at g s v p =
+    let F = walks_at (suc m) cells in
+    let nd = node_at cells i in
+    let there : from_half (walks_at (suc w) cells) h ≡ from_half F (half_place nd b) = ap (λ x. from_half (walks_at (suc x) cells) h) y ∙ ap (from_half F) (g ∙ ap (λ x. half_place x b) at) in
+    let is : from_half (walks_at (suc bits) cells) o ≡ walks_by F nd = ap (λ x. from_half (walks_at (suc x) cells) o) (sym z) ∙ ap (from_half (walks_at (suc (suc m)) cells)) e in
+    ap (λ (x : Walks). nodes_in p x.nodes) (there ∙ side_half F nd b)
+    ∙ (sym (nodes_half b p nd.route.hop nd.entry.hop (from_half F (half_place nd false)) (from_half F (half_place nd true)))
+    ∙ (sym (ap (λ (x : Walks). nodes_in (b ∷ p) x.nodes) is) ∙ ap (λ (x : Spot). nodes_in (b ∷ p) x.nodes) v))
+
+-- of a region that is none
+pub no_nodes : (cells : List Node) (o : Option ℕ) (bits w hop hop' : ℕ) (b : Bool) → o ≡ None → (s : Spot) → spot_at cells o bits hop ≡ s → (p : List Bool) → nodes_in p (spot_at cells None w hop').nodes ≡ nodes_in (b ∷ p) s.nodes
+no_nodes cells o bits w hop hop' b e s v p = sym (ap (λ y. nodes_in (b ∷ p) (from_half (walks_at (suc bits) cells) y).nodes) e) ∙ ap (λ (x : Spot). nodes_in (b ∷ p) x.nodes) v
+
+-- within a path
+pub below_nodes : (nodes below : List (List Bool)) (left q n : ℕ) (b : Bool) → left ≢ 0 → b ≡ nat_eq (bit_at q (left - 1)) 1 → ((p : List Bool) → nodes_in p below ≡ nodes_in (b ∷ p) nodes) → n ≡ nodes_in (bits_of (left - 1) q) below → n ≡ nodes_in (bits_of left q) nodes
+below_nodes nodes below left q n b z bit f e = e ∙ (f (bits_of (left - 1) q) ∙ ap (λ p. nodes_in p nodes) (sym (first_bit left q b z bit)))
+
+pub here_nodes : (nodes : List (List Bool)) (left q : ℕ) → left ≡ 0 → length nodes ≡ nodes_in (bits_of left q) nodes
+here_nodes nodes left q z = sym (ap (λ p. nodes_in p nodes) (no_bits left q z) ∙ all_in nodes)

@@ -26,15 +26,25 @@ end_node cells i left q (suc d) z l =
     let n = node_at cells i in
     sym (room_here (walks_by (walks_at d cells) n) n.route.hop n.entry.hop (from_half (walks_at d cells) (half_place n false)) (from_half (walks_at d cells) (half_place n true)) left q z refl)
 
+half_has : (cells : List Node) (n : Node) (i left q : ℕ) (b : Bool) (o : Option ℕ) (d : ℕ) → n ≡ node_at cells i → o ≡ half_place n b → left ≢ 0 → b ≡ nat_eq (bit_at q (left - 1)) 1 →
+    has_node (bits_of (left - 1) q) (from_half (walks_at d cells) o).nodes ≡ has_node (bits_of left q) (walks_at (suc d) cells i).nodes
+unfolding walks_at
+half_has cells n i left q b o d at half z k =
+    let f = walks_at d cells in
+    ap (λ (w : Walks). has_node (bits_of (left - 1) q) w.nodes) (ap (from_half f) half ∙ side_half f n b)
+    ∙ (room_half b n.route.hop n.entry.hop (from_half f (half_place n false)) (from_half f (half_place n true)) left q z k
+    ∙ ap (λ (w : Walks). has_node (bits_of left q) w.nodes) (ap (walks_by f) at))
+
 pub step_node : (cells : List Node) (n : Node) (i left q : ℕ) (b : Bool) (o : Option ℕ) (out : Bool) (d : ℕ) → n ≡ node_at cells i → o ≡ half_place n b → left ≢ 0 → b ≡ nat_eq (bit_at q (left - 1)) 1 →
     ((e : ℕ) → left - 1 < e → out ≡ has_node (bits_of (left - 1) q) (from_half (walks_at e cells) o).nodes) → left < d → out ≡ has_node (bits_of left q) (walks_at d cells i).nodes
-unfolding walks_at
 step_node cells n i left q b o out zero at half z k below l = absurd (omega arith)
-step_node cells n i left q b o out (suc d) at half z k below l =
-    let f = walks_at d cells in
-    below d (omega arith) ∙ (ap (λ (w : Walks). has_node (bits_of (left - 1) q) w.nodes) (ap (from_half f) half ∙ side_half f n b)
-    ∙ (room_half b n.route.hop n.entry.hop (from_half f (half_place n false)) (from_half f (half_place n true)) left q z k
-    ∙ ap (λ (w : Walks). has_node (bits_of left q) w.nodes) (ap (walks_by f) at)))
+step_node cells n i left q b o out (suc d) at half z k below l = below d (omega arith) ∙ half_has cells n i left q b o d at half z k
+
+-- what holds where the half's path is a node holds where the node's is
+pub held_half : (X : Type 0) (cells : List Node) (n : Node) (i left q : ℕ) (b : Bool) (o : Option ℕ) (d : ℕ) → n ≡ node_at cells i → o ≡ half_place n b → left ≢ 0 → b ≡ nat_eq (bit_at q (left - 1)) 1 →
+    ((e : ℕ) → left - 1 < e → has_node (bits_of (left - 1) q) (from_half (walks_at e cells) o).nodes ≡ true → X) → left < d → has_node (bits_of left q) (walks_at d cells i).nodes ≡ true → X
+held_half X cells n i left q b o zero at half z k below l h = absurd (omega arith)
+held_half X cells n i left q b o (suc d) at half z k below l h = below d (omega (arith, l, z)) (half_has cells n i left q b o d at half z k ∙ h)
 
 pub no_node : (cells : List Node) (o : Option ℕ) (p : List Bool) (e : ℕ) → o ≡ None → false ≡ has_node p (from_half (walks_at e cells) o).nodes
 no_node cells o p e h = sym (ap (λ u. has_node p (from_half (walks_at e cells) u).nodes) h)
@@ -482,20 +492,25 @@ some_room old new n o free i j left q (suc d) name p b z y at h some l t f =
     let is : half_place (node_at old i) b ≡ Some j = ap (λ x. half_place x b) (sym at) ∙ sym h ∙ some in
     room_below old new free i j left q d name p b z y is t (f d (p ++ (b ∷ [])) (omega arith) (subst (λ (v : Option ℕ). IfHalf (λ x. IsTree d old name x (p ++ (b ∷ []))) v) is (t.2.halves b)))
 
+-- room after a half became a node is room
+pub split_room : (old mid new : List Node) (free1 free i j left q d : ℕ) (name : ℕ → Place) (p : List Bool) (b : Bool) → left ≢ 0 → b ≡ nat_eq (bit_at q (left - 1)) 1 →
+    (s : IsSplit d b old mid free1 name i p j) → HasRoom d (bits_of left q) mid new free s.name' i p → HasRoom d (bits_of left q) old new free name i p
+split_room old mid new free1 free i j left q d name p b z y s r = record {
+  name' = r.name';
+  spares = r.spares;
+  tree = r.tree;
+  held = r.held;
+  keeps = record { long = omega (arith, s.keeps.long, r.keeps.long); same = λ x v g h. let a = s.keeps.same x v g h in let c = r.keeps.same x v a.1 h in (c.0 ∙ a.0, c.1) };
+  walks = roomier_trans _ _ _ _ (subst (λ v. IsRoomier v (walks_at d old i) (walks_at d mid i)) (sym (first_bit left q b z y)) (s.walks (bits_of (left - 1) q))) r.walks;
+  there = r.there;
+}
+
 pub none_room : (old mid new : List Node) (free1 free i j left q d : ℕ) (name : ℕ → Place) (p : List Bool) (b : Bool) → left ≢ 0 → b ≡ nat_eq (bit_at q (left - 1)) 1 → left < d →
     IsSplit d b old mid free1 name i p j →
     ((e : ℕ) (name1 : ℕ → Place) (n : ℕ) (v : List Bool) → left - 1 < e → IsTree e mid name1 j v → IsHeld mid free1 name1 n → HasRoom e (bits_of (left - 1) q) mid new free name1 j v) → HasRoom d (bits_of left q) old new free name i p
 none_room old mid new free1 free i j left q d name p b z y l s f =
-    let r = some_room mid new (node_at mid i) (half_place (node_at mid i) b) free i j left q d s.name' p b z y refl refl s.half l s.tree (λ e v m t. f e s.name' s.spares v m t s.held) in
-    record {
-      name' = r.name';
-      spares = r.spares;
-      tree = r.tree;
-      held = r.held;
-      keeps = record { long = omega (arith, s.keeps.long, r.keeps.long); same = λ x v g h. let a = s.keeps.same x v g h in let c = r.keeps.same x v a.1 h in (c.0 ∙ a.0, c.1) };
-      walks = roomier_trans _ _ _ _ (subst (λ v. IsRoomier v (walks_at d old i) (walks_at d mid i)) (sym (first_bit left q b z y)) (s.walks (bits_of (left - 1) q))) r.walks;
-      there = r.there;
-    }
+    split_room old mid new free1 free i j left q d name p b z y s
+    (some_room mid new (node_at mid i) (half_place (node_at mid i) b) free i j left q d s.name' p b z y refl refl s.half l s.tree (λ e v m t. f e s.name' s.spares v m t s.held))
 
 pub split_is : (old mid new : List Node) (n leaf m : Node) (kids i j free d : ℕ) (name : ℕ → Place) (p : List Bool) (b : Bool) → n ≡ node_at old i → half_place n b ≡ None → 1 < d → IsTree d old name i p → GivesPair p old n mid free name kids →
     j ≡ side_at kids b → leaf ≡ blank → m ≡ with_half n kids b → new ≡ slice_set (slice_set mid j leaf) i m → IsSplit d b old new free name i p j

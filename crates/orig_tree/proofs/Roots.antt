@@ -43,22 +43,25 @@ one_node f cells e =
     let a : IsArena f (blank ∷ []) 0 = record { name = root_name; spares = 0; tree = t.1; held = record { past = λ j l. root_name_past j l; spare = refl } } in
     (ap (whole f) e ∙ t.0, subst (λ (x : List Node). IsArena f x 0) (sym e) a)
 
+pub set_at : (f : Family) (label : Label) (p : List Bool) (free free' : ℕ) (hop : Option ℕ) (old new : List Node) → free' ≡ free → (a : IsArena f old free) → IsSet (suc (width f)) label p hop old new a.name 0 [] →
+    (whole f new ≡ edited label p hop (whole f old)) × IsArena f new free'
+set_at f label p free free' hop old new g a x = (
+  x.walks,
+  subst (λ (y : ℕ). IsArena f new y) (sym g) (record {
+    name = a.name;
+    spares = a.spares;
+    tree = x.tree;
+    held = record {
+      past = λ j h. a.held.past j (omega (arith, x.keeps.long));
+      spare = spare_kept a.spares old new a.name a.name free (omega (arith, x.keeps.long)) (λ j m k e. (x.keeps.same j (ap (is_in []) e), e)) a.held.spare;
+    };
+  }),
+)
+
 pub set_whole : (f : Family) (label : Label) (q len free free' : ℕ) (hop : Option ℕ) (old new : List Node) → len ≤ width f → free' ≡ free → IsArena f old free → Allowed (bits_of len q) hop (whole f old).nodes →
     ((d : ℕ) (name : ℕ → Place) (p : List Bool) → len < d → IsTree d old name 0 p → Allowed (bits_of len q) hop (walks_at d old 0).nodes → IsSet d label (bits_of len q) hop old new name 0 p) →
     (whole f new ≡ edited label (bits_of len q) hop (whole f old)) × IsArena f new free'
-set_whole f label q len free free' hop old new l g a w s =
-    let x = s (suc (width f)) a.name [] (omega arith) a.tree w in (
-      x.walks,
-      subst (λ (y : ℕ). IsArena f new y) (sym g) (record {
-        name = a.name;
-        spares = a.spares;
-        tree = x.tree;
-        held = record {
-          past = λ j h. a.held.past j (omega (arith, x.keeps.long));
-          spare = spare_kept a.spares old new a.name a.name free (omega (arith, x.keeps.long)) (λ j m k e. (x.keeps.same j (ap (is_in []) e), e)) a.held.spare;
-        };
-      }),
-    )
+set_whole f label q len free free' hop old new l g a w s = set_at f label (bits_of len q) free free' hop old new g a (s (suc (width f)) a.name [] (omega arith) a.tree w)
 
 pub room_whole : (f : Family) (q len free free' : ℕ) (old new : List Node) → len ≤ width f → IsArena f old free →
     ((d : ℕ) (name : ℕ → Place) (n : ℕ) (p : List Bool) → len < d → IsTree d old name 0 p → IsHeld old free name n → HasRoom d (bits_of len q) old new free' name 0 p) →

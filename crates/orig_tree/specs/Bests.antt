@@ -9,7 +9,7 @@ use Rattle.address_model.specs.Width.{width}
 use Rattle.address_model.specs.declared.family.Family.{Family}
 use Rattle.orig_tree.specs.Walk.{Walks, edited, has_node}
 use Rattle.orig_tree.specs.Arena.{Place, At, node_at, half_place, IfHalf, whole, IsRoomier}
-use Rattle.orig_tree.specs.declared.node.Label.TheVariants.{Route}
+use Rattle.orig_tree.specs.declared.node.Label.{Label}
 use Rattle.orig_tree.specs.declared.node.Node.{Node}
 use Rattle.orig_tree.specs.declared.best.Best.{Best}
 use Rattle.orig_tree.specs.declared.best.Bests.{Bests}
@@ -101,9 +101,9 @@ pub record IsGrown (d : ℕ) (new : List Node) (name : ℕ → Place) (i : ℕ) 
 abbrev pub KeepsBest : Family → List Node → (ℕ → Best) → Type 0
 KeepsBest f cells kept = AreBest (suc (width f)) cells kept (λ a. lpm (whole f cells).routes a 0) 0
 
--- the tables after room was made for the path and the route there was set
-pub record IsLaid (p : List Bool) (hop : ℕ) (old new : Walks) : Type 0 where
+-- the tables after room was made for the path and one of its labels was set there
+pub record IsLaid (label : Label) (p : List Bool) (hop : ℕ) (old new : Walks) : Type 0 where
   pub middle : Walks
   pub room : IsRoomier p old middle
   pub there : has_node p middle.nodes ≡ true
-  pub set : new ≡ edited Route p (Some hop) middle
+  pub set : new ≡ edited label p (Some hop) middle

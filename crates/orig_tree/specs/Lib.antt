@@ -12,3 +12,5 @@ pub mod Bests
 pub mod Spots
 pub mod Within
 pub mod Undos
+pub mod Placed
+pub mod Steps

@@ -6,12 +6,13 @@ use Rattle.orig_tree.specs.Bests.{AreBest}
 use Rattle.orig_tree.specs.declared.node.Node.{Node}
 use Rattle.orig_tree.specs.declared.best.Best.{Best}
 
--- A region of so many bits: the routes and the entries within it, their prefixes told from the region, and the hop that its
+-- A region of so many bits: the routes, the entries and the nodes within it, all told from the region, and the hop that its
 -- addresses get from the routes above where none within it has them.
 pub record Spot : Type 0 where
   pub bits : ℕ
   pub routes : Table
   pub entries : Table
+  pub nodes : List (List Bool)
   pub hop : ℕ
 
 -- what the region's addresses get
@@ -24,6 +25,7 @@ spot_at cells half bits hop = record {
   bits = bits;
   routes = (from_half (walks_at (suc bits) cells) half).routes;
   entries = (from_half (walks_at (suc bits) cells) half).entries;
+  nodes = (from_half (walks_at (suc bits) cells) half).nodes;
   hop = hop;
 }
 

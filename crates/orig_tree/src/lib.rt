@@ -11,6 +11,7 @@
 mod answers;
 mod best;
 mod count;
+mod counter;
 mod cover;
 mod drops;
 mod load;
@@ -25,6 +26,7 @@ mod undo;
 mod whole;
 
 pub use answers::{EntriesOf, RoutesOf};
+pub use counter::{Counter, Uncounted};
 pub use node::Label;
 pub use node_ref::NodeRef;
 pub use path::path_bits;

@@ -12,9 +12,10 @@ ghost use Rattle.table_model.specs.Entries.{of_table, in_order};
 ghost use Rattle.fib_addr.specs.Views.{entry_as};
 ghost use Rattle.orig_tree.specs.Arena.{cells_of, Place, IfHalf, IsTree, walks_at, from_half, whole, IsArena};
 ghost use Rattle.orig_tree.specs.Bests.{Stands, best_one, best_in, best_behind, KeepsBest, IsLaid, IsMended, HalfMended};
+ghost use Rattle.orig_tree.specs.declared.node.Label.TheVariants.{Route};
 
 use crate::best::{Best, Bests, best_at, exchange};
-use crate::node::{Label, Nodes, assign, grow, read, reserve};
+use crate::node::{Label, Nodes, read, set_label};
 use crate::path::path_bits;
 use fib_addr::{Entry, Family};
 use std::alloc::{AllocError, Global};
@@ -33,14 +34,12 @@ pub(crate) fn lay_bare(
     requires long { vec_len nodes.old.pairs ≤ vec_len bests.old.pairs }
     ensures arena { IsArena family (cells_of nodes.new) nodes.new.free }
     ensures long { vec_len nodes.new.pairs ≤ vec_len bests.new.pairs }
-    ensures laid { OnOk result (IsLaid (bits_of len q) hop (whole family (cells_of nodes.old)) (whole
+    ensures laid { OnOk result (IsLaid Route (bits_of len q) hop (whole family (cells_of nodes.old)) (whole
         family (cells_of nodes.new))) }
     ensures err { OnErr result (cells_of nodes.new ≡ cells_of nodes.old) }
 {
     let _ = family;
-    reserve(nodes, bests, 2 * len as usize)?;
-    grow(nodes, bests, 0, q, len, 0, None);
-    assign(nodes, 0, Label::Route, q, len, Some(hop));
+    set_label(nodes, bests, 0, q, len, 0, Label::Route, hop)?;
     Ok(())
 }
 

@@ -1,7 +1,10 @@
 //! What the nodes are to keep where a route changes: those on the way to its prefix, and those within it with an address that
 //! no other route keeps from it.
+//!
+//! A step is a set computed: one that a node is to keep, put together from those of its halves, or made of the hop that all its
+//! addresses get. What a region keeps that has no node is no step: it is the hop from above, and of the route that is set there.
 
-ghost use Rattle.std.specs.Prelude.{◌≡◌, ◌≢◌, ◌≤◌, ◌++◌, ℕ, suc, List, Bool, true, false, [], ◌∷◌, Option, IfOk, OnOk, not, ◌&&◌, vec_len};
+ghost use Rattle.std.specs.Prelude.{◌≡◌, ◌≢◌, ◌≤◌, ◌+◌, ◌++◌, ℕ, suc, List, length, Bool, true, false, [], ◌∷◌, Option, IfOk, OnOk, not, ◌&&◌, vec_len};
 ghost use Rattle.std.specs.Option.{unwrap_or, is_some};
 ghost use Rattle.address_model.specs.Bits.{bits_of};
 ghost use Rattle.table_model.specs.Table.{lpm};
@@ -9,9 +12,12 @@ ghost use Rattle.least_model.specs.Sets.{side};
 ghost use Rattle.orig_tree.specs.Edits.{edit};
 ghost use Rattle.orig_tree.specs.Packed.{cover_in};
 ghost use Rattle.orig_tree.specs.Arena.{cells_of, Place, IfHalf, IsTree, walks_at, from_half};
+ghost use Rattle.orig_tree.specs.Within.{nodes_in};
+ghost use Rattle.orig_tree.specs.Steps.{new_nodes, new_behind};
 ghost use Rattle.orig_tree.specs.Bests.{Stands, best_one, best_in, best_behind, kept_or, changed, under, AreBest, Untouched, IsMended, HalfMended};
 
 use crate::best::{Best, Bests, Change, best_at, fresh};
+use crate::counter::Counter;
 use crate::node::{Node, Nodes, read};
 use fib_addr::bit_at;
 use std::alloc::{AllocError, Global};
@@ -50,7 +56,7 @@ fn join_sides(alloc: Global, bit: bool, near: &Best, far: &Best) -> Result<Best,
 
 /// The region of a node, of `depth` bits, where the node's own hop is this one, with the changes to what is kept there.
 #[cycle(mend)]
-fn mend(
+fn mend<C: Counter>(
     alloc: Global,
     nodes: &Nodes,
     bests: &Bests,
@@ -58,8 +64,9 @@ fn mend(
     hop: u16,
     depth: u8,
     out: &mut Vec<Change>,
+    steps: &mut C,
 ) -> Result<Best, AllocError>
-    ensures { IfOk result (λ x. (name : ℕ → Place) (p : List Bool) (h : ℕ)
+    ensures best { IfOk result (λ x. (name : ℕ → Place) (p : List Bool) (h : ℕ)
         → IsTree (suc depth) (cells_of nodes.now) name i p
         → AreBest (suc depth) (cells_of nodes.now) (best_in bests.now) (λ a. lpm (walks_at (suc depth)
         (cells_of nodes.now) i).routes a h) i
@@ -67,15 +74,37 @@ fn mend(
         → IsMended depth (cells_of nodes.now) name i p (under hop (walks_at (suc depth) (cells_of
         nodes.now) i).routes) (changed out.old.items (best_in bests.now)) (changed out.new.items
         (best_in bests.now)) x) }
+    ensures steps { C.count steps.new ≤ C.count steps.old + length (walks_at (suc depth) (cells_of
+        nodes.now) i).nodes }
 {
     if depth == 0 {
+        steps.tick();
         let best = Best::one(hop);
         note(alloc, i, &best, out)?;
         return Ok(best);
     }
     let node = read(nodes, i);
-    let low = mend_half(alloc, nodes, bests, node.half(false), hop, depth - 1, out)?;
-    let high = mend_half(alloc, nodes, bests, node.half(true), hop, depth - 1, out)?;
+    let low = mend_half(
+        alloc,
+        nodes,
+        bests,
+        node.half(false),
+        hop,
+        depth - 1,
+        out,
+        steps,
+    )?;
+    let high = mend_half(
+        alloc,
+        nodes,
+        bests,
+        node.half(true),
+        hop,
+        depth - 1,
+        out,
+        steps,
+    )?;
+    steps.tick();
     let best = Best::joined(alloc, &low, &high)?;
     note(alloc, i, &best, out)?;
     Ok(best)
@@ -91,7 +120,7 @@ fn is_open(node: Node) -> bool
 
 /// The same of a half, which inherits the hop, where it gets to any address there.
 #[cycle(mend)]
-fn mend_half(
+fn mend_half<C: Counter>(
     alloc: Global,
     nodes: &Nodes,
     bests: &Bests,
@@ -99,8 +128,9 @@ fn mend_half(
     hop: u16,
     depth: u8,
     out: &mut Vec<Change>,
+    steps: &mut C,
 ) -> Result<Best, AllocError>
-    ensures { IfOk result (λ x. (name : ℕ → Place) (p : List Bool) (h : ℕ)
+    ensures best { IfOk result (λ x. (name : ℕ → Place) (p : List Bool) (h : ℕ)
         → IfHalf (λ j. IsTree (suc depth) (cells_of nodes.now) name j p) half
         → IfHalf (λ j. AreBest (suc depth) (cells_of nodes.now) (best_in bests.now) (λ a. lpm (walks_at
         (suc depth) (cells_of nodes.now) j).routes a h) j) half
@@ -108,12 +138,14 @@ fn mend_half(
         → HalfMended depth (cells_of nodes.now) name half p (λ a. lpm (from_half (walks_at (suc depth)
         (cells_of nodes.now)) half).routes a hop) (changed out.old.items (best_in bests.now))
         (changed out.new.items (best_in bests.now)) x) }
+    ensures steps { C.count steps.new ≤ C.count steps.old + length (from_half (walks_at (suc depth)
+        (cells_of nodes.now)) half).nodes }
 {
     match half {
         None => Ok(Best::one(hop)),
         Some(j) => {
             if is_open(read(nodes, j)) {
-                return mend(alloc, nodes, bests, j, hop, depth, out);
+                return mend(alloc, nodes, bests, j, hop, depth, out, steps);
             }
             let none = Best::one(0);
             best_at(bests, j, &none).copied(alloc)
@@ -125,7 +157,7 @@ fn mend_half(
 /// with the changes to what is kept there. The path needs no node. None is told where the region keeps what it did: no region
 /// above it then keeps anything else.
 #[cycle(plan)]
-pub(crate) fn plan(
+pub(crate) fn plan<C: Counter>(
     alloc: Global,
     nodes: &Nodes,
     bests: &Bests,
@@ -136,10 +168,11 @@ pub(crate) fn plan(
     inherited: u16,
     set: Option<u16>,
     out: &mut Vec<Change>,
+    steps: &mut C,
 ) -> Result<Option<Best>, AllocError>
     requires few { left ≤ depth }
     requires most { depth ≤ 128 }
-    ensures { IfOk result (λ x. (name : ℕ → Place) (p : List Bool)
+    ensures best { IfOk result (λ x. (name : ℕ → Place) (p : List Bool)
         → IsTree (suc depth) (cells_of nodes.now) name i p
         → AreBest (suc depth) (cells_of nodes.now) (best_in bests.now) (λ a. lpm (walks_at (suc depth)
         (cells_of nodes.now) i).routes a inherited) i
@@ -147,9 +180,21 @@ pub(crate) fn plan(
         → IsMended depth (cells_of nodes.now) name i p (λ a. lpm (edit (bits_of left q) set (walks_at
         (suc depth) (cells_of nodes.now) i).routes) a inherited) (changed out.old.items (best_in
         bests.now)) (changed out.new.items (best_in bests.now)) (kept_or x (best_in bests.now i))) }
+    ensures steps { C.count steps.new + new_nodes (cells_of nodes.now) (bits_of left q) i
+        ≤ C.count steps.old + left + 1 + nodes_in (bits_of left q) (walks_at (suc depth) (cells_of
+        nodes.now) i).nodes }
 {
     if left == 0 {
-        let mended = mend(alloc, nodes, bests, i, set.unwrap_or(inherited), depth, out)?;
+        let mended = mend(
+            alloc,
+            nodes,
+            bests,
+            i,
+            set.unwrap_or(inherited),
+            depth,
+            out,
+            steps,
+        )?;
         return Ok(Some(mended));
     }
     let node = read(nodes, i);
@@ -167,6 +212,7 @@ pub(crate) fn plan(
         hop,
         set,
         out,
+        steps,
     )?;
     let Some(near) = planned else {
         return Ok(None);
@@ -174,6 +220,7 @@ pub(crate) fn plan(
     let none = Best::one(0);
     let bare = Best::one(hop);
     let far = half_best(bests, node.half(!bit), &none, &bare);
+    steps.tick();
     let best = join_sides(alloc, bit, &near, far)?;
     if best.is_same(best_at(bests, i, &none)) {
         return Ok(None);
@@ -184,7 +231,7 @@ pub(crate) fn plan(
 
 /// The same of a half.
 #[cycle(plan)]
-fn plan_half(
+fn plan_half<C: Counter>(
     alloc: Global,
     nodes: &Nodes,
     bests: &Bests,
@@ -195,10 +242,11 @@ fn plan_half(
     inherited: u16,
     set: Option<u16>,
     out: &mut Vec<Change>,
+    steps: &mut C,
 ) -> Result<Option<Best>, AllocError>
     requires few { left ≤ depth }
     requires most { depth ≤ 128 }
-    ensures { IfOk result (λ x. (name : ℕ → Place) (p : List Bool)
+    ensures best { IfOk result (λ x. (name : ℕ → Place) (p : List Bool)
         → IfHalf (λ j. IsTree (suc depth) (cells_of nodes.now) name j p) half
         → IfHalf (λ j. AreBest (suc depth) (cells_of nodes.now) (best_in bests.now) (λ a. lpm (walks_at
         (suc depth) (cells_of nodes.now) j).routes a inherited) j) half
@@ -207,9 +255,14 @@ fn plan_half(
         (from_half (walks_at (suc depth) (cells_of nodes.now)) half).routes) a inherited) (changed
         out.old.items (best_in bests.now)) (changed out.new.items (best_in bests.now)) (kept_or x
         (best_behind (best_in bests.now) half (best_one inherited)))) }
+    ensures steps { C.count steps.new + new_behind (cells_of nodes.now) (bits_of left q) half
+        ≤ C.count steps.old + left + 1 + nodes_in (bits_of left q) (from_half (walks_at (suc depth)
+        (cells_of nodes.now)) half).nodes }
 {
     match half {
         None => Ok(Some(fresh(left, inherited, set))),
-        Some(j) => plan(alloc, nodes, bests, j, q, left, depth, inherited, set, out),
+        Some(j) => plan(
+            alloc, nodes, bests, j, q, left, depth, inherited, set, out, steps,
+        ),
     }
 }

@@ -14,8 +14,11 @@ ghost use Rattle.orig_tree.specs.Views.{Fits};
 ghost use Rattle.orig_tree.specs.Uniform.{IsUniform};
 ghost use Rattle.orig_tree.specs.Arena.{cells_of, Place, blank, node_at, half_place, walks_at, IsTree, IsSet, retold, cover_at, cover_of, from_half, IsHeld, OwnsPair, GivesPair, IsSplit, HasRoom, HalvesStay, with_half, side_at};
 ghost use Rattle.orig_tree.specs.Bests.{best_in, AreBest, IsGrown, laid};
+ghost use Rattle.orig_tree.specs.Steps.{new_nodes};
+ghost use Rattle.orig_tree.specs.Placed.{Climbs, IsPlaced, route_set};
 
 use crate::best::{Bests, exchange, fresh, lengthen};
+use crate::counter::{Counter, Uncounted};
 use crate::cover::{Cover, Slot};
 use fib_addr::{Entry, Prefix, bit_at, push_entry};
 use std::alloc::{AllocError, Global};
@@ -48,6 +51,18 @@ pub(crate) struct Nodes {
     pub(crate) root: Node,
     /// The place of the first spare pair, or 0. The first node of a spare pair has the place of the next in `kids`.
     pub(crate) free: u32,
+}
+
+impl Label {
+    /// The hop that is set for a route, where one of a prefix's labels is set.
+    fn route(self, hop: u16) -> Option<u16>
+        ensures { result ≡ route_set self hop }
+    {
+        match self {
+            Label::Route => Some(hop),
+            Label::Entry => None,
+        }
+    }
 }
 
 impl Node {
@@ -461,6 +476,116 @@ pub(crate) fn grow(
             let mut best = fresh(at, hop, set);
             exchange(bests, j, &mut best);
             grow(nodes, bests, j, q, at, hop, set);
+        }
+    }
+}
+
+/// Tells the cover of a node again where that of a half has changed, and tells whether it is another than it was.
+fn climb(nodes: &mut Nodes, i: usize, label: Label, changed: bool) -> bool
+    ensures free { nodes.new.free ≡ nodes.old.free }
+    ensures len { vec_len nodes.new.pairs ≡ vec_len nodes.old.pairs }
+    ensures climbs { Climbs label changed result (cells_of nodes.old) (cells_of nodes.new) i }
+{
+    if !changed {
+        return false;
+    }
+    let node = read(nodes, i);
+    renew(nodes, i, node, label, node.hop(label))
+}
+
+/// Sets the hop of one of a path's labels, below a node that inherits the hop from the routes, and makes nodes down to the path:
+/// in one walk there and back. It tells whether the cover of the label is another at the node than it was. The new nodes keep
+/// what stands for their regions once a route is set.
+pub(crate) fn grow_label<C: Counter>(
+    nodes: &mut Nodes,
+    bests: &mut Bests,
+    i: usize,
+    q: u128,
+    left: u8,
+    inherited: u16,
+    label: Label,
+    hop: u16,
+    steps: &mut C,
+) -> bool
+    requires bits { left ≤ 128 }
+    requires room { vec_len nodes.old.pairs + 2 * left ≤ vec_capacity nodes.old.pairs }
+    requires few { vec_len nodes.old.pairs + 2 * left < 2 ^ 32 }
+    requires long { vec_len nodes.old.pairs + 2 * left ≤ vec_len bests.old.pairs }
+    ensures long { vec_len nodes.new.pairs ≤ vec_len bests.new.pairs }
+    ensures made { (d : ℕ) (name : ℕ → Place) (n : ℕ) (p : List Bool) → left < d
+        → IsTree d (cells_of nodes.old) name i p → IsHeld (cells_of nodes.old) nodes.old.free name n
+        → IsPlaced d label (bits_of left q) hop (cells_of nodes.old) (cells_of nodes.new)
+        nodes.new.free name i p (λ a. lpm (laid (route_set label hop) (bits_of left q) (walks_at d
+        (cells_of nodes.old) i).routes) a inherited) (best_in bests.old) (best_in bests.new) result }
+    ensures steps { C.count steps.new ≤ C.count steps.old + new_nodes (cells_of nodes.old)
+        (bits_of left q) i }
+{
+    let node = read(nodes, i);
+    if left == 0 {
+        return renew(nodes, i, node, label, Some(hop));
+    }
+    let at = left - 1;
+    let bit = bit_at(q, at);
+    let below = node.route.hop.unwrap_or(inherited);
+    match node.half(bit) {
+        Some(j) => {
+            let changed = grow_label(nodes, bests, j, q, at, below, label, hop, steps);
+            climb(nodes, i, label, changed)
+        }
+        None => {
+            let j = split(nodes, i, node, bit);
+            steps.tick();
+            let mut best = fresh(at, below, label.route(hop));
+            exchange(bests, j, &mut best);
+            let changed = grow_label(nodes, bests, j, q, at, below, label, hop, steps);
+            climb(nodes, i, label, changed)
+        }
+    }
+}
+
+/// The same, where there may be no room yet for the nodes; it takes memory only where the path is no node.
+///
+/// # Errors
+///
+/// No memory, which comes too where there would be 2^31 nodes or more; then nothing has changed.
+pub(crate) fn set_label(
+    nodes: &mut Nodes,
+    bests: &mut Bests,
+    i: usize,
+    q: u128,
+    left: u8,
+    inherited: u16,
+    label: Label,
+    hop: u16,
+) -> Result<bool, AllocError>
+    requires bits { left ≤ 128 }
+    requires long { vec_len nodes.old.pairs ≤ vec_len bests.old.pairs }
+    ensures long { vec_len nodes.new.pairs ≤ vec_len bests.new.pairs }
+    ensures made { IfOk result (λ more. (d : ℕ) (name : ℕ → Place) (n : ℕ) (p : List Bool) → left < d
+        → IsTree d (cells_of nodes.old) name i p → IsHeld (cells_of nodes.old) nodes.old.free name n
+        → IsPlaced d label (bits_of left q) hop (cells_of nodes.old) (cells_of nodes.new)
+        nodes.new.free name i p (λ a. lpm (laid (route_set label hop) (bits_of left q) (walks_at d
+        (cells_of nodes.old) i).routes) a inherited) (best_in bests.old) (best_in bests.new) more) }
+    ensures err { OnErr result ((cells_of nodes.new ≡ cells_of nodes.old)
+        × (nodes.new.free ≡ nodes.old.free) × ((j : ℕ) → best_in bests.new j ≡ best_in bests.old j)) }
+    ensures held { (d : ℕ) → left < d → has_node (bits_of left q) (walks_at d (cells_of nodes.old)
+        i).nodes ≡ true → IsOk result }
+{
+    let node = read(nodes, i);
+    if left == 0 {
+        return Ok(renew(nodes, i, node, label, Some(hop)));
+    }
+    let at = left - 1;
+    match node.half(bit_at(q, at)) {
+        Some(j) => {
+            let below = node.route.hop.unwrap_or(inherited);
+            let changed = set_label(nodes, bests, j, q, at, below, label, hop)?;
+            Ok(climb(nodes, i, label, changed))
+        }
+        None => {
+            reserve(nodes, bests, 2 * left as usize)?;
+            let mut none = Uncounted;
+            Ok(grow_label(nodes, bests, i, q, left, inherited, label, hop, &mut none))
         }
     }
 }

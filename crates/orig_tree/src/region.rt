@@ -1,12 +1,14 @@
 //! A region of a tree, which is asked for its best hops and what it costs.
 
-ghost use Rattle.std.specs.Prelude.{◌≡◌, ◌≢◌, ◌≤◌, ◌+◌, ◌++◌, ℕ, suc, List, Bool, Option, length, IfSome, IfNone, IsTrue};
+ghost use Rattle.std.specs.Prelude.{◌≡◌, ◌≢◌, ◌≤◌, ◌+◌, ◌++◌, ◌∷◌, [], true, false, ℕ, suc, List, Bool, Option, length, IfSome, IfNone, IsTrue};
 ghost use Rattle.address_model.specs.Bits.{bits_of};
 ghost use Rattle.table_model.specs.Table.{root, half, cut, inherit, lpm};
 ghost use Rattle.least_model.specs.Sets.{set_of, k_of, is_in, smallest};
 ghost use Rattle.orig_tree.specs.Spots.{answers_in};
+ghost use Rattle.orig_tree.specs.Within.{nodes_in};
 
 use crate::best::{Best, Bests, best_at};
+use crate::counter::Counter;
 use crate::node::{Nodes, read};
 use fib_addr::bit_at;
 use std::marker::Model;
@@ -44,6 +46,8 @@ impl<'a> Region<'a> {
         ensures one { IfSome result (λ h. (a : List Bool) → length a ≡ self.now.bits
             → answers_in self.now a ≡ h) }
         ensures more { IfNone result (k_of self.now.bits (answers_in self.now) ≢ 0) }
+        ensures node { IfNone result (length self.now.nodes ≡ 1 + (nodes_in (false ∷ []) self.now.nodes
+            + nodes_in (true ∷ []) self.now.nodes)) }
     {
         match self.place {
             None => Some(self.hop),
@@ -114,6 +118,7 @@ impl<'a> Region<'a> {
         ensures routes { result.routes ≡ half bit self.now.routes }
         ensures entries { result.entries ≡ half bit self.now.entries }
         ensures hop { result.hop ≡ inherit (root self.now.routes) self.now.hop }
+        ensures nodes { (p : List Bool) → nodes_in p result.nodes ≡ nodes_in (bit ∷ p) self.now.nodes }
     {
         match self.place {
             None => Region {
@@ -137,18 +142,26 @@ impl<'a> Region<'a> {
     }
 }
 
-/// The region of a path of `left` bits below a region.
-pub(crate) fn below<'a>(region: Region<'a>, q: u128, left: u8) -> Region<'a>
+/// The region of a path of `left` bits below a region. A step is a region that is passed.
+pub(crate) fn below<'a, C: Counter>(
+    region: Region<'a>,
+    q: u128,
+    left: u8,
+    steps: &mut C,
+) -> Region<'a>
     requires few { left ≤ region.bits }
     requires most { left ≤ 128 }
     ensures bits { result.bits + left ≡ region.entry.bits }
     ensures answers { (a : List Bool) → answers_in result a
         ≡ answers_in region.entry (bits_of left q ++ a) }
     ensures entries { result.entries ≡ cut (bits_of left q) region.entry.entries }
+    ensures nodes { length result.nodes ≡ nodes_in (bits_of left q) region.entry.nodes }
+    ensures steps { C.count steps.new ≤ C.count steps.old + left }
 {
     if left == 0 {
         return region;
     }
+    steps.tick();
     let at = left - 1;
-    below(region.half(bit_at(q, at)), q, at)
+    below(region.half(bit_at(q, at)), q, at, steps)
 }

@@ -144,3 +144,40 @@ fn room_that_nothing_uses_is_given_back(rt: HostRuntime) -> Result<(), AllocErro
     assert!(rt; tree.root().half(true).is_some());
     Ok(())
 }
+
+/// Counts steps so that a test can ask for them.
+#[derive(Drop)]
+struct Seen {
+    steps: u64,
+}
+
+impl Counter for Seen {
+    ghost count = { λ s. s.steps };
+
+    fn tick(&mut self) {
+        self.steps = self.steps.saturating_add(1);
+    }
+}
+
+#[test]
+fn a_route_beside_another_costs_two_steps(rt: HostRuntime) -> Result<(), AllocError> {
+    let mut tree = Tree::new(rt.alloc(), Family::V4);
+    tree.set_route(&prefix(0, 1), Hop(1))?;
+    let mut seen = Seen { steps: 0 };
+    tree.set_route_counted(&prefix(0x8000_0000, 1), Hop(2), &mut seen)?;
+    assert_eq!(rt; seen.steps, 2);
+    Ok(())
+}
+
+#[test]
+fn a_cleared_route_costs_the_way_and_what_is_within(rt: HostRuntime) -> Result<(), AllocError> {
+    let mut tree = filled(rt.alloc())?;
+    let mut seen = Seen { steps: 0 };
+    tree.clear_route_counted(&wide(), &mut seen)?;
+    assert!(rt; seen.steps <= 8 + 1 + 9);
+    tree.put_back();
+    let mut bare = Seen { steps: 0 };
+    tree.clear_route_counted(&beside(), &mut bare)?;
+    assert!(rt; bare.steps <= 16 + 1);
+    Ok(())
+}

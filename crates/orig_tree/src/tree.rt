@@ -1,6 +1,6 @@
 //! The tree of a family.
 
-ghost use Rattle.std.specs.Prelude.{◌≡◌, ◌+◌, [], ◌∷◌, true, List, Bool, OnOk, OnErr, IsOk, IfOk, IfSome, IfNone, map, filter, option_map};
+ghost use Rattle.std.specs.Prelude.{◌≡◌, ◌≤◌, ◌+◌, [], ◌∷◌, true, List, length, Bool, OnOk, OnErr, IsOk, IfOk, IfSome, IfNone, map, filter, option_map};
 ghost use Rattle.std.specs.List.{AllByRecursion};
 ghost use Rattle.std.specs.Map.{keys_of, lookup, remove_entry};
 ghost use Rattle.address_model.specs.Address.{same_family, same_prefix};
@@ -21,6 +21,7 @@ ghost use Rattle.orig_tree.specs.Within.{nodes_in, told};
 
 use crate::best::{Bests, Change, root_best};
 use crate::count::count_within;
+use crate::counter::{Counter, Uncounted};
 use crate::load::{lay_all, settle_all};
 use crate::node::{Label, Nodes, answer, inherited, is_node, tell, uniform};
 use crate::node_ref::NodeRef;
@@ -28,7 +29,7 @@ use crate::parts::{route_at, tell_within};
 use crate::path::path_bits;
 use crate::region::{Region, below};
 use crate::undo::{Undo, keep_if, room_of};
-use crate::whole::{alter, change, drop_unused, empty, lay, make_room, take_back};
+use crate::whole::{alter, change, drop_unused, empty, enter, lay, make_room, take_back};
 use fib_addr::{Addr, Entry, Family, Hop, Prefix};
 use std::alloc::{AllocError, Global};
 use std::marker::Model;
@@ -174,6 +175,20 @@ impl Tree {
         ensures entries { result.entries ≡ cut (prefix_as prefix.now).bits
             (of_family self.now.family self.now.entries) }
     {
+        self.region_counted(prefix, &mut Uncounted)
+    }
+
+    /// `region` with a count of its steps. A step is a region on the way to the prefix: one for each of its bits.
+    pub fn region_counted<C: Counter>(&self, prefix: &Prefix, steps: &mut C) -> Region<'_>
+        requires { prefix.now.family ≡ self.now.family }
+        ensures bits { result.bits + prefix.now.len ≡ width self.now.family }
+        ensures answers { (a : List Bool) → answers_in result a ≡ answers
+            (of_family self.now.family self.now.routes) (prefix_as prefix.now).bits a }
+        ensures entries { result.entries ≡ cut (prefix_as prefix.now).bits
+            (of_family self.now.family self.now.entries) }
+        ensures nodes { length result.nodes ≡ nodes_in (prefix_as prefix.now).bits self.now.nodes }
+        ensures steps { C.count steps.new ≤ C.count steps.old + prefix.now.len }
+    {
         let whole = Region {
             nodes: &self.nodes,
             bests: &self.bests,
@@ -181,7 +196,7 @@ impl Tree {
             bits: self.family.width(),
             hop: 0,
         };
-        below(whole, path_bits(prefix), prefix.len)
+        below(whole, path_bits(prefix), prefix.len, steps)
     }
 
     /// How many nodes there are at the prefix and within it; 2^64 - 1 stands for all numbers that are greater. It takes no
@@ -354,6 +369,34 @@ impl Tree {
             → OnOk result (self.new.before ≡ self.old.routes) }
         ensures err { OnErr result (self.new ≡ self.old) }
     {
+        self.clear_route_counted(prefix, &mut Uncounted)
+    }
+
+    /// `clear_route` with a count of its steps. A step is a set computed: one that a node is to keep, put together from those of its
+    /// halves, or made of the hop that all its addresses get. What a region keeps that has no node is no step: it is read off
+    /// the hop from above. There are at most as many steps as the prefix has bits, and one, and one for each node that there
+    /// was at the prefix and within it.
+    ///
+    /// # Errors
+    ///
+    /// No memory; then nothing has changed.
+    pub fn clear_route_counted<C: Counter>(
+        &mut self,
+        prefix: &Prefix,
+        steps: &mut C,
+    ) -> Result<(), AllocError>
+        requires { prefix.now.family ≡ self.old.family }
+        ensures family { self.new.family ≡ self.old.family }
+        ensures routes { OnOk result (self.new.routes ≡ remove_entry
+            (same_prefix (prefix_as prefix.now)) self.old.routes) }
+        ensures entries { self.new.entries ≡ self.old.entries }
+        ensures nodes { self.new.nodes ≡ self.old.nodes }
+        ensures before { has_node (prefix_as prefix.now).bits self.old.nodes ≡ true
+            → OnOk result (self.new.before ≡ self.old.routes) }
+        ensures err { OnErr result (self.new ≡ self.old) }
+        ensures steps { C.count steps.new ≤ C.count steps.old + prefix.now.len + 1
+            + nodes_in (prefix_as prefix.now).bits self.old.nodes }
+    {
         let q = path_bits(prefix);
         let was_node = is_node(&self.nodes, 0, q, prefix.len);
         let spare = mem::replace(&mut self.spare, Vec::new(self.alloc));
@@ -366,6 +409,7 @@ impl Tree {
             prefix.len,
             None,
             spare,
+            steps,
         )?;
         self.spare = room_of(self.alloc, self.undo.take());
         self.undo = keep_if(was_node, undo);
@@ -428,6 +472,38 @@ impl Tree {
             → OnOk result (self.new.before ≡ self.old.routes) }
         ensures err { OnErr result (self.new ≡ self.old) }
     {
+        self.set_route_counted(prefix, hop, &mut Uncounted)
+    }
+
+    /// `set_route` with a count of its steps. A step is a set computed: one that a node is to keep, put together from those of its
+    /// halves, or made of the hop that all its addresses get. What a region keeps that has no node is no step: it is read off
+    /// the hop from above. There are at most as many steps as the prefix has bits, and one, and one for each node that there
+    /// was at the prefix and within it.
+    ///
+    /// # Errors
+    ///
+    /// No memory; then nothing has changed.
+    pub fn set_route_counted<C: Counter>(
+        &mut self,
+        prefix: &Prefix,
+        hop: Hop,
+        steps: &mut C,
+    ) -> Result<(), AllocError>
+        requires { prefix.now.family ≡ self.old.family }
+        ensures family { self.new.family ≡ self.old.family }
+        ensures routes { OnOk result (self.new.routes ≡ with_entry self.old.routes
+            (prefix_as prefix.now, hop.0)) }
+        ensures entries { self.new.entries ≡ self.old.entries }
+        ensures kept { (p : List Bool) → has_node p self.old.nodes ≡ true
+            → has_node p self.new.nodes ≡ true }
+        ensures made { AreMadeTo (prefix_as prefix.now).bits self.old.nodes self.new.nodes }
+        ensures ok { OnOk result (has_node (prefix_as prefix.now).bits self.new.nodes ≡ true) }
+        ensures before { has_node (prefix_as prefix.now).bits self.old.nodes ≡ true
+            → OnOk result (self.new.before ≡ self.old.routes) }
+        ensures err { OnErr result (self.new ≡ self.old) }
+        ensures steps { C.count steps.new ≤ C.count steps.old + prefix.now.len + 1
+            + nodes_in (prefix_as prefix.now).bits self.old.nodes }
+    {
         let q = path_bits(prefix);
         let spare = mem::replace(&mut self.spare, Vec::new(self.alloc));
         if is_node(&self.nodes, 0, q, prefix.len) {
@@ -440,6 +516,7 @@ impl Tree {
                 prefix.len,
                 Some(hop.0),
                 spare,
+                steps,
             )?;
             self.spare = room_of(self.alloc, self.undo.take());
             self.undo = Some(undo);
@@ -454,6 +531,7 @@ impl Tree {
             prefix.len,
             hop.0,
             spare,
+            steps,
         )?;
         self.spare = room;
         self.undo = None;
@@ -481,15 +559,15 @@ impl Tree {
         ensures held { has_node (prefix_as prefix.now).bits self.old.nodes ≡ true → IsOk result }
     {
         let q = path_bits(prefix);
-        make_room(
+        enter(
             self.family,
             &mut self.nodes,
             &mut self.bests,
             &mut self.undo,
             q,
             prefix.len,
+            hop.0,
         )?;
-        change(self.family, &mut self.nodes, q, prefix.len, Some(hop.0));
         Ok(())
     }
 }

@@ -1,6 +1,6 @@
 //! The array as one tree from its root on.
 
-ghost use Rattle.std.specs.Prelude.{◌≡◌, ◌≤◌, ℕ, OnOk, OnErr, IsOk, IfOk, true, None, Some, vec_len, ◌∷◌, []};
+ghost use Rattle.std.specs.Prelude.{◌≡◌, ◌≤◌, ℕ, OnOk, OnErr, IsOk, IfOk, true, None, Some, vec_len, ◌+◌, ◌∷◌, []};
 ghost use Rattle.address_model.specs.Bits.{bits_of};
 ghost use Rattle.address_model.specs.Width.{width};
 ghost use Rattle.orig_tree.specs.Walk.{walks_of, no_walks, edited, Allowed, has_node};
@@ -8,12 +8,16 @@ ghost use Rattle.orig_tree.specs.Trims.{IsTrimmed};
 ghost use Rattle.orig_tree.specs.Arena.{blank, cells_of, whole, IsArena, IsRoomier, HalvesStay};
 ghost use Rattle.orig_tree.specs.Bests.{best_in, KeepsBest, IsLaid};
 ghost use Rattle.orig_tree.specs.Undos.{TakesBack, CanUndo};
+ghost use Rattle.orig_tree.specs.Within.{nodes_in};
 ghost use Rattle.orig_tree.specs.declared.node.Label.TheVariants.{Route, Entry};
 
 use crate::best::{Bests, Change, commit, no_changes, revert};
+use crate::counter::Counter;
 use crate::drops::trim;
 use crate::mend::plan;
-use crate::node::{Label, Nodes, assign, grow, is_node, reserve, root_alone};
+use crate::node::{
+    Label, Nodes, assign, grow, grow_label, is_node, reserve, root_alone, set_label,
+};
 use crate::parts::route_at;
 use crate::undo::Undo;
 use fib_addr::Family;
@@ -79,7 +83,7 @@ pub(crate) fn make_room(
 /// # Errors
 ///
 /// No memory; then nothing has changed.
-pub(crate) fn lay(
+pub(crate) fn lay<C: Counter>(
     alloc: Global,
     family: Family,
     nodes: &mut Nodes,
@@ -88,6 +92,7 @@ pub(crate) fn lay(
     len: u8,
     hop: u16,
     spare: Vec<Change>,
+    steps: &mut C,
 ) -> Result<Vec<Change>, AllocError>
     requires few { len ≤ width family }
     requires arena { IsArena family (cells_of nodes.old) nodes.old.free }
@@ -96,10 +101,12 @@ pub(crate) fn lay(
     ensures arena { IsArena family (cells_of nodes.new) nodes.new.free }
     ensures best { KeepsBest family (cells_of nodes.new) (best_in bests.new) }
     ensures long { vec_len nodes.new.pairs ≤ vec_len bests.new.pairs }
-    ensures laid { OnOk result (IsLaid (bits_of len q) hop (whole family (cells_of nodes.old)) (whole
+    ensures laid { OnOk result (IsLaid Route (bits_of len q) hop (whole family (cells_of nodes.old)) (whole
         family (cells_of nodes.new))) }
     ensures err { OnErr result ((cells_of nodes.new ≡ cells_of nodes.old)
         × ((j : ℕ) → best_in bests.new j ≡ best_in bests.old j)) }
+    ensures steps { C.count steps.new ≤ C.count steps.old + len + 1 + nodes_in (bits_of len q) (whole
+        family (cells_of nodes.old)).nodes }
 {
     reserve(nodes, bests, 2 * len as usize)?;
     let depth = family.width();
@@ -115,10 +122,10 @@ pub(crate) fn lay(
         0,
         Some(hop),
         &mut changes,
+        steps,
     )?;
     commit(bests, &mut changes);
-    grow(nodes, bests, 0, q, len, 0, Some(hop));
-    assign(nodes, 0, Label::Route, q, len, Some(hop));
+    grow_label(nodes, bests, 0, q, len, 0, Label::Route, hop, steps);
     Ok(changes)
 }
 
@@ -128,7 +135,7 @@ pub(crate) fn lay(
 /// # Errors
 ///
 /// No memory; then nothing has changed.
-pub(crate) fn alter(
+pub(crate) fn alter<C: Counter>(
     alloc: Global,
     family: Family,
     nodes: &mut Nodes,
@@ -137,6 +144,7 @@ pub(crate) fn alter(
     len: u8,
     set: Option<u16>,
     spare: Vec<Change>,
+    steps: &mut C,
 ) -> Result<Undo, AllocError>
     requires few { len ≤ width family }
     requires arena { IsArena family (cells_of nodes.old) nodes.old.free }
@@ -153,11 +161,25 @@ pub(crate) fn alter(
         (cells_of nodes.new) (best_in bests.new) u) }
     ensures err { OnErr result ((cells_of nodes.new ≡ cells_of nodes.old)
         × ((j : ℕ) → best_in bests.new j ≡ best_in bests.old j)) }
+    ensures steps { C.count steps.new ≤ C.count steps.old + len + 1 + nodes_in (bits_of len q) (whole
+        family (cells_of nodes.old)).nodes }
 {
     let hop = route_at(nodes, 0, q, len);
     let depth = family.width();
     let mut changes = no_changes(spare, depth)?;
-    plan(alloc, nodes, bests, 0, q, len, depth, 0, set, &mut changes)?;
+    plan(
+        alloc,
+        nodes,
+        bests,
+        0,
+        q,
+        len,
+        depth,
+        0,
+        set,
+        &mut changes,
+        steps,
+    )?;
     commit(bests, &mut changes);
     assign(nodes, 0, Label::Route, q, len, set);
     Ok(Undo {
@@ -203,6 +225,45 @@ pub(crate) fn change(family: Family, nodes: &mut Nodes, q: u128, len: u8, hop: O
 {
     let _ = family;
     assign(nodes, 0, Label::Entry, q, len, hop);
+}
+
+/// Makes a path a node and sets its entry. Where it is no node yet, the last change of a route can't be taken back any more.
+///
+/// # Errors
+///
+/// No memory, which comes only where the path is no node; then nothing has changed.
+pub(crate) fn enter(
+    family: Family,
+    nodes: &mut Nodes,
+    bests: &mut Bests,
+    undo: &mut Option<Undo>,
+    q: u128,
+    len: u8,
+    hop: u16,
+) -> Result<(), AllocError>
+    requires few { len ≤ width family }
+    requires arena { IsArena family (cells_of nodes.old) nodes.old.free }
+    requires best { KeepsBest family (cells_of nodes.old) (best_in bests.old) }
+    requires long { vec_len nodes.old.pairs ≤ vec_len bests.old.pairs }
+    requires undo { CanUndo family (cells_of nodes.old) (best_in bests.old) undo.old }
+    ensures arena { IsArena family (cells_of nodes.new) nodes.new.free }
+    ensures best { KeepsBest family (cells_of nodes.new) (best_in bests.new) }
+    ensures long { vec_len nodes.new.pairs ≤ vec_len bests.new.pairs }
+    ensures undo { CanUndo family (cells_of nodes.new) (best_in bests.new) undo.new }
+    ensures laid { OnOk result (IsLaid Entry (bits_of len q) hop (whole family (cells_of nodes.old)) (whole
+        family (cells_of nodes.new))) }
+    ensures err { OnErr result ((whole family (cells_of nodes.new)
+        ≡ whole family (cells_of nodes.old)) × (undo.new ≡ undo.old)) }
+    ensures held { has_node (bits_of len q) (whole family (cells_of nodes.old)).nodes ≡ true
+        → IsOk result × (undo.new ≡ undo.old) }
+{
+    if undo.is_some() && is_node(nodes, 0, q, len) {
+        change(family, nodes, q, len, Some(hop));
+        return Ok(());
+    }
+    set_label(nodes, bests, 0, q, len, 0, Label::Entry, hop)?;
+    *undo = None;
+    Ok(())
 }
 
 /// Drops the nodes of a path and below it that nothing uses. It changes no table.

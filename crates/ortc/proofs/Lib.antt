@@ -1,3 +1,4 @@
 pub mod Alike
 pub mod Falling
 pub mod Proving
+pub mod Visiting

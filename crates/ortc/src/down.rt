@@ -3,7 +3,7 @@
 //! A region gets an entry where what it inherits isn't in its set: of the old entry's hop where the set has it, else of the
 //! least hop. Entries are met in the order of prefixes.
 
-ghost use Rattle.std.specs.Prelude.{◌≡◌, ◌+◌, ℕ, ◌++◌, List, [], Bool, map, cond, nat_eq, Some, None, IfOk, OnOk};
+ghost use Rattle.std.specs.Prelude.{◌≡◌, ◌≤◌, ◌+◌, ◌*◌, ℕ, ◌++◌, List, length, [], Bool, map, cond, nat_eq, Some, None, IfOk, OnOk};
 ghost use Rattle.std.specs.List.Sorted.{IsStrictlySortedBy};
 ghost use Rattle.std.specs.Map.{keys_of};
 ghost use Rattle.address_model.specs.Order.{prefix_cmp};
@@ -18,13 +18,14 @@ ghost use Rattle.cert_model.specs.Rows.{family_rows};
 ghost use Rattle.fib_addr.specs.Views.{entry_as, prefix_as};
 ghost use Rattle.cert_rows.specs.Views.{row_as};
 ghost use Rattle.orig_tree.specs.Spots.{answers_in};
+ghost use Rattle.orig_tree.specs.Within.{nodes_in};
 ghost use Rattle.ortc.specs.Proved.{ProveLeast};
 ghost use Rattle.ortc.specs.Tables.{IsAggregateOf};
 
 use crate::rows::certify;
 use crate::table::Fresh;
 use fib_addr::{Entry, Hop, Prefix, push_entry};
-use orig_tree::{Region, Tree};
+use orig_tree::{Counter, Region, Tree, Uncounted};
 use std::alloc::{AllocError, Global};
 
 /// The hop of a leaf's own entry, if it gets one.
@@ -57,17 +58,20 @@ fn below(label: Option<u16>, inherited: u16) -> u16
 }
 
 /// The entries of the region of a prefix that inherits a hop, behind those that there are.
-fn descend(
+fn descend<C: Counter>(
     region: &Region<'_>,
     inherited: u16,
     prefix: Prefix,
     out: &mut Vec<Entry>,
+    steps: &mut C,
 ) -> Result<(), AllocError>
     requires { region.now.bits + prefix.len ≡ width prefix.family }
-    ensures { OnOk result (map entry_as out.new.items ≡ map entry_as out.old.items ++ of_table
+    ensures entries { OnOk result (map entry_as out.new.items ≡ map entry_as out.old.items ++ of_table
         prefix.family (lift (prefix_as prefix).bits (agg region.now.bits (answers_in region.now)
         region.now.entries inherited))) }
+    ensures steps { C.count steps.new ≤ C.count steps.old + 1 + 2 * length region.now.nodes }
 {
+    steps.tick();
     if let Some(hop) = region.leaf() {
         push_entry(prefix, leaf_hop(hop, inherited), out)?;
         return Ok(());
@@ -78,8 +82,8 @@ fn descend(
     let own = own_hop(region, inherited);
     let hop = below(own, inherited);
     push_entry(prefix, own, out)?;
-    descend(&region.half(false), hop, prefix.half(false), out)?;
-    descend(&region.half(true), hop, prefix.half(true), out)?;
+    descend(&region.half(false), hop, prefix.half(false), out, steps)?;
+    descend(&region.half(true), hop, prefix.half(true), out, steps)?;
     Ok(())
 }
 
@@ -110,8 +114,40 @@ pub fn within(
         (of_family tree.now.family tree.now.routes) (prefix_as prefix.now).bits inherited.0
         (of_family tree.now.family (map entry_as v.items))) }
 {
+    within_counted(alloc, tree, prefix, inherited, &mut Uncounted)
+}
+
+/// `within` with a count of its steps. A step is a region visited, one without a node too; no set is computed. There are at most
+/// as many steps as the prefix has bits, and one, and two for each node at the prefix and within it.
+///
+/// # Errors
+///
+/// No memory.
+pub fn within_counted<C: Counter>(
+    alloc: Global,
+    tree: &Tree,
+    prefix: &Prefix,
+    inherited: Hop,
+    steps: &mut C,
+) -> Result<Vec<Entry>, AllocError>
+    requires { prefix.now.family ≡ tree.now.family }
+    ensures aggregate { IfOk result (λ v. map entry_as v.items
+        ≡ of_table tree.now.family (aggregate (width tree.now.family)
+        (of_family tree.now.family tree.now.routes) (prefix_as prefix.now).bits inherited.0
+        (of_family tree.now.family tree.now.entries))) }
+    ensures best { IfOk result (λ v. IsAggregateOf tree.now (prefix_as prefix.now).bits inherited.0
+        (map entry_as v.items)) }
+    ensures order { IfOk result (λ v. IsStrictlySortedBy prefix_cmp
+        (keys_of (map entry_as v.items))) }
+    ensures least { IfOk result (λ v. LeastWithin (width tree.now.family)
+        (of_family tree.now.family tree.now.routes) (prefix_as prefix.now).bits inherited.0
+        (of_family tree.now.family (map entry_as v.items))) }
+    ensures steps { C.count steps.new ≤ C.count steps.old + prefix.now.len + 1
+        + 2 * nodes_in (prefix_as prefix.now).bits tree.now.nodes }
+{
     let mut table = Vec::new(alloc);
-    descend(&tree.region(prefix), inherited.0, *prefix, &mut table)?;
+    let region = tree.region_counted(prefix, steps);
+    descend(&region, inherited.0, *prefix, &mut table, steps)?;
     Ok(table)
 }
 
@@ -133,7 +169,8 @@ pub fn least_table(alloc: Global, tree: &Tree) -> Result<Vec<Entry>, AllocError>
 {
     let whole = Prefix::whole(tree.family());
     let mut table = Vec::new(alloc);
-    descend(&tree.region(&whole), Hop::NONE.0, whole, &mut table)?;
+    let region = tree.region(&whole);
+    descend(&region, Hop::NONE.0, whole, &mut table, &mut Uncounted)?;
     Ok(table)
 }
 

@@ -6,7 +6,7 @@ ghost use Rattle.address_model.specs.declared.family.Family.TheVariants.{V4};
 
 use super::*;
 use fib_addr::{Addr, Entry, Family, Hop, Prefix};
-use orig_tree::Tree;
+use orig_tree::{Counter, Tree};
 use std::alloc::{AllocError, Global};
 
 /// A prefix's bits and length, and a hop.
@@ -356,5 +356,39 @@ fn what_nodes_keep_is_mended(rt: HostRuntime) -> Result<(), AllocError> {
     let three = fresh(rt.alloc(), &rest)?;
     assert_eq!(rt; mended.table.as_slice(), three.table.as_slice());
     assert_eq!(rt; mended.proof.as_slice(), three.proof.as_slice());
+    let bound = proof_of(rt.alloc(), &[Step::Bound(3)])?;
+    assert_eq!(rt; mended.proof.last(), bound.last());
+    Ok(())
+}
+
+/// Counts steps so that a test can ask for them.
+#[derive(Drop)]
+struct Seen {
+    steps: u64,
+}
+
+impl Counter for Seen {
+    ghost count = { λ s. s.steps };
+
+    fn tick(&mut self) {
+        self.steps = self.steps.saturating_add(1);
+    }
+}
+
+#[test]
+fn a_table_costs_its_regions(rt: HostRuntime) -> Result<(), AllocError> {
+    let tree = tree_of(rt.alloc(), &TIE)?;
+    let mut whole = Seen { steps: 0 };
+    within_counted(rt.alloc(), &tree, &prefix(0, 0), Hop::NONE, &mut whole)?;
+    assert_eq!(rt; whole.steps, 7);
+    let mut part = Seen { steps: 0 };
+    within_counted(
+        rt.alloc(),
+        &tree,
+        &prefix(0x4000_0000, 3),
+        Hop::NONE,
+        &mut part,
+    )?;
+    assert_eq!(rt; part.steps, 4);
     Ok(())
 }

@@ -19,7 +19,7 @@ returns-in-None-clause-same t c = λ d name p l s a e. refl
 pub returns-then-changed-clause-set : goal.returns-then-changed-clause-set
 returns-then-changed-clause-set t c = λ d name p l s a. set_below c.args.label c.args.q c.args.left c.args.hop (cells_of c.args.nodes.now) c.args.i c.read-node.result c.read-node.ensures c.hop-own.result (cells_of c.assign-changed.new.nodes) (cells_of c.renew-then-changed.new.nodes) _
     c.hop-own.ensures refl c.renew-then-changed.ensures.cells c.bit_at.result c.in-Some.j d name p c.if-left-eq0.false c.bit_at.ensures (sym c.half.ensures ∙ c.in-Some.is)
-    (λ e v m u b. c.assign-changed.ensures.set e name v m u b) l s a
+    (λ e v w m u b. c.assign-changed.ensures.set e name v m u b) l s a
 
 pub returns-then-changed-clause-same : goal.returns-then-changed-clause-same
 returns-then-changed-clause-same t c = λ d name p l s a e. renewed c.args.label (cells_of c.args.nodes.now) (cells_of c.assign-changed.new.nodes) (cells_of c.renew-then-changed.new.nodes) c.args.i c.read-node.result _ c.read-node.ensures
@@ -27,11 +27,11 @@ returns-then-changed-clause-same t c = λ d name p l s a e. renewed c.args.label
 
 pub returns-else-changed-clause-set : goal.returns-else-changed-clause-set
 returns-else-changed-clause-set t c = λ d name p l s a. (set_stop c.args.label c.args.q c.args.left c.args.hop (cells_of c.args.nodes.now) c.args.i c.read-node.result c.read-node.ensures (cells_of c.assign-changed.new.nodes) c.bit_at.result c.in-Some.j d name p c.if-left-eq0.false c.bit_at.ensures (sym c.half.ensures ∙ c.in-Some.is)
-    (λ e v m u b. (c.assign-changed.ensures.set e name v m u b, c.assign-changed.ensures.same e name v m u b c.if-changed.false)) l s a).0
+    (λ e v w m u b. (c.assign-changed.ensures.set e name v m u b, c.assign-changed.ensures.same e name v m u b c.if-changed.false)) l s a).0
 
 pub returns-else-changed-clause-same : goal.returns-else-changed-clause-same
 returns-else-changed-clause-same t c = λ d name p l s a z. (set_stop c.args.label c.args.q c.args.left c.args.hop (cells_of c.args.nodes.now) c.args.i c.read-node.result c.read-node.ensures (cells_of c.assign-changed.new.nodes) c.bit_at.result c.in-Some.j d name p c.if-left-eq0.false c.bit_at.ensures (sym c.half.ensures ∙ c.in-Some.is)
-    (λ e v m u b. (c.assign-changed.ensures.set e name v m u b, c.assign-changed.ensures.same e name v m u b c.if-changed.false)) l s a).1
+    (λ e v w m u b. (c.assign-changed.ensures.set e name v m u b, c.assign-changed.ensures.same e name v m u b c.if-changed.false)) l s a).1
 
 pub returns-then-left-eq0-clause-halves : goal.returns-then-left-eq0-clause-halves
 returns-then-left-eq0-clause-halves t c = halves_retold (cells_of c.args.nodes.now) (cells_of c.args.nodes.now) (cells_of c.renew.new.nodes) c.args.i c.args.label c.args.hop _ _ c.read-node.result _ c.read-node.ensures refl c.renew.ensures.cells (halves_same (cells_of c.args.nodes.now))

@@ -1,4 +1,4 @@
 use Rattle.ortc.proofs.down.+descend.Given as goal
 
 abbrev pub decreases-descend : goal.decreases-descend
-decreases-descend l = l.region.now.bits
+decreases-descend g l = l.region.now.bits

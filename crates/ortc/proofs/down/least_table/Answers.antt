@@ -13,7 +13,7 @@ returns-clause-aggregate c =
     let E = of_family f c.args.tree.now.entries in
     let W = map entry_as c.descend.new.out.items in
     let whole : prefix_as p ≡ record { family = f; bits = [] } = c.whole-whole.ensures ∙ ap (λ k. let q : Prefix = record { family = k; bits = [] } in q) c.family.ensures.family in
-    fresh_told f p 0 R E W whole refl (within_told p f 0 R E (map entry_as c.new-table.result.items) W c.region.result (ap (λ (q : Prefix). q.family) whole) (ap (map entry_as) c.new-table.ensures.items) c.region.ensures.bits c.region.ensures.answers c.region.ensures.entries c.in_ok-descend.ensures)
+    fresh_told f p 0 R E W whole refl (within_told p f 0 R E (map entry_as c.new-table.result.items) W c.region-region.result (ap (λ (q : Prefix). q.family) whole) (ap (map entry_as) c.new-table.ensures.items) c.region-region.ensures.bits c.region-region.ensures.answers c.region-region.ensures.entries c.in_ok-descend.ensures.entries)
 
 pub returns-clause-least : goal.returns-clause-least
 returns-clause-least c =

@@ -4,7 +4,7 @@ use Rattle.orig_tree.specs.Arena.{cells_of}
 use Rattle.orig_tree.specs.Bests.{best_in}
 use Rattle.orig_tree.specs.Spots.{Spot, answers_in, spot_at}
 use Rattle.orig_tree.specs.declared.best.Best.{Best}
-use Rattle.orig_tree.proofs.Regions.{one_least, spot_stands}
+use Rattle.orig_tree.proofs.Regions.{one_least, spot_stands, spot_nodes}
 use Rattle.orig_tree.proofs.region.Region.leaf.Goals as goal
 
 pub returns-then-best-eq0-clause-one : goal.returns-then-best-eq0-clause-one
@@ -19,3 +19,8 @@ returns-else-best-eq0-clause-more c =
     let r = c.self.inside in
     λ e. c.if-best-eq0.false
     (ap (λ (b : Best). b.k) c.best_at-best.ensures ∙ ((spot_stands (cells_of r.nodes.now) (best_in r.bests.now) r.place c.in-Some.i r.bits r.hop c.in-Some.is c.self.invariant.0).cost ∙ (ap (λ (s : Spot). k_of s.bits (answers_in s)) c.self.view_is ∙ e)))
+
+pub returns-else-best-eq0-clause-node : goal.returns-else-best-eq0-clause-node
+returns-else-best-eq0-clause-node c =
+    let r = c.self.inside in
+    spot_nodes (cells_of r.nodes.now) r.place c.in-Some.i r.bits r.hop c.in-Some.is c.args.self.now c.self.view_is

@@ -8,20 +8,21 @@ use Rattle.orig_tree.specs.Walk.{Walks, has_node}
 use Rattle.orig_tree.specs.Views.{Labels}
 use Rattle.orig_tree.specs.Arena.{cells_of, whole}
 use Rattle.orig_tree.specs.Bests.{best_in}
+use Rattle.orig_tree.specs.Within.{nodes_in}
 use Rattle.fib_addr.specs.Views.{prefix_as}
 use Rattle.orig_tree.specs.declared.node.Node.{Node}
 use Rattle.orig_tree.proofs.Places.{in_place_put, same_rows, entries_put}
 use Rattle.orig_tree.proofs.Undoing.{can_same, can_undo, few_bits, true_not}
-use Rattle.orig_tree.proofs.tree.Tree.set_route.Goals as goal
+use Rattle.orig_tree.proofs.tree.Tree.set_route_counted.Goals as goal
 
 pub alter-requires-clause-allowed : goal.alter-requires-clause-allowed
-alter-requires-clause-allowed c =
+alter-requires-clause-allowed g c =
     let f = c.self.inside.family in
     let few = few_bits c.args.prefix.now f (c.requires ∙ sym (ap (λ (s : Labels). s.family) c.self.view_is)) in
     sym (c.is_node.ensures (suc (width f)) (omega (arith, few))) ∙ c.if-is_node.true
 
 pub invariant_of-self : goal.invariant_of-self
-invariant_of-self c =
+invariant_of-self g c =
     let f = c.self.inside.family in
     let old = cells_of c.self.inside.nodes in
     let new = cells_of c.alter.new.nodes in
@@ -35,7 +36,7 @@ invariant_of-self c =
     )
 
 pub invariant_of-self-then-is_node : goal.invariant_of-self-then-is_node
-invariant_of-self-then-is_node c =
+invariant_of-self-then-is_node g c =
     let f = c.self.inside.family in
     let p = c.args.prefix.now in
     let fam : p.family ≡ f = c.requires ∙ sym (ap (λ (s : Labels). s.family) c.self.view_is) in
@@ -54,7 +55,7 @@ invariant_of-self-then-is_node c =
     )
 
 pub returns-then-is_node-clause-routes : goal.returns-then-is_node-clause-routes
-returns-then-is_node-clause-routes c =
+returns-then-is_node-clause-routes g c =
     let p = c.args.prefix.now in
     let f = c.self.inside.family in
     let fam : p.family ≡ f = c.requires ∙ sym (ap (λ (s : Labels). s.family) c.self.view_is) in
@@ -63,13 +64,13 @@ returns-then-is_node-clause-routes c =
     ∙ ap (λ b. with_entry c.args.self.now.routes ((let x : Prefix = record { family = p.family; bits = b } in x), c.args.hop.0)) c.path_bits-q.ensures
 
 pub returns-then-is_node-clause-before : goal.returns-then-is_node-clause-before
-returns-then-is_node-clause-before c = λ there.
+returns-then-is_node-clause-before g c = λ there.
     let f = c.self.inside.family in
     let few = few_bits c.args.prefix.now f (c.requires ∙ sym (ap (λ (s : Labels). s.family) c.self.view_is)) in
     ap (of_table f) (c.in_ok-undo.ensures.back (sym (c.is_node.ensures (suc (width f)) (omega (arith, few))) ∙ c.if-is_node.true)).routes ∙ ap (λ (s : Labels). s.routes) c.self.view_is
 
 pub invariant_of-self-in_err-room : goal.invariant_of-self-in_err-room
-invariant_of-self-in_err-room c =
+invariant_of-self-in_err-room g c =
     let f = c.self.inside.family in
     let old = cells_of c.self.inside.nodes in
     let new = cells_of c.lay.new.nodes in
@@ -83,7 +84,7 @@ invariant_of-self-in_err-room c =
     )
 
 pub invariant_of-self-2 : goal.invariant_of-self-2
-invariant_of-self-2 c =
+invariant_of-self-2 g c =
     let p = c.args.prefix.now in
     let fam : p.family ≡ c.self.inside.family = c.requires ∙ sym (ap (λ (s : Labels). s.family) c.self.view_is) in
     let l : length (bits_of p.len c.path_bits-q.result) ≤ width c.self.inside.family = omega (arith, length-bits_of p.len c.path_bits-q.result, p.fits, ap width fam) in
@@ -99,7 +100,7 @@ invariant_of-self-2 c =
     )
 
 pub returns-clause-routes : goal.returns-clause-routes
-returns-clause-routes c =
+returns-clause-routes g c =
     let p = c.args.prefix.now in
     let fam : p.family ≡ c.self.inside.family = c.requires ∙ sym (ap (λ (s : Labels). s.family) c.self.view_is) in
     let l : length (bits_of p.len c.path_bits-q.result) ≤ width c.self.inside.family = omega (arith, length-bits_of p.len c.path_bits-q.result, p.fits, ap width fam) in
@@ -108,8 +109,40 @@ returns-clause-routes c =
     ∙ ap (λ b. with_entry c.args.self.now.routes ((let x : Prefix = record { family = p.family; bits = b } in x), c.args.hop.0)) c.path_bits-q.ensures
 
 pub returns-clause-before : goal.returns-clause-before
-returns-clause-before c = λ there.
+returns-clause-before g c = λ there.
     let f = c.self.inside.family in
     let few = few_bits c.args.prefix.now f (c.requires ∙ sym (ap (λ (s : Labels). s.family) c.self.view_is)) in
     let has = ap (λ b. has_node b (whole f (cells_of c.self.inside.nodes)).nodes) c.path_bits-q.ensures ∙ (ap (λ (s : Labels). has_node (prefix_as c.args.prefix.now).bits s.nodes) c.self.view_is ∙ there) in
     absurd (true_not (sym (c.is_node.ensures (suc (width f)) (omega (arith, few)) ∙ has) ∙ c.if-is_node.false))
+
+pub returns-in_err-undo-clause-steps : goal.returns-in_err-undo-clause-steps
+returns-in_err-undo-clause-steps g c =
+    let f = c.self.inside.family in
+    let p = c.args.prefix.now in
+    let same : nodes_in (bits_of p.len c.path_bits-q.result) (whole f (cells_of c.self.inside.nodes)).nodes ≡ nodes_in (prefix_as p).bits c.args.self.now.nodes =
+    ap (λ b. nodes_in b (whole f (cells_of c.self.inside.nodes)).nodes) c.path_bits-q.ensures ∙ ap (λ (s : Labels). nodes_in (prefix_as p).bits s.nodes) c.self.view_is in
+    omega (arith, c.alter.ensures.steps, same)
+
+pub returns-then-is_node-clause-steps : goal.returns-then-is_node-clause-steps
+returns-then-is_node-clause-steps g c =
+    let f = c.self.inside.family in
+    let p = c.args.prefix.now in
+    let same : nodes_in (bits_of p.len c.path_bits-q.result) (whole f (cells_of c.self.inside.nodes)).nodes ≡ nodes_in (prefix_as p).bits c.args.self.now.nodes =
+    ap (λ b. nodes_in b (whole f (cells_of c.self.inside.nodes)).nodes) c.path_bits-q.ensures ∙ ap (λ (s : Labels). nodes_in (prefix_as p).bits s.nodes) c.self.view_is in
+    omega (arith, c.alter.ensures.steps, same)
+
+pub returns-in_err-room-clause-steps : goal.returns-in_err-room-clause-steps
+returns-in_err-room-clause-steps g c =
+    let f = c.self.inside.family in
+    let p = c.args.prefix.now in
+    let same : nodes_in (bits_of p.len c.path_bits-q.result) (whole f (cells_of c.self.inside.nodes)).nodes ≡ nodes_in (prefix_as p).bits c.args.self.now.nodes =
+    ap (λ b. nodes_in b (whole f (cells_of c.self.inside.nodes)).nodes) c.path_bits-q.ensures ∙ ap (λ (s : Labels). nodes_in (prefix_as p).bits s.nodes) c.self.view_is in
+    omega (arith, c.lay.ensures.steps, same)
+
+pub returns-clause-steps : goal.returns-clause-steps
+returns-clause-steps g c =
+    let f = c.self.inside.family in
+    let p = c.args.prefix.now in
+    let same : nodes_in (bits_of p.len c.path_bits-q.result) (whole f (cells_of c.self.inside.nodes)).nodes ≡ nodes_in (prefix_as p).bits c.args.self.now.nodes =
+    ap (λ b. nodes_in b (whole f (cells_of c.self.inside.nodes)).nodes) c.path_bits-q.ensures ∙ ap (λ (s : Labels). nodes_in (prefix_as p).bits s.nodes) c.self.view_is in
+    omega (arith, c.lay.ensures.steps, same)
