@@ -1,4 +1,5 @@
 pub mod Making
 pub mod Tables
+pub mod Knowing
 pub mod Planned
 pub mod Alike

@@ -87,7 +87,7 @@ put_back_placed : (p : Prefix) (o : Option ℕ) (R : Entries) → IsPrefix p →
 put_back_placed p None R x r = (all_cut (same_prefix p) IsPrefix R r.0, sorted_cut prefix_cmp (same_prefix p) R r.1)
 put_back_placed p (Some h) R x r = (all_put prefix_cmp IsPrefix R p h r.0 x, sorted_put prefix_key R p h r.1)
 
-put_back_hop : (p q : Prefix) (o : Option ℕ) (R : Entries) → IsPrefix p → Placed R → hop_at q (put_back_in p o R) ≡ cond (same_prefix q p) o (hop_at q R)
+pub put_back_hop : (p q : Prefix) (o : Option ℕ) (R : Entries) → IsPrefix p → Placed R → hop_at q (put_back_in p o R) ≡ cond (same_prefix q p) o (hop_at q R)
 put_back_hop p q None R x r = lookup-cut prefix_key q p R r.1
 put_back_hop p q (Some h) R x r = lookup-put prefix_key q R p h r.0 x
 

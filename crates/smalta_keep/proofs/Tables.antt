@@ -53,9 +53,6 @@ mended_is R T p f h e a =
     ap (λ k. of_table f (aggregate (width f) (of_family f R) p.bits k (of_family f T))) a
     ∙ ap (λ (g : Family). of_table g (aggregate (width g) (of_family g R) p.bits (above p.bits (of_family g T) 0) (of_family g T))) (sym e)
 
-pub renewed_is : (f : Family) (p : List Bool) (R T : Entries) → p ≡ [] → of_table f (aggregate (width f) (of_family f R) p 0 (of_family f T)) ≡ aggregate_in f R T
-renewed_is f p R T e = ap (λ x. of_table f (aggregate (width f) (of_family f R) x 0 (of_family f T))) e
-
 -- ---- of one family
 
 of_table_family : (f : Family) (L : Table) → AllByRecursion (λ (p : Prefix). p.family ≡ f) (keys_of (of_table f L))
@@ -98,3 +95,6 @@ led xs E T N s e t n = ap (λ cs. after_changes cs E) s ∙ (ap (after_changes (
 
 pub some_is : (a b : Entries) → Some a ≡ Some b → a ≡ b
 some_is a b e = cc
+
+pub came : (xs : List code.Change) (E T N U : Entries) → map change_as xs ≡ between T N → E ≡ T → InPlace T → InPlace N → after_changes (map change_as xs) E ≡ Some U → U ≡ N
+came xs E T N U s e t n a = some_is U N (sym a ∙ led xs E T N s e t n)

@@ -1,5 +1,6 @@
 pub mod Rooms
 pub mod Routes
 pub mod Views
+pub mod Known
 pub mod Plans
 pub mod Answers

@@ -1,5 +1,6 @@
 -- What changes find in a tree, and what they leave.
-use Rattle.std.specs.Prelude.{◌≡◌, List, Bool, true}
+use Rattle.std.specs.Prelude.{◌≡◌, List, Bool, true, Option, Some, None}
+use Rattle.address_model.specs.Address.{Prefix}
 use Rattle.std.specs.List.{AllByRecursion}
 use Rattle.address_model.specs.declared.family.Family.{Family}
 use Rattle.table_model.specs.Changes.{Change, Add, Replace, Remove}
@@ -15,6 +16,11 @@ HasRoom nodes (Remove p) = Unit {0}
 
 abbrev pub HaveRoom : List (List Bool) → List Change → Type 0
 HaveRoom nodes cs = AllByRecursion (HasRoom nodes) cs
+
+-- there is a node at this prefix, if there is one
+abbrev pub IsNodeAt : Option Prefix → List (List Bool) → Type 0
+IsNodeAt None nodes = Unit {0}
+IsNodeAt (Some p) nodes = has_node p.bits nodes ≡ true
 
 -- the changes are at prefixes of the family
 abbrev pub AreOf : Family → List Change → Type 0

@@ -16,6 +16,10 @@ put_back_in p (Some h) R = with_entry R (p, h)
 abbrev pub former_in : Former → Entries → Entries
 former_in f R = put_back_in (prefix_as f.prefix) (option_map (λ h. h.0) f.hop) R
 
+-- the prefix of the former route, if there is one
+abbrev pub former_place : Option Former → Option Prefix
+former_place f = option_map (λ r. prefix_as r.prefix) f
+
 -- put back, the former route gives the old routes, and the tree can put it back
 pub record IsFormer (f : Former) (old new : Labels) : Type 0 where
   pub family : f.prefix.family ≡ new.family
@@ -31,8 +35,3 @@ HasFormer kept (Some f) = (f.prefix.family ≡ kept.family) × (kept.before ≡ 
 abbrev pub undone_in : Option Former → Entries → Entries
 undone_in None R = R
 undone_in (Some f) R = former_in f R
-
--- put back, the former route, if there is one, gives the old routes
-abbrev pub IsFormerOf : Option Former → Labels → Labels → Type 0
-IsFormerOf None old new = new.routes ≡ old.routes
-IsFormerOf (Some f) old new = IsFormer f old new

@@ -1,14 +1,40 @@
 //! Changes of the tree's entries, with the memory for them taken before.
 
-ghost use Rattle.std.specs.Prelude.{◌≡◌, OnOk, Some, IsSome, map};
+ghost use Rattle.std.specs.Prelude.{◌≡◌, List, Bool, true, OnOk, Some, IsSome, map, option_map};
 ghost use Rattle.table_model.specs.Changes.{after_change, after_changes};
 ghost use Rattle.delta_model.specs.Between.{place_of};
+ghost use Rattle.fib_addr.specs.Views.{prefix_as};
 ghost use Rattle.fib_delta.specs.Views.{change_as};
-ghost use Rattle.smalta_keep.specs.Rooms.{HasRoom, HaveRoom, AreOf, KeepsRoutes};
+ghost use Rattle.smalta_keep.specs.Rooms.{HasRoom, HaveRoom, IsNodeAt, AreOf, KeepsRoutes};
 
+use fib_addr::Prefix;
 use fib_delta::Change;
 use orig_tree::Tree;
 use std::alloc::AllocError;
+
+/// Whether a change takes an entry away or is at this prefix: it makes no node where the prefix is one.
+fn is_at(change: &Change, at: Option<Prefix>) -> bool
+    ensures { result ≡ true → (nodes : List (List Bool)) → IsNodeAt (option_map prefix_as at) nodes
+        → HasRoom nodes (change_as change.now) }
+{
+    match change {
+        Change::Add(prefix, _) | Change::Replace(prefix, _) => at == Some(*prefix),
+        Change::Remove(_) => true,
+    }
+}
+
+/// Whether each of the changes takes an entry away or is at this prefix: they make no node where the prefix is one.
+pub fn are_at(changes: &[Change], at: Option<Prefix>) -> bool
+    ensures { result ≡ true → (nodes : List (List Bool)) → IsNodeAt (option_map prefix_as at) nodes
+        → HaveRoom nodes (map change_as changes.now) }
+{
+    for change in changes {
+        if !is_at(change, at) {
+            return false;
+        }
+    }
+    true
+}
 
 /// Makes room for a change.
 fn make_room_for(tree: &mut Tree, change: &Change) -> Result<(), AllocError>

@@ -21,9 +21,10 @@ ghost use Rattle.smalta_keep.specs.Answers.{IsAlike, IsLeast, IsFewestWithin};
 
 use crate::entries::apply_all;
 use crate::idle::{trim_at, trim_left};
+use crate::marks::Marks;
 use crate::plan::plan_moves;
 use crate::repair::{Moved, Repair};
-use crate::routes::{former_prefix, planned_prefix, put_back_planned, set, set_planned};
+use crate::routes::{former_prefix, planned_prefix, put_back_planned, set};
 use cert_rows::RowSink;
 use fib_addr::{Entry, Family, Hop, Prefix};
 use fib_delta::Change;
@@ -38,14 +39,18 @@ use std::marker::Model;
 pub struct Keep {
     alloc: Global,
     tree: Tree,
+    marks: Marks,
 }
 
 impl Model for Keep {
     ghost use Rattle.orig_tree.specs.Views.{Labels};
+    ghost use Rattle.kept_pass.specs.Known.{IsKnown};
 
     ghost Value = { Labels };
 
     ghost view = { λ k. k.tree };
+
+    ghost invariant = { λ k. IsKnown k.tree k.marks.tree };
 }
 
 impl Keep {
@@ -62,6 +67,7 @@ impl Keep {
         Keep {
             alloc,
             tree: Tree::new(alloc, family),
+            marks: Marks::all(),
         }
     }
 
@@ -79,7 +85,11 @@ impl Keep {
         ensures table { IfOk result (λ k. k.entries ≡ []) }
     {
         let tree = Tree::load(alloc, family, routes)?;
-        Ok(Keep { alloc, tree })
+        Ok(Keep {
+            alloc,
+            tree,
+            marks: Marks::all(),
+        })
     }
 
     /// Gives a prefix this route, or with `Hop::NONE` none. The table stays.
@@ -95,6 +105,9 @@ impl Keep {
             ≡ with_route (prefix_as prefix.now) hop.0 self.old.routes) }
         ensures err { OnErr result (self.new ≡ self.old) }
     {
+        // the routes stand in order
+        let _family = self.tree.family();
+        self.marks.mark(prefix)?;
         set(&mut self.tree, prefix, hop)?;
         if hop == Hop::NONE {
             self.tree.trim(prefix);
@@ -123,11 +136,21 @@ impl Keep {
         ensures undone { IfOk result (λ r. undone_by r self.new.routes ≡ self.old.routes) }
         ensures err { OnErr result (self.new.routes ≡ self.old.routes) }
     {
-        match plan_moves(self.alloc, &mut self.tree, route, snapshot) {
-            Ok(moved) => {
-                let former = set_planned(&mut self.tree, route)?;
-                Ok(Repair { former, moved })
-            }
+        // the routes stand in order
+        let _family = self.tree.family();
+        self.marks.mark_at(planned_prefix(route))?;
+        match plan_moves(
+            self.alloc,
+            &mut self.tree,
+            &self.marks.tree,
+            route,
+            snapshot,
+        ) {
+            Ok((former, moved)) => Ok(Repair {
+                former,
+                due: snapshot,
+                moved,
+            }),
             Err(failed) => {
                 trim_at(&mut self.tree, planned_prefix(route));
                 Err(failed)
@@ -144,12 +167,15 @@ impl Keep {
             self.old.entries ≡ Some self.new.entries }
         ensures moved { result ≡ moved_of repair }
     {
+        let family = self.tree.family();
         let at = former_prefix(&repair.former);
+        let due = repair.due;
         let moved = repair.moved;
         apply_all(&mut self.tree, &moved.repair);
         apply_all(&mut self.tree, &moved.snapshot);
         trim_at(&mut self.tree, at);
         trim_left(&mut self.tree, &moved.snapshot, true);
+        self.marks.leave(self.alloc, family, due, at);
         moved
     }
 
@@ -161,9 +187,12 @@ impl Keep {
         ensures routes { self.new.routes ≡ undone_by repair self.old.routes }
         ensures table { self.new.entries ≡ self.old.entries }
     {
+        // the routes stand in order
+        let _family = self.tree.family();
         put_back_planned(&mut self.tree, &repair.former);
         trim_at(&mut self.tree, former_prefix(&repair.former));
         trim_left(&mut self.tree, &repair.moved.snapshot, false);
+        self.marks.keep(former_prefix(&repair.former));
     }
 
     /// Makes the table least for the routes, with the table as the old one, and gives the changes.

@@ -6,12 +6,15 @@
 //! the whole table least again. Both are told as changes before they are made: `plan` takes all memory and changes no entry,
 //! then `commit` makes the changes, or `undo` puts the route back.
 //!
-//! A repair costs the prefix's length, and the nodes within it with their sets of hops; a snapshot the whole tree.
+//! A repair costs the prefix's length, and the nodes within it with their sets of hops. Each prefix whose route changes is marked
+//! until the next snapshot, which goes over the marked prefixes and the way to them, and over the regions that come to inherit
+//! another hop (kept_pass). The first snapshot, and one that comes after more than 16,384 changes, goes over the whole tree.
 #![tactic(auto)]
 
 mod entries;
 mod idle;
 mod keep;
+mod marks;
 mod plan;
 mod repair;
 mod routes;

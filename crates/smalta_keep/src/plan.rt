@@ -1,96 +1,161 @@
-//! Plans: what is to change is told, and room is made for it, before the route is set to stay.
+//! Plans: a plan's route is set, what is to change is told, and room is made for it.
+//!
+//! Setting a route is most of what a plan costs, so it is set once where all that changes is at its own prefix, which is a node
+//! then, or is taken away. A node that is made for another change would end the putting back (orig_tree): before that the route is
+//! put back, and it is set again after it.
 
-ghost use Rattle.std.specs.Prelude.{◌≡◌, IfOk, map, true};
+ghost use Rattle.std.specs.Prelude.{◌≡◌, IfOk, OnOk, OnErr, map, true};
 ghost use Rattle.std.specs.Option.{ForSome};
-ghost use Rattle.table_model.specs.Entries.{Entries};
-ghost use Rattle.kept_model.specs.Patched.{after_repair};
+ghost use Rattle.least_model.specs.Both.{aggregate_in};
+ghost use Rattle.delta_model.specs.Between.{between};
 ghost use Rattle.fib_delta.specs.Views.{change_as};
-ghost use Rattle.smalta_keep.specs.Rooms.{HaveRoom, KeepsRoutes};
-ghost use Rattle.smalta_keep.specs.Plans.{IsMend, IsMoved, IsRenewal, routed};
-ghost use Rattle.smalta_keep.specs.Views.{with_planned, place_in};
+ghost use Rattle.smalta_keep.specs.Rooms.{AreOf, HaveRoom, KeepsEntries};
+ghost use Rattle.smalta_keep.specs.Routes.{HasFormer, former_place, undone_in};
+ghost use Rattle.smalta_keep.specs.Known.{KnownAt};
+ghost use Rattle.smalta_keep.specs.Plans.{IsMend, IsMoved, IsSet, IsStill, repaired_table};
+ghost use Rattle.smalta_keep.specs.Views.{place_in};
 
-use crate::entries::{apply_all, make_room};
+use crate::entries::{apply_all, are_at, make_room};
 use crate::repair::Moved;
-use crate::routes::{planned_prefix, put_back_planned, set_planned};
-use crate::told::{Mend, mend_at, renew};
+use crate::routes::{Former, former_prefix, put_back_planned, set_planned};
+use crate::told::{Mend, mend_at};
 use fib_addr::{Hop, Prefix};
 use fib_delta::Change;
+use kept_pass::renew;
 use orig_tree::Tree;
 use std::alloc::{AllocError, Global};
 
-/// The changes of a repair once a plan's route is set, if it has one, and back, if these are asked for. Routes and entries
-/// stay: the route is set and put back.
-fn mend_after(
+/// The changes of a repair at the prefix of the route that a plan set, and back, if these are asked for.
+///
+/// # Errors
+///
+/// No memory; then the route is put back.
+fn mend_set(
     alloc: Global,
     tree: &mut Tree,
-    route: Option<(Prefix, Hop)>,
+    former: Option<Former>,
     back: bool,
 ) -> Result<Mend, AllocError>
-    requires { ForSome route (λ r. r.0.family ≡ tree.old.family) }
-    ensures keeps { KeepsRoutes tree.old tree.new }
-    ensures entries { tree.new.entries ≡ tree.old.entries }
-    ensures mend { IfOk result (IsMend tree.old.family back tree.old.entries (after_repair
-        (with_planned route tree.old.routes) (place_in route) tree.old.entries)) }
+    requires { HasFormer tree.old former }
+    ensures keeps { KeepsEntries tree.old tree.new }
+    ensures still { OnOk result (tree.new ≡ tree.old) }
+    ensures mend { IfOk result (IsMend tree.old.family back tree.old.entries
+        (repaired_table tree.old (former_place former))) }
+    ensures err { OnErr result (tree.new.routes ≡ undone_in former tree.old.routes) }
 {
-    let former = set_planned(tree, route)?;
-    let mend = mend_at(alloc, tree, planned_prefix(route), back);
-    put_back_planned(tree, &former);
-    mend
+    match mend_at(alloc, tree, former_prefix(&former), back) {
+        Ok(mend) => Ok(mend),
+        Err(failed) => {
+            put_back_planned(tree, &former);
+            Err(failed)
+        }
+    }
 }
 
-/// The changes of a snapshot after a repair, once a plan's route is set, if it has one, with room for them. Routes and
-/// entries stay: the route is set and the repair made, and both are taken back.
+/// Sees to it that there is room for changes, with a plan's route set. Where a node may have to be made it is put back, and set
+/// again.
+///
+/// # Errors
+///
+/// No memory; then the route is put back.
+fn with_room(
+    tree: &mut Tree,
+    route: Option<(Prefix, Hop)>,
+    former: Option<Former>,
+    changes: &[Change],
+) -> Result<Option<Former>, AllocError>
+    requires family { ForSome route (λ r. r.0.family ≡ tree.old.family) }
+    requires changes { AreOf tree.old.family (map change_as changes.now) }
+    requires set { IsSet route (undone_in former tree.old.routes) tree.old former }
+    ensures keeps { KeepsEntries tree.old tree.new }
+    ensures room { OnOk result (HaveRoom tree.new.nodes (map change_as changes.now)) }
+    ensures set { IfOk result (IsSet route (undone_in former tree.old.routes) tree.new) }
+    ensures err { OnErr result (tree.new.routes ≡ undone_in former tree.old.routes) }
+{
+    if are_at(changes, former_prefix(&former)) {
+        return Ok(former);
+    }
+    put_back_planned(tree, &former);
+    make_room(tree, changes)?;
+    set_planned(tree, route)
+}
+
+/// The changes of a snapshot after a repair, which is made and taken back, with a plan's route set.
+///
+/// # Errors
+///
+/// No memory; then the route is put back.
 fn snapshot_after(
     alloc: Global,
     tree: &mut Tree,
-    route: Option<(Prefix, Hop)>,
+    marks: &Option<Tree>,
+    former: Option<Former>,
     mend: &Mend,
 ) -> Result<Vec<Change>, AllocError>
-    requires family { ForSome route (λ r. r.0.family ≡ tree.old.family) }
-    requires mend { (T : Entries) × IsMend tree.old.family true tree.old.entries T mend.now }
-    requires room { HaveRoom tree.old.nodes (map change_as mend.now.there.items) }
-    ensures keeps { KeepsRoutes tree.old tree.new }
-    ensures entries { tree.new.entries ≡ tree.old.entries }
-    ensures changes { (T : Entries) → IsMend tree.old.family true tree.old.entries T mend.now
-        → IfOk result (λ v. IsRenewal tree.old.family (with_planned route tree.old.routes) T
-        tree.new.nodes v.items) }
+    requires former { HasFormer tree.old former }
+    requires known { KnownAt (former_place former) tree.old marks.now }
+    requires mend { IsMend tree.old.family true tree.old.entries
+        (repaired_table tree.old (former_place former)) mend.now }
+    requires there { HaveRoom tree.old.nodes (map change_as mend.now.there.items) }
+    requires back { HaveRoom tree.old.nodes (map change_as mend.now.back.items) }
+    ensures keeps { KeepsEntries tree.old tree.new }
+    ensures still { OnOk result (IsStill tree.old tree.new) }
+    ensures changes { IfOk result (λ v. map change_as v.items ≡ between (repaired_table tree.old
+        (former_place former)) (aggregate_in tree.old.family tree.old.routes
+        (repaired_table tree.old (former_place former)))) }
+    ensures family { IfOk result (λ v. AreOf tree.old.family (map change_as v.items)) }
+    ensures err { OnErr result (tree.new.routes ≡ undone_in former tree.old.routes) }
 {
-    make_room(tree, &mend.back)?;
-    let before = set_planned(tree, route)?;
     apply_all(tree, &mend.there);
-    let after_snapshot = renew(alloc, tree);
+    let changes = renew(alloc, tree, marks);
     apply_all(tree, &mend.back);
-    put_back_planned(tree, &before);
-    let changes = after_snapshot?;
-    make_room(tree, &changes)?;
-    Ok(changes)
+    match changes {
+        Ok(changes) => Ok(changes),
+        Err(failed) => {
+            put_back_planned(tree, &former);
+            Err(failed)
+        }
+    }
 }
 
-/// The changes of a repair once a plan's route is set, if it has one, and of the snapshot after it, if one is due, with room
-/// for them. Routes and entries stay.
+/// Sets a plan's route, if it has one, and tells the changes of the repair at its prefix and of the snapshot after it, if one is
+/// due, with room for them. The entries stay.
+///
+/// # Errors
+///
+/// No memory; then the routes are as they were.
 pub fn plan_moves(
     alloc: Global,
     tree: &mut Tree,
+    marks: &Option<Tree>,
     route: Option<(Prefix, Hop)>,
     snapshot: bool,
-) -> Result<Moved, AllocError>
-    requires { ForSome route (λ r. r.0.family ≡ tree.old.family) }
-    ensures keeps { KeepsRoutes tree.old tree.new }
-    ensures entries { tree.new.entries ≡ tree.old.entries }
-    ensures moved { IfOk result (IsMoved (routed route tree.old) tree.new.nodes (place_in route)
-        snapshot) }
+) -> Result<(Option<Former>, Moved), AllocError>
+    requires family { ForSome route (λ r. r.0.family ≡ tree.old.family) }
+    requires known { KnownAt (place_in route) tree.old marks.now }
+    ensures keeps { KeepsEntries tree.old tree.new }
+    ensures set { IfOk result (λ p. IsSet route tree.old.routes tree.new p.0) }
+    ensures moved { IfOk result (λ p. IsMoved tree.new (place_in route) snapshot p.1) }
+    ensures err { OnErr result (tree.new.routes ≡ tree.old.routes) }
 {
-    let mend = mend_after(alloc, tree, route, snapshot)?;
-    make_room(tree, &mend.there)?;
+    // the routes stand in order
+    let _family = tree.family();
+    let former = set_planned(tree, route)?;
+    let mend = mend_set(alloc, tree, former, snapshot)?;
+    let former = with_room(tree, route, former, &mend.there)?;
     if !snapshot {
-        return Ok(Moved {
+        let moved = Moved {
             repair: mend.there,
             snapshot: Vec::new(alloc),
-        });
+        };
+        return Ok((former, moved));
     }
-    let changes = snapshot_after(alloc, tree, route, &mend)?;
-    Ok(Moved {
+    let former = with_room(tree, route, former, &mend.back)?;
+    let changes = snapshot_after(alloc, tree, marks, former, &mend)?;
+    let former = with_room(tree, route, former, &changes)?;
+    let moved = Moved {
         repair: mend.there,
         snapshot: changes,
-    })
+    };
+    Ok((former, moved))
 }

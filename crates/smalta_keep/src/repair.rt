@@ -19,6 +19,8 @@ pub struct Moved {
 #[derive(Debug, Drop)]
 pub struct Repair {
     pub(crate) former: Option<Former>,
+    /// Whether a snapshot is due.
+    pub(crate) due: bool,
     pub(crate) moved: Moved,
 }
 

@@ -6,8 +6,8 @@ ghost use Rattle.orig_tree.specs.Walk.{has_node};
 ghost use Rattle.fib_addr.specs.Views.{prefix_as};
 ghost use Rattle.kept_model.specs.Patched.{with_route};
 ghost use Rattle.smalta_keep.specs.Rooms.{KeepsEntries};
-ghost use Rattle.smalta_keep.specs.Routes.{IsFormer, IsFormerOf, HasFormer, undone_in};
-ghost use Rattle.smalta_keep.specs.Views.{with_planned};
+ghost use Rattle.smalta_keep.specs.Routes.{IsFormer, HasFormer, undone_in};
+ghost use Rattle.smalta_keep.specs.Plans.{IsSet};
 
 use fib_addr::{Hop, Prefix};
 use orig_tree::Tree;
@@ -47,6 +47,8 @@ fn replace(tree: &mut Tree, prefix: &Prefix, hop: Hop) -> Result<Former, AllocEr
     ensures routes { OnOk result (tree.new.routes
         ≡ with_route (prefix_as prefix.now) hop.0 tree.old.routes) }
     ensures former { IfOk result (λ f. IsFormer f tree.old tree.new) }
+    ensures at { IfOk result (λ f. f.prefix ≡ prefix.now) }
+    ensures node { OnOk result (has_node (prefix_as prefix.now).bits tree.new.nodes ≡ true) }
     ensures err { OnErr result (tree.new.routes ≡ tree.old.routes) }
 {
     tree.room(prefix)?;
@@ -65,8 +67,7 @@ pub fn set_planned(
 ) -> Result<Option<Former>, AllocError>
     requires { ForSome route (λ r. r.0.family ≡ tree.old.family) }
     ensures keeps { KeepsEntries tree.old tree.new }
-    ensures routes { OnOk result (tree.new.routes ≡ with_planned route tree.old.routes) }
-    ensures former { IfOk result (λ f. IsFormerOf f tree.old tree.new) }
+    ensures set { IfOk result (IsSet route tree.old.routes tree.new) }
     ensures err { OnErr result (tree.new.routes ≡ tree.old.routes) }
 {
     match route {

@@ -81,15 +81,3 @@ pub fn mend_at(
         }),
     }
 }
-
-/// The changes of a snapshot. No row of a certificate is made.
-pub fn renew(alloc: Global, tree: &Tree) -> Result<Vec<Change>, AllocError>
-    ensures order { InPlace tree.now.entries }
-    ensures changes { IfOk result (λ v. map change_as v.items ≡ between tree.now.entries
-        (aggregate_in tree.now.family tree.now.routes tree.now.entries)) }
-    ensures family { IfOk result (λ v. AreOf tree.now.family (map change_as v.items)) }
-{
-    let old = tree.entries()?;
-    let new = within(alloc, tree, &Prefix::whole(tree.family()), Hop::NONE)?;
-    between(alloc, &old, &new)
-}

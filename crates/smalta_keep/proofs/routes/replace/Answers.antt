@@ -1,4 +1,4 @@
-use Rattle.std.proofs.Common.{sym, ap, ◌∙◌}
+use Rattle.std.proofs.Common.{sym, ◌∙◌}
 use Rattle.fib_addr.specs.Views.{prefix_as}
 use Rattle.fib_delta.proofs.Held.{is_prefix}
 use Rattle.smalta_keep.proofs.Making.{back_again}

@@ -1,5 +1,5 @@
 use Rattle.std.proofs.Common.{◌≡◌, List, Some, map, sym, ap, subst, ◌∙◌}
-use Rattle.std.specs.Prelude.{IsSome, Option}
+use Rattle.std.specs.Prelude.{IsSome, is_some, Option, option_map, ◌++◌}
 use Rattle.table_model.specs.Entries.{Entries}
 use Rattle.table_model.specs.Changes.{after_changes}
 use Rattle.fib_delta.specs.declared.change.Change as code
@@ -7,6 +7,13 @@ use Rattle.fib_delta.specs.Views.{change_as}
 use Rattle.orig_tree.specs.Views.{Labels}
 use Rattle.smalta_keep.specs.Rooms.{HaveRoom}
 use Rattle.smalta_keep.specs.Views.{repair_as, snapshot_as}
+use Rattle.address_model.specs.declared.family.Family.{Family}
+use Rattle.fib_addr.specs.Views.{prefix_as}
+use Rattle.smalta_keep.specs.Known.{AreLeft}
+use Rattle.smalta_keep.specs.Plans.{IsPlanned, planned_table}
+use Rattle.smalta_keep.specs.Routes.{former_place}
+use Rattle.smalta_keep.proofs.Tables.{some_is}
+use Rattle.smalta_keep.proofs.Knowing.{known_made, former_left}
 use Rattle.smalta_keep.proofs.Making.{kept_room}
 use Rattle.smalta_keep.proofs.Planned.{first_run, second_run}
 use Rattle.smalta_keep.proofs.keep.Keep.commit.Goals as goal
@@ -15,8 +22,9 @@ pub apply_all-requires-clause-fit : goal.apply_all-requires-clause-fit
 apply_all-requires-clause-fit c =
     let T = c.args.self.now.entries in
     let m = c.args.repair.moved in
+    let fits : IsSome (after_changes (repair_as m ++ snapshot_as m) T) = ap is_some c.requires.makes in
     let e : c.self.inside.tree.entries ≡ T = ap (λ (s : Labels). s.entries) c.self.view_is in
-    subst (λ (E : Entries). IsSome (after_changes (map change_as c.deref.result.now) E)) (sym e) (subst (λ (cs : List code.Change). IsSome (after_changes (map change_as cs) T)) (sym c.deref.ensures.value) (first_run (repair_as m) (snapshot_as m) T c.requires.fit))
+    subst (λ (E : Entries). IsSome (after_changes (map change_as c.deref.result.now) E)) (sym e) (subst (λ (cs : List code.Change). IsSome (after_changes (map change_as cs) T)) (sym c.deref.ensures.value) (first_run (repair_as m) (snapshot_as m) T fits))
 
 pub apply_all-requires-2-clause-room : goal.apply_all-requires-2-clause-room
 apply_all-requires-2-clause-room c =
@@ -30,16 +38,38 @@ apply_all-requires-2-clause-fit c =
     let T = c.args.self.now.entries in
     let N = c.apply_all.new.tree.entries in
     let m = c.args.repair.moved in
+    let fits : IsSome (after_changes (repair_as m ++ snapshot_as m) T) = ap is_some c.requires.makes in
     let e : c.self.inside.tree.entries ≡ T = ap (λ (s : Labels). s.entries) c.self.view_is in
     let went : after_changes (repair_as m) T ≡ Some N = ap (after_changes (repair_as m)) (sym e) ∙ (ap (λ (cs : List code.Change). after_changes (map change_as cs) c.self.inside.tree.entries) (sym c.deref.ensures.value) ∙ c.apply_all.ensures.entries) in
-    subst (λ (cs : List code.Change). IsSome (after_changes (map change_as cs) N)) (sym c.deref-2.ensures.value) (subst (λ (o : Option Entries). IsSome o) (second_run (repair_as m) (snapshot_as m) T N c.requires.fit went) c.requires.fit)
+    subst (λ (cs : List code.Change). IsSome (after_changes (map change_as cs) N)) (sym c.deref-2.ensures.value) (subst (λ (o : Option Entries). IsSome o) (second_run (repair_as m) (snapshot_as m) T N fits went) fits)
 
 pub returns-clause-table : goal.returns-clause-table
 returns-clause-table c =
     let T = c.args.self.now.entries in
     let N = c.apply_all.new.tree.entries in
     let m = c.args.repair.moved in
+    let fits : IsSome (after_changes (repair_as m ++ snapshot_as m) T) = ap is_some c.requires.makes in
     let e : c.self.inside.tree.entries ≡ T = ap (λ (s : Labels). s.entries) c.self.view_is in
     let went : after_changes (repair_as m) T ≡ Some N = ap (after_changes (repair_as m)) (sym e) ∙ (ap (λ (cs : List code.Change). after_changes (map change_as cs) c.self.inside.tree.entries) (sym c.deref.ensures.value) ∙ c.apply_all.ensures.entries) in
-    second_run (repair_as m) (snapshot_as m) T N c.requires.fit went
+    second_run (repair_as m) (snapshot_as m) T N fits went
     ∙ (ap (λ (cs : List code.Change). after_changes (map change_as cs) N) (sym c.deref-2.ensures.value) ∙ (c.apply_all-2.ensures.entries ∙ ap Some (sym (c.trim_left.ensures.entries ∙ c.trim_at.ensures.entries))))
+
+pub invariant_of-self : goal.invariant_of-self
+invariant_of-self c =
+    let k = c.self.inside.tree in
+    let l = c.trim_left.new.tree in
+    let N = c.apply_all.new.tree.entries in
+    let o = c.args.repair.former in
+    let due = c.args.repair.due in
+    let m = c.args.repair.moved in
+    let q : IsPlanned k c.args.repair = subst (λ (j : Labels). IsPlanned j c.args.repair) (sym c.self.view_is) c.requires in
+    let went : after_changes (repair_as m) k.entries ≡ Some N = ap (λ (cs : List code.Change). after_changes (map change_as cs) k.entries) (sym c.deref.ensures.value) ∙ c.apply_all.ensures.entries in
+    let made : after_changes (repair_as m ++ snapshot_as m) k.entries ≡ Some l.entries =
+    second_run (repair_as m) (snapshot_as m) k.entries N (ap is_some q.makes) went
+    ∙ (ap (λ (cs : List code.Change). after_changes (map change_as cs) N) (sym c.deref-2.ensures.value) ∙ (c.apply_all-2.ensures.entries ∙ ap Some (sym (c.trim_left.ensures.entries ∙ c.trim_at.ensures.entries))))
+    in
+    known_made due o k l c.self.inside.marks.tree c.leave.new.self.tree c.family-family.ensures.order.1
+    (former_left due k.family o c.former_prefix-at.result c.self.inside.marks.tree c.leave.new.self.tree c.former_prefix-at.ensures
+    (subst (λ (f : Family). AreLeft due f (option_map prefix_as c.former_prefix-at.result) c.self.inside.marks.tree c.leave.new.self.tree) c.family-family.ensures.family c.leave.ensures))
+    c.self.invariant (c.trim_left.ensures.family ∙ (c.trim_at.ensures.family ∙ (c.apply_all-2.ensures.keeps.family ∙ c.apply_all.ensures.keeps.family)))
+    (c.trim_left.ensures.routes ∙ (c.trim_at.ensures.routes ∙ (c.apply_all-2.ensures.keeps.routes ∙ c.apply_all.ensures.keeps.routes))) (some_is l.entries (planned_table k (former_place o) due) (sym made ∙ q.makes))

@@ -1,25 +1,25 @@
-use Rattle.std.proofs.Common.{refl, sym, ap, ◌∙◌}
-use Rattle.orig_tree.specs.Views.{Labels}
-use Rattle.smalta_keep.specs.Plans.{routed}
-use Rattle.smalta_keep.specs.Views.{with_planned, place_in}
-use Rattle.smalta_keep.proofs.Planned.{has_former, moved_more, tells, planned}
+use Rattle.std.proofs.Common.{Option, subst}
+use Rattle.address_model.specs.Address.{Prefix}
+use Rattle.smalta_keep.specs.Known.{IsTouchedAt}
+use Rattle.smalta_keep.specs.Views.{place_in}
+use Rattle.smalta_keep.proofs.Planned.{places, tells, planned}
+use Rattle.smalta_keep.proofs.Knowing.{known_at, known_planned}
 use Rattle.smalta_keep.proofs.keep.Keep.plan.Goals as goal
 
-pub returns-in_ok-former-in-Ok-clause-planned : goal.returns-in_ok-former-in-Ok-clause-planned
-returns-in_ok-former-in-Ok-clause-planned c =
-    let old = routed c.args.route c.self.inside.tree in
-    let k = c.plan_moves.ensures.keeps in
-    let l = c.set_planned.ensures.keeps in
-    let new = c.set_planned.new.tree in
-    planned old new (place_in c.args.route) c.args.snapshot c.in_ok-former-in-Ok.former c.in-Ok.moved
-    (moved_more old c.plan_moves.new.tree.nodes new.nodes (place_in c.args.route) c.args.snapshot c.in-Ok.moved l.nodes c.in-Ok.ensures.moved)
-    (l.family ∙ k.family) (c.in_ok-former-in-Ok.ensures.routes ∙ ap (with_planned c.args.route) k.routes) (l.entries ∙ c.plan_moves.ensures.entries)
-    (has_former c.in_ok-former-in-Ok.former c.plan_moves.new.tree new new c.in_ok-former-in-Ok.ensures.former refl refl refl)
+pub invariant_of-self-in-Ok : goal.invariant_of-self-in-Ok
+invariant_of-self-in-Ok c =
+    let k = c.self.inside.tree in
+    let m = c.plan_moves.ensures.keeps in
+    let at = place_in c.args.route in
+    let t = c.self.inside.marks.tree in
+    let u = c.mark_at.new.self.tree in
+    let touched = subst (λ (a : Option Prefix). IsTouchedAt a t u) (places c.args.route c.planned_prefix.result c.planned_prefix.ensures) c.in_ok-mark_at.ensures.marked in
+    known_planned c.args.route k c.plan_moves.new.tree u c.family-family.ensures.order.0 (known_at at k t u touched c.self.invariant) m.family c.in-Ok.ensures.set.routes m.entries
 
-pub returns-in_ok-former-in-Ok-clause-moved : goal.returns-in_ok-former-in-Ok-clause-moved
-returns-in_ok-former-in-Ok-clause-moved c =
-    let old = routed c.args.route c.self.inside.tree in
-    let k = c.plan_moves.ensures.keeps in
-    let l = c.set_planned.ensures.keeps in
-    tells old c.set_planned.new.tree c.plan_moves.new.tree.nodes (place_in c.args.route) (place_in c.args.route) c.args.snapshot c.in-Ok.moved c.in-Ok.ensures.moved
-    (l.family ∙ k.family) (c.in_ok-former-in-Ok.ensures.routes ∙ ap (with_planned c.args.route) k.routes) (l.entries ∙ c.plan_moves.ensures.entries) refl
+pub returns-in-Ok-clause-planned : goal.returns-in-Ok-clause-planned
+returns-in-Ok-clause-planned c =
+    let s = c.in-Ok.ensures.set in
+    planned c.plan_moves.new.tree (place_in c.args.route) c.args.snapshot c.in-Ok.former c.in-Ok.moved c.in-Ok.ensures.moved s.held s.place
+
+pub returns-in-Ok-clause-moved : goal.returns-in-Ok-clause-moved
+returns-in-Ok-clause-moved c = tells c.plan_moves.new.tree (place_in c.args.route) c.args.snapshot c.in-Ok.moved c.in-Ok.ensures.moved
