@@ -18,7 +18,7 @@ use Rattle.route_model.proofs.Keyed.{same_entries, all_filter, sorted_filter, lo
 use Rattle.route_model.proofs.Places.{prefix_key}
 use Rattle.delta_model.specs.Between.{between, hop_at}
 use Rattle.kept_model.specs.Patched.{with_route, patch_of, after_snapshot}
-use Rattle.kept_model.proofs.Families.{AllOf, between_both, patched_low, patched_high, patched_of}
+use Rattle.kept_model.proofs.Families.{AllOf, between_both, hop_high, hop_low, placed_both, patched_low, patched_high, patched_of}
 use Rattle.kept_feed.specs.Kept.{snapshot_if}
 use Rattle.kept_feed.proofs.Steps.{snapshot_is}
 use Rattle.orig_tree.specs.Views.{InPlace}
@@ -48,6 +48,34 @@ kept_if false (Some h) = refl
 
 hop_only : (f : Family) (q : Prefix) (E : Entries) → InPlace E → hop_at q (only f E) ≡ cond (same_family f q.family) (hop_at q E) None
 hop_only f q E e = lookup-filter prefix_key (λ d. same_family f d.0.family) q E e.1 ∙ kept_if (same_family f q.family) (hop_at q E)
+
+-- all of them are of the family
+only_of : (f : Family) (E : Entries) → AllOf f (keys_of (only f E))
+only_of f [] = tt
+only_of f (e ∷ E) = by f e.0.family refl (only_of f E)
+  where
+    by : (f g : Family) → e.0.family ≡ g → AllOf f (keys_of (only f E)) → AllOf f (keys_of (cond (same_family f g) (e ∷ only f E) (only f E)))
+    by V4 V4 s a = (s, a)
+    by V4 V6 s a = a
+    by V6 V4 s a = a
+    by V6 V6 s a = (s, a)
+
+-- those of IPv4 and then those of IPv6 are all entries
+pub both_again : (E : Entries) → InPlace E → only V4 E ++ only V6 E ≡ E
+both_again E e = same_entries prefix_key (A ++ B) E all.1 e.1 all.0 e.0 (λ q. found q q.family refl)
+  where
+    A : Entries
+    A = only V4 E
+
+    B : Entries
+    B = only V6 E
+
+    all : InPlace (A ++ B)
+    all = placed_both A B (only_placed V4 E e) (only_placed V6 E e) (only_of V4 E) (only_of V6 E)
+
+    found : (q : Prefix) (g : Family) → q.family ≡ g → hop_at q (A ++ B) ≡ hop_at q E
+    found q V4 s = hop_low q A B s (only_of V6 E) ∙ (hop_only V4 q E e ∙ ap (λ (g : Family). cond (same_family V4 g) (hop_at q E) None) s)
+    found q V6 s = hop_high q A B s (only_of V4 E) ∙ (hop_only V6 q E e ∙ ap (λ (g : Family). cond (same_family V6 g) (hop_at q E) None) s)
 
 -- ---- a route set in the routes of a family
 

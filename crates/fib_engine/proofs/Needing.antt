@@ -1,5 +1,5 @@
 -- What tries of both tables' routes need.
-use Rattle.std.proofs.Common.{◌≡◌, ◌≤◌, ℕ, Option, Some, None, cond, refl, sym, ap, subst, ◌∙◌}
+use Rattle.std.proofs.Common.{◌≡◌, ◌≤◌, ℕ, Some, None, cond, refl, sym, ap, subst, ◌∙◌}
 use Rattle.address_model.specs.Address.{same_family}
 use Rattle.address_model.specs.declared.family.Family.{Family}
 use Rattle.address_model.specs.declared.family.Family.TheVariants.{V4, V6}

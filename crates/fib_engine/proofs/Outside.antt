@@ -1,5 +1,5 @@
 -- A route changes no answer outside its prefix.
-use Rattle.std.proofs.Common.{◌≡◌, ℕ, zero, suc, List, [], ◌∷◌, Bool, true, false, cond, refl, sym, ap, ◌∙◌}
+use Rattle.std.proofs.Common.{◌≡◌, ℕ, zero, suc, [], ◌∷◌, Bool, true, false, cond, refl, sym, ap, ◌∙◌}
 use Rattle.std.specs.Prelude.{◌&&◌}
 use Rattle.std.specs.List.{AllByRecursion}
 use Rattle.std.specs.Map.{keys_of, remove_entry}
@@ -15,7 +15,7 @@ use Rattle.address_model.specs.declared.family.Family.TheVariants.{V4, V6}
 use Rattle.address_model.proofs.Ordered.{equal_are_same}
 use Rattle.address_model.proofs.Same.{same_prefix_is}
 use Rattle.table_model.specs.Table.{Table, longest, hop_or, containing}
-use Rattle.table_model.specs.Entries.{Entries, of_family, match_in}
+use Rattle.table_model.specs.Entries.{Entries, of_family}
 use Rattle.table_model.proofs.Cut.{entry}
 use Rattle.kept_model.specs.Patched.{with_route}
 use Rattle.route_tries.specs.Parts.{AreAlikeOutside}

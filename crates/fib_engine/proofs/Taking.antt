@@ -10,8 +10,8 @@ use Rattle.address_model.specs.declared.family.Family.{Family}
 use Rattle.address_model.specs.declared.family.Family.TheVariants.{V4, V6}
 use Rattle.address_model.proofs.BitLaws.{length-bits_of}
 use Rattle.address_model.proofs.Same.{same_address_is}
-use Rattle.table_model.specs.Table.{Table, lpm}
-use Rattle.table_model.specs.Entries.{Entries, of_family, match_in, in_order}
+use Rattle.table_model.specs.Table.{Table}
+use Rattle.table_model.specs.Entries.{Entries, of_family, in_order}
 use Rattle.table_model.specs.Changes.{Change, after_changes}
 use Rattle.table_model.proofs.Sums.{in_order_again}
 use Rattle.route_model.specs.Events.{Elem, elem_prefix}
@@ -31,8 +31,6 @@ use Rattle.kept_model.specs.Patched.{with_route, patch_of, after_repair, after_s
 use Rattle.kept_feed.specs.Kept.{AreNumberedAlong, is_other, is_due, changed_at, snapshot_if, kept_at_load, kept_by, changes_by, kept_from}
 use Rattle.kept_feed.proofs.Steps.{elems_more, kept_step, numbered_along, numbered_later, snapshot_is}
 use Rattle.kept_feed.proofs.Stays.{kept_stays, load_stays}
-use Rattle.kept_feed.proofs.Sums.{snapshot_placed}
-use Rattle.kept_feed.proofs.Alike.{kept_alike, loaded_alike}
 use Rattle.fib_addr.specs.Hops.{most_hops}
 use Rattle.fib_addr.specs.Views.{addr_as, prefix_as}
 use Rattle.fib_addr.specs.declared.addr.Addr.{Addr}
@@ -50,12 +48,14 @@ use Rattle.smalta_keep.specs.Views.{moved_of, place_in, repair_as, snapshot_as, 
 use Rattle.smalta_keep.specs.Plans.{Tells}
 use Rattle.smalta_keep.proofs.Alike.{committed}
 use Rattle.smalta_keep.proofs.Tables.{renewed_placed, renewed_family}
-use Rattle.route_tries.specs.Sizes.{shortage}
-use Rattle.fib_engine.specs.Tables.{Both, Route, AreBoth, AreOfRoutes, AreTold, ArePut, KeepRoutes, KeepTables, MadeBy, gathered, labels_of, only, route_in, table_of as both_tables}
-use Rattle.fib_engine.specs.Held.{Held, IsKept, IsSound, if_loaded, routes_in}
+use Rattle.route_tries.specs.Sizes.{Sizes, shortage}
+use Rattle.route_tries.specs.declared.needs.FamilyNeeds.{FamilyNeeds}
+use Rattle.fib_engine.specs.Settled.{AreSettled}
+use Rattle.fib_engine.specs.Tables.{Both, Route, AreBoth, AreOfRoutes, AreTold, ArePut, KeepRoutes, KeepTables, MadeBy, both_routes, gathered, only, route_in, table_of as both_tables}
+use Rattle.fib_engine.specs.Held.{AreKeptNeeds, Held, IsKept, IsSound, if_loaded, routes_in}
 use Rattle.fib_engine.specs.Numbers.{IsNewNumber, IsRouteOf, HasNumber, number_or_none}
 use Rattle.fib_engine.specs.Stands.{IsLoading, Stands, Takes}
-use Rattle.fib_engine.proofs.Holding.{Fine, some_of, turned, stays_out, stays_all, both_repaired, both_repaired_high, both_snapshots, both_changes, both_aggregates, fine_repaired, fine_renewed, low_part, high_part, of_only, only_placed}
+use Rattle.fib_engine.proofs.Holding.{Fine, both_again, some_of, turned, stays_out, stays_all, both_repaired, both_repaired_high, both_snapshots, both_changes, both_aggregates, fine_repaired, fine_renewed, of_only, only_placed}
 use Rattle.fib_engine.proofs.Numbering.{number_least}
 
 -- ---- elementary events of the code are about places that there are
@@ -462,16 +462,39 @@ kept_placed C H b s =
 same_rows : (f : Family) (R S : Entries) → of_family f R ≡ of_family f S → family_rows f R ≡ family_rows f S
 same_rows f R S e = ap (λ (T : Table). region_rows (width f) (answers T []) (whole_prefix f) ++ (bound_row f (bound (width f) T) ∷ [])) e
 
-module _ (C : Candidates) (H : List Address) (loaded : Bool) (b : Both) (s : IsSound C H loaded b) where
+module _ (E : Entries) (loaded : Bool) (b : Both) (v4 : IsKept V4 loaded E b.v4) (v6 : IsKept V6 loaded E b.v6) where
   abbrev Told : Entries
-  Told = if_loaded loaded (entries_of H C)
+  Told = if_loaded loaded E
 
   pub both_least : aggregate_in V4 b.v4.routes b.v4.entries ++ aggregate_in V6 b.v6.routes b.v6.entries ≡ aggregate_in_both Told (both_tables b)
   both_least =
-      ap (λ (L : Entries). aggregate_in V4 L b.v4.entries ++ aggregate_in V6 b.v6.routes b.v6.entries) s.v4.routes
-      ∙ (ap (λ (L : Entries). aggregate_in V4 (only V4 Told) b.v4.entries ++ aggregate_in V6 L b.v6.entries) s.v6.routes ∙ both_aggregates Told b.v4.entries b.v6.entries s.v4.of_family s.v6.of_family)
+      ap (λ (L : Entries). aggregate_in V4 L b.v4.entries ++ aggregate_in V6 b.v6.routes b.v6.entries) v4.routes
+      ∙ (ap (λ (L : Entries). aggregate_in V4 (only V4 Told) b.v4.entries ++ aggregate_in V6 L b.v6.entries) v6.routes ∙ both_aggregates Told b.v4.entries b.v6.entries v4.of_family v6.of_family)
 
   pub both_rows : family_rows V4 b.v4.routes ++ family_rows V6 b.v6.routes ≡ certificate_of Told
   both_rows =
-      ap (λ (rows : List CertRow). rows ++ family_rows V6 b.v6.routes) (same_rows V4 b.v4.routes Told (ap (of_family V4) s.v4.routes ∙ of_only V4 Told))
-      ∙ ap (λ (rows : List CertRow). family_rows V4 Told ++ rows) (same_rows V6 b.v6.routes Told (ap (of_family V6) s.v6.routes ∙ of_only V6 Told))
+      ap (λ (rows : List CertRow). rows ++ family_rows V6 b.v6.routes) (same_rows V4 b.v4.routes Told (ap (of_family V4) v4.routes ∙ of_only V4 Told))
+      ∙ ap (λ (rows : List CertRow). family_rows V4 Told ++ rows) (same_rows V6 b.v6.routes Told (ap (of_family V6) v6.routes ∙ of_only V6 Told))
+
+-- ---- an engine that settles
+
+module _ (C : Candidates) (H : List Address) (loaded : Bool) (b : Both) (is : loaded ≡ true) (sound : IsSound C H loaded b) where
+  settled_sound : IsSound C H true b
+  settled_sound = subst (λ (t : Bool). IsSound C H t b) is sound
+
+  -- the trees hold the routes
+  pub settled_routes : both_routes b ≡ entries_of H C
+  settled_routes =
+      let s = settled_sound in
+      let E = entries_of H C in
+      ap (λ (R : Entries). R ++ b.v6.routes) s.v4.routes ∙ (ap (λ (R : Entries). only V4 E ++ R) s.v6.routes ∙ both_again E (routes_placed C H true b s))
+
+  pub settled : (z : Sizes) (n : FamilyNeeds) → AreKeptNeeds z (if_loaded loaded (entries_of H C)) n → AreSettled z b n
+  settled z n k =
+      let s = settled_sound in
+      let E = entries_of H C in
+      record {
+        v4 = subst (λ (R : Entries). IsKept V4 true R b.v4) (sym settled_routes) s.v4;
+        v6 = subst (λ (R : Entries). IsKept V6 true R b.v6) (sym settled_routes) s.v6;
+        needs = subst (λ (R : Entries). AreKeptNeeds z R n) (sym settled_routes) (subst (λ (t : Bool). AreKeptNeeds z (if_loaded t E) n) is k);
+      }

@@ -37,6 +37,10 @@ AreBoth both = (both.v4.family ≡ V4) × (both.v6.family ≡ V6)
 abbrev pub table_of : Both → Entries
 table_of both = both.v4.entries ++ both.v6.entries
 
+-- both tables' routes, IPv4 first
+abbrev pub both_routes : Both → Entries
+both_routes both = both.v4.routes ++ both.v6.routes
+
 -- those of the entries that are of the family
 abbrev pub only : Family → Entries → Entries
 only f E = filter (λ e. same_family f e.0.family) E

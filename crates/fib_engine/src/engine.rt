@@ -24,6 +24,7 @@ ghost use Rattle.fib_engine.specs.Stands.{EndsLoad, IsLoading, IsShortFor, IsToo
 
 use crate::error::EngineError;
 use crate::fitting::plan_fitting;
+use crate::settled::Settled;
 use crate::tables::Tables;
 use fib_delta::Change;
 use fib_prefix::{Addr, Elem, Entry, Event, Family, Hop, HopTable, HopsFull, Prefix};
@@ -376,6 +377,23 @@ impl Engine {
             Ok(tries) => Ok(tries),
             Err(TriesError::NoMemory) => Err(AllocError),
             Err(TriesError::Full(_)) => unreachable!(),
+        }
+    }
+
+    /// What is left to be told once no more events come: the candidates are let go.
+    pub fn settle(self) -> Settled
+        requires { self.loaded ≡ true }
+        ensures sizes { result.sizes ≡ self.sizes }
+        ensures hops { result.hops ≡ self.hops }
+        ensures routes { result.routes ≡ routes_in self }
+        ensures table { result.table ≡ self.table }
+    {
+        Settled {
+            alloc: self.alloc,
+            hops: self.hops,
+            tables: self.tables,
+            needs: self.needs,
+            sizes: self.limits.sizes,
         }
     }
 }

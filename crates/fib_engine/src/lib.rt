@@ -7,16 +7,20 @@
 //!
 //! Lookups go to tries of the routes, which are built when they are asked for. What tries would need is kept as numbers from the
 //! load's end on, so that an event after which an arena would be too small is refused at once.
+//!
+//! Where no more events come an engine settles: the candidates are let go, and what is left is told from the trees.
 #![tactic(auto)]
 
 mod engine;
 mod error;
 mod fitting;
+mod settled;
 mod tables;
 
 pub use engine::{Engine, Limits};
 pub use error::EngineError;
 pub use route_tries::{FamilyNeeds, Found, Needs, Sizes, TrieFull, Tries};
+pub use settled::Settled;
 
 #[cfg(test)]
 mod tests;

@@ -11,8 +11,9 @@ ghost use Rattle.fib_delta.specs.Views.{change_as};
 ghost use Rattle.cert_rows.specs.Views.{row_as};
 ghost use Rattle.smalta_keep.specs.Views.{moved_of};
 ghost use Rattle.route_tries.specs.Sizes.{told_needs};
-ghost use Rattle.fib_engine.specs.Tables.{AreBoth, AreTold, ArePlanned, ArePut, AreUndone, Given, gathered, needs_in, route_in, labels_of, table_of, KeepRoutes, KeepTables, MadeBy};
+ghost use Rattle.fib_engine.specs.Tables.{AreBoth, AreTold, ArePlanned, ArePut, AreUndone, Given, gathered, needs_in, route_in, labels_of, table_of, both_routes, KeepRoutes, KeepTables, MadeBy};
 
+use cert_rows::RowSink;
 use fib_delta::Change;
 use fib_prefix::{Entry, Family, Hop, Prefix};
 use orig_tree::Tree;
@@ -204,6 +205,40 @@ impl Tables {
         let mut table = self.v4.table()?;
         table.extend_from_slice(&self.v6.table()?)?;
         Ok(table)
+    }
+
+    /// The routes of both, IPv4 first.
+    pub fn routes(&self) -> Result<Vec<Entry>, AllocError>
+        ensures { IfOk result (λ v. map entry_as v.items ≡ both_routes self.now) }
+    {
+        let mut routes = self.v4.tree().routes()?;
+        routes.extend_from_slice(&self.v6.tree().routes()?)?;
+        Ok(routes)
+    }
+
+    /// The least tables of the routes, with the kept ones as the old tables; IPv4 first.
+    pub fn least_table(&self) -> Result<Vec<Entry>, AllocError>
+        requires { AreBoth self.now }
+        ensures { IfOk result (λ v. map entry_as v.items
+            ≡ aggregate_in V4 self.now.v4.routes self.now.v4.entries
+            ++ aggregate_in V6 self.now.v6.routes self.now.v6.entries) }
+    {
+        let mut table = self.v4.least_table()?;
+        table.extend_from_slice(&self.v6.least_table()?)?;
+        Ok(table)
+    }
+
+    /// Hands on the rows that prove tables of the routes least; IPv4 first.
+    pub fn certify<S: RowSink>(&self, out: &mut S) -> Result<(), AllocError>
+        requires both { AreBoth self.now }
+        requires ready { S.ready out.old }
+        ensures ready { OnOk result (S.ready out.new) }
+        ensures takes { OnOk result (S.takes out.old (family_rows V4 self.now.v4.routes
+            ++ family_rows V6 self.now.v6.routes) out.new) }
+    {
+        self.v4.certify(out)?;
+        self.v6.certify(out)?;
+        Ok(())
     }
 
     /// The least tables of the routes, with the kept ones as the old tables, and the rows that prove them least; IPv4 first.

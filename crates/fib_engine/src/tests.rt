@@ -1,11 +1,13 @@
 //! A load, updates and snapshots.
 
-ghost use Rattle.std.specs.Prelude.{◌≡◌, ◌≤◌, ◌<◌, ◌+◌, true, IfOk, OnOk};
+ghost use Rattle.std.specs.Prelude.{◌≡◌, ◌≤◌, ◌<◌, ◌+◌, true, IfOk};
 
 use super::*;
+use cert_rows::Row;
 use fib_delta::Change;
-use fib_prefix::{Addr, Elem, Entry, Hop, Peer, Prefix, Via};
-use std::alloc::Global;
+use fib_prefix::{Addr, Elem, Entry, Family, Hop, Peer, Prefix, Via};
+use ortc::Fresh;
+use std::alloc::{AllocError, Global};
 
 fn via(n: u32) -> Via {
     Via {
@@ -43,49 +45,102 @@ fn loaded(alloc: Global, every: u32, prefix: Prefix) -> Result<Engine, EngineErr
     Ok(engine)
 }
 
-fn apply(engine: &mut Engine, elem: &Elem) -> Result<Vec<Change>, EngineError>
+/// Whether an event's changes are these.
+fn changes_are(engine: &mut Engine, elem: &Elem, due: &[Change]) -> bool
     requires loaded { engine.old.loaded ≡ true }
     requires few { engine.old.events < 10 }
-    ensures loaded { OnOk result (engine.new.loaded ≡ true) }
-    ensures events { OnOk result (engine.new.events ≡ engine.old.events + 1) }
+    ensures loaded { engine.new.loaded ≡ true }
+    ensures events { engine.new.events ≤ engine.old.events + 1 }
 {
-    engine.apply(elem)
+    match engine.apply(elem) {
+        Ok(changes) => changes.as_slice() == due,
+        Err(_) => false,
+    }
+}
+
+/// Whether a list of entries is this one.
+fn entries_are(list: Result<Vec<Entry>, AllocError>, due: &[Entry]) -> bool {
+    match list {
+        Ok(list) => list.as_slice() == due,
+        Err(_) => false,
+    }
+}
+
+/// Whether a least table is this one.
+fn least_is(least: Result<Fresh, AllocError>, due: &[Entry]) -> bool {
+    match least {
+        Ok(least) => least.table.as_slice() == due,
+        Err(_) => false,
+    }
+}
+
+/// Whether the rows that are handed on are these.
+fn rows_are(alloc: Global, settled: &Settled, due: &[Row]) -> bool {
+    let mut rows = Vec::new(alloc);
+    match settled.certify(&mut rows) {
+        Ok(()) => rows.as_slice() == due,
+        Err(_) => false,
+    }
 }
 
 #[test]
 fn repairs_and_then_a_snapshot(rt: HostRuntime) -> Result<(), EngineError> {
     let lower = prefix(0, 1);
     let upper = prefix(0x8000_0000, 1);
-    let mut engine = loaded(rt.alloc(), 2, lower)?;
-    let changes = apply(&mut engine, &Elem::Put(via(1), upper, 1, hop(1)))?;
-    assert_eq!(rt; changes.as_slice(), [Change::Add(upper, Hop(1))].as_slice());
-    // it changes nothing, and is counted
-    let changes = apply(&mut engine, &Elem::Cut(via(3), lower))?;
-    let due = [
+    let repair = [Change::Add(upper, Hop(1))];
+    let snapshot = [
         Change::Add(prefix(0, 0), Hop(1)),
         Change::Remove(lower),
         Change::Remove(upper),
     ];
-    assert_eq!(rt; changes.as_slice(), due.as_slice());
+    let mut engine = loaded(rt.alloc(), 2, lower)?;
+    let put = Elem::Put(via(1), upper, 1, hop(1));
+    assert!(rt; changes_are(&mut engine, &put, &repair));
+    // it changes nothing, and is counted
+    let cut = Elem::Cut(via(3), lower);
+    assert!(rt; changes_are(&mut engine, &cut, &snapshot));
     Ok(())
 }
 
 #[test]
 fn what_is_held_is_told(rt: HostRuntime) -> Result<(), EngineError> {
     let lower = prefix(0, 1);
-    let engine = loaded(rt.alloc(), 0, lower)?;
     let held = [Entry {
         prefix: lower,
         hop: Hop(1),
     }];
-    assert_eq!(rt; engine.routes()?.as_slice(), held.as_slice());
-    assert_eq!(rt; engine.table()?.as_slice(), held.as_slice());
-    assert_eq!(rt; engine.least()?.table.as_slice(), held.as_slice());
     let none = Needs {
         nodes: 0,
         leaves: 0,
     };
+    let engine = loaded(rt.alloc(), 0, lower)?;
+    assert!(rt; entries_are(engine.routes(), &held));
+    assert!(rt; entries_are(engine.table(), &held));
+    assert!(rt; least_is(engine.least(), &held));
     assert_eq!(rt; engine.needs(), FamilyNeeds { v4: none, v6: none });
-    assert_eq!(rt; engine.tries().is_ok(), true);
+    assert!(rt; engine.tries().is_ok());
+    Ok(())
+}
+
+#[test]
+fn what_is_left_is_told(rt: HostRuntime) -> Result<(), EngineError> {
+    let lower = prefix(0, 1);
+    let held = [Entry {
+        prefix: lower,
+        hop: Hop(1),
+    }];
+    let due = [
+        Row::Leaf(lower, Hop(1)),
+        Row::Leaf(prefix(0x8000_0000, 1), Hop::NONE),
+        Row::Join(prefix(0, 0), 1),
+        Row::Bound(Family::V4, 1),
+        Row::Leaf(Prefix::new(&Addr::v6(0), 0), Hop::NONE),
+        Row::Bound(Family::V6, 0),
+    ];
+    let settled = loaded(rt.alloc(), 0, lower)?.settle();
+    assert!(rt; entries_are(settled.routes(), &held));
+    assert!(rt; entries_are(settled.table(), &held));
+    assert!(rt; entries_are(settled.least_table(), &held));
+    assert!(rt; rows_are(rt.alloc(), &settled, &due));
     Ok(())
 }

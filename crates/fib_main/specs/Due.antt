@@ -12,7 +12,6 @@ use Rattle.reading_model.specs.Input.{Progress, Stopped, input}
 use Rattle.feed_model.specs.Feed.{hops_after, entries_of}
 use Rattle.kept_feed.specs.Kept.{kept_at_load, kept_changes_from, kept_from, kept_load_changes}
 use Rattle.poptrie_build.specs.Tries.{visits_of}
-use Rattle.poptrie_build.specs.declared.counts.Needs.{Needs}
 use Rattle.route_tries.specs.Sizes.{Sizes, needs_of, shortage}
 use Rattle.route_tries.specs.declared.needs.FamilyNeeds.{FamilyNeeds}
 use Rattle.made_model.specs.Files.{dump_octets, updates_octets}

@@ -1,29 +1,33 @@
 //! What is told of a run: its routes, the changes of the kept table, the answers, the table, the least table, its certificate
 //! and the counts.
 //!
-//! The printed table is the kept one, which is the least table's old table too.
+//! The printed table is the kept one, which is the least table's old table too. The text is made section by section, from what
+//! the engine leaves once its candidates are let go; each list is let go once its rows are written, and the rows of the
+//! certificate are written as they are found.
 
-ghost use Rattle.std.specs.Prelude.{◌≡◌, ℕ, [], true, IfOk, map};
+ghost use Rattle.std.specs.Prelude.{◌≡◌, ℕ, [], true, IfOk, OnOk, flat_map, length, map};
 ghost use Rattle.table_model.specs.Entries.{Entries};
+ghost use Rattle.least_model.specs.Both.{aggregate_in_both};
 ghost use Rattle.fib_addr.specs.Views.{addr_as};
-ghost use Rattle.fib_engine.specs.Held.{routes_in};
 ghost use Rattle.fib_main.specs.Due.{answers_to, Feed, printed, printed_text};
-ghost use Rattle.fib_report.specs.Rows.{report_text};
-ghost use Rattle.fib_report.specs.Views.{answer_as, run_as};
+ghost use Rattle.fib_report.specs.Rows.{of_answer, of_change, report_text, table_entry_row};
+ghost use Rattle.printed_model.specs.Numbered.{of_least, of_route};
+ghost use Rattle.fib_report.specs.Views.{answer_as};
+ghost use Rattle.fib_report.specs.Sections.{IsReady, Writes, hops_in};
 ghost use Rattle.route_tries.specs.Sizes.{AreFew};
 ghost use Rattle.route_tries.specs.Tries.{AreTriesOf};
 ghost use Rattle.fib_main.specs.Refusals.{Limits};
 ghost use Rattle.fib_main.specs.Counts.{AddUp};
 ghost use Rattle.fib_main.specs.Standing.{IsFed};
 ghost use Rattle.fib_main.specs.Proves.{ChecksYes};
-ghost use Rattle.fib_main.specs.Views.{totals};
+ghost use Rattle.fib_main.specs.Views.{changes_as, totals};
 
 use crate::feed::Counts;
 use crate::state::State;
 use fib_delta::Change;
-use fib_engine::{Engine, FamilyNeeds, Tries};
+use fib_engine::{FamilyNeeds, Settled, Tries};
 use fib_prefix::Addr;
-use fib_report::{Answer, Report, Run, report_text, write_run};
+use fib_report::{Answer, Report, RunText, report_text};
 use std::alloc::{AllocError, Global};
 use std::marker::Brand;
 use std::sync::ledger::{Blank, Ledger};
@@ -55,15 +59,14 @@ fn look_up_all<L: Ledger>(
 }
 
 /// Each address with its answer. Tries are built where an address is asked for.
-fn answers(alloc: Global, engine: &Engine, asks: &[Addr]) -> Result<Vec<Answer>, AllocError>
-    requires { engine.now.loaded ≡ true }
+fn answers(alloc: Global, settled: &Settled, asks: &[Addr]) -> Result<Vec<Answer>, AllocError>
     ensures { IfOk result (λ answers. map answer_as answers.items
-        ≡ answers_to engine.now.sizes.direct (routes_in engine.now) (map addr_as asks.now)) }
+        ≡ answers_to settled.now.sizes.direct settled.now.routes (map addr_as asks.now)) }
 {
     if asks.is_empty() {
         return Ok(Vec::new(alloc));
     }
-    let tries = engine.tries()?;
+    let tries = settled.tries()?;
     look_up_all::<Brand>(alloc, &tries, asks, Blank::new(1))
 }
 
@@ -94,33 +97,60 @@ pub struct Fed {
     pub updates: Counts,
 }
 
-/// All that is told of what the engine has, with these changes of its table.
-fn report_of(
-    alloc: Global,
-    engine: &Engine,
-    changes: Vec<(u64, Change)>,
-    fed: &Fed,
-    asks: &[Addr],
-) -> Result<Run, AllocError>
-    requires loaded { engine.now.loaded ≡ true }
-    requires counts { AddUp fed.now.load fed.now.updates }
-    ensures { (limits : Limits) (load updates : Feed)
-        → IsFed limits load updates fed.now (record { engine = engine.now; changes = changes })
-        → IfOk result (λ run. run_as run
-        ≡ (printed limits load updates (map addr_as asks.now)).told) }
+/// Writes the routes, and gives how many there are.
+fn write_routes(settled: &Settled, text: &mut RunText<'_>) -> Result<usize, AllocError>
+    requires { IsReady text.old }
+    ensures count { IfOk result (λ n. n ≡ length settled.now.routes) }
+    ensures writes { OnOk result (Writes text.old text.new
+        (flat_map (of_route (hops_in text.old)) settled.now.routes)) }
 {
-    let routes = engine.routes()?;
-    let table = engine.table()?;
-    let least = engine.least()?;
-    Ok(Run {
-        changes,
-        answers: answers(alloc, engine, asks)?,
-        report: totals(fed, routes.len(), table.len(), &engine.needs()),
-        table,
-        least: least.table,
-        cert: least.proof,
-        routes,
-    })
+    let routes = settled.routes()?;
+    text.routes(&routes)?;
+    Ok(routes.len())
+}
+
+/// Writes changes, which are let go then.
+fn write_changes(changes: Vec<(u64, Change)>, text: &mut RunText<'_>) -> Result<(), AllocError>
+    requires { IsReady text.old }
+    ensures { OnOk result (Writes text.old text.new
+        (map (of_change (hops_in text.old)) (changes_as changes.items))) }
+{
+    text.changes(&changes)
+}
+
+/// Writes each address with its answer.
+fn write_answers(
+    alloc: Global,
+    settled: &Settled,
+    asks: &[Addr],
+    text: &mut RunText<'_>,
+) -> Result<(), AllocError>
+    requires { IsReady text.old }
+    ensures { OnOk result (Writes text.old text.new (flat_map (of_answer (hops_in text.old))
+        (answers_to settled.now.sizes.direct settled.now.routes (map addr_as asks.now)))) }
+{
+    text.answers(&answers(alloc, settled, asks)?)
+}
+
+/// Writes the kept table, and gives how many entries it has.
+fn write_table(settled: &Settled, text: &mut RunText<'_>) -> Result<usize, AllocError>
+    requires { IsReady text.old }
+    ensures count { IfOk result (λ n. n ≡ length settled.now.table) }
+    ensures writes { OnOk result (Writes text.old text.new
+        (map (table_entry_row (hops_in text.old)) settled.now.table)) }
+{
+    let table = settled.table()?;
+    text.table(&table)?;
+    Ok(table.len())
+}
+
+/// Writes the least table.
+fn write_least(settled: &Settled, text: &mut RunText<'_>) -> Result<(), AllocError>
+    requires { IsReady text.old }
+    ensures { OnOk result (Writes text.old text.new
+        (map (of_least (hops_in text.old)) (aggregate_in_both settled.now.routes settled.now.table))) }
+{
+    text.least(&settled.least_table()?)
 }
 
 /// The text of the rows.
@@ -139,10 +169,17 @@ pub fn write_text(
         → IfOk result (λ text. ChecksYes text.items) }
 {
     let State { engine, changes } = state;
-    let run = report_of(alloc, &engine, changes, fed, asks)?;
-    let mut text = Vec::new(alloc);
-    write_run(alloc, &mut text, &run, engine.hops())?;
-    Ok(text)
+    // from here on no candidate is held
+    let settled = engine.settle();
+    let mut text = RunText::new(alloc, settled.hops());
+    let routes = write_routes(&settled, &mut text)?;
+    write_changes(changes, &mut text)?;
+    write_answers(alloc, &settled, asks, &mut text)?;
+    let entries = write_table(&settled, &mut text)?;
+    write_least(&settled, &mut text)?;
+    settled.certify(&mut text)?;
+    text.report(&totals(fed, routes, entries, &settled.needs()))?;
+    text.finish()
 }
 
 /// The rows of the counts alone.

@@ -1,7 +1,7 @@
 //! Whole texts, written out by hand.
 
-use crate::{Answer, Report, Run, report_text, write_run};
-use cost_cert::Row;
+use crate::{Answer, Report, Run, RunText, report_text, write_run};
+use cert_rows::{Row, RowSink};
 use fib_addr::{Addr, Entry, Family, Hop, HopTable, Prefix};
 use fib_delta::Change;
 use std::test::Fail;
@@ -78,5 +78,17 @@ report,treated,3
     let report = report_text(rt.alloc(), &run.report)?;
     assert!(rt; want.as_bytes().ends_with(&report));
     assert!(rt; report.starts_with(b"report,records,2\n"));
+    Ok(())
+}
+
+#[test]
+fn rows_one_by_one(rt: HostRuntime) -> Result<(), Fail> {
+    let hops = HopTable::new(rt.alloc());
+    let mut text = RunText::new(rt.alloc(), &hops);
+    let all = Prefix::new(&Addr::v4(0), 0);
+    text.put(Row::Leaf(all, Hop::NONE))?;
+    text.put(Row::Bound(Family::V4, 0))?;
+    let want = b"cert,leaf,0.0.0.0/0,none\ncert,bound,4,0\n";
+    assert_eq!(rt; text.finish()?.as_slice(), want.as_slice());
     Ok(())
 }

@@ -1,12 +1,35 @@
+use Rattle.std.proofs.Common.{◌≡◌, IfOk, map, ap, ◌∙◌}
+use Rattle.std.proofs.lemmas.Result.{IfOk-weaker}
+use Rattle.fib_addr.specs.Views.{addr_as}
+use Rattle.fib_report.specs.Rows.{run_text}
+use Rattle.fib_report.specs.Sections.{text_in}
+use Rattle.fib_report.specs.Views.{Told}
+use Rattle.fib_report.proofs.Sections.{all_written, text_written}
+use Rattle.fib_main.specs.Due.{printed, printed_text}
+use Rattle.fib_main.specs.Proves.{ChecksYes}
+use Rattle.fib_main.specs.Views.{changes_as}
 use Rattle.fib_main.proofs.Printing.{checks_yes}
-use Rattle.fib_main.proofs.Telling.{text_is}
+use Rattle.fib_main.proofs.Telling.{told_by, told_is, text_is}
 use Rattle.fib_main.proofs.report.write_text.Goals as goal
 
 pub returns-clause-text : goal.returns-clause-text
 returns-clause-text c = λ limits load updates f.
-    text_is limits load updates c.args.fed.now c.args.state _ _ _ _ _ f (c.in_ok-run.ensures limits load updates f) c.hops.ensures c.in_ok-write_run.ensures.ok c.new-text.ensures.items
+    let s = c.settle-settled.result in
+    let asks = map addr_as c.args.asks.now in
+    let run : Told = told_by s.sizes.direct s.routes s.table (changes_as c.args.state.changes.items) asks c.totals.result in
+    let is = told_is limits load updates c.args.fed.now c.args.state asks s.sizes.direct s.routes s.table c.totals.result _ _ _ (ap (λ z. z.direct) c.settle-settled.ensures.sizes) c.settle-settled.ensures.routes c.settle-settled.ensures.table c.totals.ensures c.needs.ensures.needs c.in_ok-routes.ensures.count c.in_ok-entries.ensures.count f in
+    let all : text_in c.report.new.self ≡ run_text s.hops run = text_written s.hops run c.new-text.result c.write_routes.new.text c.write_changes.new.text c.write_answers.new.text c.write_table.new.text c.write_least.new.text c.certify.new.out c.report.new.self (c.new-text.ensures.hops ∙ c.hops.ensures)
+    c.in_ok-routes.ensures.writes c.in_ok-write_changes.ensures c.in_ok-write_answers.ensures c.in_ok-entries.ensures.writes c.in_ok-write_least.ensures c.in_ok-certify.ensures.takes c.in_ok-report.ensures c.new-text.ensures.empty
+    in
+    IfOk-weaker c.finish.result (λ text. text.items ≡ text_in c.report.new.self) (λ text. text.items ≡ printed_text (printed limits load updates asks)) (λ text e. text_is limits load updates c.args.fed.now c.args.state asks s.hops run text.items f is c.settle-settled.ensures.hops (e ∙ all)) c.finish.ensures
 
 pub returns-clause-yes : goal.returns-clause-yes
 returns-clause-yes c = λ limits load updates f.
-    let told = c.in_ok-run.ensures limits load updates f in
-    checks_yes limits load updates c.args.fed.now c.args.state _ _ _ _ f told c.hops.ensures c.in_ok-write_run.ensures.proper (text_is limits load updates c.args.fed.now c.args.state _ _ _ _ _ f told c.hops.ensures c.in_ok-write_run.ensures.ok c.new-text.ensures.items)
+    let s = c.settle-settled.result in
+    let asks = map addr_as c.args.asks.now in
+    let run : Told = told_by s.sizes.direct s.routes s.table (changes_as c.args.state.changes.items) asks c.totals.result in
+    let is = told_is limits load updates c.args.fed.now c.args.state asks s.sizes.direct s.routes s.table c.totals.result _ _ _ (ap (λ z. z.direct) c.settle-settled.ensures.sizes) c.settle-settled.ensures.routes c.settle-settled.ensures.table c.totals.ensures c.needs.ensures.needs c.in_ok-routes.ensures.count c.in_ok-entries.ensures.count f in
+    let rows = all_written s.hops run c.new-text.result c.write_routes.new.text c.write_changes.new.text c.write_answers.new.text c.write_table.new.text c.write_least.new.text c.certify.new.out c.report.new.self (c.new-text.ensures.hops ∙ c.hops.ensures)
+    c.in_ok-routes.ensures.writes c.in_ok-write_changes.ensures c.in_ok-write_answers.ensures c.in_ok-entries.ensures.writes c.in_ok-write_least.ensures c.in_ok-certify.ensures.takes c.in_ok-report.ensures
+    in
+    IfOk-weaker c.finish.result (λ text. text.items ≡ printed_text (printed limits load updates asks)) (λ text. ChecksYes text.items) (λ text e. checks_yes limits load updates c.args.fed.now c.args.state asks s.hops run text.items f is c.settle-settled.ensures.hops rows.proper e) (returns-clause-text c limits load updates f)

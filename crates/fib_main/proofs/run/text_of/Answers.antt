@@ -1,10 +1,11 @@
-use Rattle.std.proofs.Common.{[], map, subst}
+use Rattle.std.proofs.Common.{[], Ok, map, subst}
+use Rattle.std.proofs.lemmas.Result.{err_from_is_err_and}
 use Rattle.fib_addr.specs.Views.{addr_as}
 use Rattle.fib_words.specs.Commands.{named_as}
 use Rattle.fib_main.specs.declared.outcome.MrtInput.TheVariants.{Dump}
 use Rattle.fib_main.specs.Due.{limits_of, printed_text}
 use Rattle.fib_main.specs.Standing.{StateStands}
-use Rattle.fib_main.proofs.Due.{all_due}
+use Rattle.fib_main.proofs.Due.{all_due, feeds_fail}
 use Rattle.fib_main.proofs.run.text_of.Goals as goal
 
 pub returns-in-Ok-clause-due : goal.returns-in-Ok-clause-due
@@ -20,3 +21,21 @@ returns-in-Ok-clause-yes g c =
     let stands = subst (λ l. StateStands Dump l [] [] c.new-state.result) c.limits_of.ensures c.new-state.ensures.stands in
     let both = c.in_ok-fed.ensures.due stands in
     c.in-Ok.ensures.yes (limits_of named) both.0.0 both.0.1 both.1
+
+pub returns-in_err-fed-clause-due : goal.returns-in_err-fed-clause-due
+returns-in_err-fed-clause-due g c =
+    let named = named_as c.args.command.now in
+    let stands = subst (λ l. StateStands Dump l [] [] c.new-state.result) c.limits_of.ensures c.new-state.ensures.stands in
+    let p = err_from_is_err_and c.from_residual.result c.from_residual.ensures.1 in
+    rw (p.1, p.2) (feeds_fail _ named (map addr_as c.args.asks.now) (λ q. Ok (printed_text q)) _ (c.in_err-fed.ensures.due stands))
+
+pub returns-in_err-fed-clause-stops : goal.returns-in_err-fed-clause-stops
+returns-in_err-fed-clause-stops g c =
+    let p = err_from_is_err_and c.from_residual.result c.from_residual.ensures.1 in
+    rw (p.1, p.2) c.in_err-fed.ensures.stops
+
+pub returns-in_err-fed-clause-cause : goal.returns-in_err-fed-clause-cause
+returns-in_err-fed-clause-cause g c =
+    let stands = subst (λ l. StateStands Dump l [] [] c.new-state.result) c.limits_of.ensures c.new-state.ensures.stands in
+    let p = err_from_is_err_and c.from_residual.result c.from_residual.ensures.1 in
+    rw (p.1, p.2) (c.in_err-fed.ensures.cause stands)

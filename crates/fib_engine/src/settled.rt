@@ -1,0 +1,119 @@
+//! What an engine is once no more events come.
+
+ghost use Rattle.std.specs.Prelude.{◌≡◌, ◌++◌, IfOk, OnOk, map};
+ghost use Rattle.least_model.specs.Both.{aggregate_in_both};
+ghost use Rattle.cert_model.specs.Rows.{certificate_of};
+ghost use Rattle.fib_addr.specs.Views.{entry_as};
+ghost use Rattle.route_tries.specs.Sizes.{AreFew, needs_of};
+ghost use Rattle.route_tries.specs.Tries.{AreTriesOf};
+
+use crate::tables::Tables;
+use cert_rows::RowSink;
+use fib_prefix::{Entry, Family, HopTable};
+use route_tries::{FamilyNeeds, Sizes, Tries, TriesError};
+use std::alloc::{AllocError, Global};
+use std::marker::Model;
+
+/// The numbers of next hops and the kept tables of both families, without the candidates that the routes were chosen from: what
+/// is left to be told of an engine. Contracts see what `Rests` lists; the routes are those of the trees.
+#[derive(Drop)]
+pub struct Settled {
+    pub(crate) alloc: Global,
+    pub(crate) hops: HopTable,
+    pub(crate) tables: Tables,
+    pub(crate) needs: FamilyNeeds,
+    pub(crate) sizes: Sizes,
+}
+
+impl Model for Settled {
+    ghost use Rattle.route_tries.specs.Sizes.{sizes_as};
+    ghost use Rattle.fib_engine.specs.Settled.{Rests, AreSettled};
+    ghost use Rattle.fib_engine.specs.Tables.{both_routes, table_of};
+
+    ghost Value = { Rests };
+
+    ghost view = { λ s. record { sizes = sizes_as s.sizes; hops = s.hops.list; routes = both_routes s.tables; table = table_of s.tables } };
+
+    ghost invariant = { λ s. AreSettled (sizes_as s.sizes) s.tables s.needs };
+}
+
+impl Settled {
+    /// The hops with their numbers.
+    pub fn hops(&self) -> &HopTable
+        ensures { result.now.list ≡ self.now.hops }
+    {
+        &self.hops
+    }
+
+    /// The routes, in the order of prefixes. They are read from the trees.
+    ///
+    /// # Errors
+    ///
+    /// No memory.
+    pub fn routes(&self) -> Result<Vec<Entry>, AllocError>
+        ensures { IfOk result (λ v. map entry_as v.items ≡ self.now.routes) }
+    {
+        self.tables.routes()
+    }
+
+    /// The kept table, in the order of prefixes.
+    ///
+    /// # Errors
+    ///
+    /// No memory.
+    pub fn table(&self) -> Result<Vec<Entry>, AllocError>
+        ensures { IfOk result (λ v. map entry_as v.items ≡ self.now.table) }
+    {
+        self.tables.table()
+    }
+
+    /// The least table of the routes, with the kept one as the old table; IPv4 first.
+    ///
+    /// # Errors
+    ///
+    /// No memory.
+    pub fn least_table(&self) -> Result<Vec<Entry>, AllocError>
+        ensures { IfOk result (λ v. map entry_as v.items
+            ≡ aggregate_in_both self.now.routes self.now.table) }
+    {
+        self.tables.least_table()
+    }
+
+    /// Hands on the rows that prove the least table least, one by one; IPv4 first.
+    ///
+    /// # Errors
+    ///
+    /// No memory; then a front of the rows was taken.
+    pub fn certify<S: RowSink>(&self, out: &mut S) -> Result<(), AllocError>
+        requires { S.ready out.old }
+        ensures ready { OnOk result (S.ready out.new) }
+        ensures takes { OnOk result (S.takes out.old (certificate_of self.now.routes) out.new) }
+    {
+        self.tables.certify(out)
+    }
+
+    /// How many places the nodes and the leaves of tries of the routes need, each at most what its arena has.
+    pub fn needs(&self) -> FamilyNeeds
+        ensures needs { result ≡ needs_of self.now.sizes.direct self.now.routes }
+        ensures few { AreFew result }
+    {
+        self.needs
+    }
+
+    /// Tries of the routes, to look addresses up. They have room.
+    ///
+    /// # Errors
+    ///
+    /// No memory.
+    pub fn tries(&self) -> Result<Tries<'_>, AllocError>
+        ensures { IfOk result (AreTriesOf self.now.sizes.direct self.now.routes) }
+    {
+        let v4 = self.tables.tree(Family::V4);
+        let v6 = self.tables.tree(Family::V6);
+        match Tries::build(self.alloc, &self.sizes, v4, v6) {
+            Ok(tries) => Ok(tries),
+            Err(TriesError::NoMemory) => Err(AllocError),
+            Err(TriesError::Full(_)) => unreachable!(),
+        }
+    }
+}
