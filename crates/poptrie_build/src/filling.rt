@@ -37,8 +37,8 @@ fn clear_words(words: &mut [u32])
     }
 }
 
-/// Takes all places back, and lets no address have a hop.
-pub(crate) fn clear_all(words: &mut [u32], nodes: &mut Arena<Node>, leaves: &mut Arena<u16>)
+/// Takes all places back, and lets no address have a hop, for those who keep a trie's parts themselves.
+pub fn clear_all(words: &mut [u32], nodes: &mut Arena<Node>, leaves: &mut Arena<u16>)
     ensures words { words.new ≡ replicate (length words.old) 2147483648 }
     ensures nodes { nodes.new ≡ empty nodes.old.order nodes.old.fill }
     ensures leaves { leaves.new ≡ empty leaves.old.order leaves.old.fill }

@@ -22,7 +22,7 @@ mod trie;
 
 pub use counts::{Needs, count_words};
 pub use direct::HOP;
-pub use filling::{TrieFull, fill_all};
+pub use filling::{TrieFull, clear_all, fill_all};
 pub use lookup::{Found, key_of};
 pub use making::{Vectors, make_vectors};
 pub use node::{Node, rank};

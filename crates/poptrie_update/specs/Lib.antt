@@ -1,10 +1,5 @@
-pub mod Rooms
-pub mod Version
 pub mod Lives
-pub mod Reading
-pub mod First
-pub mod Past
+pub mod Pendings
 pub mod Fits
-pub mod Renewals
-pub mod Reasons
+pub mod Reads
 pub mod Prepares

@@ -1,97 +1,121 @@
 -- What a live trie is seen as, and what it shows.
-use Rattle.std.specs.Prelude.{◌≡◌, ℕ, ◌^◌, ◌<◌, ◌≤◌, List, [], ◌∷◌, ◌++◌, Bool, true, false, ◌||◌, nat_eq, take, length, slice_index}
-use Rattle.std.specs.List.{AllByRecursion}
-use Rattle.address_model.specs.declared.family.Family.{Family}
+use Rattle.std.specs.Prelude.{◌≡◌, ℕ, ◌-◌, ◌≤◌, List, [], Bool, true, false, cond, nat_eq, nat_le, length}
 use Rattle.table_model.specs.Entries.{Entries}
-use Rattle.buddy_arena.specs.Space.{Space, IsSized}
-use Rattle.block_pool.specs.Places.{is_out}
-use Rattle.block_pool.specs.Arrays.{places_of}
-use Rattle.block_pool.specs.Blocks.{Held, blocks_of, AreHeldIn}
-use Rattle.poptrie_build.specs.Tries.{node_need, leaf_need, IsTooMuch}
-use Rattle.poptrie_build.specs.declared.filling.TrieFull.{TrieFull}
-use Rattle.poptrie_build.specs.declared.node.Node.{Node}
-use Rattle.poptrie_copy.specs.declared.slots.Store.{Store as Stored}
-use Rattle.poptrie_update.specs.declared.live.Pending.{Pending}
-use Rattle.poptrie_update.specs.Rooms.{Room}
-use Rattle.poptrie_update.specs.Version.{IsVersion}
+use Rattle.poptrie_set.specs.Lives.{Seen, ShowsIn, HasSizesOf}
+use Rattle.poptrie_set.specs.Past.{PastIn}
+use Rattle.poptrie_update.specs.declared.live.Other.{Other}
+use Rattle.poptrie_update.specs.declared.live.Other.TheVariants as other
 
--- a word to be stored, and its slot
-abbrev pub Store : Type 0
-Store = ℕ × ℕ
-
--- the direct words as they are, both arenas with their blocks, whether an update is pending, its stores and how many of them were
--- made, and the number of ends so far
+-- the set that lookups begin in and the other one, what that one holds, and the number of the first, 0 or 1
 pub record Living : Type 0 where
-  pub family : Family
-  pub direct_bits : ℕ
-  pub words : List ℕ
-  pub nodes : Room Node
-  pub leaves : Room ℕ
-  pub pending : Bool
-  pub stores : List Store
-  pub made : ℕ
-  pub time : ℕ
+  pub selected : Seen
+  pub other : Seen
+  pub state : Other
+  pub number : ℕ
+
+-- the set of a number
+abbrev pub set_of : Living → ℕ → Seen
+set_of l n = cond (nat_eq n l.number) l.selected l.other
 
 -- a trie of the same family, direct bits and arenas
 abbrev pub HasShapeOf : Living → Living → Type 0
-HasShapeOf old new = (new.family ≡ old.family) × (new.direct_bits ≡ old.direct_bits) × (new.nodes.space.order ≡ old.nodes.space.order) × (new.leaves.space.order ≡ old.leaves.space.order)
+HasShapeOf old new = HasSizesOf old.selected new.selected
 
--- whether one of the stores is at the slot
-abbrev pub covers : List Store → ℕ → Bool
-covers [] v = false
-covers (s ∷ rest) v = nat_eq s.0 v || covers rest v
+-- ---- the pending update
+-- whether an update stores the selector
+abbrev pub is_selecting : Other → Bool
+is_selecting other.Free = false
+is_selecting (other.Retired end) = false
+is_selecting other.Built = true
+is_selecting other.Replaced = true
 
--- a new copy beside the old blocks, or nothing pending: both versions stand in the arenas, one in the words as they were and one in
--- the words as they will be. A pending block stands in none of the first's, a replaced one in none of the second's, and a store
--- leads from the one to the other at its slot alone
-pub record Beside (l : Living) (L M : Entries) (old new : List ℕ) : Type 0 where
-  pub before : IsVersion l.family l.direct_bits l.nodes.space l.leaves.space old L (l.nodes.taken ++ blocks_of l.nodes.retired) (l.leaves.taken ++ blocks_of l.leaves.retired)
-  pub after : IsVersion l.family l.direct_bits l.nodes.space l.leaves.space new M (l.nodes.replaced ++ blocks_of l.nodes.retired) (l.leaves.replaced ++ blocks_of l.leaves.retired)
-  pub nodes_few : places_of l.nodes.replaced ≤ node_need l.family l.direct_bits L
-  pub leaves_few : places_of l.leaves.replaced ≤ leaf_need l.family l.direct_bits L
-  pub made : l.made ≤ length l.stores
-  pub words : length l.words ≡ 2 ^ l.direct_bits
-  pub stored : (v : ℕ) → v < 2 ^ l.direct_bits → covers (take l.made l.stores) v ≡ true → slice_index l.words v ≡ slice_index new v
-  pub unstored : (v : ℕ) → v < 2 ^ l.direct_bits → covers (take l.made l.stores) v ≡ false → slice_index l.words v ≡ slice_index old v
-  pub shared : (v : ℕ) → v < 2 ^ l.direct_bits → covers l.stores v ≡ false → slice_index old v ≡ slice_index new v
-  pub due : AllByRecursion (λ (s : Store). (s.0 < 2 ^ l.direct_bits) × (slice_index new s.0 ≡ s.1)) l.stores
+abbrev pub is_pending : Living → Bool
+is_pending l = cond (is_selecting l.state) true l.selected.pending
 
--- the direct words stand for the first entries where no store that was made covers the slot, and else for the second
+-- how many of its stores were made: words, or the one of the selector
+abbrev pub made_by : Other → ℕ → ℕ
+made_by other.Free words = words
+made_by (other.Retired end) words = words
+made_by other.Built words = 0
+made_by other.Replaced words = 1
+
+abbrev pub made_of : Living → ℕ
+made_of l = made_by l.state l.selected.made
+
+-- how many of its stores are left
+abbrev pub left_by : Other → ℕ → ℕ
+left_by other.Free words = words
+left_by (other.Retired end) words = words
+left_by other.Built words = 1
+left_by other.Replaced words = 0
+
+abbrev pub stores_left : Living → ℕ
+stores_left l = left_by l.state (length l.selected.stores - l.selected.made)
+
+-- what becomes of the stores left when one is made: they are the same, words or the selector
+abbrev pub KeepsBy : Other → Living → Living → Type 0
+KeepsBy other.Free old new = (new.state ≡ other.Free) × (new.selected.stores ≡ old.selected.stores)
+KeepsBy (other.Retired end) old new = (new.state ≡ other.Retired end) × (new.selected.stores ≡ old.selected.stores)
+KeepsBy other.Built old new = new.state ≡ other.Replaced
+KeepsBy other.Replaced old new = new.state ≡ other.Replaced
+
+abbrev pub KeepsStores : Living → Living → Type 0
+KeepsStores old new = KeepsBy old.state old new
+
+-- ---- the other set
+abbrev pub IsFree : Living → Type 0
+IsFree l = l.state ≡ other.Free
+
+-- it is free once what was retired by this time is given back
+abbrev pub freed : ℕ → Other → Other
+freed since other.Free = other.Free
+freed since (other.Retired end) = cond (nat_le end since) other.Free (other.Retired end)
+freed since other.Built = other.Built
+freed since other.Replaced = other.Replaced
+
+-- at an end a set that was replaced is retired
+abbrev pub retired_at_end : ℕ → Other → Other
+retired_at_end time other.Free = other.Free
+retired_at_end time (other.Retired end) = other.Retired end
+retired_at_end time other.Built = other.Built
+retired_at_end time other.Replaced = other.Retired time
+
+-- ---- what it shows
+-- Of the first entries those before the pending update, and of the second those after it: in the selected set, word by word; or,
+-- where the selector is to be stored, the selected set shows the first and the other the second; or, where it was, the selected set
+-- the second
+abbrev pub ShowsBy : Other → Seen → Seen → Entries → Entries → Type 0
+ShowsBy other.Free s o L M = ShowsIn s L M
+ShowsBy (other.Retired end) s o L M = ShowsIn s L M
+ShowsBy other.Built s o L M = ShowsIn s L L × ShowsIn o M M
+ShowsBy other.Replaced s o L M = ShowsIn s M M
+
 abbrev pub Shows : Living → Entries → Entries → Type 0
-Shows l L M = (old : List ℕ) × (new : List ℕ) × Beside l L M old new
+Shows l L M = ShowsBy l.state l.selected l.other L M
+
+-- the list has for each end so far the needs of the version before it, and what is retired at that end in the selected set takes no
+-- more places
+abbrev pub Past : Living → List ℕ → List ℕ → Type 0
+Past l node_needs leaf_needs = PastIn l.selected node_needs leaf_needs
 
 -- ---- as it is kept
-abbrev pub stores_of : List Stored → List Store
-stores_of [] = []
-stores_of (s ∷ rest) = (s.slot, s.word) ∷ stores_of rest
+-- nothing is retired in a set
+abbrev pub HasNoneRetired : Seen → Type 0
+HasNoneRetired s = (s.nodes.retired ≡ []) × (s.leaves.retired ≡ [])
 
--- nothing is pending: then there are no stores, and no block was taken or is replaced
-pub record IsQuiet (stores : List Stored) (made : ℕ) (nodes leaves : Held) : Type 0 where
-  pub no_stores : stores ≡ []
-  pub none_made : made ≡ 0
-  pub nodes_taken : nodes.taken ≡ []
-  pub nodes_replaced : nodes.replaced ≡ []
-  pub leaves_taken : leaves.taken ≡ []
-  pub leaves_replaced : leaves.replaced ≡ []
+-- what the other set holds: where it is free, no block of it is out; a whole set is retired at an end that is over; where the
+-- selector is to be stored or was, nothing is pending in the selected set
+abbrev pub Holds : Other → Seen → Seen → Type 0
+Holds other.Free s o = ShowsIn o [] [] × HasNoneRetired o
+Holds (other.Retired end) s o = end ≤ s.time
+Holds other.Built s o = (s.pending ≡ false) × HasNoneRetired o
+Holds other.Replaced s o = s.pending ≡ false
 
--- what every live trie keeps: so it can always be cancelled, and blocks can always be given back
-pub record IsLive (direct_bits : ℕ) (words : List ℕ) (nodes : Space Node) (leaves : Space ℕ) (node_blocks leaf_blocks : Held) (pending : Bool) (stores : List Stored) (made : ℕ) : Type 0 where
-  pub few : direct_bits ≤ 18
-  pub many : length words ≡ 2 ^ direct_bits
-  pub nodes_sized : IsSized nodes
-  pub leaves_sized : IsSized leaves
-  pub nodes_held : AreHeldIn (is_out nodes.free) node_blocks
-  pub leaves_held : AreHeldIn (is_out leaves.free) leaf_blocks
-  pub times : leaf_blocks.time ≡ node_blocks.time
-  pub slots : AllByRecursion (λ (s : Stored). s.slot < 2 ^ direct_bits) stores
-  pub counted : made ≤ length stores
-  pub quiet : pending ≡ false → IsQuiet stores made node_blocks leaf_blocks
-
--- a token of the pending update
-abbrev pub IsTokenOf : Pending → Living → Type 0
-IsTokenOf p l = (l.pending ≡ true) × (p.made ≡ l.made)
-
--- the refusal of entries for which its arenas are too small: it names the nodes where their need is more than their places, else the
--- leaves
-abbrev pub IsTooMuchFor : Living → Entries → TrieFull → Type 0
-IsTooMuchFor l L e = IsTooMuch e.arena e.need e.have (node_need l.family l.direct_bits L) (leaf_need l.family l.direct_bits L) (2 ^ l.nodes.space.order) (2 ^ l.leaves.space.order)
+pub record IsPair (s o : Seen) (state : Other) (number : ℕ) : Type 0 where
+  pub sizes : HasSizesOf s o
+  pub times : o.time ≡ s.time
+  pub quiet : o.pending ≡ false
+  pub holds : Holds state s o
+  pub few : number ≤ 1
+  pub nodes_small : s.nodes.space.order ≤ 26
+  pub leaves_small : s.leaves.space.order ≤ 26

@@ -1,22 +1,19 @@
-//! A Poptrie that is changed beside its readers, one word at a time (Asai and Ohara, 'Poptrie', SIGCOMM 2015).
+//! A Poptrie that is changed beside its readers (Asai and Ohara, 'Poptrie', SIGCOMM 2015), in two sets.
 //!
-//! An update builds new arrays beside the old ones and stores direct words, one a step; all else is shared. So a lookup that pauses
-//! between any two of these steps goes on in the version that it began with. What an update replaced is retired at its end, and is
-//! given back once no lookup is open that started before that end. Time is the number of ends so far.
+//! A set is a trie's direct words with both its arenas (`poptrie_set`). Lookups begin in the set that the selector names. An update
+//! is made in that set beside the old version, and stored word by word; where it would fit into the set but not beside what is in
+//! use, the new table's trie is built in the other set, and one store selects that. At such an update's end the set that was
+//! replaced is retired whole, and is free once no lookup is open that started before that end.
 //!
-//! This crate has what makes each step safe: what a live trie shows of the table before the update and of the one after it, the
-//! steps of an update, and the reads of a lookup, paused or not. An update is made ready beside the old version in the same arenas
-//! alone: where it fits into them but not beside what is in use, it is refused.
+//! So a lookup that pauses between any two steps goes on in the version that it began with. Time is the number of ends so far.
 #![tactic(auto)]
 
 mod live;
-mod reading;
-mod reasons;
-mod renewing;
+mod pending;
 
-pub use live::{Live, Oldest, Pending};
-pub use reading::At;
-pub use reasons::NotReady;
+pub use live::{At, Live};
+pub use pending::{NotReady, Pending};
+pub use poptrie_set::Oldest;
 
 #[cfg(test)]
 mod tests;

@@ -1,75 +1,91 @@
-//! A trie that is changed one word at a time.
+//! The live trie: two sets, of which one is selected.
 
-use crate::reading::{At, visit};
-use crate::reasons::{NotReady, reason};
-use crate::renewing::renew_or_undo;
-use block_pool::Blocks;
-use buddy_arena::Arena;
+ghost use Rattle.std.specs.Prelude.{◌≡◌, ◌^◌, ◌<◌};
+ghost use Rattle.poptrie_update.specs.Reads.{IsInSet};
+
+use crate::pending::{NotReady, Pending, Stores};
 use fib_addr::{Addr, Answers, Family, Hop, Prefix};
 use fib_regions::{PrefixRegion, Region};
-use poptrie_build::{Found, HOP, Node, TrieFull, empty_words, fill_all, key_of};
-use poptrie_copy::Store;
+use poptrie_build::{Found, TrieFull};
+use poptrie_set::{At as Read, NotReady as NotBeside, Oldest, TrieSet};
 use std::alloc::{AllocError, Global};
 use std::marker::Model;
+use std::mem;
 use std::sync::ledger::Ledger;
 use step_count::Steps;
 
-/// The open lookup that started first.
+/// What the set that isn't selected holds.
 #[derive(Clone, Copy, Debug, PartialEq, Eq)]
-pub enum Oldest {
-    /// No lookup is open.
-    Nobody,
-    /// This one.
-    Started {
-        /// Its number.
-        cursor: u8,
-        /// The time at which it started.
-        since: u64,
+pub(crate) enum Other {
+    /// Nothing: it is free.
+    Free,
+    /// The versions before this end: lookups that started before it may be in them.
+    Retired {
+        /// The end of the update that replaced the set.
+        end: u64,
     },
+    /// The trie of the new table, which the pending update's store selects.
+    Built,
+    /// The version before the pending update, which stored the selector.
+    Replaced,
 }
 
-/// An update that is ready: the token for its stores, which `Live::end` or `Live::cancel` spends.
-pub struct Pending {
-    /// How many of its stores were made.
-    pub(crate) made: usize,
+/// Where a lookup stands after what it read.
+#[derive(Clone, Copy, Debug, PartialEq, Eq)]
+pub enum At {
+    /// It leads on to this node.
+    Node {
+        /// The node's place.
+        node: u32,
+        /// The number of the node's set, 0 or 1.
+        set: u8,
+        /// How many nodes stand before it on the way.
+        stride: u8,
+    },
+    /// It leads to this answer.
+    Answer(Hop),
 }
 
-/// A trie with what its pending update has ready. Its direct words stand for the table after the update where a store that was
-/// made covers the slot, and else for the table before it.
+/// A trie with what its pending update has ready, in two sets of the same size.
 #[derive(Drop)]
 pub struct Live {
-    words: Vec<u32>,
-    nodes: Arena<Node>,
-    leaves: Arena<u16>,
-    node_blocks: Blocks,
-    leaf_blocks: Blocks,
-    stores: Vec<Store>,
-    made: usize,
-    family: Family,
-    direct_bits: u8,
-    pending: bool,
+    selected: TrieSet,
+    other: TrieSet,
+    state: Other,
+    /// The selected set's number, 0 or 1: the selector.
+    number: u8,
 }
 
 impl Model for Live {
-    ghost use Rattle.poptrie_update.specs.Rooms.{room_of};
-    ghost use Rattle.poptrie_update.specs.Lives.{Living, stores_of, IsLive};
+    ghost use Rattle.poptrie_update.specs.Lives.{Living, IsPair};
 
     ghost Value = { Living };
 
     ghost view = { λ l. record {
-      family = l.family;
-      direct_bits = l.direct_bits;
-      words = l.words.items;
-      nodes = room_of l.nodes l.node_blocks;
-      leaves = room_of l.leaves l.leaf_blocks;
-      pending = l.pending;
-      stores = stores_of l.stores.items;
-      made = l.made;
-      time = l.node_blocks.time;
+      selected = l.selected;
+      other = l.other;
+      state = l.state;
+      number = l.number;
     } };
 
-    ghost invariant = { λ l. IsLive l.direct_bits l.words.items l.nodes l.leaves l.node_blocks
-        l.leaf_blocks l.pending l.stores.items l.made };
+    ghost invariant = { λ l. IsPair l.selected l.other l.state l.number };
+}
+
+/// Where a lookup stands that read this in the set of a number.
+fn in_set(read: Read, set: u8) -> At
+    ensures { IsInSet read set result }
+{
+    match read {
+        Read::Answer(hop) => At::Answer(hop),
+        Read::Node { node, stride } => At::Node { node, set, stride },
+    }
+}
+
+/// How many places a block of this order has, as far as 64 bits count them.
+fn places(order: u8) -> u64
+    ensures { order < 64 → result ≡ 2 ^ order }
+{
+    1 << order.min(63)
 }
 
 impl Live {
@@ -78,17 +94,22 @@ impl Live {
     ghost use Rattle.fib_addr.specs.Views.{addr_as, prefix_as};
     ghost use Rattle.table_model.specs.Entries.{Entries, match_in};
     ghost use Rattle.fib_regions.specs.Answers.{all_answers};
-    ghost use Rattle.block_pool.specs.Blocks.{Gives, late};
     ghost use Rattle.poptrie_build.specs.Tries.{node_need, leaf_need, visits_of};
-    ghost use Rattle.poptrie_update.specs.Lives.{Living, Shows, HasShapeOf, IsTokenOf, IsTooMuchFor};
-    ghost use Rattle.poptrie_update.specs.Fits.{Open, Fits, IsOldest, until};
-    ghost use Rattle.poptrie_update.specs.Past.{Past};
-    ghost use Rattle.poptrie_update.specs.Reading.{ReadsOn, CanRead, Leads, key_after};
-    ghost use Rattle.poptrie_update.specs.First.{IsShowing, Starts, published};
-    ghost use Rattle.poptrie_update.specs.Prepares.{AgreeOutside, StoresChanges, GaveBack, AsksMet, AsksRefused, AsksRun, AsksRunOut};
-    ghost use Rattle.poptrie_update.specs.declared.live.Oldest.TheVariants as Oldest;
+    ghost use Rattle.poptrie_set.specs.Lives.{IsTooMuchFor};
+    ghost use Rattle.poptrie_set.specs.Fits.{until};
+    ghost use Rattle.poptrie_set.specs.Reading.{ReadsOn, CanRead, key_after};
+    ghost use Rattle.poptrie_set.specs.Prepares.{AgreeOutside, GaveBack, AsksRunOut};
+    ghost use Rattle.poptrie_set.specs.Lives.{ShowsIn};
+    ghost use Rattle.poptrie_update.specs.Lives.{Living, Shows, HasShapeOf, is_pending, stores_left, made_of, set_of, Past, IsFree, KeepsStores, freed, retired_at_end};
+    ghost use Rattle.poptrie_update.specs.Pendings.{IsTokenOf};
+    ghost use Rattle.poptrie_update.specs.Fits.{Open, Fits, IsOldest};
+    ghost use Rattle.poptrie_update.specs.Reads.{IsShowing, Starts, published, Leads};
+    ghost use Rattle.poptrie_update.specs.Prepares.{NoneRetired, StoresChanges, IsMade, IsRefused, IsUndone, IsCancelled, IsBeside, IsNotBeside, IsShort};
+    ghost use Rattle.poptrie_set.specs.declared.trie_set.Oldest.TheVariants as Oldest;
+    ghost use Rattle.poptrie_update.specs.declared.live.Other.TheVariants as other;
+    ghost use Rattle.poptrie_update.specs.declared.pending.Stores.TheVariants as stores;
 
-    /// A trie that answers none everywhere, at time 0, with arenas of these orders.
+    /// A trie that answers none everywhere, at time 0, with arenas of these orders in each set.
     ///
     /// # Errors
     ///
@@ -103,45 +124,41 @@ impl Live {
         requires direct { direct_bits ≤ 18 }
         requires nodes { node_order ≤ 26 }
         requires leaves { leaf_order ≤ 26 }
-        ensures family { IfOk result (λ l. l.family ≡ family) }
-        ensures direct { IfOk result (λ l. l.direct_bits ≡ direct_bits) }
-        ensures orders { IfOk result (λ l. (l.nodes.space.order ≡ node_order)
-            × (l.leaves.space.order ≡ leaf_order)) }
-        ensures quiet { IfOk result (λ l. (l.pending ≡ false) × (l.time ≡ 0)) }
+        ensures family { IfOk result (λ l. l.selected.family ≡ family) }
+        ensures direct { IfOk result (λ l. l.selected.direct_bits ≡ direct_bits) }
+        ensures orders { IfOk result (λ l. (l.selected.nodes.space.order ≡ node_order)
+            × (l.selected.leaves.space.order ≡ leaf_order)) }
+        ensures quiet { IfOk result (λ l. (is_pending l ≡ false) × (l.selected.time ≡ 0)) }
+        ensures other { IfOk result IsFree }
         ensures shows { IfOk result (λ l. Shows l [] []) }
         ensures past { IfOk result (λ l. Past l [] []) }
     {
-        let words = empty_words(alloc, direct_bits)?;
-        let nodes = Arena::new(alloc, node_order, Node::blank())?;
-        let leaves = Arena::new(alloc, leaf_order, 0)?;
+        let selected = TrieSet::new(alloc, family, direct_bits, node_order, leaf_order)?;
+        let other = TrieSet::new(alloc, family, direct_bits, node_order, leaf_order)?;
         Ok(Live {
-            words,
-            nodes,
-            leaves,
-            node_blocks: Blocks::new(alloc),
-            leaf_blocks: Blocks::new(alloc),
-            stores: Vec::new(alloc),
-            made: 0,
-            family,
-            direct_bits,
-            pending: false,
+            selected,
+            other,
+            state: Other::Free,
+            number: 0,
         })
     }
 
-    /// Builds the trie of a table anew, which it asks about prefixes from the table's root. No lookup may be open: what they read is
-    /// gone.
+    /// Builds the trie of a table anew, which it asks about prefixes from the table's root. No lookup may be open: what they read
+    /// is gone.
     ///
     /// # Errors
     ///
     /// It needs more nodes than there is room for, or else more leaves; then the trie answers none everywhere.
     pub fn build<A: Answers>(&mut self, table: &A) -> Result<(), TrieFull>
-        requires family { A.of table.now ≡ self.old.family }
-        requires quiet { self.old.pending ≡ false }
+        requires family { A.of table.now ≡ self.old.selected.family }
+        requires quiet { is_pending self.old ≡ false }
         ensures shape { HasShapeOf self.old self.new }
-        ensures quiet { (self.new.pending ≡ false) × (self.new.time ≡ self.old.time) }
+        ensures quiet { (is_pending self.new ≡ false)
+            × (self.new.selected.time ≡ self.old.selected.time) }
+        ensures other { self.new.state ≡ self.old.state }
         ensures built { OnOk result (Shows self.new (A.entries table.now) (A.entries table.now)) }
         ensures none { OnErr result (Shows self.new [] []) }
-        ensures full { IfErr result (IsTooMuchFor self.old (A.entries table.now)) }
+        ensures full { IfErr result (IsTooMuchFor self.old.selected (A.entries table.now)) }
         ensures past { (ns ls : List ℕ) → Past self.old ns ls → Past self.new ns ls }
     {
         self.fill(&PrefixRegion::whole(table))
@@ -154,268 +171,305 @@ impl Live {
     ///
     /// As `build`'s.
     pub fn fill<R: Region>(&mut self, region: &R) -> Result<(), TrieFull>
-        requires bits { R.bits region.now ≡ width self.old.family }
-        requires quiet { self.old.pending ≡ false }
+        requires bits { R.bits region.now ≡ width self.old.selected.family }
+        requires quiet { is_pending self.old ≡ false }
         ensures shape { HasShapeOf self.old self.new }
-        ensures quiet { (self.new.pending ≡ false) × (self.new.time ≡ self.old.time) }
+        ensures quiet { (is_pending self.new ≡ false)
+            × (self.new.selected.time ≡ self.old.selected.time) }
+        ensures other { self.new.state ≡ self.old.state }
         ensures built { OnOk result ((L : Entries)
-            → R.answers region.now ≡ all_answers self.old.family L → Shows self.new L L) }
+            → R.answers region.now ≡ all_answers self.old.selected.family L
+            → Shows self.new L L) }
         ensures none { OnErr result (Shows self.new [] []) }
         ensures full { IfErr result (λ e. (L : Entries)
-            → R.answers region.now ≡ all_answers self.old.family L
-            → IsTooMuchFor self.old L e) }
+            → R.answers region.now ≡ all_answers self.old.selected.family L
+            → IsTooMuchFor self.old.selected L e) }
         ensures past { (ns ls : List ℕ) → Past self.old ns ls → Past self.new ns ls }
     {
-        self.node_blocks.clear();
-        self.leaf_blocks.clear();
-        fill_all(
-            region,
-            self.direct_bits,
-            &mut self.words,
-            &mut self.nodes,
-            &mut self.leaves,
-        )
+        self.selected.fill(region)
     }
 
-    /// Gives back what no open lookup may be in: what was retired at an end that was over when the oldest of them started.
-    pub fn give_back(&mut self, oldest: Oldest)
-        requires { self.old.pending ≡ false }
+    /// Gives back what no open lookup may be in: what was retired at an end that was over when the oldest of them started, and the
+    /// other set whole where it was.
+    fn give_back(&mut self, oldest: Oldest)
+        requires { is_pending self.old ≡ false }
         ensures shape { HasShapeOf self.old self.new }
-        ensures kept { (self.new.words ≡ self.old.words) × (self.new.pending ≡ false)
-            × (self.new.time ≡ self.old.time) }
-        ensures nodes { self.new.nodes.retired
-            ≡ late (until oldest self.old.time) self.old.nodes.retired }
-        ensures leaves { self.new.leaves.retired
-            ≡ late (until oldest self.old.time) self.old.leaves.retired }
-        ensures all { oldest ≡ Oldest.Nobody
-            → (self.new.nodes.retired ≡ []) × (self.new.leaves.retired ≡ []) }
-        ensures given { GaveBack (until oldest self.old.time) self.old self.new.nodes.space
-            self.new.leaves.space }
+        ensures kept { (self.new.selected.words ≡ self.old.selected.words)
+            × (self.new.selected.time ≡ self.old.selected.time) }
+        ensures quiet { is_pending self.new ≡ false }
+        ensures other { self.new.state ≡ freed (until oldest self.old.selected.time) self.old.state }
+        ensures given { GaveBack (until oldest self.old.selected.time) self.old.selected
+            self.new.selected.nodes.space self.new.selected.leaves.space }
+        ensures all { oldest ≡ Oldest.Nobody → NoneRetired self.new }
         ensures shows { (L M : Entries) → Shows self.old L M → Shows self.new L M }
         ensures fits { (os : List Open) → IsOldest oldest os → Fits self.old os
             → Fits self.new os }
         ensures past { (ns ls : List ℕ) → Past self.old ns ls → Past self.new ns ls }
     {
+        self.selected.give_back(oldest);
         let since = match oldest {
-            Oldest::Nobody => self.node_blocks.time(),
+            Oldest::Nobody => self.selected.time(),
             Oldest::Started { cursor, since } => since,
         };
-        self.node_blocks.release(&mut self.nodes, since);
-        self.leaf_blocks.release(&mut self.leaves, since);
+        if let Other::Retired { end } = self.state {
+            if end <= since {
+                self.other.clear();
+                self.state = Other::Free;
+            }
+        }
     }
 
-    /// Makes an update ready that changes the answers of a prefix's addresses at most: first gives back what no open lookup may be in,
-    /// and then makes what has other answers anew beside the old, for the region of all addresses of the new table. Nothing that a
-    /// lookup reads is written, so the answers stay until the stores are made.
+    /// Makes an update ready that changes the answers of a prefix's addresses at most, for the region of all addresses of the new
+    /// table: first gives back what no open lookup may be in; then makes what has other answers anew beside the old, or, where that
+    /// doesn't fit beside what is in use, all in the other set. Nothing that a lookup reads is written, so the answers stay until
+    /// the stores are made.
     ///
     /// # Errors
     ///
-    /// No memory, or the new table's trie is larger than the arenas, or it would fit, but not beside what is in use. But for what was
-    /// given back, all is as it was.
+    /// No memory; or the new table's trie is larger than the arenas; or it would fit, but not beside what is in use, while the
+    /// oldest lookup may be in the other set. But for what was given back, all is as it was.
     pub fn prepare<R: Region>(
         &mut self,
         region: &R,
         prefix: &Prefix,
         oldest: Oldest,
     ) -> Result<Pending, NotReady>
-        requires family { prefix.now.family ≡ self.old.family }
-        requires bits { R.bits region.now ≡ width self.old.family }
-        requires quiet { self.old.pending ≡ false }
-        requires time { self.old.time < 18446744073709551615 }
+        requires family { prefix.now.family ≡ self.old.selected.family }
+        requires bits { R.bits region.now ≡ width self.old.selected.family }
+        requires quiet { is_pending self.old ≡ false }
+        requires time { self.old.selected.time < 18446744073709551615 }
         requires showing { IsShowing self.old }
         ensures shape { HasShapeOf self.old self.new }
-        ensures kept { (self.new.words ≡ self.old.words) × (self.new.time ≡ self.old.time) }
-        ensures token { IfOk result (λ p. IsTokenOf p self.new × (self.new.made ≡ 0)) }
-        ensures quiet { OnErr result (self.new.pending ≡ false) }
-        ensures retired { (self.new.nodes.retired
-            ≡ late (until oldest self.old.time) self.old.nodes.retired)
-            × (self.new.leaves.retired
-            ≡ late (until oldest self.old.time) self.old.leaves.retired) }
-        ensures all { oldest ≡ Oldest.Nobody
-            → (self.new.nodes.retired ≡ []) × (self.new.leaves.retired ≡ []) }
+        ensures time { self.new.selected.time ≡ self.old.selected.time }
+        ensures token { IfOk result (λ p. IsTokenOf p self.new × (made_of self.new ≡ 0)) }
+        ensures quiet { OnErr result (is_pending self.new ≡ false) }
+        ensures all { oldest ≡ Oldest.Nobody → NoneRetired self.new }
         ensures shows { OnOk result ((L M : Entries) → Shows self.old L L
-            → R.answers region.now ≡ all_answers self.old.family M
+            → R.answers region.now ≡ all_answers self.old.selected.family M
             → AgreeOutside (prefix_as prefix.now) L M → Shows self.new L M) }
-        ensures changes { OnOk result ((L M : Entries) → Shows self.old L L
-            → R.answers region.now ≡ all_answers self.old.family M
+        ensures changes { IfOk result (λ p. (L M : Entries) → Shows self.old L L
+            → R.answers region.now ≡ all_answers self.old.selected.family M
+            → AgreeOutside (prefix_as prefix.now) L M → StoresChanges p self.new L M) }
+        ensures made { IfOk result (λ p. (L M : Entries) → Shows self.old L L
+            → R.answers region.now ≡ all_answers self.old.selected.family M
             → AgreeOutside (prefix_as prefix.now) L M
-            → StoresChanges self.old.family self.old.direct_bits L M self.new.stores) }
+            → IsMade (until oldest self.old.selected.time) p self.old self.new L M) }
+        ensures refused { IfErr result (λ e. (L M : Entries) → Shows self.old L L
+            → R.answers region.now ≡ all_answers self.old.selected.family M
+            → AgreeOutside (prefix_as prefix.now) L M → IsRefused oldest e self.old L M) }
+        ensures undone { OnErr result (IsUndone (until oldest self.old.selected.time) self.old
+            self.new) }
         ensures still { OnErr result ((L M : Entries) → Shows self.old L M
             → Shows self.new L M) }
-        ensures asks { OnOk result ((L M : Entries) → Shows self.old L L
-            → R.answers region.now ≡ all_answers self.old.family M
-            → AgreeOutside (prefix_as prefix.now) L M
-            → AsksMet (until oldest self.old.time) self.old self.new L M) }
-        ensures refused { IfErr result (λ e. (L M : Entries) → Shows self.old L L
-            → R.answers region.now ≡ all_answers self.old.family M
-            → AgreeOutside (prefix_as prefix.now) L M
-            → AsksRefused (until oldest self.old.time) self.old self.new L M e) }
         ensures fits { (os : List Open) → IsOldest oldest os → Fits self.old os
             → Fits self.new os }
         ensures past { (ns ls : List ℕ) → Past self.old ns ls → Past self.new ns ls }
     {
         self.give_back(oldest);
-        self.make_ready(region, prefix)
+        self.make_ready(region, prefix, oldest)
     }
 
-    /// Makes an update ready beside all that is out.
+    /// Makes an update ready as `prepare` does, once what no lookup may be in was given back.
     ///
     /// # Errors
     ///
-    /// As `prepare`'s; all is as it was.
-    fn make_ready<R: Region>(&mut self, region: &R, prefix: &Prefix) -> Result<Pending, NotReady>
-        requires family { prefix.now.family ≡ self.old.family }
-        requires bits { R.bits region.now ≡ width self.old.family }
-        requires quiet { self.old.pending ≡ false }
-        requires time { self.old.time < 18446744073709551615 }
+    /// As `prepare`'s. All is as it was.
+    fn make_ready<R: Region>(
+        &mut self,
+        region: &R,
+        prefix: &Prefix,
+        oldest: Oldest,
+    ) -> Result<Pending, NotReady>
+        requires family { prefix.now.family ≡ self.old.selected.family }
+        requires bits { R.bits region.now ≡ width self.old.selected.family }
+        requires quiet { is_pending self.old ≡ false }
+        requires time { self.old.selected.time < 18446744073709551615 }
         requires showing { IsShowing self.old }
+        requires all { oldest ≡ Oldest.Nobody → NoneRetired self.old }
         ensures shape { HasShapeOf self.old self.new }
-        ensures kept { (self.new.words ≡ self.old.words) × (self.new.time ≡ self.old.time) }
-        ensures retired { (self.new.nodes.retired ≡ self.old.nodes.retired)
-            × (self.new.leaves.retired ≡ self.old.leaves.retired) }
-        ensures token { IfOk result (λ p. IsTokenOf p self.new × (self.new.made ≡ 0)) }
-        ensures quiet { OnErr result (self.new.pending ≡ false) }
+        ensures time { self.new.selected.time ≡ self.old.selected.time }
+        ensures retired { (self.new.selected.nodes.retired ≡ self.old.selected.nodes.retired)
+            × (self.new.selected.leaves.retired ≡ self.old.selected.leaves.retired) }
+        ensures token { IfOk result (λ p. IsTokenOf p self.new × (made_of self.new ≡ 0)) }
+        ensures quiet { OnErr result (is_pending self.new ≡ false) }
+        ensures all { oldest ≡ Oldest.Nobody → NoneRetired self.new }
         ensures shows { OnOk result ((L M : Entries) → Shows self.old L L
-            → R.answers region.now ≡ all_answers self.old.family M
+            → R.answers region.now ≡ all_answers self.old.selected.family M
             → AgreeOutside (prefix_as prefix.now) L M → Shows self.new L M) }
-        ensures changes { OnOk result ((L M : Entries) → Shows self.old L L
-            → R.answers region.now ≡ all_answers self.old.family M
+        ensures changes { IfOk result (λ p. (L M : Entries) → Shows self.old L L
+            → R.answers region.now ≡ all_answers self.old.selected.family M
+            → AgreeOutside (prefix_as prefix.now) L M → StoresChanges p self.new L M) }
+        ensures made { IfOk result (λ p. (L M : Entries) → Shows self.old L L
+            → R.answers region.now ≡ all_answers self.old.selected.family M
             → AgreeOutside (prefix_as prefix.now) L M
-            → StoresChanges self.old.family self.old.direct_bits L M self.new.stores) }
+            → IsBeside p.stores self.old self.new L M) }
+        ensures refused { IfErr result (λ e. (L M : Entries) → Shows self.old L L
+            → R.answers region.now ≡ all_answers self.old.selected.family M
+            → AgreeOutside (prefix_as prefix.now) L M → IsNotBeside oldest e self.old L M) }
+        ensures undone { OnErr result ((self.new.state ≡ self.old.state)
+            × (self.new.selected.words ≡ self.old.selected.words)
+            × (self.new.selected.nodes.space.free ≡ self.old.selected.nodes.space.free)
+            × (self.new.selected.leaves.space.free ≡ self.old.selected.leaves.space.free)) }
         ensures still { OnErr result ((L M : Entries) → Shows self.old L M
             → Shows self.new L M) }
-        ensures free { OnErr result (
-            (self.new.nodes.space.free ≡ self.old.nodes.space.free)
-            × (self.new.leaves.space.free ≡ self.old.leaves.space.free)) }
-        ensures asks { OnOk result ((L M : Entries) → Shows self.old L L
-            → R.answers region.now ≡ all_answers self.old.family M
-            → AgreeOutside (prefix_as prefix.now) L M
-            → AsksRun self.old self.new L M) }
-        ensures refused { IfErr result (λ e. (L M : Entries) → Shows self.old L L
-            → R.answers region.now ≡ all_answers self.old.family M
-            → AgreeOutside (prefix_as prefix.now) L M → AsksRunOut self.old L M e) }
         ensures fits { (os : List Open) → Fits self.old os → Fits self.new os }
     {
-        let made = renew_or_undo(
-            region,
-            prefix,
-            self.direct_bits,
-            &self.words,
-            &mut self.nodes,
-            &mut self.node_blocks,
-            &mut self.leaves,
-            &mut self.leaf_blocks,
-            &mut self.stores,
-        );
-        match made {
-            Ok(()) => {
-                self.pending = true;
-                Ok(Pending { made: 0 })
-            }
-            Err(refusal) => Err(reason(
-                region,
-                self.direct_bits,
-                refusal,
-                &self.nodes,
-                &self.leaves,
-            )),
+        match self.selected.prepare(region, prefix) {
+            Ok(words) => Ok(Pending {
+                stores: Stores::Words(words),
+            }),
+            Err(why) => self.rebuild(region, oldest, why),
         }
     }
 
-    /// The first read of a lookup: the direct word of its address.
+    /// Builds the new table's trie in the other set where that is free, as it fits, but not beside what is in use in the selected
+    /// one.
+    ///
+    /// # Errors
+    ///
+    /// It doesn't fit, or the oldest lookup may be in the other set.
+    fn rebuild<R: Region>(
+        &mut self,
+        region: &R,
+        oldest: Oldest,
+        why: NotBeside,
+    ) -> Result<Pending, NotReady>
+        requires bits { R.bits region.now ≡ width self.old.selected.family }
+        requires quiet { is_pending self.old ≡ false }
+        requires all { oldest ≡ Oldest.Nobody → NoneRetired self.old }
+        ensures selected { self.new.selected ≡ self.old.selected }
+        ensures token { IfOk result (λ p. p.stores ≡ stores.Selector false) }
+        ensures free { OnOk result (IsFree self.old × (self.new.state ≡ other.Built)) }
+        ensures built { OnOk result ((L : Entries)
+            → R.answers region.now ≡ all_answers self.old.selected.family L
+            → ShowsIn self.new.other L L) }
+        ensures short { OnOk result ((L M : Entries) → AsksRunOut self.old.selected L M why
+            → IsShort self.old.selected L M) }
+        ensures refused { IfErr result (λ e. (L M : Entries)
+            → R.answers region.now ≡ all_answers self.old.selected.family M
+            → AsksRunOut self.old.selected L M why → IsNotBeside oldest e self.old L M) }
+        ensures still { OnErr result (self.new.state ≡ self.old.state) }
+        ensures fits { (os : List Open) → Fits self.old os → Fits self.new os }
+    {
+        let (arena, refused) = match why {
+            NotBeside::Memory => return Err(NotReady::Memory),
+            NotBeside::TooMuch(full) => return Err(NotReady::TooMuch(full)),
+            NotBeside::NodesOut(full) => (0, full),
+            NotBeside::LeavesOut(full) => (1, full),
+        };
+        if let (Other::Retired { end }, Oldest::Started { cursor, since }) = (self.state, oldest) {
+            return Err(NotReady::Pinned {
+                need: places(refused.order),
+                cursor,
+                arena,
+                largest: refused.largest,
+            });
+        }
+        match self.other.fill(region) {
+            Ok(()) => {
+                self.state = Other::Built;
+                Ok(Pending {
+                    stores: Stores::Selector { stored: false },
+                })
+            }
+            Err(full) => Err(NotReady::TooMuch(full)),
+        }
+    }
+
+    /// The first read of a lookup: the selector, and the direct word of its address.
     pub fn first(&self, addr: &Addr) -> At
-        requires family { addr.now.family ≡ self.now.family }
+        requires family { addr.now.family ≡ self.now.selected.family }
         requires showing { IsShowing self.now }
         ensures { (L M : Entries) → Shows self.now L M
             → Starts result self.now (published self.now L M addr.now) addr.now }
     {
-        let word = self.words[(key_of(addr) >> 1 >> (127 - self.direct_bits)) as usize];
-        if word >= HOP {
-            return At::Answer(Hop((word - HOP) as u16));
-        }
-        At::Node {
-            node: word,
-            stride: 0,
-        }
+        in_set(self.selected.first(addr), self.number)
     }
 
-    /// Each further read: visits one node.
-    pub fn next(&self, node: u32, stride: u8, addr: &Addr) -> At
-        requires stride { self.now.direct_bits + 6 * stride < 128 }
-        requires can { CanRead self.now.nodes.space.cells self.now.leaves.space.cells node
-            (key_after self.now.direct_bits stride addr.now) }
+    /// Each further read: visits one node of the set of this number.
+    pub fn next(&self, set: u8, node: u32, stride: u8, addr: &Addr) -> At
+        requires stride { self.now.selected.direct_bits + 6 * stride < 128 }
+        requires can { CanRead (set_of self.now set).nodes.space.cells
+            (set_of self.now set).leaves.space.cells node
+            (key_after self.now.selected.direct_bits stride addr.now) }
         ensures { (left h : ℕ) (N L : ℕ → Bool)
-            → ReadsOn left self.now.nodes.space.cells N self.now.leaves.space.cells L node
-            (key_after self.now.direct_bits stride addr.now) h
-            → Leads result left self.now.nodes.space.cells N self.now.leaves.space.cells L
-            self.now.direct_bits stride addr.now h }
+            → ReadsOn left (set_of self.now set).nodes.space.cells N
+            (set_of self.now set).leaves.space.cells L node
+            (key_after self.now.selected.direct_bits stride addr.now) h
+            → Leads result left set (set_of self.now set).nodes.space.cells N
+            (set_of self.now set).leaves.space.cells L self.now.selected.direct_bits stride
+            addr.now h }
     {
-        let key = key_of(addr) << (self.direct_bits + 6 * stride);
-        visit(&self.nodes, &self.leaves, node, stride, key)
+        let read = if set == self.number {
+            self.selected.next(node, stride, addr)
+        } else {
+            self.other.next(node, stride, addr)
+        };
+        in_set(read, set)
     }
 
     /// The answer that is published to an address, with a step for each node that is visited: all the reads of a lookup without a
     /// pause.
     pub fn lookup<L: Ledger>(&self, addr: &Addr, steps: &mut Steps<L>) -> Found
-        requires family { addr.now.family ≡ self.now.family }
+        requires family { addr.now.family ≡ self.now.selected.family }
         requires showing { IsShowing self.now }
         ensures hop { (E F : Entries) → Shows self.now E F
             → result.hop.0 ≡ match_in (published self.now E F addr.now) (addr_as addr.now) }
         ensures visits { (E F : Entries) → Shows self.now E F → result.visits
-            ≡ visits_of self.now.direct_bits (published self.now E F addr.now) (addr_as addr.now) }
+            ≡ visits_of self.now.selected.direct_bits (published self.now E F addr.now)
+            (addr_as addr.now) }
         ensures steps { steps.new ≡ steps.old + result.visits }
     {
-        let _most = self.direct_bits;
-        let mut at = self.first(addr);
-        let mut visits = 0;
-        'walk: loop {
-            match at {
-                At::Answer(hop) => return Found { hop, visits },
-                At::Node { node, stride } => {
-                    steps.tick();
-                    visits += 1;
-                    at = self.next(node, stride, addr);
-                }
-            }
-        }
+        self.selected.lookup(addr, steps)
     }
 
     /// The number of ends so far.
     pub fn time(&self) -> u64
-        ensures { result ≡ self.now.time }
+        ensures { result ≡ self.now.selected.time }
     {
-        self.node_blocks.time()
+        self.selected.time()
     }
 
     /// Whether an update is pending.
     pub fn is_pending(&self) -> bool
-        ensures { result ≡ self.now.pending }
+        ensures { result ≡ is_pending self.now }
     {
-        self.pending
+        match self.state {
+            Other::Free => self.selected.is_pending(),
+            Other::Retired { end } => self.selected.is_pending(),
+            Other::Built => true,
+            Other::Replaced => true,
+        }
     }
 
     /// Makes the next store of the pending update; false where none is left.
     pub fn store(&mut self, pending: &mut Pending) -> bool
         requires { IsTokenOf pending.old self.old }
         ensures token { IsTokenOf pending.new self.new }
-        ensures made { result ≡ true → (self.old.made < length self.old.stores)
-            × (self.new.made ≡ suc self.old.made) }
-        ensures none { result ≡ false → (length self.old.stores ≤ self.old.made)
-            × (self.new ≡ self.old) }
+        ensures made { result ≡ true → (0 < stores_left self.old)
+            × (suc (stores_left self.new) ≡ stores_left self.old)
+            × (made_of self.new ≡ suc (made_of self.old)) }
+        ensures none { result ≡ false → (stores_left self.old ≡ 0) × (self.new ≡ self.old) }
+        ensures kept { KeepsStores self.old self.new }
         ensures shape { HasShapeOf self.old self.new }
-        ensures kept { (self.new.stores ≡ self.old.stores) × (self.new.time ≡ self.old.time) }
+        ensures time { self.new.selected.time ≡ self.old.selected.time }
         ensures shows { (L M : Entries) → Shows self.old L M → Shows self.new L M }
         ensures fits { (os : List Open) → Fits self.old os → Fits self.new os }
         ensures past { (ns ls : List ℕ) → Past self.old ns ls → Past self.new ns ls }
     {
-        if self.made == self.stores.len() {
-            return false;
+        match &mut pending.stores {
+            Stores::Words(words) => self.selected.store(words),
+            Stores::Selector { stored } => {
+                if *stored {
+                    return false;
+                }
+                mem::swap(&mut self.selected, &mut self.other);
+                self.number = 1 - self.number;
+                self.state = Other::Replaced;
+                *stored = true;
+                true
+            }
         }
-        let next = self.stores[self.made];
-        self.words[next.slot as usize] = next.word;
-        self.made += 1;
-        pending.made = self.made;
-        true
     }
 
     /// The pending update is over: what it replaced is retired, and time goes on.
@@ -425,31 +479,48 @@ impl Live {
     /// Stores are left: the token is handed back, and nothing has changed.
     pub fn end(&mut self, pending: Pending) -> Result<(), Pending>
         requires token { IsTokenOf pending self.old }
-        requires time { self.old.time < 18446744073709551615 }
+        requires time { self.old.selected.time < 18446744073709551615 }
         ensures left { IfErr result (λ p. (p ≡ pending) × (self.new ≡ self.old)
-            × (self.old.made < length self.old.stores)) }
-        ensures all { OnOk result (length self.old.stores ≤ self.old.made) }
-        ensures quiet { OnOk result (self.new.pending ≡ false) }
-        ensures time { OnOk result (self.new.time ≡ suc self.old.time) }
+            × (0 < stores_left self.old)) }
+        ensures all { OnOk result (stores_left self.old ≡ 0) }
+        ensures quiet { OnOk result (is_pending self.new ≡ false) }
+        ensures time { OnOk result (self.new.selected.time ≡ suc self.old.selected.time) }
+        ensures other { OnOk result (self.new.state
+            ≡ retired_at_end (suc self.old.selected.time) self.old.state) }
         ensures shape { HasShapeOf self.old self.new }
-        ensures words { self.new.words ≡ self.old.words }
         ensures shows { OnOk result ((L M : Entries) → Shows self.old L M → Shows self.new M M) }
         ensures fits { OnOk result ((os : List Open) → Fits self.old os → Fits self.new os) }
         ensures past { OnOk result ((L M : Entries) (ns ls : List ℕ) → Shows self.old L M
             → Past self.old ns ls
-            → Past self.new (ns ++ node_need self.old.family self.old.direct_bits L ∷ [])
-            (ls ++ leaf_need self.old.family self.old.direct_bits L ∷ [])) }
+            → Past self.new
+            (ns ++ node_need self.old.selected.family self.old.selected.direct_bits L ∷ [])
+            (ls ++ leaf_need self.old.selected.family self.old.selected.direct_bits L ∷ [])) }
     {
-        if self.made < self.stores.len() {
-            return Err(pending);
+        let Pending { stores } = pending;
+        match stores {
+            Stores::Words(words) => match self.selected.end(words) {
+                Ok(()) => {
+                    self.other.tick();
+                    Ok(())
+                }
+                Err(words) => Err(Pending {
+                    stores: Stores::Words(words),
+                }),
+            },
+            Stores::Selector { stored } => {
+                if !stored {
+                    return Err(Pending {
+                        stores: Stores::Selector { stored },
+                    });
+                }
+                self.selected.tick();
+                self.other.tick();
+                self.state = Other::Retired {
+                    end: self.selected.time(),
+                };
+                Ok(())
+            }
         }
-        let Pending { made } = pending;
-        self.node_blocks.end();
-        self.leaf_blocks.end();
-        self.stores.clear();
-        self.made = 0;
-        self.pending = false;
-        Ok(())
     }
 
     /// The pending update is forgotten: what it took is given back.
@@ -460,28 +531,34 @@ impl Live {
     pub fn cancel(&mut self, pending: Pending) -> Result<(), Pending>
         requires { IsTokenOf pending self.old }
         ensures made { IfErr result (λ p. (p ≡ pending) × (self.new ≡ self.old)
-            × (0 < self.old.made)) }
-        ensures none { OnOk result (self.old.made ≡ 0) }
-        ensures quiet { OnOk result (self.new.pending ≡ false) }
-        ensures time { self.new.time ≡ self.old.time }
+            × (0 < made_of self.old)) }
+        ensures none { OnOk result (made_of self.old ≡ 0) }
+        ensures quiet { OnOk result (is_pending self.new ≡ false) }
+        ensures time { self.new.selected.time ≡ self.old.selected.time }
         ensures shape { HasShapeOf self.old self.new }
-        ensures words { self.new.words ≡ self.old.words }
-        ensures nodes { OnOk result (Gives self.old.nodes.taken self.old.nodes.space
-            self.new.nodes.space) }
-        ensures leaves { OnOk result (Gives self.old.leaves.taken self.old.leaves.space
-            self.new.leaves.space) }
+        ensures undone { OnOk result (IsCancelled self.old self.new) }
         ensures shows { OnOk result ((L M : Entries) → Shows self.old L M → Shows self.new L L) }
         ensures fits { OnOk result ((os : List Open) → Fits self.old os → Fits self.new os) }
         ensures past { (ns ls : List ℕ) → Past self.old ns ls → Past self.new ns ls }
     {
-        if self.made > 0 {
-            return Err(pending);
+        let Pending { stores } = pending;
+        match stores {
+            Stores::Words(words) => match self.selected.cancel(words) {
+                Ok(()) => Ok(()),
+                Err(words) => Err(Pending {
+                    stores: Stores::Words(words),
+                }),
+            },
+            Stores::Selector { stored } => {
+                if stored {
+                    return Err(Pending {
+                        stores: Stores::Selector { stored },
+                    });
+                }
+                self.other.clear();
+                self.state = Other::Free;
+                Ok(())
+            }
         }
-        let Pending { made } = pending;
-        self.node_blocks.cancel(&mut self.nodes);
-        self.leaf_blocks.cancel(&mut self.leaves);
-        self.stores.clear();
-        self.pending = false;
-        Ok(())
     }
 }

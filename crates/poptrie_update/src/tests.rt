@@ -1,14 +1,15 @@
-//! The first reads of a live trie of one route, its refusal, and its update.
+//! An update that isn't made beside the old version, in sets that just hold one: a selector, a lookup that holds the other set.
 
-ghost use Rattle.std.specs.Prelude.{◌≡◌, ◌∷◌, [], ◌≤◌};
+ghost use Rattle.std.specs.Prelude.{◌≡◌, ◌∷◌, [], ◌≤◌, suc, false, OnOk};
 ghost use Rattle.fib_addr.specs.Views.{prefix_as};
 ghost use Rattle.table_model.proofs.Once.{once_in_order};
+ghost use Rattle.table_model.specs.Entries.{Entries};
+ghost use Rattle.poptrie_update.specs.Lives.{Shows, is_pending};
+ghost use Rattle.poptrie_update.specs.Pendings.{IsTokenOf};
 
-use crate::{At, Live, NotReady, Oldest, Pending};
-use buddy_arena::Full;
+use crate::{Live, NotReady, Oldest, Pending};
 use fib_addr::{Addr, Answers, Family, Hop, Prefix};
 use fib_regions::PrefixRegion;
-use poptrie_build::TrieFull;
 use std::alloc::{AllocError, Global};
 use std::test::Fail;
 
@@ -44,115 +45,107 @@ impl Answers for OneRoute {
     }
 }
 
-/// What a live trie of a table tells: the first reads of two addresses, and whether it is at its start; or why it is refused.
+/// What became of an update: whether it stored the selector, whether a first and a second store were made, and the time after its
+/// end.
+#[derive(Clone, Copy, Debug, PartialEq, Eq)]
+struct Ended {
+    selector: bool,
+    stores: (bool, bool),
+    time: u64,
+}
+
+/// Ends an update, once the stores that are left are made.
+fn finish(live: &mut Live, pending: Pending)
+    requires token { IsTokenOf pending live.old }
+    requires time { live.old.selected.time ≤ 1 }
+    ensures family { live.new.selected.family ≡ live.old.selected.family }
+    ensures quiet { is_pending live.new ≡ false }
+    ensures time { live.new.selected.time ≡ suc live.old.selected.time }
+    ensures shows { (L M : Entries) → Shows live.old L M → Shows live.new M M }
+{
+    match live.end(pending) {
+        Ok(()) => {}
+        Err(left) => {
+            let mut pending = left;
+            live.store(&mut pending);
+            finish(live, pending);
+        }
+    }
+}
+
+/// Updates a trie from one table to another of the same prefix.
+fn update(
+    live: &mut Live,
+    before: &OneRoute,
+    after: &OneRoute,
+    oldest: Oldest,
+) -> Result<Ended, NotReady>
+    requires family { live.old.selected.family ≡ after.now.prefix.family }
+    requires prefix { before.now.prefix ≡ after.now.prefix }
+    requires quiet { is_pending live.old ≡ false }
+    requires time { live.old.selected.time ≤ 1 }
+    requires shows { Shows live.old ((prefix_as before.now.prefix, before.now.hop.0) ∷ [])
+        ((prefix_as before.now.prefix, before.now.hop.0) ∷ []) }
+    ensures family { live.new.selected.family ≡ live.old.selected.family }
+    ensures quiet { OnOk result (is_pending live.new ≡ false) }
+    ensures time { OnOk result (live.new.selected.time ≡ suc live.old.selected.time) }
+    ensures shows { OnOk result (Shows live.new
+        ((prefix_as after.now.prefix, after.now.hop.0) ∷ [])
+        ((prefix_as after.now.prefix, after.now.hop.0) ∷ [])) }
+{
+    match live.prepare(&PrefixRegion::whole(after), &after.prefix, oldest) {
+        Err(why) => Err(why),
+        Ok(token) => {
+            let mut pending = token;
+            let selector = pending.is_selector();
+            let first = live.store(&mut pending);
+            let second = live.store(&mut pending);
+            finish(live, pending);
+            Ok(Ended {
+                selector,
+                stores: (first, second),
+                time: live.time(),
+            })
+        }
+    }
+}
+
+/// What becomes of a trie of a table, in sets of these sizes: of its update to another one, and of that back while a lookup is
+/// open.
 #[derive(Clone, Copy, Debug, PartialEq, Eq)]
 enum Told {
-    Reads(At, At, u64, bool),
-    Refused(TrieFull),
+    NotBuilt,
+    NotReady(NotReady),
+    Once(Ended, NotReady),
+    Twice(Ended, Ended),
 }
 
 fn tell(
     alloc: Global,
     table: &OneRoute,
-    direct_bits: u8,
-    leaves: u8,
-    addr: &Addr,
-    other: &Addr,
-) -> Result<Told, AllocError>
-    requires family { addr.now.family ≡ table.now.prefix.family }
-    requires other { other.now.family ≡ table.now.prefix.family }
-    requires small { (direct_bits ≤ 18) × (leaves ≤ 26) }
-{
-    let mut live = Live::new(alloc, table.prefix.family, direct_bits, 1, leaves)?;
-    match live.build(table) {
-        Ok(()) => {
-            live.give_back(Oldest::Nobody);
-            Ok(Told::Reads(
-                live.first(addr),
-                live.first(other),
-                live.time(),
-                live.is_pending(),
-            ))
-        }
-        Err(full) => Ok(Told::Refused(full)),
-    }
-}
-
-/// 10.0.0.0/8: without direct bits two nodes and five leaves, with eight of them a word that is its hop.
-#[test]
-fn a_short_route(rt: HostRuntime) -> Result<(), Fail> {
-    let inside = Addr::v4(0x0a01_0203);
-    let beside = Addr::v4(0x0b00_0001);
-    let table = OneRoute {
-        prefix: Prefix::new(&inside, 8),
-        hop: Hop(1),
-    };
-    let node = At::Node { node: 0, stride: 0 };
-    let full = TrieFull {
-        arena: 1,
-        need: 5,
-        have: 4,
-    };
-    assert_eq!(rt;
-        tell(rt.alloc(), &table, 0, 3, &inside, &beside)?,
-        Told::Reads(node, node, 0, false)
-    );
-    assert_eq!(rt;
-        tell(rt.alloc(), &table, 8, 3, &inside, &beside)?,
-        Told::Reads(At::Answer(Hop(1)), At::Answer(Hop::NONE), 0, false)
-    );
-    assert_eq!(rt;
-        tell(rt.alloc(), &table, 0, 2, &inside, &beside)?,
-        Told::Refused(full)
-    );
-    Ok(())
-}
-
-/// What becomes of an update: whether a first and a second store are made, and the time after it, or how many are made where some
-/// are left; or why it isn't made ready.
-#[derive(Clone, Copy, Debug, PartialEq, Eq)]
-enum Update {
-    Stored(bool, bool, u64),
-    Left(usize),
-    NotBuilt,
-    NotReady(NotReady),
-}
-
-/// The update from one table to another of a trie without direct words, in arenas of these orders.
-fn tell_update(
-    alloc: Global,
-    table: &OneRoute,
     changed: &OneRoute,
-    nodes: u8,
-    leaves: u8,
-) -> Result<Update, AllocError>
-    requires family { changed.now.prefix.family ≡ table.now.prefix.family }
-    requires small { (nodes ≤ 26) × (leaves ≤ 26) }
+    orders: (u8, u8),
+    oldest: Oldest,
+) -> Result<Told, AllocError>
+    requires prefix { table.now.prefix ≡ changed.now.prefix }
+    requires small { (orders.0 ≤ 26) × (orders.1 ≤ 26) }
 {
-    let mut live = Live::new(alloc, table.prefix.family, 0, nodes, leaves)?;
+    let mut live = Live::new(alloc, table.prefix.family, 0, orders.0, orders.1)?;
     match live.build(table) {
         Ok(()) => {}
-        Err(_full) => return Ok(Update::NotBuilt),
+        Err(_full) => return Ok(Told::NotBuilt),
     }
-    match live.prepare(
-        &PrefixRegion::whole(changed),
-        &changed.prefix,
-        Oldest::Nobody,
-    ) {
-        Err(why) => Ok(Update::NotReady(why)),
-        Ok(token) => {
-            let mut pending = token;
-            let first = live.store(&mut pending);
-            let second = live.store(&mut pending);
-            match live.end(pending) {
-                Ok(()) => Ok(Update::Stored(first, second, live.time())),
-                Err(Pending { made }) => Ok(Update::Left(made)),
-            }
-        }
+    match update(&mut live, table, changed, Oldest::Nobody) {
+        Err(why) => Ok(Told::NotReady(why)),
+        Ok(first) => match update(&mut live, changed, table, oldest) {
+            Err(why) => Ok(Told::Once(first, why)),
+            Ok(second) => Ok(Told::Twice(first, second)),
+        },
     }
 }
 
-/// 10.0.0.0/8 with another hop: two nodes and five leaves, each in blocks of its own, are made beside the old ones where they fit.
+/// 10.0.0.0/8 without direct bits has two nodes and five leaves, each in a block of its own. Sets of two nodes and eight leaves
+/// hold it once, and its update to another hop is a selector while the other set is free. With twice the places a word is stored.
 #[test]
 fn another_hop(rt: HostRuntime) -> Result<(), Fail> {
     let prefix = Prefix::new(&Addr::v4(0x0a00_0000), 8);
@@ -164,21 +157,67 @@ fn another_hop(rt: HostRuntime) -> Result<(), Fail> {
         prefix,
         hop: Hop(2),
     };
-    let out = Full {
-        order: 0,
+    let selected = Ended {
+        selector: true,
+        stores: (true, false),
+        time: 1,
+    };
+    let word = Ended {
+        selector: false,
+        stores: (true, false),
+        time: 1,
+    };
+    let pinned = NotReady::Pinned {
+        need: 1,
+        cursor: 3,
+        arena: 0,
         largest: None,
     };
+    let at_start = Oldest::Started {
+        cursor: 3,
+        since: 0,
+    };
+    let after_first = Oldest::Started {
+        cursor: 3,
+        since: 1,
+    };
     assert_eq!(rt;
-        tell_update(rt.alloc(), &table, &changed, 2, 4)?,
-        Update::Stored(true, false, 1)
+        tell(rt.alloc(), &table, &changed, (1, 3), at_start)?,
+        Told::Once(selected, pinned)
     );
     assert_eq!(rt;
-        tell_update(rt.alloc(), &table, &table, 1, 3)?,
-        Update::Stored(false, false, 1)
+        tell(rt.alloc(), &table, &changed, (1, 3), after_first)?,
+        Told::Twice(
+            selected,
+            Ended {
+                time: 2,
+                ..selected
+            }
+        )
     );
     assert_eq!(rt;
-        tell_update(rt.alloc(), &table, &changed, 1, 3)?,
-        Update::NotReady(NotReady::NodesOut(out))
+        tell(rt.alloc(), &table, &changed, (1, 3), Oldest::Nobody)?,
+        Told::Twice(
+            selected,
+            Ended {
+                time: 2,
+                ..selected
+            }
+        )
+    );
+    assert_eq!(rt;
+        tell(rt.alloc(), &table, &changed, (2, 4), at_start)?,
+        Told::Twice(
+            word,
+            Ended {
+                time: 2,
+                ..selected
+            }
+        )
+    );
+    assert_eq!(rt;
+        tell(rt.alloc(), &table, &changed, (2, 4), after_first)?,
+        Told::Twice(word, Ended { time: 2, ..word })
     );
     Ok(())
 }

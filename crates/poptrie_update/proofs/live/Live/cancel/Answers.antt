@@ -1,22 +1,34 @@
-use Rattle.std.proofs.Common.{◌≡◌, ◌∙◌, sym, ap, subst, arith}
-use Rattle.block_pool.specs.Blocks.{Gives}
-use Rattle.poptrie_update.specs.Lives.{Living, Shows}
+use Rattle.std.proofs.Common.{◌≡◌, false, sym, ap, ◌∙◌, subst}
+use Rattle.poptrie_update.specs.Lives.{Living, Shows, is_selecting}
 use Rattle.poptrie_update.specs.Fits.{Fits}
-use Rattle.poptrie_update.proofs.Steps.{at_its_cancel}
-use Rattle.poptrie_update.proofs.Lived.{cancel_is, cancel_step}
-use Rattle.poptrie_update.proofs.Fitting.{cancel_fits}
+use Rattle.poptrie_update.specs.Pendings.{IsTokenBy, IsSelectorOf}
+use Rattle.poptrie_update.specs.declared.live.Other.{Other}
+use Rattle.poptrie_update.specs.declared.live.Other.TheVariants as other
+use Rattle.poptrie_update.specs.declared.pending.Stores.{Stores}
+use Rattle.poptrie_update.proofs.Pair.{words_shown, shown_words, fits_selected, fits_freed, is_built}
 use Rattle.poptrie_update.proofs.live.Live.cancel.Goals as goal
+use Rattle.poptrie_update.proofs.live.Live.cancel.Goals.{in-Ok, in-Err}
 
-pub returns-clause-shows : goal.returns-clause-shows
-returns-clause-shows c = λ L M sh.
-    let z : c.self.inside.made ≡ 0 = omega arith in
-    let is = cancel_is c.self.inside.family c.self.inside.direct_bits c.self.inside.words.items c.self.inside.nodes c.self.inside.leaves c.self.inside.node_blocks c.self.inside.leaf_blocks c.cancel.new.self c.cancel-2.new.self c.self.inside.pending c.self.inside.stores.items c.clear.new.self.items c.self.inside.made c.cancel.new.arena c.cancel-2.new.arena c.cancel.ensures.cancelled c.cancel-2.ensures.cancelled c.clear.ensures.items z ∙ ap (λ (l : Living). at_its_cancel l c.cancel.new.arena c.cancel-2.new.arena) c.self.view_is in
-    subst (λ (l : Living). Shows l L L) (sym is)
-    (cancel_step c.args.self.now c.cancel.new.arena c.cancel-2.new.arena (subst (λ (l : Living). l.made ≡ 0) c.self.view_is z) (subst (λ (l : Living). Gives l.nodes.taken l.nodes.space c.cancel.new.arena) c.self.view_is c.cancel.ensures.gives) (subst (λ (l : Living). Gives l.leaves.taken l.leaves.space c.cancel-2.new.arena) c.self.view_is c.cancel-2.ensures.gives) L M sh)
+pub returns-after-cancel-clause-shows : goal.returns-after-cancel-clause-shows
+returns-after-cancel-clause-shows c =
+    let token = subst (λ (x : Stores). IsTokenBy x c.args.self.now) c.in-Words.is c.requires in
+    let words : is_selecting c.self.inside.state ≡ false = ap (λ (l : Living). is_selecting l.state) c.self.view_is ∙ token.1 in
+    elim c.match-cancel.branch [
+      | in-Ok w ↦ rw w.result-is (λ L M sh. shown_words c.self.inside.state c.cancel.new.self c.self.inside.other L L words (w.in-Ok.ensures.shows L M (words_shown c.self.inside.state c.self.inside.selected c.self.inside.other L M words (subst (λ (l : Living). Shows l L M) (sym c.self.view_is) sh))))
+      | in-Err w ↦ rw w.result-is tt
+    ]
 
-pub returns-clause-fits : goal.returns-clause-fits
-returns-clause-fits c = λ os f.
-    let z : c.self.inside.made ≡ 0 = omega arith in
-    let is = cancel_is c.self.inside.family c.self.inside.direct_bits c.self.inside.words.items c.self.inside.nodes c.self.inside.leaves c.self.inside.node_blocks c.self.inside.leaf_blocks c.cancel.new.self c.cancel-2.new.self c.self.inside.pending c.self.inside.stores.items c.clear.new.self.items c.self.inside.made c.cancel.new.arena c.cancel-2.new.arena c.cancel.ensures.cancelled c.cancel-2.ensures.cancelled c.clear.ensures.items z ∙ ap (λ (l : Living). at_its_cancel l c.cancel.new.arena c.cancel-2.new.arena) c.self.view_is in
-    subst (λ (l : Living). Fits l os) (sym is)
-    (cancel_fits c.args.self.now os f c.cancel.new.arena c.cancel-2.new.arena (subst (λ (l : Living). l.made ≡ 0) c.self.view_is z) (subst (λ (l : Living). Gives l.nodes.taken l.nodes.space c.cancel.new.arena) c.self.view_is c.cancel.ensures.gives) (subst (λ (l : Living). Gives l.leaves.taken l.leaves.space c.cancel-2.new.arena) c.self.view_is c.cancel-2.ensures.gives))
+pub returns-after-cancel-clause-fits : goal.returns-after-cancel-clause-fits
+returns-after-cancel-clause-fits c = elim c.match-cancel.branch [
+  | in-Ok w ↦ rw w.result-is (λ os f. fits_selected c.self.inside.selected c.cancel.new.self c.self.inside.other c.self.inside.state c.self.inside.number w.in-Ok.ensures.fits os (subst (λ (l : Living). Fits l os) (sym c.self.view_is) f))
+  | in-Err w ↦ rw w.result-is tt
+]
+
+pub returns-else-stored-clause-fits : goal.returns-else-stored-clause-fits
+returns-else-stored-clause-fits c = λ os f.
+    let s = c.self.inside.selected in
+    let o = c.self.inside.other in
+    let n = c.self.inside.number in
+    let token : IsSelectorOf c.in-Selector.stored c.self.inside.state = subst (λ (x : Stores). IsTokenBy x (record { selected = s; other = o; state = c.self.inside.state; number = n })) c.in-Selector.is (subst (λ (l : Living). IsTokenBy c.args.pending.stores l) (sym c.self.view_is) c.requires) in
+    let built : c.self.inside.state ≡ other.Built = is_built c.in-Selector.stored c.self.inside.state token c.if-stored.false in
+    fits_freed s o c.clear.new.self n os (subst (λ (x : Other). Fits (record { selected = s; other = o; state = x; number = n }) os) built (subst (λ (l : Living). Fits l os) (sym c.self.view_is) f))

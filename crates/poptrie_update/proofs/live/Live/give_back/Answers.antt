@@ -1,36 +1,43 @@
-use Rattle.std.proofs.Common.{◌≡◌, ◌∙◌, ◌≤◌, sym, ap, subst, false}
-use Rattle.std.specs.List.{AllByRecursion}
-use Rattle.poptrie_update.specs.Lives.{Living, Shows}
-use Rattle.poptrie_update.specs.Fits.{Open, Fits, until}
-use Rattle.poptrie_update.specs.Past.{Past}
-use Rattle.poptrie_update.specs.declared.live.Oldest.{Oldest}
-use Rattle.poptrie_update.proofs.Lived.{seen_as}
-use Rattle.poptrie_update.proofs.Fitting.{release_fits}
-use Rattle.poptrie_update.proofs.Quiet.{release_is, release_shows, release_past, since_all}
+use Rattle.std.proofs.Common.{◌≡◌, ◌≤◌, Bool, true, cond, sym, ap, ◌∙◌, subst, arith}
+use Rattle.poptrie_set.specs.Fits.{until}
+use Rattle.poptrie_set.specs.declared.trie_set.Oldest.{Oldest}
+use Rattle.poptrie_update.specs.Lives.{Living, Shows, Past, is_pending, freed}
+use Rattle.poptrie_set.specs.Lives.{HasSizesOf}
+use Rattle.poptrie_set.specs.Prepares.{GaveBack}
+use Rattle.poptrie_update.specs.Fits.{Fits}
+use Rattle.poptrie_update.specs.declared.live.Other.{Other}
+use Rattle.poptrie_update.proofs.Pair.{fits_given, fits_other_given, freed_same, quiet_words, words_shown, shown_words}
 use Rattle.poptrie_update.proofs.live.Live.give_back.Goals as goal
 use Rattle.poptrie_update.proofs.live.Live.give_back.Goals.{in-Nobody, in-Started}
 
-pub returns-clause-shows : goal.returns-clause-shows
-returns-clause-shows c = λ L M sh.
-    let none : c.self.inside.pending ≡ false = subst (λ (l : Living). l.pending ≡ false) (sym c.self.view_is) c.requires in
-    let q = c.self.invariant.quiet none in
-    subst (λ (l : Living). Shows l L M) (sym (release_is c.self.inside.family c.self.inside.direct_bits c.self.inside.words.items c.self.inside.nodes c.release.new.arena c.self.inside.leaves c.release-2.new.arena c.self.inside.node_blocks c.self.inside.leaf_blocks c.release.new.self c.release-2.new.self c.self.inside.pending c.self.inside.stores.items c.self.inside.made c.match-oldest.since c.release.ensures.released c.release-2.ensures.released q.nodes_taken q.nodes_replaced q.leaves_taken q.leaves_replaced))
-    (release_shows (seen_as c.self.inside.family c.self.inside.direct_bits c.self.inside.words.items c.self.inside.nodes c.self.inside.leaves c.self.inside.node_blocks c.self.inside.leaf_blocks c.self.inside.pending c.self.inside.stores.items c.self.inside.made) c.release.new.arena c.release-2.new.arena c.match-oldest.since q.nodes_taken q.nodes_replaced q.leaves_taken q.leaves_replaced c.release.ensures.first c.release-2.ensures.first c.release.ensures.gives c.release-2.ensures.gives L M (subst (λ (l : Living). Shows l L M) (sym c.self.view_is) sh))
-
-pub returns-clause-fits : goal.returns-clause-fits
-returns-clause-fits c = λ os o f.
-    let none : c.self.inside.pending ≡ false = subst (λ (l : Living). l.pending ≡ false) (sym c.self.view_is) c.requires in
-    let q = c.self.invariant.quiet none in
-    let e : until c.args.oldest c.self.inside.node_blocks.time ≡ c.match-oldest.since = elim c.match-oldest.branch [
-      | in-Nobody w ↦ ap (λ (o : Oldest). until o c.self.inside.node_blocks.time) w.in-Nobody.is ∙ sym (w.since-is ∙ w.time-since.ensures)
-      | in-Started w ↦ ap (λ (o : Oldest). until o c.self.inside.node_blocks.time) w.in-Started.is ∙ sym w.since-is
+pub returns-then-end-since-clause-fits : goal.returns-then-end-since-clause-fits
+returns-then-end-since-clause-fits c = λ os who f.
+    let e : until c.args.oldest c.self.inside.selected.time ≡ c.match-oldest.since = elim c.match-oldest.branch [
+      | in-Nobody w ↦ ap (λ (o : Oldest). until o c.self.inside.selected.time) w.in-Nobody.is ∙ sym (w.since-is ∙ (w.time-since.ensures ∙ c.give_back.ensures.kept.2))
+      | in-Started w ↦ ap (λ (o : Oldest). until o c.self.inside.selected.time) w.in-Started.is ∙ sym w.since-is
     ] in
-    subst (λ (l : Living). Fits l os) (sym (release_is c.self.inside.family c.self.inside.direct_bits c.self.inside.words.items c.self.inside.nodes c.release.new.arena c.self.inside.leaves c.release-2.new.arena c.self.inside.node_blocks c.self.inside.leaf_blocks c.release.new.self c.release-2.new.self c.self.inside.pending c.self.inside.stores.items c.self.inside.made c.match-oldest.since c.release.ensures.released c.release-2.ensures.released q.nodes_taken q.nodes_replaced q.leaves_taken q.leaves_replaced))
-    (release_fits (seen_as c.self.inside.family c.self.inside.direct_bits c.self.inside.words.items c.self.inside.nodes c.self.inside.leaves c.self.inside.node_blocks c.self.inside.leaf_blocks c.self.inside.pending c.self.inside.stores.items c.self.inside.made) os (subst (λ (l : Living). Fits l os) (sym c.self.view_is) f) c.release.new.arena c.release-2.new.arena c.match-oldest.since (subst (λ s. AllByRecursion (λ (x : Open). s ≤ x.since) os) e (since_all c.args.oldest os c.self.inside.node_blocks.time o)) q.nodes_taken q.leaves_taken c.release.ensures.gives c.release-2.ensures.gives)
+    let low : c.in-Retired.end ≤ until c.args.oldest c.self.inside.selected.time = omega (arith, c.if-end-since.true, e) in
+    fits_other_given c.self.inside.selected c.give_back.new.self c.self.inside.other c.clear.new.self c.self.inside.number c.args.oldest c.self.inside.selected.time c.in-Retired.end low c.give_back.ensures.fits os who
+    (subst (λ (x : Other). Fits (record { selected = c.self.inside.selected; other = c.self.inside.other; state = x; number = c.self.inside.number }) os) c.in-Retired.is (subst (λ (l : Living). Fits l os) (sym c.self.view_is) f))
 
-pub returns-clause-past : goal.returns-clause-past
-returns-clause-past c = λ ns ls p.
-    let none : c.self.inside.pending ≡ false = subst (λ (l : Living). l.pending ≡ false) (sym c.self.view_is) c.requires in
-    let q = c.self.invariant.quiet none in
-    subst (λ (l : Living). Past l ns ls) (sym (release_is c.self.inside.family c.self.inside.direct_bits c.self.inside.words.items c.self.inside.nodes c.release.new.arena c.self.inside.leaves c.release-2.new.arena c.self.inside.node_blocks c.self.inside.leaf_blocks c.release.new.self c.release-2.new.self c.self.inside.pending c.self.inside.stores.items c.self.inside.made c.match-oldest.since c.release.ensures.released c.release-2.ensures.released q.nodes_taken q.nodes_replaced q.leaves_taken q.leaves_replaced))
-    (release_past (seen_as c.self.inside.family c.self.inside.direct_bits c.self.inside.words.items c.self.inside.nodes c.self.inside.leaves c.self.inside.node_blocks c.self.inside.leaf_blocks c.self.inside.pending c.self.inside.stores.items c.self.inside.made) c.release.new.arena c.release-2.new.arena c.match-oldest.since ns ls (subst (λ (l : Living). Past l ns ls) (sym c.self.view_is) p))
+pub returns-else-end-since-clause-fits : goal.returns-else-end-since-clause-fits
+returns-else-end-since-clause-fits c = λ os who f. fits_given c.self.inside.selected c.give_back.new.self c.self.inside.other c.self.inside.other c.self.inside.number c.args.oldest c.self.inside.state c.give_back.ensures.fits os who (subst (λ (l : Living). Fits l os) (sym c.self.view_is) f)
+
+pub returns-in_default : goal.returns-in_default
+returns-in_default c =
+    let s = c.self.inside.selected in
+    let t = c.give_back.new.self in
+    let o = c.self.inside.other in
+    let state = c.self.inside.state in
+    let words = quiet_words state s.pending (ap is_pending c.self.view_is ∙ c.requires) in
+    record {
+      shape = subst (λ (l : Living). HasSizesOf l.selected t) c.self.view_is c.give_back.ensures.shape;
+      kept = subst (λ (l : Living). (t.words ≡ l.selected.words) × (t.time ≡ l.selected.time)) c.self.view_is (c.give_back.ensures.kept.0, c.give_back.ensures.kept.2);
+      quiet = ap (λ (b : Bool). cond b true t.pending) words.0 ∙ c.give_back.ensures.kept.1;
+      other = subst (λ (l : Living). state ≡ freed (until c.args.oldest l.selected.time) l.state) c.self.view_is (freed_same (until c.args.oldest s.time) state c.in_default.not-Retired);
+      given = subst (λ (l : Living). GaveBack (until c.args.oldest l.selected.time) l.selected t.nodes.space t.leaves.space) c.self.view_is c.give_back.ensures.given;
+      all = λ e. (c.give_back.ensures.all e, c.in_default.not-Retired);
+      shows = λ L M sh. shown_words state t o L M words.0 (c.give_back.ensures.shows L M (words_shown state s o L M words.0 (subst (λ (l : Living). Shows l L M) (sym c.self.view_is) sh)));
+      fits = λ os who f. fits_given s t o o c.self.inside.number c.args.oldest state c.give_back.ensures.fits os who (subst (λ (l : Living). Fits l os) (sym c.self.view_is) f);
+      past = λ ns ls p. c.give_back.ensures.past ns ls (subst (λ (l : Living). Past l ns ls) (sym c.self.view_is) p);
+    }

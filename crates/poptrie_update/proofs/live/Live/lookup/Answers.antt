@@ -1,40 +1,20 @@
-use Rattle.std.proofs.Common.{rules, ◌+◌, ◌<◌, ◌≤◌, subst, arith}
-use Rattle.poptrie_update.specs.Lives.{Living}
-use Rattle.poptrie_update.specs.First.{published}
-use Rattle.poptrie_update.specs.declared.reading.At.{At}
-use Rattle.poptrie_update.proofs.On_way.{OnWay, Way, way_starts, way_leads, way_few, way_can}
+use Rattle.std.proofs.Common.{◌≡◌, sym, subst}
+use Rattle.fib_addr.specs.Views.{addr_as}
+use Rattle.table_model.specs.Entries.{Entries, match_in}
+use Rattle.poptrie_build.specs.Tries.{visits_of}
+use Rattle.poptrie_update.specs.Lives.{Living, Shows}
+use Rattle.poptrie_update.specs.Reads.{published}
+use Rattle.poptrie_update.proofs.Pair.{by_published}
 use Rattle.poptrie_update.proofs.live.Live.lookup.Goals as goal
 
-pub walk-init : goal.walk-init
-walk-init g c = (omega arith, λ E F sh. way_starts c.first-at.result c.args.self.now (published c.args.self.now E F c.args.addr.now) c.args.addr.now (c.first-at.ensures E F sh))
+pub returns-clause-hop : goal.returns-clause-hop
+returns-clause-hop g c = λ L M sh.
+    let l : Living = record { selected = c.self.inside.selected; other = c.self.inside.other; state = c.self.inside.state; number = c.self.inside.number } in
+    subst (λ (x : Living). c.lookup.result.hop.0 ≡ match_in (published x L M c.args.addr.now) (addr_as c.args.addr.now)) c.self.view_is
+    (by_published (λ (E : Entries). c.lookup.result.hop.0 ≡ match_in E (addr_as c.args.addr.now)) l.state l.selected l.other c.args.addr.now c.lookup.ensures.hop L M (subst (λ (x : Living). Shows x L M) (sym c.self.view_is) sh))
 
-pub overflow_add-visits : goal.overflow_add-visits
-overflow_add-visits g c =
-    let way : Way c.args.self.now (published c.args.self.now c.requires.showing.0 c.requires.showing.1 c.args.addr.now) c.args.addr.now c.in-Node.node c.in-Node.stride c.walk.visits = subst (λ (r : At). OnWay r c.args.self.now (published c.args.self.now c.requires.showing.0 c.requires.showing.1 c.args.addr.now) c.args.addr.now c.walk.visits) c.in-Node.is (c.walk.invariant.1 c.requires.showing.0 c.requires.showing.1 c.requires.showing.2) in
-    let few = way_few c.args.self.now (published c.args.self.now c.requires.showing.0 c.requires.showing.1 c.args.addr.now) c.args.addr.now c.in-Node.node c.in-Node.stride c.walk.visits c.requires.family (subst (λ (l : Living). l.direct_bits ≤ 18) c.self.view_is c.self.invariant.few) way in
-    let h : c.walk.visits + 1 < 256 = omega (arith, few.1) in
-    search (rules, h)
-
-pub next-at-requires-clause-stride : goal.next-at-requires-clause-stride
-next-at-requires-clause-stride g c =
-    let way : Way c.args.self.now (published c.args.self.now c.requires.showing.0 c.requires.showing.1 c.args.addr.now) c.args.addr.now c.in-Node.node c.in-Node.stride c.walk.visits = subst (λ (r : At). OnWay r c.args.self.now (published c.args.self.now c.requires.showing.0 c.requires.showing.1 c.args.addr.now) c.args.addr.now c.walk.visits) c.in-Node.is (c.walk.invariant.1 c.requires.showing.0 c.requires.showing.1 c.requires.showing.2) in
-    (way_few c.args.self.now (published c.args.self.now c.requires.showing.0 c.requires.showing.1 c.args.addr.now) c.args.addr.now c.in-Node.node c.in-Node.stride c.walk.visits c.requires.family (subst (λ (l : Living). l.direct_bits ≤ 18) c.self.view_is c.self.invariant.few) way).0
-
-pub next-at-requires-clause-can : goal.next-at-requires-clause-can
-next-at-requires-clause-can g c =
-    let way : Way c.args.self.now (published c.args.self.now c.requires.showing.0 c.requires.showing.1 c.args.addr.now) c.args.addr.now c.in-Node.node c.in-Node.stride c.walk.visits = subst (λ (r : At). OnWay r c.args.self.now (published c.args.self.now c.requires.showing.0 c.requires.showing.1 c.args.addr.now) c.args.addr.now c.walk.visits) c.in-Node.is (c.walk.invariant.1 c.requires.showing.0 c.requires.showing.1 c.requires.showing.2) in
-    way_can c.args.self.now (published c.args.self.now c.requires.showing.0 c.requires.showing.1 c.args.addr.now) c.args.addr.now c.in-Node.node c.in-Node.stride c.walk.visits way
-
-pub walk-smaller : goal.walk-smaller
-walk-smaller g c =
-    let way : Way c.args.self.now (published c.args.self.now c.requires.showing.0 c.requires.showing.1 c.args.addr.now) c.args.addr.now c.in-Node.node c.in-Node.stride c.walk.visits = subst (λ (r : At). OnWay r c.args.self.now (published c.args.self.now c.requires.showing.0 c.requires.showing.1 c.args.addr.now) c.args.addr.now c.walk.visits) c.in-Node.is (c.walk.invariant.1 c.requires.showing.0 c.requires.showing.1 c.requires.showing.2) in
-    let few = way_few c.args.self.now (published c.args.self.now c.requires.showing.0 c.requires.showing.1 c.args.addr.now) c.args.addr.now c.in-Node.node c.in-Node.stride c.walk.visits c.requires.family (subst (λ (l : Living). l.direct_bits ≤ 18) c.self.view_is c.self.invariant.few) way in
-    omega (arith, few.1)
-
-pub walk-preserved : goal.walk-preserved
-walk-preserved g c = (
-  omega (arith, c.walk.invariant.0, c.tick.ensures),
-  λ E F sh.
-      let way : Way c.args.self.now (published c.args.self.now E F c.args.addr.now) c.args.addr.now c.in-Node.node c.in-Node.stride c.walk.visits = subst (λ (r : At). OnWay r c.args.self.now (published c.args.self.now E F c.args.addr.now) c.args.addr.now c.walk.visits) c.in-Node.is (c.walk.invariant.1 E F sh) in
-      way_leads c.next-at.result c.args.self.now (published c.args.self.now E F c.args.addr.now) c.args.addr.now c.in-Node.node c.in-Node.stride c.walk.visits (c.walk.visits + 1) way (omega arith) (c.next-at.ensures way.left _ way.N way.L way.reads),
-)
+pub returns-clause-visits : goal.returns-clause-visits
+returns-clause-visits g c = λ L M sh.
+    let l : Living = record { selected = c.self.inside.selected; other = c.self.inside.other; state = c.self.inside.state; number = c.self.inside.number } in
+    subst (λ (x : Living). c.lookup.result.visits ≡ visits_of x.selected.direct_bits (published x L M c.args.addr.now) (addr_as c.args.addr.now)) c.self.view_is
+    (by_published (λ (E : Entries). c.lookup.result.visits ≡ visits_of l.selected.direct_bits E (addr_as c.args.addr.now)) l.state l.selected l.other c.args.addr.now c.lookup.ensures.visits L M (subst (λ (x : Living). Shows x L M) (sym c.self.view_is) sh))

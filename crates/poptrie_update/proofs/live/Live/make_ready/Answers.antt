@@ -1,143 +1,70 @@
-use Rattle.std.proofs.Common.{◌≡◌, ℕ, List, true, false, ◌-◌, sym, ap, ◌∙◌, subst}
-use Rattle.address_model.specs.Width.{width}
-use Rattle.block_pool.specs.Places.{is_out}
-use Rattle.block_pool.specs.Blocks.{blocks_of}
-use Rattle.block_pool.proofs.Parting.{part_right}
-use Rattle.fib_addr.specs.Views.{prefix_as}
+use Rattle.std.proofs.Common.{◌≡◌, ◌∙◌, false, sym, ap, subst}
+use Rattle.address_model.specs.declared.family.Family.{Family}
 use Rattle.fib_regions.specs.Answers.{all_answers}
-use Rattle.poptrie_build.specs.Tries.{rest}
-use Rattle.poptrie_update.specs.Lives.{Living, Shows, stores_of}
+use Rattle.poptrie_set.specs.Lives.{Seen, ShowsIn}
+use Rattle.poptrie_set.proofs.Ready.{err_map, if_err_map, both_ok}
+use Rattle.poptrie_update.specs.Lives.{Living, Shows, ShowsBy, is_selecting, is_pending, made_of}
 use Rattle.poptrie_update.specs.Fits.{Fits}
-use Rattle.poptrie_update.specs.Prepares.{StoresChanges, AsksRun, AsksRunOut}
-use Rattle.poptrie_update.proofs.Lived.{seen_as}
-use Rattle.poptrie_update.proofs.Ready.{agree_beside, words_are, Renewed, ready_is, ready_fits, ready_held, ready_asks, ready_shows, ready_changes, ready_kept, back_shows, back_fits, back_kept, refused_reason}
-use Rattle.poptrie_update.proofs.Prepared.{quiet_version}
-use Rattle.poptrie_copy.specs.Words.{IsWord}
-use Rattle.std.specs.Prelude.{slice_index}
-use Rattle.poptrie_update.specs.Renewals.{MeetsNotRenewal}
+use Rattle.poptrie_update.specs.Pendings.{IsTokenOf}
+use Rattle.poptrie_update.specs.Prepares.{IsBeside, IsNotBeside, IsShort}
+use Rattle.poptrie_update.specs.declared.live.Other.{Other}
+use Rattle.poptrie_update.specs.declared.pending.Stores.{Stores}
+use Rattle.poptrie_update.proofs.Pair.{fits_selected, quiet_words, words_shown, shown_words}
+use Rattle.poptrie_update.proofs.Rebuilt.{if_ok_both, if_ok_all, selector_token, run_out_moved, short_moved, not_beside_moved, back_sizes}
 use Rattle.poptrie_update.proofs.live.Live.make_ready.Goals as goal
 
-pub returns-in-Ok-clause-shows : goal.returns-in-Ok-clause-shows
-returns-in-Ok-clause-shows g c =
-    λ L M sh0 e0 agree0.
-    let none : c.self.inside.pending ≡ false = subst (λ (l : Living). l.pending ≡ false) (sym c.self.view_is) c.requires.quiet in
-    let q = c.self.invariant.quiet none in
-    let d = g.R.Region.bits c.args.region.now - c.self.inside.direct_bits in
-    let wide : g.R.Region.bits c.args.region.now ≡ width c.self.inside.family = c.requires.bits ∙ ap (λ (l : Living). width l.family) (sym c.self.view_is) in
-    let ed : d ≡ rest c.self.inside.family c.self.inside.direct_bits = ap (λ n. n - c.self.inside.direct_bits) wide in
-    let sh : Shows (seen_as c.self.inside.family c.self.inside.direct_bits c.self.inside.words.items c.self.inside.nodes c.self.inside.leaves c.self.inside.node_blocks c.self.inside.leaf_blocks c.self.inside.pending c.self.inside.stores.items c.self.inside.made) L L = subst (λ (l : Living). Shows l L L) (sym c.self.view_is) sh0 in
-    let e : g.R.Region.answers c.args.region.now ≡ all_answers c.self.inside.family M = e0 ∙ ap (λ (l : Living). all_answers l.family M) (sym c.self.view_is) in
-    let family : (prefix_as c.args.prefix.now).family ≡ c.self.inside.family = c.requires.family ∙ ap (λ (l : Living). l.family) (sym c.self.view_is) in
-    let agree = agree_beside c.self.inside.family c.self.inside.direct_bits (prefix_as c.args.prefix.now) L M family c.self.invariant.few agree0 in
-    let r = subst (λ (w : List ℕ). Renewed c.self.inside.nodes c.renew_or_undo-made.new.nodes c.self.inside.node_blocks c.renew_or_undo-made.new.node_blocks c.self.inside.leaves c.renew_or_undo-made.new.leaves c.self.inside.leaf_blocks c.renew_or_undo-made.new.leaf_blocks w c.renew_or_undo-made.new.stores.items (prefix_as c.args.prefix.now).bits c.self.inside.direct_bits d (g.R.Region.answers c.args.region.now)) c.deref.ensures.value (record { stores = c.in-Ok.ensures.stores; renews = c.in-Ok.ensures.renews; aside = c.in-Ok.ensures.aside; kept = c.in-Ok.ensures.kept; met = c.in-Ok.ensures.met }) in
-    let is = ready_is c.self.inside.family c.self.inside.direct_bits c.self.inside.words.items c.self.inside.nodes c.renew_or_undo-made.new.nodes c.self.inside.leaves c.renew_or_undo-made.new.leaves c.self.inside.node_blocks c.renew_or_undo-made.new.node_blocks c.self.inside.leaf_blocks c.renew_or_undo-made.new.leaf_blocks c.self.inside.pending c.self.inside.stores.items c.renew_or_undo-made.new.stores.items c.self.inside.made c.in-Ok.ensures.nodes.retired c.in-Ok.ensures.leaves.retired c.in-Ok.ensures.nodes.time q.none_made in
-    subst (λ (l : Living). Shows l L M) (sym is)
-    (ready_shows c.self.inside.family c.self.inside.direct_bits c.self.inside.words.items c.self.inside.nodes c.renew_or_undo-made.new.nodes c.self.inside.leaves c.renew_or_undo-made.new.leaves c.self.inside.node_blocks c.renew_or_undo-made.new.node_blocks c.self.inside.leaf_blocks c.renew_or_undo-made.new.leaf_blocks c.self.inside.pending c.self.inside.stores.items c.renew_or_undo-made.new.stores.items c.self.inside.made c.in-Ok.ensures.nodes c.in-Ok.ensures.leaves q d ed (g.R.Region.answers c.args.region.now) (prefix_as c.args.prefix.now).bits L M sh e agree r.met r.stores r.renews)
-
-pub returns-in-Ok-clause-changes : goal.returns-in-Ok-clause-changes
-returns-in-Ok-clause-changes g c =
-    λ L M sh0 e0 agree0.
-    let none : c.self.inside.pending ≡ false = subst (λ (l : Living). l.pending ≡ false) (sym c.self.view_is) c.requires.quiet in
-    let q = c.self.invariant.quiet none in
-    let d = g.R.Region.bits c.args.region.now - c.self.inside.direct_bits in
-    let wide : g.R.Region.bits c.args.region.now ≡ width c.self.inside.family = c.requires.bits ∙ ap (λ (l : Living). width l.family) (sym c.self.view_is) in
-    let ed : d ≡ rest c.self.inside.family c.self.inside.direct_bits = ap (λ n. n - c.self.inside.direct_bits) wide in
-    let sh : Shows (seen_as c.self.inside.family c.self.inside.direct_bits c.self.inside.words.items c.self.inside.nodes c.self.inside.leaves c.self.inside.node_blocks c.self.inside.leaf_blocks c.self.inside.pending c.self.inside.stores.items c.self.inside.made) L L = subst (λ (l : Living). Shows l L L) (sym c.self.view_is) sh0 in
-    let e : g.R.Region.answers c.args.region.now ≡ all_answers c.self.inside.family M = e0 ∙ ap (λ (l : Living). all_answers l.family M) (sym c.self.view_is) in
-    let family : (prefix_as c.args.prefix.now).family ≡ c.self.inside.family = c.requires.family ∙ ap (λ (l : Living). l.family) (sym c.self.view_is) in
-    let agree = agree_beside c.self.inside.family c.self.inside.direct_bits (prefix_as c.args.prefix.now) L M family c.self.invariant.few agree0 in
-    let r = subst (λ (w : List ℕ). Renewed c.self.inside.nodes c.renew_or_undo-made.new.nodes c.self.inside.node_blocks c.renew_or_undo-made.new.node_blocks c.self.inside.leaves c.renew_or_undo-made.new.leaves c.self.inside.leaf_blocks c.renew_or_undo-made.new.leaf_blocks w c.renew_or_undo-made.new.stores.items (prefix_as c.args.prefix.now).bits c.self.inside.direct_bits d (g.R.Region.answers c.args.region.now)) c.deref.ensures.value (record { stores = c.in-Ok.ensures.stores; renews = c.in-Ok.ensures.renews; aside = c.in-Ok.ensures.aside; kept = c.in-Ok.ensures.kept; met = c.in-Ok.ensures.met }) in
-    subst (λ (l : Living). StoresChanges l.family l.direct_bits L M (stores_of c.renew_or_undo-made.new.stores.items)) c.self.view_is
-    (ready_changes c.self.inside.family c.self.inside.direct_bits c.self.inside.words.items c.self.inside.nodes c.renew_or_undo-made.new.nodes c.self.inside.leaves c.renew_or_undo-made.new.leaves c.self.inside.node_blocks c.renew_or_undo-made.new.node_blocks c.self.inside.leaf_blocks c.renew_or_undo-made.new.leaf_blocks c.self.inside.pending c.self.inside.stores.items c.renew_or_undo-made.new.stores.items c.self.inside.made c.in-Ok.ensures.nodes c.in-Ok.ensures.leaves q d ed (g.R.Region.answers c.args.region.now) (prefix_as c.args.prefix.now).bits L M sh e agree r.met c.self.invariant.few r.stores r.renews r.kept)
-
-pub returns-in-Ok-clause-asks : goal.returns-in-Ok-clause-asks
-returns-in-Ok-clause-asks g c =
-    λ L M sh0 e0 agree0.
-    let none : c.self.inside.pending ≡ false = subst (λ (l : Living). l.pending ≡ false) (sym c.self.view_is) c.requires.quiet in
-    let q = c.self.invariant.quiet none in
-    let d = g.R.Region.bits c.args.region.now - c.self.inside.direct_bits in
-    let wide : g.R.Region.bits c.args.region.now ≡ width c.self.inside.family = c.requires.bits ∙ ap (λ (l : Living). width l.family) (sym c.self.view_is) in
-    let ed : d ≡ rest c.self.inside.family c.self.inside.direct_bits = ap (λ n. n - c.self.inside.direct_bits) wide in
-    let sh : Shows (seen_as c.self.inside.family c.self.inside.direct_bits c.self.inside.words.items c.self.inside.nodes c.self.inside.leaves c.self.inside.node_blocks c.self.inside.leaf_blocks c.self.inside.pending c.self.inside.stores.items c.self.inside.made) L L = subst (λ (l : Living). Shows l L L) (sym c.self.view_is) sh0 in
-    let e : g.R.Region.answers c.args.region.now ≡ all_answers c.self.inside.family M = e0 ∙ ap (λ (l : Living). all_answers l.family M) (sym c.self.view_is) in
-    let family : (prefix_as c.args.prefix.now).family ≡ c.self.inside.family = c.requires.family ∙ ap (λ (l : Living). l.family) (sym c.self.view_is) in
-    let agree = agree_beside c.self.inside.family c.self.inside.direct_bits (prefix_as c.args.prefix.now) L M family c.self.invariant.few agree0 in
-    let r = subst (λ (w : List ℕ). Renewed c.self.inside.nodes c.renew_or_undo-made.new.nodes c.self.inside.node_blocks c.renew_or_undo-made.new.node_blocks c.self.inside.leaves c.renew_or_undo-made.new.leaves c.self.inside.leaf_blocks c.renew_or_undo-made.new.leaf_blocks w c.renew_or_undo-made.new.stores.items (prefix_as c.args.prefix.now).bits c.self.inside.direct_bits d (g.R.Region.answers c.args.region.now)) c.deref.ensures.value (record { stores = c.in-Ok.ensures.stores; renews = c.in-Ok.ensures.renews; aside = c.in-Ok.ensures.aside; kept = c.in-Ok.ensures.kept; met = c.in-Ok.ensures.met }) in
-    let is = ready_is c.self.inside.family c.self.inside.direct_bits c.self.inside.words.items c.self.inside.nodes c.renew_or_undo-made.new.nodes c.self.inside.leaves c.renew_or_undo-made.new.leaves c.self.inside.node_blocks c.renew_or_undo-made.new.node_blocks c.self.inside.leaf_blocks c.renew_or_undo-made.new.leaf_blocks c.self.inside.pending c.self.inside.stores.items c.renew_or_undo-made.new.stores.items c.self.inside.made c.in-Ok.ensures.nodes.retired c.in-Ok.ensures.leaves.retired c.in-Ok.ensures.nodes.time q.none_made in
-    subst (λ (l : Living). AsksRun c.args.self.now l L M) (sym is)
-    (subst (λ (l : Living). AsksRun l (seen_as c.self.inside.family c.self.inside.direct_bits c.self.inside.words.items c.renew_or_undo-made.new.nodes c.renew_or_undo-made.new.leaves c.renew_or_undo-made.new.node_blocks c.renew_or_undo-made.new.leaf_blocks true c.renew_or_undo-made.new.stores.items c.self.inside.made) L M) c.self.view_is
-    (ready_asks c.self.inside.family c.self.inside.direct_bits c.self.inside.words.items c.self.inside.nodes c.renew_or_undo-made.new.nodes c.self.inside.leaves c.renew_or_undo-made.new.leaves c.self.inside.node_blocks c.renew_or_undo-made.new.node_blocks c.self.inside.leaf_blocks c.renew_or_undo-made.new.leaf_blocks c.self.inside.pending c.self.inside.stores.items c.renew_or_undo-made.new.stores.items c.self.inside.made c.in-Ok.ensures.nodes c.in-Ok.ensures.leaves q d ed (g.R.Region.answers c.args.region.now) (prefix_as c.args.prefix.now).bits L M sh e agree r.met))
-
 pub returns-in-Ok-clause-fits : goal.returns-in-Ok-clause-fits
-returns-in-Ok-clause-fits g c =
-    λ os fits0.
-    let none : c.self.inside.pending ≡ false = subst (λ (l : Living). l.pending ≡ false) (sym c.self.view_is) c.requires.quiet in
-    let q = c.self.invariant.quiet none in
-    let is = ready_is c.self.inside.family c.self.inside.direct_bits c.self.inside.words.items c.self.inside.nodes c.renew_or_undo-made.new.nodes c.self.inside.leaves c.renew_or_undo-made.new.leaves c.self.inside.node_blocks c.renew_or_undo-made.new.node_blocks c.self.inside.leaf_blocks c.renew_or_undo-made.new.leaf_blocks c.self.inside.pending c.self.inside.stores.items c.renew_or_undo-made.new.stores.items c.self.inside.made c.in-Ok.ensures.nodes.retired c.in-Ok.ensures.leaves.retired c.in-Ok.ensures.nodes.time q.none_made in
-    subst (λ (l : Living). Fits l os) (sym is) (ready_fits c.self.inside.family c.self.inside.direct_bits c.self.inside.words.items c.self.inside.nodes c.renew_or_undo-made.new.nodes c.self.inside.leaves c.renew_or_undo-made.new.leaves c.self.inside.node_blocks c.renew_or_undo-made.new.node_blocks c.self.inside.leaf_blocks c.renew_or_undo-made.new.leaf_blocks c.self.inside.pending c.self.inside.stores.items c.renew_or_undo-made.new.stores.items c.self.inside.made c.in-Ok.ensures.nodes c.in-Ok.ensures.leaves q os (subst (λ (l : Living). Fits l os) (sym c.self.view_is) fits0))
+returns-in-Ok-clause-fits g c = λ os f. fits_selected c.self.inside.selected c.prepare.new.self c.self.inside.other c.self.inside.state c.self.inside.number c.prepare.ensures.fits os (subst (λ (l : Living). Fits l os) (sym c.self.view_is) f)
 
-pub returns-in-Err-clause-still : goal.returns-in-Err-clause-still
-returns-in-Err-clause-still g c =
-    λ L M sh0.
-    let none : c.self.inside.pending ≡ false = subst (λ (l : Living). l.pending ≡ false) (sym c.self.view_is) c.requires.quiet in
-    let q = c.self.invariant.quiet none in
-    back_shows c.self.inside.family c.self.inside.direct_bits c.self.inside.words.items c.self.inside.nodes c.renew_or_undo-made.new.nodes c.self.inside.leaves c.renew_or_undo-made.new.leaves c.self.inside.node_blocks c.renew_or_undo-made.new.node_blocks c.self.inside.leaf_blocks c.renew_or_undo-made.new.leaf_blocks c.self.inside.pending c.self.inside.stores.items c.renew_or_undo-made.new.stores.items c.self.inside.made c.in-Err.ensures.nodes_back.0 c.in-Err.ensures.leaves_back.0 c.in-Err.ensures.nodes_back.1 c.in-Err.ensures.leaves_back.1 (c.in-Err.ensures.no_stores ∙ sym q.no_stores) L M (subst (λ (l : Living). Shows l L M) (sym c.self.view_is) sh0)
+pub returns-in-Err-clause-token : goal.returns-in-Err-clause-token
+returns-in-Err-clause-token g c = if_ok_both c.rebuild.result _ (λ p. IsTokenOf p c.rebuild.new.self × (made_of c.rebuild.new.self ≡ 0)) c.rebuild.ensures.free c.rebuild.ensures.token (λ p a e. selector_token p c.rebuild.new.self e a.1)
 
-pub returns-in-Err-clause-fits : goal.returns-in-Err-clause-fits
-returns-in-Err-clause-fits g c =
-    λ os fits0.
-    let none : c.self.inside.pending ≡ false = subst (λ (l : Living). l.pending ≡ false) (sym c.self.view_is) c.requires.quiet in
-    let q = c.self.invariant.quiet none in
-    back_fits c.self.inside.family c.self.inside.direct_bits c.self.inside.words.items c.self.inside.nodes c.renew_or_undo-made.new.nodes c.self.inside.leaves c.renew_or_undo-made.new.leaves c.self.inside.node_blocks c.renew_or_undo-made.new.node_blocks c.self.inside.leaf_blocks c.renew_or_undo-made.new.leaf_blocks c.self.inside.pending c.self.inside.stores.items c.renew_or_undo-made.new.stores.items c.self.inside.made c.in-Err.ensures.nodes_back.0 c.in-Err.ensures.leaves_back.0 c.in-Err.ensures.nodes_back.1 c.in-Err.ensures.leaves_back.1 (c.in-Err.ensures.no_stores ∙ sym q.no_stores) os (subst (λ (l : Living). Fits l os) (sym c.self.view_is) fits0)
+pub returns-in-Err-clause-shows : goal.returns-in-Err-clause-shows
+returns-in-Err-clause-shows g c =
+    let words : is_selecting c.self.inside.state ≡ false = (quiet_words c.self.inside.state c.self.inside.selected.pending (ap is_pending c.self.view_is ∙ c.requires.quiet)).0 in
+    both_ok c.rebuild.result c.rebuild.ensures.free c.rebuild.ensures.built
+    (λ a built. λ L M sh e agree.
+    let first : ShowsIn c.self.inside.selected L L = words_shown c.self.inside.state c.self.inside.selected c.self.inside.other L L words (subst (λ (l : Living). Shows l L L) (sym c.self.view_is) sh) in
+    let second : ShowsIn c.rebuild.new.self.selected L L = subst (λ (x : Seen). ShowsIn x L L) (sym c.rebuild.ensures.selected) (c.in-Err.ensures.still L L first) in
+    let e2 = e ∙ ap (λ (f : Family). all_answers f M) (ap (λ (l : Living). l.selected.family) (sym c.self.view_is) ∙ sym c.prepare.ensures.shape.0) in
+    subst (λ (x : Other). ShowsBy x c.rebuild.new.self.selected c.rebuild.new.self.other L M) (sym a.1) (second, built M e2))
 
-pub invariant_of-self : goal.invariant_of-self
-invariant_of-self g c =
-    let none : c.self.inside.pending ≡ false = subst (λ (l : Living). l.pending ≡ false) (sym c.self.view_is) c.requires.quiet in
-    let q = c.self.invariant.quiet none in
-    let d = g.R.Region.bits c.args.region.now - c.self.inside.direct_bits in
-    let wide : g.R.Region.bits c.args.region.now ≡ width c.self.inside.family = c.requires.bits ∙ ap (λ (l : Living). width l.family) (sym c.self.view_is) in
-    let ed : d ≡ rest c.self.inside.family c.self.inside.direct_bits = ap (λ n. n - c.self.inside.direct_bits) wide in
-    let r = subst (λ (w : List ℕ). Renewed c.self.inside.nodes c.renew_or_undo-made.new.nodes c.self.inside.node_blocks c.renew_or_undo-made.new.node_blocks c.self.inside.leaves c.renew_or_undo-made.new.leaves c.self.inside.leaf_blocks c.renew_or_undo-made.new.leaf_blocks w c.renew_or_undo-made.new.stores.items (prefix_as c.args.prefix.now).bits c.self.inside.direct_bits d (g.R.Region.answers c.args.region.now)) c.deref.ensures.value (record { stores = c.in-Ok.ensures.stores; renews = c.in-Ok.ensures.renews; aside = c.in-Ok.ensures.aside; kept = c.in-Ok.ensures.kept; met = c.in-Ok.ensures.met }) in
-    let both = c.requires.showing in
-    let sh = subst (λ (l : Living). Shows l both.0 both.1) (sym c.self.view_is) both.2 in
-    ready_kept c.self.inside.family c.self.inside.direct_bits c.self.inside.words.items c.self.inside.nodes c.renew_or_undo-made.new.nodes c.self.inside.leaves c.renew_or_undo-made.new.leaves c.self.inside.node_blocks c.renew_or_undo-made.new.node_blocks c.self.inside.leaf_blocks c.renew_or_undo-made.new.leaf_blocks c.self.inside.pending c.self.inside.stores.items c.renew_or_undo-made.new.stores.items c.self.inside.made c.in-Ok.ensures.nodes c.in-Ok.ensures.leaves q c.self.invariant r.stores
-    (ready_held c.self.inside.family c.self.inside.direct_bits c.self.inside.words.items c.self.inside.nodes c.renew_or_undo-made.new.nodes c.self.inside.leaves c.renew_or_undo-made.new.leaves c.self.inside.node_blocks c.renew_or_undo-made.new.node_blocks c.self.inside.leaf_blocks c.renew_or_undo-made.new.leaf_blocks c.self.inside.pending c.self.inside.stores.items c.renew_or_undo-made.new.stores.items c.self.inside.made c.in-Ok.ensures.nodes c.in-Ok.ensures.leaves q d ed r.aside both.0 both.1 sh)
-    (part_right (is_out c.self.inside.nodes.free) c.self.inside.node_blocks.taken (blocks_of c.self.inside.node_blocks.retired) c.self.invariant.nodes_held.with_taken)
-    (part_right (is_out c.self.inside.leaves.free) c.self.inside.leaf_blocks.taken (blocks_of c.self.inside.leaf_blocks.retired) c.self.invariant.leaves_held.with_taken)
-
-pub invariant_of-self-in-Err : goal.invariant_of-self-in-Err
-invariant_of-self-in-Err g c =
-    let none : c.self.inside.pending ≡ false = subst (λ (l : Living). l.pending ≡ false) (sym c.self.view_is) c.requires.quiet in
-    let q = c.self.invariant.quiet none in
-    back_kept c.self.inside.family c.self.inside.direct_bits c.self.inside.words.items c.self.inside.nodes c.renew_or_undo-made.new.nodes c.self.inside.leaves c.renew_or_undo-made.new.leaves c.self.inside.node_blocks c.renew_or_undo-made.new.node_blocks c.self.inside.leaf_blocks c.renew_or_undo-made.new.leaf_blocks c.self.inside.pending c.self.inside.stores.items c.renew_or_undo-made.new.stores.items c.self.inside.made c.in-Err.ensures.nodes_back.0 c.in-Err.ensures.leaves_back.0 c.in-Err.ensures.nodes_back.1 c.in-Err.ensures.leaves_back.1 (c.in-Err.ensures.no_stores ∙ sym q.no_stores) c.self.invariant
-
-pub renew_or_undo-made-requires-clause-words : goal.renew_or_undo-made-requires-clause-words
-renew_or_undo-made-requires-clause-words g c =
-    λ v low.
-    let none : c.self.inside.pending ≡ false = subst (λ (l : Living). l.pending ≡ false) (sym c.self.view_is) c.requires.quiet in
-    let q = c.self.invariant.quiet none in
-    let d = g.R.Region.bits c.args.region.now - c.self.inside.direct_bits in
-    let wide : g.R.Region.bits c.args.region.now ≡ width c.self.inside.family = c.requires.bits ∙ ap (λ (l : Living). width l.family) (sym c.self.view_is) in
-    let ed : d ≡ rest c.self.inside.family c.self.inside.direct_bits = ap (λ n. n - c.self.inside.direct_bits) wide in
-    let both = c.requires.showing in
-    let sh = subst (λ (l : Living). Shows l both.0 both.1) (sym c.self.view_is) both.2 in
-    let ver = quiet_version (seen_as c.self.inside.family c.self.inside.direct_bits c.self.inside.words.items c.self.inside.nodes c.self.inside.leaves c.self.inside.node_blocks c.self.inside.leaf_blocks c.self.inside.pending c.self.inside.stores.items c.self.inside.made) both.0 both.1 sh.0 sh.1 sh.2 (ap stores_of q.no_stores) q.nodes_taken q.leaves_taken in
-    subst (λ (w : List ℕ). IsWord c.self.inside.nodes c.self.inside.leaves (slice_index w v) d) (sym c.deref.ensures.value)
-    (words_are c.self.inside.family c.self.inside.direct_bits c.self.inside.nodes c.self.inside.leaves c.self.inside.words.items both.0 (blocks_of c.self.inside.node_blocks.retired) (blocks_of c.self.inside.leaf_blocks.retired) d ed ver v low)
+pub returns-in-Err-clause-made : goal.returns-in-Err-clause-made
+returns-in-Err-clause-made g c =
+    let words : is_selecting c.self.inside.state ≡ false = (quiet_words c.self.inside.state c.self.inside.selected.pending (ap is_pending c.self.view_is ∙ c.requires.quiet)).0 in
+    let s = c.self.inside.selected in
+    let t = c.prepare.new.self in
+    if_ok_all c.rebuild.result _ _ c.rebuild.ensures.free c.rebuild.ensures.short c.rebuild.ensures.token
+    (λ p a b is. λ L M sh e agree.
+    let first : ShowsIn s L L = words_shown c.self.inside.state s c.self.inside.other L L words (subst (λ (l : Living). Shows l L L) (sym c.self.view_is) sh) in
+    let e2 = e ∙ ap (λ (l : Living). all_answers l.selected.family M) (sym c.self.view_is) in
+    let out = c.in-Err.ensures.refused L M first e2 agree in
+    let short = b L M (run_out_moved s t c.prepare.ensures.shape c.in-Err.ensures.free.0 c.in-Err.ensures.free.1 L M c.in-Err.why out) in
+    let back : IsShort s L M = (short.0, short_moved t s (back_sizes s t c.prepare.ensures.shape) (sym c.in-Err.ensures.free.0) (sym c.in-Err.ensures.free.1) L M short.0 short.1) in
+    subst (λ (x : Stores). IsBeside x c.args.self.now c.rebuild.new.self L M) (sym is)
+    (ap (λ (l : Living). l.state) (sym c.self.view_is) ∙ a.0, subst (λ (l : Living). IsShort l.selected L M) c.self.view_is back))
 
 pub returns-in-Err-clause-refused : goal.returns-in-Err-clause-refused
 returns-in-Err-clause-refused g c =
-    λ L M sh0 e0 agree0.
-    let none : c.self.inside.pending ≡ false = subst (λ (l : Living). l.pending ≡ false) (sym c.self.view_is) c.requires.quiet in
-    let q = c.self.invariant.quiet none in
-    let d = g.R.Region.bits c.args.region.now - c.self.inside.direct_bits in
-    let wide : g.R.Region.bits c.args.region.now ≡ width c.self.inside.family = c.requires.bits ∙ ap (λ (l : Living). width l.family) (sym c.self.view_is) in
-    let ed : d ≡ rest c.self.inside.family c.self.inside.direct_bits = ap (λ n. n - c.self.inside.direct_bits) wide in
-    let sh : Shows (seen_as c.self.inside.family c.self.inside.direct_bits c.self.inside.words.items c.self.inside.nodes c.self.inside.leaves c.self.inside.node_blocks c.self.inside.leaf_blocks c.self.inside.pending c.self.inside.stores.items c.self.inside.made) L L = subst (λ (l : Living). Shows l L L) (sym c.self.view_is) sh0 in
-    let e : g.R.Region.answers c.args.region.now ≡ all_answers c.self.inside.family M = e0 ∙ ap (λ (l : Living). all_answers l.family M) (sym c.self.view_is) in
-    let family : (prefix_as c.args.prefix.now).family ≡ c.self.inside.family = c.requires.family ∙ ap (λ (l : Living). l.family) (sym c.self.view_is) in
-    let agree = agree_beside c.self.inside.family c.self.inside.direct_bits (prefix_as c.args.prefix.now) L M family c.self.invariant.few agree0 in
-    let ver = quiet_version (seen_as c.self.inside.family c.self.inside.direct_bits c.self.inside.words.items c.self.inside.nodes c.self.inside.leaves c.self.inside.node_blocks c.self.inside.leaf_blocks c.self.inside.pending c.self.inside.stores.items c.self.inside.made) L L sh.0 sh.1 sh.2 (ap stores_of q.no_stores) q.nodes_taken q.leaves_taken in
-    let out = subst (λ (w : List ℕ). MeetsNotRenewal c.self.inside.nodes c.self.inside.leaves w (prefix_as c.args.prefix.now).bits c.self.inside.direct_bits d (g.R.Region.answers c.args.region.now) c.in-Err.refusal) c.deref.ensures.value c.in-Err.ensures.refused in
-    subst (λ (l : Living). AsksRunOut l L M c.reason.result) c.self.view_is
-    (refused_reason c.self.inside.family c.self.inside.direct_bits c.self.inside.words.items c.self.inside.nodes c.self.inside.leaves L M (blocks_of c.self.inside.node_blocks.retired) (blocks_of c.self.inside.leaf_blocks.retired) d c.renew_or_undo-made.new.nodes.order c.renew_or_undo-made.new.leaves.order (g.R.Region.answers c.args.region.now) (prefix_as c.args.prefix.now).bits c.reason.result c.in-Err.refusal ver ed e agree c.in-Err.ensures.nodes_back.0.order c.in-Err.ensures.leaves_back.0.order c.reason.ensures out)
+    let words : is_selecting c.self.inside.state ≡ false = (quiet_words c.self.inside.state c.self.inside.selected.pending (ap is_pending c.self.view_is ∙ c.requires.quiet)).0 in
+    let s = c.self.inside.selected in
+    let t = c.prepare.new.self in
+    if_err_map c.rebuild.result _ _ c.rebuild.ensures.refused
+    (λ why refused. λ L M sh e agree.
+    let first : ShowsIn s L L = words_shown c.self.inside.state s c.self.inside.other L L words (subst (λ (l : Living). Shows l L L) (sym c.self.view_is) sh) in
+    let e2 = e ∙ ap (λ (l : Living). all_answers l.selected.family M) (sym c.self.view_is) in
+    let out = run_out_moved s t c.prepare.ensures.shape c.in-Err.ensures.free.0 c.in-Err.ensures.free.1 L M c.in-Err.why (c.in-Err.ensures.refused L M first e2 agree) in
+    let told = refused L M (e2 ∙ ap (λ (f : Family). all_answers f M) (sym c.prepare.ensures.shape.0)) out in
+    subst (λ (l : Living). IsNotBeside c.args.oldest why l L M) c.self.view_is
+    (not_beside_moved t s (back_sizes s t c.prepare.ensures.shape) (sym c.in-Err.ensures.free.0) (sym c.in-Err.ensures.free.1) L M c.args.oldest c.self.inside.state c.self.inside.number c.self.inside.other why told))
+
+pub returns-in-Err-clause-still : goal.returns-in-Err-clause-still
+returns-in-Err-clause-still g c =
+    let words : is_selecting c.self.inside.state ≡ false = (quiet_words c.self.inside.state c.self.inside.selected.pending (ap is_pending c.self.view_is ∙ c.requires.quiet)).0 in
+    err_map c.rebuild.result c.rebuild.ensures.still
+    (λ same. λ L M sh.
+    let first : ShowsIn c.self.inside.selected L M = words_shown c.self.inside.state c.self.inside.selected c.self.inside.other L M words (subst (λ (l : Living). Shows l L M) (sym c.self.view_is) sh) in
+    shown_words c.rebuild.new.self.state c.rebuild.new.self.selected c.rebuild.new.self.other L M (ap is_selecting same ∙ words) (subst (λ (x : Seen). ShowsIn x L M) (sym c.rebuild.ensures.selected) (c.in-Err.ensures.still L M first)))
+
+pub returns-in-Err-clause-fits : goal.returns-in-Err-clause-fits
+returns-in-Err-clause-fits g c = λ os f. c.rebuild.ensures.fits os (fits_selected c.self.inside.selected c.prepare.new.self c.self.inside.other c.self.inside.state c.self.inside.number c.prepare.ensures.fits os (subst (λ (l : Living). Fits l os) (sym c.self.view_is) f))

@@ -1,31 +1,25 @@
-use Rattle.std.proofs.Common.{rules, ◌≡◌, ◌<◌, ◌≤◌, ◌+◌, suc, length, get_or, refl, sym, ap, ◌∙◌, arith, subst}
-use Rattle.poptrie_update.specs.Lives.{Living, Shows, stores_of}
+use Rattle.std.proofs.Common.{◌≡◌, ◌-◌, refl, sym, subst}
+use Rattle.poptrie_set.specs.Lives.{Seen}
+use Rattle.poptrie_update.specs.Lives.{Living}
 use Rattle.poptrie_update.specs.Fits.{Fits}
-use Rattle.poptrie_copy.specs.declared.slots.Store.{Store as Stored}
-use Rattle.poptrie_update.proofs.Lived.{length_stores, store_at, store_step, store_keeps_fits, seen_as}
+use Rattle.poptrie_update.specs.Pendings.{IsTokenBy, IsSelectorOf}
+use Rattle.poptrie_update.specs.declared.live.Other.{Other}
+use Rattle.poptrie_update.specs.declared.live.Other.TheVariants as other
+use Rattle.poptrie_update.specs.declared.pending.Stores.{Stores}
+use Rattle.poptrie_update.proofs.Pair.{fits_selected, fits_swapped, is_built}
 use Rattle.poptrie_update.proofs.live.Live.store.Goals as goal
 
-pub returns-then-self-len-clause-none : goal.returns-then-self-len-clause-none
-returns-then-self-len-clause-none c = λ _.
-    let n = length_stores c.self.inside.stores.items in
-    let h : c.self.inside.made ≡ length c.self.inside.stores.items = search rules in
-    (subst (λ (l : Living). length l.stores ≤ l.made) c.self.view_is (omega arith), refl)
+pub returns-in-Words-clause-fits : goal.returns-in-Words-clause-fits
+returns-in-Words-clause-fits c = λ os f. fits_selected c.self.inside.selected c.store.new.self c.self.inside.other c.self.inside.state c.self.inside.number c.store.ensures.fits os (subst (λ (l : Living). Fits l os) (sym c.self.view_is) f)
 
-pub returns-clause-made : goal.returns-clause-made
-returns-clause-made c = λ _.
-    let n = length_stores c.self.inside.stores.items in
-    let l : c.self.inside.made < length c.self.inside.stores.items = search rules in
-    let next : c.self.inside.made + 1 ≡ suc c.self.inside.made = omega arith in
-    (subst (λ (l : Living). l.made < length l.stores) c.self.view_is (omega arith), next ∙ ap (λ (l : Living). suc l.made) c.self.view_is)
-
-pub returns-clause-shows : goal.returns-clause-shows
-returns-clause-shows c = λ L M sh.
-    let n = length_stores c.self.inside.stores.items in
-    let l : c.self.inside.made < length c.self.inside.stores.items = search rules in
-    let more : c.self.inside.made < length (stores_of c.self.inside.stores.items) = omega arith in
-    let at : get_or (stores_of c.self.inside.stores.items) c.self.inside.made (0, 0) ≡ (c.index-next.result.now.slot, c.index-next.result.now.word) = store_at c.self.inside.stores.items c.self.inside.made c.index-next.result.now l ∙ ap (λ (y : Stored). (y.slot, y.word)) (sym c.index-next.ensures) in
-    store_step (seen_as c.self.inside.family c.self.inside.direct_bits c.self.inside.words.items c.self.inside.nodes c.self.inside.leaves c.self.inside.node_blocks c.self.inside.leaf_blocks c.self.inside.pending c.self.inside.stores.items c.self.inside.made) c.index-next.result.now.slot c.index-next.result.now.word more at L M (subst (λ (q : Living). Shows q L M) (sym c.self.view_is) sh)
-
-pub returns-clause-fits : goal.returns-clause-fits
-returns-clause-fits c = λ os f.
-    store_keeps_fits (seen_as c.self.inside.family c.self.inside.direct_bits c.self.inside.words.items c.self.inside.nodes c.self.inside.leaves c.self.inside.node_blocks c.self.inside.leaf_blocks c.self.inside.pending c.self.inside.stores.items c.self.inside.made) c.index-next.result.now.slot c.index-next.result.now.word os (subst (λ (q : Living). Fits q os) (sym c.self.view_is) f)
+pub returns-else-stored-clause-fits : goal.returns-else-stored-clause-fits
+returns-else-stored-clause-fits c = λ os f.
+    let s = c.self.inside.selected in
+    let o = c.self.inside.other in
+    let n = c.self.inside.number in
+    let token : IsSelectorOf c.in-Selector.stored c.self.inside.state = subst (λ (x : Stores). IsTokenBy x (record { selected = s; other = o; state = c.self.inside.state; number = n })) c.in-Selector.is (subst (λ (l : Living). IsTokenBy c.args.pending.now.stores l) (sym c.self.view_is) c.requires) in
+    let built : c.self.inside.state ≡ other.Built = is_built c.in-Selector.stored c.self.inside.state token c.if-stored.false in
+    let before : Fits (record { selected = s; other = o; state = other.Built; number = n }) os = subst (λ (x : Other). Fits (record { selected = s; other = o; state = x; number = n }) os) built (subst (λ (l : Living). Fits l os) (sym c.self.view_is) f) in
+    subst (λ (x : Seen). Fits (record { selected = x; other = c.swap.new.y; state = other.Replaced; number = 1 - n }) os) (sym c.swap.ensures.x_after)
+    (subst (λ (x : Seen). Fits (record { selected = o; other = x; state = other.Replaced; number = 1 - n }) os) (sym c.swap.ensures.y_after)
+    (fits_swapped s o n (1 - n) c.self.invariant.few refl os before))

@@ -1,0 +1,4 @@
+pub mod Ranges
+pub mod Late
+pub mod Short
+pub mod Crowded

@@ -1,0 +1,212 @@
+-- The words of a prefix's slots made anew: the slots that they are, and what becomes of all words.
+use Rattle.std.proofs.Common.{◌≡◌, ℕ, zero, suc, ◌+◌, ◌-◌, ◌*◌, ◌/◌, ◌%◌, ◌^◌, ◌<◌, ◌≤◌, List, [], ◌∷◌, ◌++◌, Bool, true, false, length, take, refl, sym, ap, ◌∙◌, arith, subst, inl, inr}
+use Rattle.std.specs.Prelude.{◌⊎◌, slice_index}
+use Rattle.std.proofs.Math.Nat.{lt-div-mul-add, div-mul-le_self}
+use Rattle.std.proofs.Math.Pow.{pow_mono}
+use Rattle.std.proofs.lemmas.Nat.{div-mul-add, pow-add, pow_pos}
+use Rattle.std.proofs.lemmas.Bool.{cases_lt}
+use Rattle.std.proofs.lemmas.List.{append_assoc, take-append-le, take-take, length-take-le}
+use Rattle.address_model.specs.Bits.{bits_of, begins}
+use Rattle.address_model.proofs.BitLaws.{length-bits_of, bits_take, bits_split, bits_low, same_from_bits}
+use Rattle.buddy_arena.specs.Space.{Space}
+use Rattle.buddy_arena.proofs.Counts.{mul_mono}
+use Rattle.block_pool.specs.Places.{is_out}
+use Rattle.block_pool.specs.Arrays.{Array}
+use Rattle.block_pool.specs.Blocks.{Held}
+use Rattle.block_pool.proofs.Parting.{part_right}
+use Rattle.fib_regions.specs.Answers.{part}
+use Rattle.poptrie_build.specs.Build.{WordIn}
+use Rattle.poptrie_build.specs.Arrays.{gather}
+use Rattle.poptrie_build.specs.declared.node.Node.{Node}
+use Rattle.poptrie_copy.specs.Alike.{Alike}
+use Rattle.poptrie_copy.specs.Words.{WordRow, arrays_of, leaf_arrays_of}
+use Rattle.poptrie_copy.specs.declared.slots.Store.{Store}
+use Rattle.poptrie_copy.specs.Stores.{stored, under, AreStores, KeepsSlots, ReplacesWords}
+use Rattle.poptrie_copy.specs.Asks.{Ask, slots_asks, StandFor, Runs, IsOut, MeetsSlots, MeetsNotSlots}
+use Rattle.poptrie_copy.specs.declared.blocks.Refusal.{Refusal}
+use Rattle.poptrie_copy.proofs.Alike_row.{IsPartOf, part_under, part_asks, row_alike}
+use Rattle.poptrie_copy.proofs.Slot_copy.{stored_beyond}
+use Rattle.poptrie_set.specs.Renewals.{AgreeBeside, Renews, SetsAside, MeetsRenewal, MeetsNotRenewal, KeepsRenewal}
+
+-- ---- the slots of a prefix
+begins_take : (p q : List Bool) (t : ℕ) → begins p q ≡ true → t ≤ length p → take t p ≡ take t q
+begins_take p q zero e l = refl
+begins_take [] q (suc t) e l = absurd (omega (arith, l))
+begins_take (true ∷ p) (true ∷ q) (suc t) e l = ap (λ (x : List Bool). true ∷ x) (begins_take p q t e (omega (arith, l)))
+begins_take (false ∷ p) (false ∷ q) (suc t) e l = ap (λ (x : List Bool). false ∷ x) (begins_take p q t e (omega (arith, l)))
+begins_take (true ∷ p) (false ∷ q) (suc t) e l = cc
+begins_take (false ∷ p) (true ∷ q) (suc t) e l = cc
+begins_take (true ∷ p) [] (suc t) e l = cc
+begins_take (false ∷ p) [] (suc t) e l = cc
+
+not_begins : (b : Bool) → (b ≡ true → ⊥) → b ≡ false
+not_begins true h = absurd (h refl)
+not_begins false h = refl
+
+-- all of them
+pub whole_part : (s d : ℕ) (f : List Bool → ℕ) (h : ℕ → List Bool → ℕ) → IsPartOf s s 0 d f f h
+whole_part s d f h = record {
+  many = omega arith;
+  inside = λ v l a n. let z : 0 + v ≡ v = omega arith in ap (λ i. part (bits_of s i) f a) z;
+  beside = λ u l o a n. absurd (none u l o);
+}
+  where
+    none : (u : ℕ) → u < 2 ^ s → (u < 0) ⊎ (0 + 2 ^ s ≤ u) → ⊥
+    none u l (inl b) = omega (arith, b)
+    none u l (inr b) = omega (arith, l, b)
+
+-- those whose first t bits are a number's
+module _ (s t j number first d : ℕ) (f : List Bool → ℕ) (p : List Bool) (h : ℕ → List Bool → ℕ) (sum : s ≡ t + j) (low : number < 2 ^ t) (at : first ≡ number * 2 ^ j) (long : t ≤ length p) (front : take t p ≡ bits_of t number) where
+  wide : 2 ^ s ≡ 2 ^ t * 2 ^ j
+  wide = ap (λ (n : ℕ). 2 ^ n) sum ∙ pow-add 2 t j
+
+  some : 0 < 2 ^ j
+  some = pow_pos j
+
+  slot_bits : (v : ℕ) → v < 2 ^ j → bits_of s (first + v) ≡ bits_of t number ++ bits_of j v
+  slot_bits v l =
+      let is : first + v ≡ number * 2 ^ j + v = omega (arith, at) in
+      ap (λ n. bits_of n (first + v)) sum
+      ∙ (ap (bits_of (t + j)) is
+      ∙ (bits_split t j (number * 2 ^ j + v)
+      ∙ (ap (λ n. bits_of t n ++ bits_of j (number * 2 ^ j + v)) (div-mul-add number (2 ^ j) v l)
+      ∙ ap (λ (x : List Bool). bits_of t number ++ x) (bits_low j number v l))))
+
+  other : (u : ℕ) (a : List Bool) → u < 2 ^ s → (u < first) ⊎ (first + 2 ^ j ≤ u) → begins p (bits_of s u ++ a) ≡ true → ⊥
+  other u a l o e =
+      let q = u / 2 ^ j in
+      let less : t ≤ length (bits_of s u) = let n = length-bits_of s u in omega (arith, sum, n) in
+      let rest : s - t ≡ j = omega (arith, sum) in
+      let same : bits_of t number ≡ bits_of t q = sym front ∙ (begins_take p (bits_of s u ++ a) t e long ∙ (take-append-le t (bits_of s u) a less ∙ (bits_take s t u (omega (arith, sum)) ∙ ap (λ n. bits_of t (u / 2 ^ n)) rest))) in
+      let below = div-mul-le_self u (2 ^ j) in
+      let above = lt-div-mul-add {a = u} {b = 2 ^ j} some in
+      let small : q < 2 ^ t = elim (cases_lt q (2 ^ t)) [
+        | inl c ↦ c
+        | inr c ↦ let m : 2 ^ t * 2 ^ j ≤ q * 2 ^ j = mul_mono (2 ^ j) (2 ^ t) q c in absurd (omega (arith, m, below, l, wide))
+      ] in
+      let is : number ≡ q = same_from_bits t number q low small same in
+      let place : number * 2 ^ j ≡ q * 2 ^ j = ap (λ n. n * 2 ^ j) is in
+      by o (omega (arith, place, at, below)) (omega (arith, place, at, above))
+    where
+      by : (u < first) ⊎ (first + 2 ^ j ≤ u) → first ≤ u → u < first + 2 ^ j → ⊥
+      by (inl c) x y = omega (arith, c, x)
+      by (inr c) x y = omega (arith, c, y)
+
+  pub prefix_part : AgreeBeside p s d f h → IsPartOf s j first d f (part (bits_of t number) f) h
+  prefix_part agree = record {
+    many = let m : (number + 1) * 2 ^ j ≤ 2 ^ t * 2 ^ j = mul_mono (2 ^ j) (number + 1) (2 ^ t) (omega (arith, low)) in omega (arith, m, at, wide);
+    inside = λ v l a n. ap (λ (x : List Bool). f (x ++ a)) (slot_bits v l) ∙ ap f (append_assoc (bits_of t number) (bits_of j v) a);
+    beside = λ u l o a n. agree u l a n (not_begins (begins p (bits_of s u ++ a)) (λ e. other u a l o e));
+  }
+
+-- ---- what becomes of all words
+module _ (nodes nodes2 : Space Node) (nb nb2 : Held) (leaves leaves2 : Space ℕ) (lb lb2 : Held) (s j first d e : ℕ) (f g : List Bool → ℕ) (p : List Bool) (many : first + 2 ^ j ≤ 2 ^ s) (is : (h : ℕ → List Bool → ℕ) → AgreeBeside p s d f h → IsPartOf s j first d f g h) (same : e ≡ d) where
+  module _ (words words2 : ℕ → ℕ) (re : ReplacesWords nodes nb leaves lb words nodes2 nb2 leaves2 lb2 words2 first j e g) where
+    row : (k : ℕ) (h : ℕ → List Bool → ℕ) (x y : List Array) (m m2 : ℕ) → d ≤ 6 * k → WordRow k (2 ^ s) nodes leaves words d h (nb.replaced ++ x) (lb.replaced ++ y) m m2 → WordRow k (2 ^ s) nodes2 leaves2 words2 d (under first j g h) (nb2.replaced ++ x) (lb2.replaced ++ y) m m2
+    row k h x y m m2 few r =
+        subst (λ (n : ℕ). WordRow k (2 ^ s) nodes2 leaves2 words2 n (under first j g h) (nb2.replaced ++ x) (lb2.replaced ++ y) m m2) same
+        (re k (2 ^ s) h x y m m2 many (omega (arith, few, same)) (subst (λ (n : ℕ). WordRow k (2 ^ s) nodes leaves words n h (nb.replaced ++ x) (lb.replaced ++ y) m m2) (sym same) r))
+
+    pub part_renews : Renews nodes nb leaves lb words nodes2 nb2 leaves2 lb2 words2 p s d f
+    part_renews k h x y m m2 few agree r =
+        row_alike k (2 ^ s) d nodes2 leaves2 words2 (under first j g h) (λ u. part (bits_of s u) f) (nb2.replaced ++ x) (lb2.replaced ++ y) m m2 (part_under s j first d f g h (is h agree))
+        (row k h x y m m2 few r)
+
+    pub part_aside : SetsAside nodes nb leaves lb words nodes2 nb2 leaves2 lb2 s d
+    part_aside k h x y m m2 few r =
+        let q = row k h x y m m2 few r in (
+          part_right (is_out nodes2.free) (gather (λ u. arrays_of k nodes2.cells (words2 u)) (2 ^ s)) (nb2.replaced ++ x) q.nodes_apart,
+          part_right (is_out leaves2.free) (gather (λ u. leaf_arrays_of k nodes2.cells (words2 u)) (2 ^ s)) (lb2.replaced ++ y) q.leaves_apart,
+        )
+
+  module _ (words : List ℕ) where
+    stand : (k : ℕ) (h : ℕ → List Bool → ℕ) → StandFor k s d 0 nodes leaves words h → StandFor k j e first nodes leaves words (λ v. h (first + v))
+    stand k h w v l =
+        let at : 0 + (first + v) ≡ first + v = omega arith in
+        subst (λ (n : ℕ). WordIn (slice_index words (first + v)) k nodes.cells (is_out nodes.free) leaves.cells (is_out leaves.free) n (h (first + v))) (sym same)
+        (subst (λ (n : ℕ). WordIn (slice_index words n) k nodes.cells (is_out nodes.free) leaves.cells (is_out leaves.free) d (h (first + v))) at (w (first + v) (omega (arith, l, many))))
+
+    asked : (k : ℕ) (h : ℕ → List Bool → ℕ) → AgreeBeside p s d f h → slots_asks k j e g (λ v. h (first + v)) ≡ slots_asks k s d f h
+    asked k h agree = ap (λ n. slots_asks k j n g (λ v. h (first + v))) same ∙ sym (part_asks s j first d f g h (is h agree) k)
+
+    pub part_met : MeetsSlots nodes leaves words nodes2 leaves2 first j e g → MeetsRenewal nodes leaves words nodes2 leaves2 p s d f
+    part_met met k h few agree w = subst (λ (x : List Ask). Runs nodes.order leaves.order x (nodes.free, leaves.free) (nodes2.free, leaves2.free)) (asked k h agree) (met k (λ v. h (first + v)) (omega (arith, few, same)) (stand k h w))
+
+    pub part_refused : (r : Refusal) → MeetsNotSlots nodes leaves words first j e g r → MeetsNotRenewal nodes leaves words p s d f r
+    part_refused r out k h few agree w = subst (λ (x : List Ask). IsOut nodes.order leaves.order x (nodes.free, leaves.free) r) (asked k h agree) (out k (λ v. h (first + v)) (omega (arith, few, same)) (stand k h w))
+
+  module _ (words : List ℕ) (stores : List Store) where
+    pub part_kept : KeepsSlots nodes leaves words [] stores first j e g → AreStores words stores (first + 2 ^ j) → KeepsRenewal nodes leaves words stores p s d f
+    part_kept kept are k h agree w u l al = by (cases_lt u first) (cases_lt u (first + 2 ^ j))
+      where
+        inside : (v : ℕ) → v < 2 ^ j → first + v ≡ u → stored stores words u ≡ slice_index words u
+        inside v low at =
+            let same_part : Alike e (part (bits_of j v) g) (h u) = λ a n. sym ((is h agree).inside v low a (n ∙ same)) ∙ (ap (λ i. part (bits_of s i) f a) at ∙ al a (n ∙ same)) in
+            let zero_first : 0 + u ≡ first + v = omega (arith, at) in
+            let stands = subst (λ (n : ℕ). WordIn (slice_index words (first + v)) k nodes.cells (is_out nodes.free) leaves.cells (is_out leaves.free) n (h u)) (sym same)
+            (subst (λ (n : ℕ). WordIn (slice_index words n) k nodes.cells (is_out nodes.free) leaves.cells (is_out leaves.free) d (h u)) zero_first (w u l)) in
+            ap (λ i. stored stores words i) (sym at) ∙ (kept.each v low k (h u) stands same_part ∙ ap (λ i. slice_index words i) at)
+
+        by : (u < first) ⊎ (first ≤ u) → (u < first + 2 ^ j) ⊎ (first + 2 ^ j ≤ u) → stored stores words u ≡ slice_index words u
+        by (inl a) y = kept.before u a
+        by (inr a) (inl b) = inside (u - first) (omega (arith, a, b)) (omega (arith, a))
+        by (inr a) (inr b) = stored_beyond stores words (first + 2 ^ j) u are.below b
+
+-- ---- the number of a prefix's first bits
+pub front_bits : (w len t n : ℕ) → t ≤ len → len ≤ w → take t (take len (bits_of w n)) ≡ bits_of t (n / 2 ^ (w - t))
+front_bits w len t n a b = take-take t len (bits_of w n) a ∙ bits_take w t n (omega (arith, a, b))
+
+pub front_small : (w t n : ℕ) → t ≤ w → n < 2 ^ w → n / 2 ^ (w - t) < 2 ^ t
+front_small w t n le l =
+    let q = n / 2 ^ (w - t) in
+    let below = div-mul-le_self n (2 ^ (w - t)) in
+    let parts : t + (w - t) ≡ w = omega (arith, le) in
+    let wide : 2 ^ w ≡ 2 ^ t * 2 ^ (w - t) = ap (λ (k : ℕ). 2 ^ k) (sym parts) ∙ pow-add 2 t (w - t) in
+    elim (cases_lt q (2 ^ t)) [
+      | inl c ↦ c
+      | inr c ↦ let m : 2 ^ t * 2 ^ (w - t) ≤ q * 2 ^ (w - t) = mul_mono (2 ^ (w - t)) (2 ^ t) q c in absurd (omega (arith, m, below, l, wide))
+    ]
+
+-- as the code has them
+module _ (w len s t n number j first d : ℕ) (short : t ≤ len) (within : len ≤ w) (few : t ≤ s) (below : n < 2 ^ w) (is : number ≡ n / 2 ^ (w - t)) (left : j ≡ s - t) where
+  small : number < 2 ^ t
+  small = let l = front_small w t n (omega (arith, short, within)) below in omega (arith, is, l)
+
+  pub number_at : s ≤ 18 → number * 2 ^ j % 4294967296 ≡ number * 2 ^ j
+  number_at most =
+      let m : (number + 1) * 2 ^ j ≤ 2 ^ t * 2 ^ j = mul_mono (2 ^ j) (number + 1) (2 ^ t) (omega (arith, small)) in
+      let sum : t + j ≡ s = omega (arith, left, few) in
+      let wide : 2 ^ s ≡ 2 ^ t * 2 ^ j = ap (λ (k : ℕ). 2 ^ k) (sym sum) ∙ pow-add 2 t j in
+      let top : 2 ^ s ≤ 2 ^ 18 = pow_mono {i = s} {j = 18} most in
+      omega (arith, m, wide, top)
+
+  pub number_fits : s ≤ 18 → number < 4294967296
+  number_fits most = let top : 2 ^ t ≤ 2 ^ 18 = pow_mono {i = t} {j = 18} (omega (arith, few, most)) in omega (arith, small, top)
+
+  pub number_many : first ≡ number * 2 ^ j → first + 2 ^ j ≤ 2 ^ s
+  number_many at =
+      let m : (number + 1) * 2 ^ j ≤ 2 ^ t * 2 ^ j = mul_mono (2 ^ j) (number + 1) (2 ^ t) (omega (arith, small)) in
+      let sum : t + j ≡ s = omega (arith, left, few) in
+      let wide : 2 ^ s ≡ 2 ^ t * 2 ^ j = ap (λ (k : ℕ). 2 ^ k) (sym sum) ∙ pow-add 2 t j in
+      omega (arith, m, wide, at)
+
+  pub number_part : (f g : List Bool → ℕ) (h : ℕ → List Bool → ℕ) → first ≡ number * 2 ^ j → g ≡ part (bits_of t number) f → AgreeBeside (take len (bits_of w n)) s d f h → IsPartOf s j first d f g h
+  number_part f g h at eg agree =
+      let long : length (take len (bits_of w n)) ≡ len = length-take-le len (bits_of w n) (let q = length-bits_of w n in omega (arith, q, within)) in
+      let front : take t (take len (bits_of w n)) ≡ bits_of t number = front_bits w len t n short within ∙ ap (bits_of t) (sym is) in
+      subst (λ (x : List Bool → ℕ). IsPartOf s j first d f x h) (sym eg)
+      (prefix_part s t j number first d f (take len (bits_of w n)) h (omega (arith, left, few)) small at (omega (arith, long, short)) front agree)
+
+-- ---- the same, of a list of stores that was empty
+module _ (nodes nodes2 : Space Node) (nb nb2 : Held) (leaves leaves2 : Space ℕ) (lb lb2 : Held) (s j first d e : ℕ) (f g : List Bool → ℕ) (p : List Bool) (many : first + 2 ^ j ≤ 2 ^ s) (is : (h : ℕ → List Bool → ℕ) → AgreeBeside p s d f h → IsPartOf s j first d f g h) (same : e ≡ d) (words : List ℕ) (before stores : List Store) (none : before ≡ []) where
+  pub all_renews : ReplacesWords nodes nb leaves lb (stored before words) nodes2 nb2 leaves2 lb2 (stored stores words) first j e g → Renews nodes nb leaves lb (stored [] words) nodes2 nb2 leaves2 lb2 (stored stores words) p s d f
+  all_renews re = part_renews nodes nodes2 nb nb2 leaves leaves2 lb lb2 s j first d e f g p many is same (stored [] words) (stored stores words) (subst (λ (x : List Store). ReplacesWords nodes nb leaves lb (stored x words) nodes2 nb2 leaves2 lb2 (stored stores words) first j e g) none re)
+
+  pub all_aside : ReplacesWords nodes nb leaves lb (stored before words) nodes2 nb2 leaves2 lb2 (stored stores words) first j e g → SetsAside nodes nb leaves lb (stored [] words) nodes2 nb2 leaves2 lb2 s d
+  all_aside re = part_aside nodes nodes2 nb nb2 leaves leaves2 lb lb2 s j first d e f g p many is same (stored [] words) (stored stores words) (subst (λ (x : List Store). ReplacesWords nodes nb leaves lb (stored x words) nodes2 nb2 leaves2 lb2 (stored stores words) first j e g) none re)
+
+  pub all_kept : KeepsSlots nodes leaves words before stores first j e g → AreStores words stores (first + 2 ^ j) → KeepsRenewal nodes leaves words stores p s d f
+  all_kept kept are = part_kept nodes nodes2 nb nb2 leaves leaves2 lb lb2 s j first d e f g p many is same words stores (subst (λ (x : List Store). KeepsSlots nodes leaves words x stores first j e g) none kept) are
+
+pub few_words : (s n : ℕ) → s ≤ 18 → n ≡ 2 ^ s → n ≤ 262144
+few_words s n l e = let top : 2 ^ s ≤ 2 ^ 18 = pow_mono {i = s} {j = 18} l in omega (arith, e, top)

@@ -1,0 +1,10 @@
+pub mod Rooms
+pub mod Version
+pub mod Lives
+pub mod Reading
+pub mod First
+pub mod Past
+pub mod Fits
+pub mod Renewals
+pub mod Reasons
+pub mod Prepares

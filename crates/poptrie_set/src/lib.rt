@@ -1,0 +1,21 @@
+//! One set of a live Poptrie: a trie that is changed beside its readers, one word at a time (Asai and Ohara, 'Poptrie', SIGCOMM 2015).
+//!
+//! An update builds new arrays beside the old ones and stores direct words, one a step; all else is shared. So a lookup that pauses
+//! between any two of these steps goes on in the version that it began with. What an update replaced is retired at its end, and is
+//! given back once no lookup is open that started before that end. Time is the number of ends so far.
+//!
+//! An update is made ready beside the old version in the same arenas alone: where it fits into them but not beside what is in use, it
+//! is refused. `poptrie_update` has two of these sets for that.
+#![tactic(auto)]
+
+mod reading;
+mod reasons;
+mod renewing;
+mod trie_set;
+
+pub use reading::At;
+pub use reasons::NotReady;
+pub use trie_set::{Oldest, Pending, TrieSet};
+
+#[cfg(test)]
+mod tests;
