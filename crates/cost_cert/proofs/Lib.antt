@@ -1,3 +1,3 @@
-pub mod Commas
+pub mod Cutting
 pub mod Taking
 pub mod Lines
