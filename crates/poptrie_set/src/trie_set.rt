@@ -192,6 +192,7 @@ impl TrieSet {
             ≡ late (until oldest self.old.time) self.old.leaves.retired }
         ensures all { oldest ≡ Oldest.Nobody
             → (self.new.nodes.retired ≡ []) × (self.new.leaves.retired ≡ []) }
+        ensures still { (self.old.nodes.taken ≡ []) × (self.old.leaves.taken ≡ []) }
         ensures given { GaveBack (until oldest self.old.time) self.old self.new.nodes.space
             self.new.leaves.space }
         ensures shows { (L M : Entries) → ShowsIn self.old L M → ShowsIn self.new L M }

@@ -17,7 +17,8 @@ use Rattle.poptrie_set.specs.declared.reading.At.{At as Read}
 use Rattle.poptrie_set.specs.declared.reading.At.TheVariants as read
 use Rattle.poptrie_set.proofs.Read_on.{reads_again}
 use Rattle.poptrie_set.proofs.Safe.{safe_out}
-use Rattle.poptrie_update.specs.Lives.{Living, ShowsBy, is_selecting, freed}
+use Rattle.poptrie_update.specs.Lives.{Living, Holds, ShowsBy, is_selecting, freed}
+use Rattle.poptrie_update.specs.Prepares.{IsAtRest}
 use Rattle.poptrie_update.specs.Fits.{Open, Reads, ReadsOther, ReadsOut, ByTruth, Fits, IsOldest}
 use Rattle.poptrie_update.specs.Reads.{Starts, IsInSet, covers_by}
 use Rattle.poptrie_update.specs.Pendings.{IsSelectorOf}
@@ -41,6 +42,16 @@ by_published P other.Replaced s o a f L M sh = subst P (same (covers_by other.Fr
     same : (b : Bool) (E : Entries) → cond b E E ≡ E
     same true E = refl
     same false E = refl
+
+-- where nothing is pending
+retired_over : (state : Other) (s o : Seen) (end : ℕ) → Holds state s o → state ≡ other.Retired end → end ≤ s.time
+retired_over other.Free s o end h e = cc
+retired_over (other.Retired first) s o end h e = let q : first ≡ end = cc in omega (arith, h, q)
+retired_over other.Built s o end h e = cc
+retired_over other.Replaced s o end h e = cc
+
+pub at_rest : (state : Other) (s o : Seen) (number : ℕ) → Holds state s o → (s.nodes.taken ≡ []) × (s.leaves.taken ≡ []) → IsAtRest (record { selected = s; other = o; state = state; number = number })
+at_rest state s o number h still = record { nodes = still.0; leaves = still.1; ended = λ end e. retired_over state s o end h e }
 
 pub starts_in_set : (r : Read) (a : At) (l : Living) (E : Entries) (d : Addr) → IsInSet r l.number a → StartsIn r l.selected E d → Starts a l E d
 starts_in_set (read.Answer g) a l E d is st = subst (λ (x : At). Starts x l E d) (sym is) st

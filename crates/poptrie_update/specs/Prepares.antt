@@ -1,5 +1,5 @@
 -- An update that is made ready, and why one isn't.
-use Rattle.std.specs.Prelude.{◌≡◌, ℕ, ◌^◌, ◌<◌, ◌≤◌, zero, suc}
+use Rattle.std.specs.Prelude.{◌≡◌, ℕ, ◌^◌, ◌<◌, ◌≤◌, zero, suc, []}
 use Rattle.table_model.specs.Entries.{Entries}
 use Rattle.buddy_arena.specs.Space.{Space}
 use Rattle.buddy_arena.specs.declared.arena.Full.{Full}
@@ -44,6 +44,12 @@ IsRetiredAfter since other.Free = ⊥
 IsRetiredAfter since (other.Retired end) = since < end
 IsRetiredAfter since other.Built = ⊥
 IsRetiredAfter since other.Replaced = ⊥
+
+-- as it is where nothing is pending: no block was taken for an update, and the end at which the other set was retired is over
+pub record IsAtRest (l : Living) : Type 0 where
+  pub nodes : l.selected.nodes.taken ≡ []
+  pub leaves : l.selected.leaves.taken ≡ []
+  pub ended : (end : ℕ) → l.state ≡ other.Retired end → end ≤ l.selected.time
 
 -- nothing is retired in the selected set, and the other isn't retired
 abbrev pub NoneRetired : Living → Type 0

@@ -104,7 +104,7 @@ impl Live {
     ghost use Rattle.poptrie_update.specs.Pendings.{IsTokenOf};
     ghost use Rattle.poptrie_update.specs.Fits.{Open, Fits, IsOldest};
     ghost use Rattle.poptrie_update.specs.Reads.{IsShowing, Starts, published, Leads};
-    ghost use Rattle.poptrie_update.specs.Prepares.{NoneRetired, StoresChanges, IsMade, IsRefused, IsUndone, IsCancelled, IsBeside, IsNotBeside, IsShort};
+    ghost use Rattle.poptrie_update.specs.Prepares.{IsAtRest, NoneRetired, StoresChanges, IsMade, IsRefused, IsUndone, IsCancelled, IsBeside, IsNotBeside, IsShort};
     ghost use Rattle.poptrie_set.specs.declared.trie_set.Oldest.TheVariants as Oldest;
     ghost use Rattle.poptrie_update.specs.declared.live.Other.TheVariants as other;
     ghost use Rattle.poptrie_update.specs.declared.pending.Stores.TheVariants as stores;
@@ -198,6 +198,7 @@ impl Live {
             × (self.new.selected.time ≡ self.old.selected.time) }
         ensures quiet { is_pending self.new ≡ false }
         ensures other { self.new.state ≡ freed (until oldest self.old.selected.time) self.old.state }
+        ensures rest { IsAtRest self.old }
         ensures given { GaveBack (until oldest self.old.selected.time) self.old.selected
             self.new.selected.nodes.space self.new.selected.leaves.space }
         ensures all { oldest ≡ Oldest.Nobody → NoneRetired self.new }
@@ -239,6 +240,7 @@ impl Live {
         requires quiet { is_pending self.old ≡ false }
         requires time { self.old.selected.time < 18446744073709551615 }
         requires showing { IsShowing self.old }
+        ensures rest { IsAtRest self.old }
         ensures shape { HasShapeOf self.old self.new }
         ensures time { self.new.selected.time ≡ self.old.selected.time }
         ensures token { IfOk result (λ p. IsTokenOf p self.new × (made_of self.new ≡ 0)) }

@@ -1,4 +1,4 @@
-use Rattle.std.proofs.Common.{◌≡◌, ◌∙◌, ◌≤◌, sym, ap, subst, false}
+use Rattle.std.proofs.Common.{◌≡◌, [], ◌∙◌, ◌≤◌, sym, ap, subst, false}
 use Rattle.std.specs.List.{AllByRecursion}
 use Rattle.poptrie_set.specs.Lives.{Seen, ShowsIn}
 use Rattle.poptrie_set.specs.Fits.{Reader, FitsIn, until}
@@ -9,6 +9,12 @@ use Rattle.poptrie_set.proofs.Fitting.{release_fits}
 use Rattle.poptrie_set.proofs.Quiet.{release_is, release_shows, release_past, since_all}
 use Rattle.poptrie_set.proofs.trie_set.TrieSet.give_back.Goals as goal
 use Rattle.poptrie_set.proofs.trie_set.TrieSet.give_back.Goals.{in-Nobody, in-Started}
+
+pub returns-clause-still : goal.returns-clause-still
+returns-clause-still c =
+    let none : c.self.inside.pending ≡ false = subst (λ (l : Seen). l.pending ≡ false) (sym c.self.view_is) c.requires in
+    let q = c.self.invariant.quiet none in
+    subst (λ (l : Seen). (l.nodes.taken ≡ []) × (l.leaves.taken ≡ [])) c.self.view_is (q.nodes_taken, q.leaves_taken)
 
 pub returns-clause-shows : goal.returns-clause-shows
 returns-clause-shows c = λ L M sh.

@@ -5,8 +5,9 @@ use Rattle.poptrie_update.specs.Lives.{Living, Shows, Past, is_pending, freed}
 use Rattle.poptrie_set.specs.Lives.{HasSizesOf}
 use Rattle.poptrie_set.specs.Prepares.{GaveBack}
 use Rattle.poptrie_update.specs.Fits.{Fits}
+use Rattle.poptrie_update.specs.Prepares.{IsAtRest}
 use Rattle.poptrie_update.specs.declared.live.Other.{Other}
-use Rattle.poptrie_update.proofs.Pair.{fits_given, fits_other_given, freed_same, quiet_words, words_shown, shown_words}
+use Rattle.poptrie_update.proofs.Pair.{at_rest, fits_given, fits_other_given, freed_same, quiet_words, words_shown, shown_words}
 use Rattle.poptrie_update.proofs.live.Live.give_back.Goals as goal
 use Rattle.poptrie_update.proofs.live.Live.give_back.Goals.{in-Nobody, in-Started}
 
@@ -23,6 +24,12 @@ returns-then-end-since-clause-fits c = λ os who f.
 pub returns-else-end-since-clause-fits : goal.returns-else-end-since-clause-fits
 returns-else-end-since-clause-fits c = λ os who f. fits_given c.self.inside.selected c.give_back.new.self c.self.inside.other c.self.inside.other c.self.inside.number c.args.oldest c.self.inside.state c.give_back.ensures.fits os who (subst (λ (l : Living). Fits l os) (sym c.self.view_is) f)
 
+pub returns-then-end-since-clause-rest : goal.returns-then-end-since-clause-rest
+returns-then-end-since-clause-rest c = subst IsAtRest c.self.view_is (at_rest c.self.inside.state c.self.inside.selected c.self.inside.other c.self.inside.number c.self.invariant.holds c.give_back.ensures.still)
+
+pub returns-else-end-since-clause-rest : goal.returns-else-end-since-clause-rest
+returns-else-end-since-clause-rest c = subst IsAtRest c.self.view_is (at_rest c.self.inside.state c.self.inside.selected c.self.inside.other c.self.inside.number c.self.invariant.holds c.give_back.ensures.still)
+
 pub returns-in_default : goal.returns-in_default
 returns-in_default c =
     let s = c.self.inside.selected in
@@ -35,6 +42,7 @@ returns-in_default c =
       kept = subst (λ (l : Living). (t.words ≡ l.selected.words) × (t.time ≡ l.selected.time)) c.self.view_is (c.give_back.ensures.kept.0, c.give_back.ensures.kept.2);
       quiet = ap (λ (b : Bool). cond b true t.pending) words.0 ∙ c.give_back.ensures.kept.1;
       other = subst (λ (l : Living). state ≡ freed (until c.args.oldest l.selected.time) l.state) c.self.view_is (freed_same (until c.args.oldest s.time) state c.in_default.not-Retired);
+      rest = subst IsAtRest c.self.view_is (at_rest c.self.inside.state c.self.inside.selected c.self.inside.other c.self.inside.number c.self.invariant.holds c.give_back.ensures.still);
       given = subst (λ (l : Living). GaveBack (until c.args.oldest l.selected.time) l.selected t.nodes.space t.leaves.space) c.self.view_is c.give_back.ensures.given;
       all = λ e. (c.give_back.ensures.all e, c.in_default.not-Retired);
       shows = λ L M sh. shown_words state t o L M words.0 (c.give_back.ensures.shows L M (words_shown state s o L M words.0 (subst (λ (l : Living). Shows l L M) (sym c.self.view_is) sh)));
