@@ -1,0 +1,129 @@
+-- The words that an update stores, and the slots at which an address gets another answer.
+use Rattle.std.proofs.Common.{◌≡◌, ℕ, zero, suc, ◌-◌, ◌^◌, ◌<◌, ◌≤◌, List, [], ◌∷◌, ◌++◌, Bool, true, false, Some, take, drop, map, length, nat_eq, length-append, refl, sym, ap, ◌∙◌, arith, subst, mod-eq_of_lt, inl, inr}
+use Rattle.std.specs.Prelude.{◌⊎◌, ◌≢◌, ◌||◌, ◌↔◌}
+use Rattle.std.specs.List.{list_any}
+use Rattle.std.proofs.Math.Seq.{take-append_seam}
+use Rattle.std.proofs.lemmas.Bool.{cases_eq}
+use Rattle.std.proofs.lemmas.List.{take-append-drop, length-take-le, length-drop}
+use Rattle.address_model.specs.Address.{Address, IsAddress, Prefix}
+use Rattle.address_model.specs.Bits.{bits_of, value_of}
+use Rattle.address_model.specs.Width.{width}
+use Rattle.address_model.specs.declared.family.Family.{Family}
+use Rattle.address_model.specs.declared.family.Family.TheVariants.{V4, V6}
+use Rattle.address_model.proofs.BitLaws.{length-bits_of, value-bits_of, bits_from_value}
+use Rattle.fib_regions.specs.Answers.{all_answers, part, side}
+use Rattle.poptrie_build.specs.Tries.{rest}
+use Rattle.poptrie_set.specs.Lives.{Store, covers}
+use Rattle.poptrie_set.specs.Prepares.{SameAt, AreInOrder, StoresJust}
+use Rattle.poptrie_update.specs.Lives.{Living, is_selecting}
+use Rattle.poptrie_update.specs.Pendings.{IsTokenBy, IsSelectorOf}
+use Rattle.poptrie_update.specs.Prepares.{StoresBy}
+use Rattle.poptrie_update.specs.declared.live.Other.{Other}
+use Rattle.poptrie_update.specs.declared.live.Other.TheVariants as other
+use Rattle.poptrie_update.specs.declared.pending.Stores as code_stores
+use Rattle.poptrie_update.specs.declared.pending.Stores.TheVariants as stores
+use Rattle.step_model.specs.Machine.{World, words, Ascends, Differs, AreChanges, MayStore, slot_of}
+use Rattle.paused_routes.specs.Paused.{stores_in}
+use Rattle.paused_routes.proofs.Slots.{eq_comm}
+
+-- ---- two regions of answers are the same, or part somewhere
+abbrev Parts : ℕ → (List Bool → ℕ) → (List Bool → ℕ) → Type 0
+Parts d f g = (a : List Bool) × (length a ≡ d) × (f a ≢ g a)
+
+abbrev Same : ℕ → (List Bool → ℕ) → (List Bool → ℕ) → Type 0
+Same d f g = (a : List Bool) → length a ≡ d → f a ≡ g a
+
+no_bits : (f g : List Bool → ℕ) → f [] ≡ g [] → Same 0 f g
+no_bits f g e [] l = e
+no_bits f g e (b ∷ a) l = absurd (omega arith)
+
+both_sides : (d : ℕ) (f g : List Bool → ℕ) → Same d (side false f) (side false g) → Same d (side true f) (side true g) → Same (suc d) f g
+both_sides d f g l r [] e = absurd (omega arith)
+both_sides d f g l r (false ∷ a) e = l a (omega (arith, e))
+both_sides d f g l r (true ∷ a) e = r a (omega (arith, e))
+
+parts_or : (d : ℕ) (f g : List Bool → ℕ) → Parts d f g ⊎ Same d f g
+parts_or zero f g = elim (cases_eq (f []) (g [])) [
+  | inl e ↦ inr (no_bits f g e)
+  | inr e ↦ inl ([], refl, e)
+]
+parts_or (suc d) f g = elim (parts_or d (side false f) (side false g)) [
+  | inl p ↦ inl (false ∷ p.0, ap suc p.1, p.2)
+  | inr l ↦ elim (parts_or d (side true f) (side true g)) [
+    | inl p ↦ inl (true ∷ p.0, ap suc p.1, p.2)
+    | inr r ↦ inr (both_sides d f g l r)
+  ]
+]
+
+wide : (f : Family) → 32 ≤ width f
+wide V4 = omega arith
+wide V6 = omega arith
+
+-- ---- the slots that differ
+module _ (w : World) (n : ℕ) (f : Family) (few : w.direct ≤ 18) where
+  in_slot : (a : Address) (v : ℕ) → IsAddress a → slot_of w a ≡ v → v < 2 ^ w.direct → take w.direct a.bits ≡ bits_of w.direct v
+  in_slot a v is at below =
+      let long : w.direct ≤ length a.bits = omega (arith, few, is, wide a.family) in
+      bits_from_value (take w.direct a.bits) (bits_of w.direct v) (length-take-le w.direct a.bits long ∙ sym (length-bits_of w.direct v)) (at ∙ sym (value-bits_of w.direct v ∙ mod-eq_of_lt below))
+
+  apart : (v : ℕ) → v < 2 ^ w.direct → Parts (rest f w.direct) (part (bits_of w.direct v) (all_answers f (w.routes n))) (part (bits_of w.direct v) (all_answers f (w.routes (suc n)))) → Differs w n f v
+  apart v below p =
+      let long : length (bits_of w.direct v ++ p.0) ≡ width f = length-append (bits_of w.direct v) p.0 ∙ omega (arith, length-bits_of w.direct v, p.1, few, wide f) in
+      let start : take w.direct (bits_of w.direct v ++ p.0) ≡ bits_of w.direct v = ap (λ (k : ℕ). take k (bits_of w.direct v ++ p.0)) (sym (length-bits_of w.direct v)) ∙ take-append_seam (bits_of w.direct v) p.0 in
+      (record { family = f; bits = bits_of w.direct v ++ p.0 }, long, refl, ap value_of start ∙ (value-bits_of w.direct v ∙ mod-eq_of_lt below), p.2)
+
+  alike : (v : ℕ) → Same (rest f w.direct) (part (bits_of w.direct v) (all_answers f (w.routes n))) (part (bits_of w.direct v) (all_answers f (w.routes (suc n)))) → SameAt f w.direct (w.routes n) (w.routes (suc n)) v
+  alike v h a is fam start =
+      let e : bits_of w.direct v ++ drop w.direct a.bits ≡ a.bits = ap (λ (x : List Bool). x ++ drop w.direct a.bits) (sym start) ∙ take-append-drop w.direct a.bits in
+      let k : length a.bits ≡ width f = is ∙ ap width fam in
+      let d : length (drop w.direct a.bits) ≡ rest f w.direct = length-drop w.direct a.bits ∙ ap (λ (m : ℕ). m - w.direct) k in
+      let q : all_answers f (w.routes n) a.bits ≡ all_answers f (w.routes (suc n)) a.bits = subst (λ (bs : List Bool). all_answers f (w.routes n) bs ≡ all_answers f (w.routes (suc n)) bs) e (h (drop w.direct a.bits) d) in
+      subst (λ (g : Family). all_answers g (w.routes (suc n)) a.bits ≡ all_answers g (w.routes n) a.bits) (sym fam) (sym q)
+
+  differs : (v : ℕ) → v < 2 ^ w.direct → (SameAt f w.direct (w.routes n) (w.routes (suc n)) v → ⊥) → Differs w n f v
+  differs v below unlike = elim (parts_or (rest f w.direct) (part (bits_of w.direct v) (all_answers f (w.routes n))) (part (bits_of w.direct v) (all_answers f (w.routes (suc n))))) [
+    | inl p ↦ apart v below p
+    | inr h ↦ absurd (unlike (alike v h))
+  ]
+
+  not_same : (v : ℕ) → v < 2 ^ w.direct → Differs w n f v → SameAt f w.direct (w.routes n) (w.routes (suc n)) v → ⊥
+  not_same v below d same = d.4 (sym (same d.0 d.1 d.2 (in_slot d.0 v d.1 d.3 below)))
+
+  changed : (stores : List Store) → StoresJust f w.direct (w.routes n) (w.routes (suc n)) stores → (v : ℕ) → v < 2 ^ w.direct → (b : Bool) → covers stores v ≡ b → (b ≡ true) ↔ Differs w n f v
+  changed stores just v below true e = ((λ q. differs v below (λ same. let z : covers stores v ≡ false = (just.just v below).1 same in absurd (cc))), (λ d. refl))
+  changed stores just v below false e = ((λ q. absurd (cc)), (λ d. absurd (not_same v below d ((just.just v below).0 e))))
+
+-- ---- in the order of slots
+ascends : (stores : List Store) → AreInOrder stores → Ascends (map (λ (x : ℕ × ℕ). x.0) stores)
+unfolding Ascends
+ascends [] o = tt
+ascends (x ∷ []) o = tt
+ascends (x ∷ y ∷ stores) o = (o.0.0, ascends (y ∷ stores) o.1)
+
+covers_all : (stores : List Store) (v : ℕ) → covers stores v ≡ list_any (nat_eq v) (map (λ (x : ℕ × ℕ). x.0) stores)
+covers_all [] v = refl
+covers_all (x ∷ stores) v = ap (λ (b : Bool). b || covers stores v) (eq_comm x.0 v) ∙ ap (λ (b : Bool). nat_eq v x.0 || b) (covers_all stores v)
+
+pub are_changes : (w : World) (n : ℕ) (f : Family) (stores : List Store) → w.direct ≤ 18 → StoresJust f w.direct (w.routes n) (w.routes (suc n)) stores → AreChanges w n f (map (λ (x : ℕ × ℕ). x.0) stores)
+are_changes w n f stores few just = (ascends stores just.in_order, (λ v below. subst (λ (b : Bool). (b ≡ true) ↔ Differs w n f v) (covers_all stores v) (changed w n f few stores just v below (covers stores v) refl)))
+
+-- ---- as the token tells
+module _ (w : World) (n : ℕ) (f : Family) (few : w.direct ≤ 18) (p : Prefix) (fam : p.family ≡ f) (l : Living) (family : l.selected.family ≡ f) (direct : l.selected.direct_bits ≡ w.direct) where
+  just_words : StoresJust l.selected.family l.selected.direct_bits (w.routes n) (w.routes (suc n)) l.selected.stores → MayStore w n (Some p) (words (map (λ (x : ℕ × ℕ). x.0) l.selected.stores))
+  just_words just = subst (λ (g : Family). AreChanges w n g (map (λ (x : ℕ × ℕ). x.0) l.selected.stores)) (sym fam) (are_changes w n f l.selected.stores few (subst (λ (s : ℕ). StoresJust f s (w.routes n) (w.routes (suc n)) l.selected.stores) direct (subst (λ (g : Family). StoresJust g l.selected.direct_bits (w.routes n) (w.routes (suc n)) l.selected.stores) family just)))
+
+  by_words : (o : Other) → is_selecting o ≡ false → StoresJust l.selected.family l.selected.direct_bits (w.routes n) (w.routes (suc n)) l.selected.stores → MayStore w n (Some p) (stores_in o l.selected)
+  by_words other.Free e just = just_words just
+  by_words (other.Retired end) e just = just_words just
+  by_words other.Built e just = absurd (cc)
+  by_words other.Replaced e just = absurd (cc)
+
+  by_selector : (o : Other) (stored : Bool) → IsSelectorOf stored o → MayStore w n (Some p) (stores_in o l.selected)
+  by_selector other.Free stored t = absurd t
+  by_selector (other.Retired end) stored t = absurd t
+  by_selector other.Built stored t = tt
+  by_selector other.Replaced stored t = tt
+
+  pub may_store : (x : code_stores.Stores) → IsTokenBy x l → StoresBy x l (w.routes n) (w.routes (suc n)) → MayStore w n (Some p) (stores_in l.state l.selected)
+  may_store (stores.Words t) token just = by_words l.state token.1 just
+  may_store (stores.Selector stored) token just = by_selector l.state stored token

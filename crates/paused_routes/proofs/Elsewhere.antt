@@ -1,0 +1,130 @@
+-- Steps that concern the other family.
+use Rattle.std.proofs.Common.{◌≡◌, ℕ, suc, ◌+◌, ◌≤◌, List, [], ◌∷◌, ◌++◌, Bool, true, false, cond, Option, Some, None, refl, sym, ap, ◌∙◌, arith, subst}
+use Rattle.std.proofs.lemmas.List.{append-nil}
+use Rattle.address_model.specs.declared.family.Family.{Family}
+use Rattle.table_model.specs.Entries.{Entries}
+use Rattle.fib_regions.specs.Answers.{all_answers}
+use Rattle.orig_tree.specs.Views.{Labels}
+use Rattle.poptrie_build.specs.Tries.{node_need, leaf_need}
+use Rattle.poptrie_update.specs.Lives.{Living, Shows, Past, is_pending, is_selecting}
+use Rattle.poptrie_cursor.specs.Cursors.{lookup_of}
+use Rattle.step_model.specs.Machine.{World, State, Begun, Lookup, is_in, changes_before}
+use Rattle.paused_routes.specs.declared.routes.PausedRoutes.{PausedRoutes}
+use Rattle.paused_routes.specs.Paused.{IsWorld, is_own, shown_after, needs_before, AreSame, IsBegun, IsTrieAt, IsTreeAt, IsAt}
+use Rattle.paused_routes.specs.Calls.{IsElsewhere, ended_with}
+use Rattle.paused_routes.proofs.Alike.{live_alike}
+
+module _ (w : World) (f : Family) (n : ℕ) (other : is_in f (w.changed n) ≡ false) where
+  not_own : (b : Option Begun) → is_own w f n b ≡ false
+  not_own None = refl
+  not_own (Some x) = other
+
+  shown_now : (b : Option Begun) → shown_after w f n b ≡ n
+  shown_now b = ap (λ (c : Bool). cond c (suc n) n) (not_own b)
+
+  quiet : (l : Living) (b : Option Begun) → IsBegun w f n l b → is_pending l ≡ false
+  quiet l None h = h
+  quiet l (Some x) h = h.1 other
+
+  still : (l : Living) (c : Option Begun) → is_pending l ≡ false → IsBegun w f n l c
+  still l None q = q
+  still l (Some x) q = ((λ e. absurd (cc)), (λ e. q))
+
+  pub trie_elsewhere : (l : Living) (b c : Option Begun) → IsTrieAt w f n b l → IsTrieAt w f n c l
+  trie_elsewhere l b c h = record {
+    family = h.family;
+    direct = h.direct;
+    few = h.few;
+    node_order = h.node_order;
+    leaf_order = h.leaf_order;
+    time = h.time;
+    shows = subst (λ (m : ℕ). Shows l (w.routes n) (w.routes m)) (shown_now b ∙ sym (shown_now c)) h.shows;
+    past = h.past;
+    begun = still l c (quiet l b h.begun);
+  }
+
+  pub tree_elsewhere : (t : Labels) (b c : Option Begun) → IsTreeAt w f n b t → IsTreeAt w f n c t
+  tree_elsewhere t b c h = record {
+    family = h.family;
+    routes = h.routes ∙ ap (λ (m : ℕ). all_answers f (w.routes m)) (shown_now b ∙ sym (shown_now c));
+    before = λ e. let q = not_own c in absurd (cc);
+  }
+
+  later : changes_before w f n ≡ changes_before w f (suc n)
+  unfolding changes_before
+  later = let z : changes_before w f n ≡ 0 + changes_before w f n = omega arith in z ∙ ap (λ (b : Bool). cond b 1 0 + changes_before w f n) (sym other)
+
+  grown : (need : Entries → ℕ) → needs_before w f need n ≡ needs_before w f need (suc n)
+  unfolding needs_before
+  grown need = sym (append-nil (needs_before w f need n)) ∙ ap (λ (b : Bool). needs_before w f need n ++ cond b (need (w.routes n) ∷ []) []) (sym other)
+
+  -- the event ends
+  module _ (k : IsWorld w f) where
+    idle : (l : Living) → is_pending l ≡ false → is_selecting l.state ≡ false
+    idle l q = by (is_selecting l.state) refl
+      where
+        by : (i : Bool) → is_selecting l.state ≡ i → is_selecting l.state ≡ false
+        by false e = e
+        by true e = let z : is_pending l ≡ true = ap (λ (b : Bool). cond b true l.selected.pending) e in absurd (cc)
+
+    as_before : (g : Family) → g ≡ f → all_answers g (w.routes n) ≡ all_answers g (w.routes (suc n))
+    as_before g e = subst (λ (h : Family). all_answers h (w.routes n) ≡ all_answers h (w.routes (suc n))) (sym e) (sym (k.stays n other))
+
+    pub trie_over : (l : Living) (b : Option Begun) → IsTrieAt w f n b l → IsTrieAt w f (suc n) None l
+    trie_over l b h = record {
+      family = h.family;
+      direct = h.direct;
+      few = h.few;
+      node_order = h.node_order;
+      leaf_order = h.leaf_order;
+      time = h.time ∙ later;
+      shows = live_alike l.state l.selected l.other (w.routes n) (w.routes n) (w.routes (suc n)) (w.routes (suc n)) (idle l (quiet l b h.begun)) (as_before l.selected.family h.family) (as_before l.selected.family h.family) (subst (λ (m : ℕ). Shows l (w.routes n) (w.routes m)) (shown_now b) h.shows);
+      past = subst (λ (ns : List ℕ). Past l ns (needs_before w f (leaf_need f w.direct) (suc n))) (grown (node_need f w.direct)) (subst (λ (ls : List ℕ). Past l (needs_before w f (node_need f w.direct) n) ls) (grown (leaf_need f w.direct)) h.past);
+      begun = quiet l b h.begun;
+    }
+
+    pub tree_over : (t : Labels) (b : Option Begun) → IsTreeAt w f n b t → IsTreeAt w f (suc n) None t
+    tree_over t b h = record {
+      family = h.family;
+      routes = h.routes ∙ (ap (λ (m : ℕ). all_answers f (w.routes m)) (shown_now b) ∙ sym (k.stays n other));
+      before = λ e. absurd (cc);
+    }
+
+pub over_at : (w : World) (f : Family) (s : State) (p : PausedRoutes) → is_in f (w.changed s.ended) ≡ false → IsAt w f s p → IsAt w f (ended_with s) p
+over_at w f s p other at = (
+  at.0,
+  record {
+    world = at.1.world;
+    tree = tree_over w f s.ended other at.1.world p.tree s.begun at.1.tree;
+    trie = trie_over w f s.ended other at.1.world p.live s.begun at.1.trie;
+    fits = at.1.fits;
+    same = at.1.same;
+    started = λ n k e. omega (arith, at.1.started n k e);
+    many = at.1.many;
+  },
+)
+
+-- with the same number of events
+elsewhere_in : (w : World) (f : Family) (n : ℕ) (b c : Option Begun) (t : Labels) (l : Living) → (is_in f (w.changed n) ≡ true → c ≡ b) → IsTreeAt w f n b t × IsTrieAt w f n b l → IsTreeAt w f n c t × IsTrieAt w f n c l
+elsewhere_in w f n b c t l same h = by (is_in f (w.changed n)) refl
+  where
+    by : (i : Bool) → is_in f (w.changed n) ≡ i → IsTreeAt w f n c t × IsTrieAt w f n c l
+    by true e = subst (λ (x : Option Begun). IsTreeAt w f n x t × IsTrieAt w f n x l) (sym (same e)) h
+    by false e = (tree_elsewhere w f n e t b c h.0, trie_elsewhere w f n e l b c h.1)
+
+pub elsewhere_at : (w : World) (f : Family) (s t : State) (p : PausedRoutes) → IsElsewhere w f s t → IsAt w f s p → IsAt w f t p
+elsewhere_at w f s t p e at = (
+  at.0,
+  record {
+    world = at.1.world;
+    tree = parts.0;
+    trie = parts.1;
+    fits = at.1.fits;
+    same = λ n. subst (λ (x : Option Lookup). AreSame w f x (lookup_of p.cursors n) (at.0 n)) (sym (e.lookups n)) (at.1.same n);
+    started = λ n k q. let h = at.1.started n k (sym (e.lookups n) ∙ q) in subst (λ (m : ℕ). k.since ≤ m) (sym e.ended) h;
+    many = at.1.many;
+  },
+)
+  where
+    parts : IsTreeAt w f t.ended t.begun p.tree × IsTrieAt w f t.ended t.begun p.live
+    parts = subst (λ (m : ℕ). IsTreeAt w f m t.begun p.tree × IsTrieAt w f m t.begun p.live) (sym e.ended) (elsewhere_in w f s.ended s.begun t.begun p.tree p.live e.begun (at.1.tree, at.1.trie))

@@ -1,0 +1,12 @@
+pub mod Slots
+pub mod Alike
+pub mod Opened
+pub mod Trie
+pub mod Going
+pub mod Steps
+pub mod Elsewhere
+pub mod First
+pub mod Changes
+pub mod Needs
+pub mod Pinned
+pub mod Ready
