@@ -17,7 +17,7 @@ ghost use Rattle.orig_tree.specs.Bests.{best_in, AreBest, IsGrown, laid};
 ghost use Rattle.orig_tree.specs.Steps.{new_nodes};
 ghost use Rattle.orig_tree.specs.Placed.{Climbs, IsPlaced, route_set};
 
-use crate::best::{Bests, exchange, fresh, lengthen};
+use crate::best::{Best, Bests, exchange, fresh, lengthen};
 use crate::counter::{Counter, Uncounted};
 use crate::cover::{Cover, Slot};
 use fib_addr::{Entry, Prefix, bit_at, push_entry};
@@ -435,7 +435,7 @@ fn join_half(node: Node, kids: u32, bit: bool) -> Node
 }
 
 /// Makes nodes down to a path, below a node that inherits the hop. It changes no table. The new ones keep what stands for
-/// their regions once the path has the route that is given, if it is.
+/// their regions.
 pub(crate) fn grow(
     nodes: &mut Nodes,
     bests: &mut Bests,
@@ -443,7 +443,6 @@ pub(crate) fn grow(
     q: u128,
     left: u8,
     inherited: u16,
-    set: Option<u16>,
 )
     requires bits { left ≤ 128 }
     requires room { vec_len nodes.old.pairs + 2 * left ≤ vec_capacity nodes.old.pairs }
@@ -456,11 +455,9 @@ pub(crate) fn grow(
         p }
     ensures best { (d : ℕ) (name : ℕ → Place) (n : ℕ) (p : List Bool) → left < d
         → IsTree d (cells_of nodes.old) name i p → IsHeld (cells_of nodes.old) nodes.old.free name n
-        → AreBest d (cells_of nodes.old) (best_in bests.old) (λ a. lpm (laid set (bits_of left q)
-        (walks_at d (cells_of nodes.old) i).routes) a inherited) i
-        → IsGrown d (cells_of nodes.new) name i p (λ a. lpm (laid set (bits_of left q)
-        (walks_at d (cells_of nodes.old) i).routes) a inherited) (best_in bests.old)
-        (best_in bests.new) }
+        → AreBest d (cells_of nodes.old) (best_in bests.old) (λ a. lpm (walks_at d (cells_of nodes.old)
+        i).routes a inherited) i → IsGrown d (cells_of nodes.new) name i p (λ a. lpm (walks_at d
+        (cells_of nodes.old) i).routes a inherited) (best_in bests.old) (best_in bests.new) }
 {
     if left == 0 {
         return;
@@ -470,12 +467,12 @@ pub(crate) fn grow(
     let node = read(nodes, i);
     let hop = node.route.hop.unwrap_or(inherited);
     match node.half(bit) {
-        Some(j) => grow(nodes, bests, j, q, at, hop, set),
+        Some(j) => grow(nodes, bests, j, q, at, hop),
         None => {
             let j = split(nodes, i, node, bit);
-            let mut best = fresh(at, hop, set);
+            let mut best = Best::one(hop);
             exchange(bests, j, &mut best);
-            grow(nodes, bests, j, q, at, hop, set);
+            grow(nodes, bests, j, q, at, hop);
         }
     }
 }

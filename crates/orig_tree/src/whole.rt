@@ -72,7 +72,7 @@ pub(crate) fn make_room(
         return Ok(());
     }
     reserve(nodes, bests, 2 * len as usize)?;
-    grow(nodes, bests, 0, q, len, 0, None);
+    grow(nodes, bests, 0, q, len, 0);
     *undo = None;
     Ok(())
 }

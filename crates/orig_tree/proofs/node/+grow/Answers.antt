@@ -1,6 +1,11 @@
-use Rattle.std.proofs.Common.{sym, ◌∙◌, arith}
+use Rattle.std.proofs.Common.{List, Bool, ◌-◌, [], None, refl, sym, subst, ◌∙◌, arith}
+use Rattle.address_model.specs.Bits.{bits_of}
+use Rattle.table_model.specs.Table.{lpm}
+use Rattle.orig_tree.specs.Edits.{edit}
+use Rattle.orig_tree.specs.declared.best.Best.{Best}
+use Rattle.orig_tree.proofs.Standing.{stands_one}
 use Rattle.orig_tree.specs.Arena.{cells_of}
-use Rattle.orig_tree.specs.Bests.{best_in}
+use Rattle.orig_tree.specs.Bests.{best_in, Stands}
 use Rattle.orig_tree.proofs.Rooms.{room_end, some_room, none_room}
 use Rattle.orig_tree.proofs.Growing.{grown_end, some_grown, none_grown, within_it, split_inside}
 use Rattle.orig_tree.proofs.Mending.{put_here, put_other}
@@ -17,7 +22,7 @@ returns-in-Some-clause-nodes t c = λ d name n p l s h. some_room (cells_of c.ar
     (c.read-node.ensures) c.half.ensures c.in-Some.is l s (λ e v m u. c.grow.ensures.nodes e name n v m u h)
 
 pub returns-in-Some-clause-best : goal.returns-in-Some-clause-best
-returns-in-Some-clause-best t c = λ d name n p l s h k. some_grown c.args.left c.args.q c.args.inherited c.unwrap_or-hop.result c.bit_at-bit.result c.args.set c.read-node.result (cells_of c.args.nodes.now) c.args.i c.read-node.ensures c.if-left-eq0.false c.bit_at-bit.ensures c.unwrap_or-hop.ensures
+returns-in-Some-clause-best t c = λ d name n p l s h k. some_grown c.args.left c.args.q c.args.inherited c.unwrap_or-hop.result c.bit_at-bit.result None c.read-node.result (cells_of c.args.nodes.now) c.args.i c.read-node.ensures c.if-left-eq0.false c.bit_at-bit.ensures c.unwrap_or-hop.ensures
     (cells_of c.grow.new.nodes) c.args.nodes.now.free c.grow.new.nodes.free c.in-Some.j d n c.half.result name p (best_in c.args.bests.now) (best_in c.grow.new.bests) c.half.ensures c.in-Some.is l s h
     (λ e n1 m v u w a. c.grow.ensures.nodes e n1 m v u w a) (λ e n1 m v u w a o. c.grow.ensures.best e n1 m v u w a o) k
 
@@ -30,13 +35,13 @@ pub returns-in-None-clause-best : goal.returns-in-None-clause-best
 returns-in-None-clause-best t c = λ d name n p l s h k.
     let old = cells_of c.args.nodes.now in
     let S = best_in c.args.bests.now in
-    let x = c.fresh-best.result in
+    let x = c.one-best.result in
     let gone = sym c.half.ensures ∙ c.in-None.is in
     let split = c.split-j.ensures.split d name n p (c.read-node.ensures) gone (omega (arith, c.if-left-eq0.false, l)) s h in
     let inside = split_inside d c.bit_at-bit.result old (cells_of c.split-j.new.nodes) c.split-j.new.nodes.free name c.args.i p c.split-j.result split in
-    none_grown c.args.left c.args.q c.args.inherited c.unwrap_or-hop.result c.bit_at-bit.result c.args.set c.read-node.result old (cells_of c.split-j.new.nodes) (cells_of c.grow-in-None.new.nodes) c.args.nodes.now.free c.split-j.new.nodes.free c.grow-in-None.new.nodes.free
+    none_grown c.args.left c.args.q c.args.inherited c.unwrap_or-hop.result c.bit_at-bit.result None c.read-node.result old (cells_of c.split-j.new.nodes) (cells_of c.grow-in-None.new.nodes) c.args.nodes.now.free c.split-j.new.nodes.free c.grow-in-None.new.nodes.free
     c.args.i c.split-j.result d n name p S (best_in c.exchange.new.bests) (best_in c.grow-in-None.new.bests) x c.read-node.ensures c.if-left-eq0.false c.bit_at-bit.ensures c.unwrap_or-hop.ensures gone l s h split
     (λ y r e ne. c.exchange.ensures.kept y (omega (arith, within_it old c.args.nodes.now.free n y name r h e, c.args.nodes.now.pairs.ok.0, c.requires.long)) ∙ put_other S c.split-j.result y x ne)
     (c.exchange.ensures.kept c.split-j.result (omega (arith, inside, c.split-j.new.nodes.pairs.ok.0, c.split-j.ensures.len, c.requires.long, c.if-left-eq0.false)) ∙ put_here S c.split-j.result x)
-    (λ e q m. c.fresh-best.ensures e q m)
+    (λ e q m. subst (λ (y : Best). Stands e (λ a. lpm (edit (bits_of (c.args.left - 1) q) None []) a c.unwrap_or-hop.result) y) (sym c.one-best.ensures) (stands_one e c.unwrap_or-hop.result (λ a. c.unwrap_or-hop.result) (λ a l. refl)))
     (λ e n1 m v u w a. c.grow-in-None.ensures.nodes e n1 m v u w a) (λ e n1 m v u w a o. c.grow-in-None.ensures.best e n1 m v u w a o) k
