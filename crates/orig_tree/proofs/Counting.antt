@@ -1,10 +1,10 @@
 -- Nodes are counted.
-use Rattle.std.proofs.Common.{◌≡◌, ◌≢◌, ℕ, zero, suc, ◌+◌, ◌-◌, ◌^◌, List, [], ◌∷◌, ◌++◌, map, length, Bool, true, false, cond, refl, sym, ap, ◌∙◌, subst, arith, Option, Some, None, nat_eq, min}
+use Rattle.std.proofs.Common.{◌≡◌, ◌≢◌, ℕ, zero, suc, ◌+◌, ◌-◌, ◌^◌, List, [], ◌∷◌, ◌++◌, map, length, Bool, true, false, cond, refl, sym, ap, ◌∙◌, arith, Option, Some, None, nat_eq, min}
 use Rattle.std.specs.Int.{bit_at}
 use Rattle.std.specs.List.{filter}
 use Rattle.std.proofs.lemmas.List.{length-append}
 use Rattle.address_model.specs.Bits.{begins, bits_of}
-use Rattle.orig_tree.specs.Walk.{Walks, no_walks, walks_of}
+use Rattle.orig_tree.specs.Walk.{Walks, walks_of}
 use Rattle.orig_tree.specs.Arena.{node_at, half_place, from_half, walks_at, walks_by}
 use Rattle.orig_tree.specs.Within.{nodes_in, told}
 use Rattle.orig_tree.specs.declared.node.Node.{Node}

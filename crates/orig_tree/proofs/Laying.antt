@@ -7,13 +7,13 @@ use Rattle.table_model.specs.Table.{lpm}
 use Rattle.least_model.specs.Sets.{side}
 use Rattle.orig_tree.specs.Edits.{edit}
 use Rattle.orig_tree.specs.Walk.{Walks, no_walks, walks_of, edited, Allowed, has_node}
-use Rattle.orig_tree.specs.Arena.{Place, blank, node_at, half_place, IfHalf, walks_at, IsTree, IsHeld, IsSet, HasRoom, IsRoomier, HalvesStay, whole, IsArena}
+use Rattle.orig_tree.specs.Arena.{Place, blank, node_at, half_place, IfHalf, walks_at, IsTree, IsHeld, HasRoom, IsRoomier, HalvesStay, whole, IsArena}
 use Rattle.orig_tree.specs.Bests.{Stands, best_one, AreBest, changed, laid, Untouched, IsMended, IsGrown, KeepsBest, IsLaid}
 use Rattle.orig_tree.specs.declared.node.Node.{Node}
 use Rattle.orig_tree.specs.declared.node.Label.TheVariants.{Route}
 use Rattle.orig_tree.specs.declared.best.Best.{Best}
 use Rattle.orig_tree.specs.declared.best.Change.{Change}
-use Rattle.orig_tree.proofs.Roots.{same_whole, room_whole, set_whole}
+use Rattle.orig_tree.proofs.Roots.{same_whole, room_whole}
 use Rattle.orig_tree.proofs.Standing.{stands_one, best_same, best_alike, best_fewer, best_carry}
 use Rattle.orig_tree.proofs.Growing.{within_it}
 use Rattle.orig_tree.proofs.Undoing.{Assigns, put_in}

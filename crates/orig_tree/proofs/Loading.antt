@@ -2,7 +2,7 @@
 use Rattle.std.proofs.Common.{◌≡◌, ℕ, suc, List, [], Bool, Option, Some, None, refl, sym, ap, ◌∙◌, subst}
 use Rattle.table_model.specs.Table.{lpm}
 use Rattle.orig_tree.specs.Arena.{Place, IfHalf, IsTree, walks_at, from_half}
-use Rattle.orig_tree.specs.Bests.{best_one, best_behind, AreBest, IsMended, HalfMended}
+use Rattle.orig_tree.specs.Bests.{best_one, best_behind, IsMended, HalfMended}
 use Rattle.orig_tree.specs.declared.node.Node.{Node}
 use Rattle.orig_tree.specs.declared.best.Best.{Best}
 use Rattle.orig_tree.proofs.Standing.{stands_one}
@@ -19,11 +19,10 @@ use Rattle.address_model.proofs.BitLaws.{length-bits_of}
 use Rattle.address_model.proofs.Same.{same_family_is}
 use Rattle.table_model.specs.Entries.{Entries, of_table, with_entry, in_order}
 use Rattle.fib_addr.specs.Views.{prefix_as, entry_as}
-use Rattle.fib_addr.specs.declared.prefix.Prefix as code
 use Rattle.fib_addr.specs.declared.entry.Entry as code_entry
 use Rattle.orig_tree.specs.Views.{InPlace, with_own}
 use Rattle.orig_tree.specs.Walk.{Walks}
-use Rattle.orig_tree.specs.Arena.{IsArena, IsRoomier, whole}
+use Rattle.orig_tree.specs.Arena.{IsArena}
 use Rattle.orig_tree.specs.Bests.{IsLaid, KeepsBest}
 use Rattle.orig_tree.proofs.Places.{in_place_put, same_rows, entries_put}
 use Rattle.orig_tree.specs.declared.node.Label.TheVariants.{Route}

@@ -2,7 +2,7 @@ use Rattle.std.proofs.Common.{◌-◌, arith}
 use Rattle.orig_tree.specs.Arena.{cells_of}
 use Rattle.orig_tree.specs.Bests.{best_in}
 use Rattle.orig_tree.proofs.Mending.{settle_node, settle_end}
-use Rattle.orig_tree.proofs.Loading.{settled_none, settled_some}
+use Rattle.orig_tree.proofs.Loading.{settled_none}
 use Rattle.orig_tree.proofs.load.+settle.Goals as goal
 
 pub settle-returns-then-depth-eq0-clause-best : goal.settle-returns-then-depth-eq0-clause-best

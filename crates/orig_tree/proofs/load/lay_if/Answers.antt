@@ -1,4 +1,4 @@
-use Rattle.std.proofs.Common.{List, Bool, true, cond, refl, sym, ap, subst, ◌∙◌}
+use Rattle.std.proofs.Common.{List, Bool, cond, refl, sym, ap, subst, ◌∙◌}
 use Rattle.table_model.specs.Entries.{of_table, with_entry}
 use Rattle.fib_addr.specs.Views.{entry_as}
 use Rattle.orig_tree.specs.Arena.{cells_of, whole}

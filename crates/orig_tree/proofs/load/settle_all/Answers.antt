@@ -1,8 +1,5 @@
-use Rattle.std.proofs.Common.{ℕ, suc, [], subst, List, Bool}
-use Rattle.table_model.specs.Table.{lpm}
-use Rattle.orig_tree.specs.Arena.{cells_of, walks_at}
-use Rattle.orig_tree.specs.Bests.{best_in, AreBest}
-use Rattle.orig_tree.specs.Arena.{IsTree}
+use Rattle.orig_tree.specs.Arena.{cells_of}
+use Rattle.orig_tree.specs.Bests.{best_in}
 use Rattle.orig_tree.proofs.Loading.{settled_whole}
 use Rattle.orig_tree.proofs.load.settle_all.Goals as goal
 

@@ -1,4 +1,4 @@
-use Rattle.std.proofs.Common.{List, Bool, ◌-◌, [], None, refl, sym, subst, ◌∙◌, arith}
+use Rattle.std.proofs.Common.{◌-◌, [], None, refl, sym, subst, ◌∙◌, arith}
 use Rattle.address_model.specs.Bits.{bits_of}
 use Rattle.table_model.specs.Table.{lpm}
 use Rattle.orig_tree.specs.Edits.{edit}

@@ -1,8 +1,6 @@
-use Rattle.std.proofs.Common.{suc, ap, arith, sym, ◌∙◌}
-use Rattle.address_model.specs.Bits.{bits_of}
-use Rattle.address_model.specs.Width.{width}
+use Rattle.std.proofs.Common.{ap}
 use Rattle.orig_tree.specs.Walk.{Walks}
-use Rattle.orig_tree.specs.Arena.{cells_of, whole}
+use Rattle.orig_tree.specs.Arena.{cells_of}
 use Rattle.orig_tree.specs.Bests.{best_in}
 use Rattle.orig_tree.proofs.Laying.{stays_by}
 use Rattle.orig_tree.proofs.Undoing.{can_same, can_stay}

@@ -1,5 +1,3 @@
-use Rattle.std.proofs.Common.{arith, ap, sym, subst}
-use Rattle.std.specs.Map.{keys_of}
 use Rattle.orig_tree.specs.Arena.{cells_of, whole}
 use Rattle.orig_tree.proofs.Places.{in_place_nil}
 use Rattle.orig_tree.proofs.tree.Tree.load.Goals as goal
