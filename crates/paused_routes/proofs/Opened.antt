@@ -135,7 +135,7 @@ open_at w f s p a after (Err e) fam fits is none at = subst (λ (cs : Opens). (t
 pub goes_at : (w : World) (f : Family) (s : State) (p : PausedRoutes) (due : Dues) (n : ℕ) (k : Lookup) (c : code_lookup.Lookup) (d : Due) (r : Option Hop) (after : Opens) → IsIn w f s p due → s.lookups f n ≡ Some k → lookup_of p.cursors n ≡ Some c → IsSame w f k c (due n) → d.answer ≡ match_in (w.routes (version_of w s k)) k.addr → k.gone + d.left ≡ visits_of w.direct (w.routes (version_of w s k)) k.addr → Goes r d n p.live p.cursors after due → (t : State) × GoesTo {E = Unit {0}} w s f n (Ok r) t × IsAt w f t (record { tree = p.tree; live = p.live; cursors = after })
 goes_at w f s p due n k c d (Some g) after h held is same answer gone goes = (
   t,
-  (k, held, goes.1 ∙ answer, (refl, (k, held, omega (arith, gone, goes.0), ap (hop_at (w.hops (version_of w s k))) (goes.1 ∙ answer), refl))),
+  (k, held, goes.1 ∙ answer, (refl, (k, held, omega (arith, gone, goes.0), ap (hop_at w.hops) (goes.1 ∙ answer), refl))),
   (
     due,
     record {

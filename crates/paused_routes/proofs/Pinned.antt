@@ -91,8 +91,7 @@ module _ (w : World) (f : Family) (s : State) (p : PausedRoutes) (due : Dues) (h
           let b = both_some w f _ _ _ j (h.same m) q in
           began.2 m b.0 b.1 (b.2.since ∙ (t ∙ sym at));
       since = omega (arith, after_start since p.live.selected.time p.live.state pin.2 over, at, h.trie.time);
-      nodes_fit = omega (arith, short.nodes_fit, node_need_is (w.routes (suc s.ended)), node_places);
-      leaves_fit = omega (arith, short.leaves_fit, leaf_need_is (w.routes (suc s.ended)), leaf_places);
+      fits = (omega (arith, short.nodes_fit, node_need_is (w.routes (suc s.ended)), node_places), omega (arith, short.leaves_fit, leaf_need_is (w.routes (suc s.ended)), leaf_places));
       crowded = one_crowded k since arena e pin.5.0 pin.5.1 (h.started cursor k both.1) at pin.2 pin.3 pin.5.2 short.refused;
     },
   )

@@ -32,10 +32,10 @@ use Rattle.poptrie_update.specs.declared.pending.NotReady.TheVariants as why
 use Rattle.poptrie_cursor.specs.Cursors.{Dues, FitsAll, IsFirst}
 use Rattle.poptrie_cursor.proofs.Opened.{since_fits}
 use Rattle.crowd_model.specs.Crowds.{IsStill, sum}
-use Rattle.step_model.specs.Machine.{World, State, Begun, is_in}
+use Rattle.step_model.specs.Machine.{World, State, Begun, HasRoom, is_in}
 use Rattle.paused_routes.specs.declared.routes.PausedRoutes.{PausedRoutes}
 use Rattle.paused_routes.specs.Paused.{is_own, shown_after, stores_in, IsBegun, IsIn}
-use Rattle.paused_routes.specs.Calls.{begun_with, IsNext, IsHindered, IsTooMany, DoFit}
+use Rattle.paused_routes.specs.Calls.{begun_with, IsNext, IsHindered, IsTooMany}
 use Rattle.paused_routes.proofs.Pinned.{node_need_of, leaf_need_of, pinned_in}
 
 pub ok_of : {A E : Type 0} (r : Result A E) (P : Type 0) → is_err r ≡ false → OnOk r P → P
@@ -122,7 +122,7 @@ module _ (w : World) (f : Family) (s : State) (p : PausedRoutes) (due : Dues) (h
   }
 
   -- then the needs after it fit: where words are stored, the new version is beside the old one, and else they are told to
-  pub fits_in : (x : code_stores.Stores) (r : Living) (since : ℕ) (nodes : Space Node) (leaves : Space ℕ) → HasShapeOf p.live r → IsTokenBy x r → Shows r (w.routes s.ended) (w.routes (suc s.ended)) → GaveBack since p.live.selected nodes leaves → IsMadeIn since x p.live r (w.routes s.ended) (w.routes (suc s.ended)) nodes leaves → DoFit w f (w.routes (suc s.ended))
+  pub fits_in : (x : code_stores.Stores) (r : Living) (since : ℕ) (nodes : Space Node) (leaves : Space ℕ) → HasShapeOf p.live r → IsTokenBy x r → Shows r (w.routes s.ended) (w.routes (suc s.ended)) → GaveBack since p.live.selected nodes leaves → IsMadeIn since x p.live r (w.routes s.ended) (w.routes (suc s.ended)) nodes leaves → HasRoom w f (suc s.ended)
   fits_in (stores.Words t) r since nodes leaves shape token sh gave made =
       let v = words_shown r.state r.selected r.other (w.routes s.ended) (w.routes (suc s.ended)) token.1 sh in
       let n = node_need_of r f w.direct (w.routes (suc s.ended)) (shape.0 ∙ h.trie.family) (shape.1 ∙ h.trie.direct) in

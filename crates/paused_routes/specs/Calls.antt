@@ -32,10 +32,6 @@ pub record IsWorldOf (w : World) (f : Family) (L : Entries) (z : Sizes) : Type 0
 abbrev pub IsTooMany : Family → (direct nodes leaves : ℕ) → Entries → TrieFull → Type 0
 IsTooMany f direct nodes leaves L t = IsTooMuch t.arena t.need t.have (node_need f direct L) (leaf_need f direct L) (2 ^ nodes) (2 ^ leaves)
 
--- they are no more
-abbrev pub DoFit : World → Family → Entries → Type 0
-DoFit w f L = (node_need f w.direct L ≤ 2 ^ w.nodes) × (leaf_need f w.direct L ≤ 2 ^ w.leaves)
-
 abbrev pub IsWhyNot : Labels → Sizes → PausedError → Type 0
 IsWhyNot tree z paused.NoMemory = Unit {0}
 IsWhyNot tree z (paused.Full t) = IsTooMany tree.family z.direct z.nodes z.leaves tree.routes t
@@ -54,7 +50,7 @@ GoesTo w s f n (Ok (Some h)) t =
     (k : Lookup)
     × (s.lookups f n ≡ Some k)
     × (h.0 ≡ match_in (w.routes (version_of w s k)) k.addr)
-    × Goes w s f n (answered (printed_number f n) (hop_at (w.hops (version_of w s k)) h.0)) t
+    × Goes w s f n (answered (printed_number f n) (hop_at w.hops h.0)) t
 GoesTo w s f n (Err e) t = Goes w s f n (not_open (printed_number f n)) t
 
 -- ---- an update

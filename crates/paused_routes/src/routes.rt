@@ -91,9 +91,9 @@ impl PausedRoutes {
     ghost use Rattle.kept_model.specs.Patched.{with_route};
     ghost use Rattle.poptrie_update.specs.Lives.{is_pending};
     ghost use Rattle.poptrie_update.specs.Pendings.{IsTokenOf};
-    ghost use Rattle.step_model.specs.Machine.{World, State, Stores, Opens, MayStore, StoresOne, Ends, Cancels, at_first};
+    ghost use Rattle.step_model.specs.Machine.{World, State, Stores, Opens, MayStore, StoresOne, Ends, Cancels, at_first, HasRoom};
     ghost use Rattle.paused_routes.specs.Paused.{IsAt, IsSomewhere};
-    ghost use Rattle.paused_routes.specs.Calls.{IsWorldOf, IsWhyNot, open_row, GoesTo, begun_with, IsNext, DoFit, IsHindered, store_row, end_row, cancel_row};
+    ghost use Rattle.paused_routes.specs.Calls.{IsWorldOf, IsWhyNot, open_row, GoesTo, begun_with, IsNext, IsHindered, store_row, end_row, cancel_row};
 
     /// The routes of a tree, with a trie of these sizes; no look-up is open.
     ///
@@ -162,7 +162,7 @@ impl PausedRoutes {
             × IsAt w f (begun_with what s) self.new) }
         ensures fits { OnOk result ((w : World) (f : Family) (s : State) → IsAt w f s self.old
             → IsNext w s (prefix_as prefix.now) hop.0 self.old.tree.routes
-            → DoFit w f (w.routes (suc s.ended))) }
+            → HasRoom w f (suc s.ended)) }
         ensures routes { OnOk result (self.new.tree.routes
             ≡ with_route (prefix_as prefix.now) hop.0 self.old.tree.routes) }
         ensures before { OnOk result (self.new.tree.before ≡ self.old.tree.routes) }

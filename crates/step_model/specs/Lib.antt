@@ -1,3 +1,4 @@
 pub mod Script
 pub mod Rows
 pub mod Machine
+pub mod Turns

@@ -1,25 +1,26 @@
 -- What a run in steps may do: look-ups that pause between their reads, beside events whose stores are made one by one. It is told over lists of
 -- routes alone. A run is a list of rows that the machine allows, step by step.
-use Rattle.std.specs.Prelude.{◌≡◌, ◌≢◌, ◌↔◌, ◌⊎◌, ℕ, zero, suc, ◌+◌, ◌*◌, ◌^◌, ◌<◌, ◌≤◌, List, [], ◌∷◌, Bool, true, false, ◌&&◌, cond, nat_eq, nat_lt, length, take, Option, Some, None}
+use Rattle.std.specs.Prelude.{◌≡◌, ◌≢◌, ◌↔◌, ◌⊎◌, ℕ, zero, suc, ◌+◌, ◌*◌, ◌^◌, ◌<◌, ◌≤◌, List, [], ◌∷◌, ◌++◌, Bool, true, false, ◌&&◌, cond, nat_eq, nat_lt, length, take, Option, Some, None}
 use Rattle.std.specs.List.{list_any}
 use Rattle.address_model.specs.Address.{Address, Prefix, IsAddress, same_family}
 use Rattle.address_model.specs.Bits.{value_of}
 use Rattle.address_model.specs.declared.family.Family.{Family}
 use Rattle.table_model.specs.Entries.{Entries, match_in}
 use Rattle.fib_addr.specs.Hops.{hop_at}
-use Rattle.poptrie_build.specs.Tries.{visits_of, node_need, leaf_need}
+use Rattle.poptrie_build.specs.Tries.{visits_of, node_need, leaf_need, IsTooMuch}
 use Rattle.step_model.specs.Script.{Step, opens, goes, prepares, stores, ends, cancels}
 use Rattle.step_model.specs.Rows.{StepRow, opened, full, went_on, answered, not_open, prepared, pinned, busy, stored, ended, left, cancelled, late, nothing, printed_number}
 
 -- ---- what happens
 
--- The routes after so many ended events and the hops that have numbers then, in the order of numbers; the events that there are, and for each
--- number of ended events the prefix at which the next one changes a chosen hop, if it does; how many direct bits the tries have, and the
--- orders of their arenas.
+-- The routes after so many ended events, and the hops that have numbers, in the order of numbers; the events that there are, whether one more follows
+-- that brings one different hop too many, and for each number of ended events the prefix at which the next one changes a chosen hop, if it
+-- does; how many direct bits the tries have, and the orders of their arenas.
 pub record World : Type 0 where
   pub routes : ℕ → Entries
-  pub hops : ℕ → List Address
+  pub hops : List Address
   pub events : ℕ
+  pub is_full : Bool
   pub changed : ℕ → Option Prefix
   pub direct : ℕ
   pub nodes : ℕ
@@ -132,6 +133,15 @@ needs_between w f need n (suc m) = cond (is_in f (w.changed (n + m))) (need (w.r
 abbrev pub IsCrowded : World → Family → (Entries → ℕ) → (order from now : ℕ) → Type 0
 IsCrowded w f need order from now = (gap : ℕ) × (from + gap ≡ now) × (2 ^ order ≤ 64 * (need (w.routes from) + needs_between w f need from gap + need (w.routes (suc now))))
 
+-- tries of the family's routes after so many events have room
+abbrev pub HasRoom : World → Family → ℕ → Type 0
+HasRoom w f n = (node_need f w.direct (w.routes n) ≤ 2 ^ w.nodes) × (leaf_need f w.direct (w.routes n) ≤ 2 ^ w.leaves)
+
+-- those of the family of which the next event changes a chosen hop have room after it, if it does
+abbrev pub HasRoomNext : World → ℕ → Option Prefix → Type 0
+HasRoomNext w n None = Unit {0}
+HasRoomNext w n (Some p) = HasRoom w p.family (suc n)
+
 -- the look-up of this number may hold what the next event, of its family, would need: no other of the family is before it, by the changes
 -- that had ended when it was opened and then by number; at least one has ended since; the needs after the event fit; and an arena is crowded
 pub record MayPin (w : World) (s : State) (f : Family) (n : ℕ) (k : Lookup) : Type 0 where
@@ -140,8 +150,7 @@ pub record MayPin (w : World) (s : State) (f : Family) (n : ℕ) (k : Lookup) : 
   pub oldest : (m : ℕ) (j : Lookup) → s.lookups f m ≡ Some j → changes_before w f k.since ≤ changes_before w f j.since
   pub first : (m : ℕ) (j : Lookup) → s.lookups f m ≡ Some j → changes_before w f j.since ≡ changes_before w f k.since → n ≤ m
   pub since : changes_before w f k.since < changes_before w f s.ended
-  pub nodes_fit : node_need f w.direct (w.routes (suc s.ended)) ≤ 2 ^ w.nodes
-  pub leaves_fit : leaf_need f w.direct (w.routes (suc s.ended)) ≤ 2 ^ w.leaves
+  pub fits : HasRoom w f (suc s.ended)
   pub crowded : IsCrowded w f (node_need f w.direct) w.nodes k.since s.ended ⊎ IsCrowded w f (leaf_need f w.direct) w.leaves k.since s.ended
 
 -- ---- the steps, each with its row and the state after it
@@ -171,16 +180,16 @@ Goes w s f n (answered c hop) t =
     × ((k : Lookup)
     × (s.lookups f n ≡ Some k)
     × (k.gone ≡ visits_of w.direct (w.routes (version_of w s k)) k.addr)
-    × (hop ≡ hop_at (w.hops (version_of w s k)) (match_in (w.routes (version_of w s k)) k.addr))
+    × (hop ≡ hop_at w.hops (match_in (w.routes (version_of w s k)) k.addr))
     × (t ≡ record s { lookups = with_lookup f n None s.lookups }))
 Goes w s f n (not_open c) t = (c ≡ printed_number f n) × (s.lookups f n ≡ None) × (t ≡ s)
 Goes w s f n row t = ⊥
 
 abbrev pub Prepares : World → State → Option Begun → StepRow → State → Type 0
 Prepares w s (Some b) row t = (row ≡ busy) × (t ≡ s)
-Prepares w s None prepared t = (s.ended < w.events) × ((what : Stores) × MayStore w s.ended (w.changed s.ended) what × (t ≡ record s { begun = Some (record { stores = what; made = 0 }) }))
+Prepares w s None prepared t = (s.ended < w.events) × HasRoomNext w s.ended (w.changed s.ended) × ((what : Stores) × MayStore w s.ended (w.changed s.ended) what × (t ≡ record s { begun = Some (record { stores = what; made = 0 }) }))
 Prepares w s None (pinned c) t = (s.ended < w.events) × ((f : Family) × (n : ℕ) × (k : Lookup) × (c ≡ printed_number f n) × MayPin w s f n k × (t ≡ s))
-Prepares w s None nothing t = (w.events ≤ s.ended) × (t ≡ s)
+Prepares w s None nothing t = (w.events ≤ s.ended) × (w.is_full ≡ false) × (t ≡ s)
 Prepares w s None row t = ⊥
 
 abbrev pub StoresOne : State → Option Begun → StepRow → State → Type 0
@@ -228,3 +237,23 @@ Runs w s [] [] t = s ≡ t
 Runs w s (step ∷ steps) (row ∷ rows) t = (m : State) × Takes w s step row m × Runs w m steps rows t
 Runs w s [] (row ∷ rows) t = ⊥
 Runs w s (step ∷ steps) [] t = ⊥
+
+-- ---- a prepare that ends the run
+
+-- no event is begun, and the next one brings one different hop too many
+pub record IsHopsFull (w : World) (s : State) : Type 0 where
+  pub quiet : s.begun ≡ None
+  pub last : w.events ≤ s.ended
+  pub full : w.is_full ≡ true
+
+-- No event is begun, and tries of the routes of the family of which the next one changes a chosen hop need this many places after it, more
+-- than this arena has: 0 is the family's nodes', 1 its leaves', of which the first is told.
+pub record IsTrieFull (w : World) (s : State) (f : Family) (arena need have : ℕ) : Type 0 where
+  pub quiet : s.begun ≡ None
+  pub next : s.ended < w.events
+  pub family : is_in f (w.changed s.ended) ≡ true
+  pub much : IsTooMuch arena need have (node_need f w.direct (w.routes (suc s.ended))) (leaf_need f w.direct (w.routes (suc s.ended))) (2 ^ w.nodes) (2 ^ w.leaves)
+
+-- the steps before one of the prepares are a run, and this is so after it
+abbrev pub ComesTo : World → List Step → (State → Type 0) → Type 0
+ComesTo w steps P = (front : List Step) × (rest : List Step) × (rows : List StepRow) × (s : State) × (steps ≡ front ++ prepares ∷ rest) × Runs w at_first front rows s × P s
