@@ -4,3 +4,4 @@ pub mod Taking
 pub mod Outside
 pub mod Needing
 pub mod Erring
+pub mod Turning

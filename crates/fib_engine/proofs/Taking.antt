@@ -217,13 +217,18 @@ some_least : (n : ℕ) → 1 ≤ n → some_of n ≡ Some n
 some_least zero l = absurd (omega arith)
 some_least (suc n) l = refl
 
+-- what a chosen hop's number is found as
+pub some_new : (hops : List Address) (o : Option Address) → HasNumber hops o → some_of (number_or_none hops o) ≡ option_map (number_in hops) o
+some_new hops None i = refl
+some_new hops (Some a) i = some_least (number_in hops a) (number_least hops a i)
+
 same_turned : (f g : Family) → same_family f g ≡ same_family g f
 same_turned V4 V4 = refl
 same_turned V4 V6 = refl
 same_turned V6 V4 = refl
 same_turned V6 V6 = refl
 
-not_other : (old new : Option Address) → is_other old new ≡ false → old ≡ new
+pub not_other : (old new : Option Address) → is_other old new ≡ false → old ≡ new
 not_other None None e = refl
 not_other None (Some hop) e = cc
 not_other (Some old) None e = cc
@@ -275,10 +280,6 @@ module _ (C : Candidates) (H : List Address) (elem : Elem) (elems : List Elem) (
       let held = held_push elems elem C C' c refl in
       subst (λ (hs : List Address). IsNumbered hs a) (sym (hops_push elems elem H H' h refl)) (chosen_numbered (elems ++ elem ∷ []) p a (ap (λ (X : Candidates). chosen_for X p) (sym held) ∙ e))
 
-  some_new : (o : Option Address) → HasNumber H' o → some_of (number_or_none H' o) ≡ option_map (number_in H') o
-  some_new None i = refl
-  some_new (Some a) i = some_least (number_in H' a) (number_least H' a i)
-
   module _ (choice : Choice) (ch : IsChoice C elem choice) where
     other_is : is_other (chosen_for C p) (chosen_for C' p) ≡ is_other (option_map addr_as choice.before) (option_map addr_as choice.after)
     other_is = ap (λ o. is_other o (chosen_for C' p)) (sym ch.before) ∙ ap (is_other (option_map addr_as choice.before)) (sym ch.after)
@@ -298,7 +299,7 @@ module _ (C : Candidates) (H : List Address) (elem : Elem) (elems : List Elem) (
         by_test : (b : Bool) → same_family rr.0.family f ≡ b → with_planned (cond b (Some rr) None) (only f E) ≡ only f E'
         by_test true t =
             ap (λ q. with_route q rr.1.0 (only f E)) there
-            ∙ turned p E E' new (at_prefix elem x) old_placed new_placed after f rr.1.0 (turned_family ∙ t) (ap some_of (r.2 ∙ ap (number_or_none H') ch.after) ∙ some_new (chosen_for C' p) (chosen_has (chosen_for C' p) refl))
+            ∙ turned p E E' new (at_prefix elem x) old_placed new_placed after f rr.1.0 (turned_family ∙ t) (ap some_of (r.2 ∙ ap (number_or_none H') ch.after) ∙ some_new H' (chosen_for C' p) (chosen_has (chosen_for C' p) refl))
         by_test false t = stays_out p E E' new (at_prefix elem x) old_placed new_placed after f (turned_family ∙ t)
 
     module _ (A B : Entries) (a : Fine V4 A) (b : Fine V6 B) where

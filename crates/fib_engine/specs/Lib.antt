@@ -3,3 +3,4 @@ pub mod Held
 pub mod Stands
 pub mod Numbers
 pub mod Settled
+pub mod Turns

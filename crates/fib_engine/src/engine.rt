@@ -20,12 +20,14 @@ ghost use Rattle.route_tries.specs.declared.sizes.TrieFull.{TrieFull};
 ghost use Rattle.fib_engine.specs.Held.{routes_in, routes_told};
 ghost use Rattle.fib_engine.specs.Numbers.{HasNumber, IsNewNumber, IsRouteOf, numbered};
 ghost use Rattle.fib_engine.specs.Tables.{AreOfRoutes};
+ghost use Rattle.fib_engine.specs.Turns.{AreTurnsOf};
 ghost use Rattle.fib_engine.specs.Stands.{EndsLoad, IsLoading, IsShortFor, IsTooMany, Loads, Stands, Takes, changes_of, routes_after};
 
 use crate::error::EngineError;
 use crate::fitting::plan_fitting;
 use crate::settled::Settled;
 use crate::tables::Tables;
+use crate::turns::Turns;
 use fib_delta::Change;
 use fib_prefix::{Addr, Elem, Entry, Event, Family, Hop, HopTable, HopsFull, Prefix};
 use ortc::Fresh;
@@ -81,7 +83,7 @@ fn is_due(every: u32, event: u64) -> bool
 }
 
 /// The number that an elementary event's hop has or gets, if it puts a route.
-fn number_put(hops: &HopTable, elem: &Elem) -> Result<Option<Hop>, HopsFull>
+pub(crate) fn number_put(hops: &HopTable, elem: &Elem) -> Result<Option<Hop>, HopsFull>
     requires { length hops.now.list ≤ most_hops }
     ensures full { IsErr result ↔ (most_hops
         < length (hops_after hops.now.list (elem_as elem.now ∷ []))) }
@@ -95,7 +97,7 @@ fn number_put(hops: &HopTable, elem: &Elem) -> Result<Option<Hop>, HopsFull>
 }
 
 /// Numbers the hop of an elementary event, if it puts a route. There is room for it, so it takes no memory.
-fn number_hop(hops: &mut HopTable, elem: &Elem)
+pub(crate) fn number_hop(hops: &mut HopTable, elem: &Elem)
     requires room { 1 ≤ hops.old.spare }
     requires few { length (hops_after hops.old.list (elem_as elem.now ∷ [])) ≤ most_hops }
     ensures { hops.new.list ≡ hops_after hops.old.list (elem_as elem.now ∷ []) }
@@ -127,7 +129,11 @@ fn is_same(before: &Option<Addr>, after: &Option<Addr>) -> bool
 }
 
 /// The route of a choice that changes its hop, with the number of the hop after; `Hop::NONE` where there is none.
-fn changed_route(hops: &HopTable, own: Option<Hop>, choice: &Choice) -> Option<(Prefix, Hop)>
+pub(crate) fn changed_route(
+    hops: &HopTable,
+    own: Option<Hop>,
+    choice: &Choice,
+) -> Option<(Prefix, Hop)>
     ensures { (after : List Address) (elem : model_elem)
         → after ≡ hops_after hops.now.list (elem ∷ []) → IsNewNumber hops.now.list after own
         → HasNumber after (option_map addr_as choice.now.after)
@@ -395,5 +401,13 @@ impl Engine {
             needs: self.needs,
             sizes: self.limits.sizes,
         }
+    }
+
+    /// What each elementary event from now on does to the routes, computed in advance: the tables are let go.
+    pub fn turns(self) -> Turns
+        ensures { (load : List model_elem) → Stands load [] self → AreTurnsOf load [] result }
+    {
+        drop(self.tables);
+        Turns::new(self.alloc, self.candidates, self.hops)
     }
 }

@@ -8,7 +8,8 @@
 //! Lookups go to tries of the routes, which are built when they are asked for. What tries would need is kept as numbers from the
 //! load's end on, so that an event after which an arena would be too small is refused at once.
 //!
-//! Where no more events come an engine settles: the candidates are let go, and what is left is told from the trees.
+//! Where no more events come an engine settles: the candidates are let go, and what is left is told from the trees. Where only
+//! what events do to the routes is asked for, and no table, an engine leaves its `Turns`.
 #![tactic(auto)]
 
 mod engine;
@@ -16,11 +17,13 @@ mod error;
 mod fitting;
 mod settled;
 mod tables;
+mod turns;
 
 pub use engine::{Engine, Limits};
 pub use error::EngineError;
 pub use route_tries::{FamilyNeeds, Found, Needs, Sizes, TrieFull, Tries};
 pub use settled::Settled;
+pub use turns::Turns;
 
 #[cfg(test)]
 mod tests;

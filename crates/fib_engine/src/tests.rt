@@ -5,7 +5,7 @@ ghost use Rattle.std.specs.Prelude.{◌≡◌, ◌≤◌, ◌<◌, ◌+◌, true
 use super::*;
 use cert_rows::Row;
 use fib_delta::Change;
-use fib_prefix::{Addr, Elem, Entry, Family, Hop, Peer, Prefix, Via};
+use fib_prefix::{Addr, Elem, Entry, Event, Family, Hop, Peer, Prefix, Via};
 use ortc::Fresh;
 use std::alloc::{AllocError, Global};
 
@@ -142,5 +142,39 @@ fn what_is_left_is_told(rt: HostRuntime) -> Result<(), EngineError> {
     assert!(rt; entries_are(settled.table(), &held));
     assert!(rt; entries_are(settled.least_table(), &held));
     assert!(rt; rows_are(rt.alloc(), &settled, &due));
+    Ok(())
+}
+
+/// What updates do, one after another, to the routes that an engine's load left.
+fn turns_after(engine: Engine, events: &[Event]) -> Result<Turns, AllocError> {
+    let mut turns = engine.turns();
+    for event in events {
+        turns.take(event)?;
+    }
+    Ok(turns)
+}
+
+#[test]
+fn what_updates_do_is_told(rt: HostRuntime) -> Result<(), EngineError> {
+    let lower = prefix(0, 1);
+    let upper = prefix(0x8000_0000, 1);
+    let events = [
+        // it isn't chosen, and its hop gets a number
+        Event::Announce(via(2), lower, 2, hop(2)),
+        Event::Announce(via(2), upper, 2, hop(3)),
+        Event::Withdraw(via(1), lower),
+        Event::Down(via(2).peer),
+    ];
+    let due = [
+        None,
+        Some((upper, Hop(3))),
+        Some((lower, Hop(2))),
+        Some((lower, Hop::NONE)),
+        Some((upper, Hop::NONE)),
+    ];
+    let (turns, hops, is_full) = turns_after(loaded(rt.alloc(), 0, lower)?, &events)?.finish();
+    assert!(rt; turns.as_slice() == due.as_slice());
+    assert_eq!(rt; hops.find(&hop(3)), Some(Hop(3)));
+    assert!(rt; !is_full);
     Ok(())
 }
