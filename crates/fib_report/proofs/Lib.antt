@@ -1,4 +1,4 @@
 mod Joined
-mod Loops
+pub mod Loops
 mod Proper
 pub mod Sections

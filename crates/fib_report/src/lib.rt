@@ -19,7 +19,8 @@ mod tests;
 mod whole_run;
 
 pub use fields::{family_field, hop_field};
-pub use rows::{report_text, row_text};
+pub use printed_row::put_fields;
+pub use rows::{report_text, row_text, row_writer};
 pub use run::{Answer, Report, Run};
 pub use run_text::RunText;
 pub use whole_run::write_run;

@@ -16,11 +16,9 @@ use itoa::Buffer;
 use std::alloc::AllocError;
 use std::io::Write;
 
-/// Writes the fields of a row, two or more.
-pub(crate) fn put_fields<W: Write + Drop>(
-    out: &mut Writer<W>,
-    fields: &[&[u8]],
-) -> Result<(), AllocError>
+/// Writes the row of these fields, two or more: commas between them, and a line feed. An `Err` of a writer into memory means that
+/// memory ran out.
+pub fn put_fields<W: Write + Drop>(out: &mut Writer<W>, fields: &[&[u8]]) -> Result<(), AllocError>
     requires at { IsAtRow out.old }
     requires fields { 2 ≤ length fields.now }
     ensures { OnOk result (AddsRows W.contents out.old out.new

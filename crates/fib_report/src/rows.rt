@@ -225,7 +225,7 @@ pub(crate) fn put_report<W: Write + Drop>(
 }
 
 /// A writer of rows into memory.
-pub(crate) fn row_writer(alloc: Global) -> Writer<Vec<u8>>
+pub fn row_writer(alloc: Global) -> Writer<Vec<u8>>
     ensures at { IsAtRow result }
     ensures empty { text_written (λ v. Some v.items) result ≡ Some [] }
 {
