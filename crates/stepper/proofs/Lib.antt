@@ -1,0 +1,10 @@
+pub mod Outside
+pub mod Worlds
+pub mod Halves
+pub mod Looking
+pub mod Assembled
+pub mod Events
+pub mod Preparing
+pub mod Starting
+pub mod Running
+pub mod Finishing
