@@ -1,0 +1,55 @@
+use Rattle.std.proofs.Common.{◌∙◌, arith, refl}
+use Rattle.std.proofs.lemmas.Result.{err_from_is_err_and}
+use Rattle.fib_io.specs.Pieces.{ComeNext, IsEnd, IsLarge}
+use Rattle.whole_input.proofs.Arriving.{told_before}
+use Rattle.whole_input.proofs.Cutting.{cut_at_start}
+use Rattle.whole_input.proofs.Gathering.{gathering_feeds, gathering_start, gathering_takes, has_all, refused_end, refused_piece, refused_read}
+use Rattle.whole_input.proofs.whole.read_through.Goals as goal
+
+pub loop-more-init : goal.loop-more-init
+loop-more-init g c = record {
+  some = c.requires;
+  within = omega arith;
+  stands = rw c.new-all.ensures.items (gathering_start _ _ c.new-reader.ensures.nothing c.new-reader.ensures.going c.new-reader.ensures.stands);
+  cut = cut_at_start c.new-reader.result c.new-reader.ensures.nothing;
+  same = refl;
+  kept = refl;
+}
+
+pub returns-in_err-n-clause-refused : goal.returns-in_err-n-clause-refused
+returns-in_err-n-clause-refused g c =
+    let p = err_from_is_err_and c.from_residual.result c.from_residual.ensures.1 in
+    rw (p.1, p.2) (refused_piece _ _ c.loop-more.at _ _ (λ e. told_before _ _ c.args.name.now (λ o. IsLarge o c.loop-more.at) c.loop-more.invariant.same (c.in_err-n.ensures.large e)) c.loop-more.invariant.stands c.loop-more.invariant.cut)
+
+pub returns-in_err-finish-clause-refused : goal.returns-in_err-finish-clause-refused
+returns-in_err-finish-clause-refused g c =
+    let p = err_from_is_err_and c.from_residual-in_err-finish.result c.from_residual-in_err-finish.ensures.1 in
+    rw (p.1, p.2) (refused_end _ _ c.loop-more.at _ _ (told_before _ _ c.args.name.now (λ o. IsEnd o c.loop-more.at) c.loop-more.invariant.same (c.in_ok-n.ensures.end c.if-n-eq0.true)) c.loop-more.invariant.stands c.in_err-finish.ensures.tells)
+
+pub returns-then-n-eq0-clause-events : goal.returns-then-n-eq0-clause-events
+returns-then-n-eq0-clause-events g c = has_all _ _ c.loop-more.at _ (told_before _ _ c.args.name.now (λ o. IsEnd o c.loop-more.at) c.loop-more.invariant.same (c.in_ok-n.ensures.end c.if-n-eq0.true)) c.loop-more.invariant.stands c.in_ok-finish.ensures.tells
+
+pub loop-more-2-init : goal.loop-more-2-init
+loop-more-2-init g c = record {
+  some = c.in_ok-n.ensures.some;
+  within = c.in_ok-n.ensures.within;
+  stands = gathering_feeds _ _ _ c.read_piece.new.room _ c.in_ok-n.n _ (told_before _ _ c.args.name.now (λ o. ComeNext o c.loop-more.at c.read_piece.new.room c.in_ok-n.n) c.loop-more.invariant.same c.in_ok-n.ensures.comes) c.loop-more.invariant.stands c.in_ok-feed.ensures.ok;
+  same = c.in_ok-n.ensures.same ∙ c.loop-more.invariant.same;
+  kept = c.in_ok-n.ensures.cause ∙ c.loop-more.invariant.kept;
+}
+
+pub returns-in_err-read_events-clause-refused : goal.returns-in_err-read_events-clause-refused
+returns-in_err-read_events-clause-refused g c =
+    let p = err_from_is_err_and c.from_residual-in_err-read_events.result c.from_residual-in_err-read_events.ensures.1 in
+    rw (p.1, p.2) (refused_read _ _ _ _ _ _ c.read_events.new.events.items c.loop-more-2.invariant.stands c.in_err-read_events.ensures.gives c.in_err-read_events.ensures.after)
+
+pub loop-more-2-preserved : goal.loop-more-2-preserved
+loop-more-2-preserved g c =
+    let took = rw c.if-branch.true at c.in_ok-read_events.ensures.after in
+    record {
+      some = c.loop-more-2.invariant.some;
+      within = c.loop-more-2.invariant.within;
+      stands = rw (c.in_ok-extend_from_slice.ensures.items, c.deref.ensures.value) (gathering_takes _ _ _ _ _ _ c.loop-more-2.invariant.stands took);
+      same = c.loop-more-2.invariant.same;
+      kept = c.loop-more-2.invariant.kept;
+    }

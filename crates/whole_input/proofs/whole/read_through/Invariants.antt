@@ -1,0 +1,30 @@
+use Rattle.std.proofs.Common.{◌≡◌, ◌+◌, ◌-◌, ◌^◌, ◌<◌, ◌≤◌, length}
+use Rattle.mrt_read.specs.Standing.{reader_left}
+use Rattle.whole_input.proofs.Cutting.{IsCutNow}
+use Rattle.whole_input.proofs.Gathering.{Gathering}
+use Rattle.whole_input.proofs.whole.read_through.Given as goal
+
+abbrev pub invariant-loop-more : goal.invariant-loop-more
+invariant-loop-more g l = record {
+  some : 0 < length l.room;
+  within : l.at ≤ 2 ^ 36;
+  stands : Gathering (g.I.Inputs.content l.fn.inputs l.name) l.reader l.at l.all.items;
+  cut : IsCutNow l.reader;
+  same : g.I.Inputs.content l.inputs ≡ g.I.Inputs.content l.fn.inputs;
+  kept : g.I.Inputs.faults l.inputs ≡ g.I.Inputs.faults l.fn.inputs;
+}
+
+abbrev pub decreases-loop-more : goal.decreases-loop-more
+decreases-loop-more g l = (2 ^ 36 + 1) - l.at
+
+abbrev pub invariant-loop-more-2 : goal.invariant-loop-more-2
+invariant-loop-more-2 g l = record {
+  some : 0 < length l.room;
+  within : l.at ≤ 2 ^ 36;
+  stands : Gathering (g.I.Inputs.content l.fn.inputs l.name) l.reader l.at l.all.items;
+  same : g.I.Inputs.content l.inputs ≡ g.I.Inputs.content l.fn.inputs;
+  kept : g.I.Inputs.faults l.inputs ≡ g.I.Inputs.faults l.fn.inputs;
+}
+
+abbrev pub decreases-loop-more-2 : goal.decreases-loop-more-2
+decreases-loop-more-2 g l = length (reader_left l.reader)
