@@ -24,10 +24,11 @@ use Rattle.fib_main.specs.Asks.{addresses_from, asks_in, ended_asks_in, ended_li
 use Rattle.fib_main.specs.Asking.{AreEnded, AsksFed, AsksFrom, AsksStand, BringsAsks, HasBadLine, ReadsLines, ask_of_input, ask_refusal, asks_behind}
 use Rattle.fib_main.specs.Due.{asks_of, told_asks}
 use Rattle.fib_main.specs.Reads.{IsList}
-use Rattle.fib_main.specs.Stops.{Stop, Refused, FailsDue, IsDueIfTold, is_small, lined, lined_past}
+use Rattle.whole_input.specs.Cuts.{is_small}
+use Rattle.whole_input.proofs.Arriving.{Comes, all_fed, comes_first, comes_next}
+use Rattle.fib_main.specs.Stops.{Stop, Refused, FailsDue, IsDueIfTold, lined, lined_past}
 use Rattle.fib_main.proofs.AskLemmas.{addresses_on, then_lines}
 use Rattle.fib_main.proofs.AskLines.{ended_both, ended_front, ended_more, ended_none, ends_lines, held_more, no_feed, no_feed_after}
-use Rattle.fib_main.proofs.Arriving.{Comes, all_fed, comes_first, comes_next}
 
 -- ---- the lines of what was fed
 

@@ -11,7 +11,8 @@ use Rattle.mrt_read.specs.Standing as reading
 use Rattle.mrt_read.specs.declared.reader.Reader.{Reader}
 use Rattle.fib_main.specs.Counts.{CountsFit, CountsOn, AreFew}
 use Rattle.fib_main.specs.Due.{read_part}
-use Rattle.fib_main.proofs.Feeding.{input_grows, reads_on}
+use Rattle.whole_input.proofs.Cutting.{reads_on}
+use Rattle.fib_main.proofs.Feeding.{input_grows}
 use Rattle.fib_main.proofs.FewElems.{events_few}
 use Rattle.fib_main.proofs.FewEvents.{HasRoom, input_within}
 

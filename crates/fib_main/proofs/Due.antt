@@ -9,7 +9,7 @@ use Rattle.fib_main.specs.declared.outcome.Outcome.TheVariants.{Done, CheckNo, U
 use Rattle.fib_main.specs.declared.outcome.MrtInput.TheVariants.{Dump, Updates}
 use Rattle.fib_main.specs.declared.state.State.{State}
 use Rattle.fib_main.specs.Stops.{Stop, Untold, Refused, IsDueIfTold, FailsDue, outcome_at, with_room}
-use Rattle.route_tries.specs.Sizes.{Shortage, shortage, shortage_as}
+use Rattle.route_tries.specs.Sizes.{Shortage, Sizes, shortage, shortage_as}
 use Rattle.route_tries.specs.declared.sizes.TrieFull.{TrieFull as CodeFull}
 use Rattle.fib_main.specs.Refusals.{Limits, Short, routes_by, stop_at}
 use Rattle.fib_main.specs.Due.{Feed, Printed, feed_at, feeds_at, limits_of, load_at, printed, sizes_of, told_at}
@@ -98,28 +98,43 @@ no_room : {A : Type 0} (o : Option Shortage) (s : Shortage) (x : A) → o ≡ So
 no_room None s x e = absurd cc
 no_room (Some t) s x e = let same : t ≡ s = cc in ap (λ u. stopped (outcome_at 0 (Short u))) same
 
-pub dump_fails : (content : Content) (named : Named) (o : Outcome) → FailsDue o (feed_at (sizes_of named) content Dump [] (Some named.dump)) → FailsDue o (feeds_at content named)
-unfolding feeds_at load_at
-dump_fails content named o f = fails_first o (load_at (sizes_of named) content named.dump) _ (fails_first o (feed_at (sizes_of named) content Dump [] (Some named.dump)) _ f)
+-- a dump that isn't accepted
+pub load_refused : (z : Sizes) (content : Content) (name : List ℕ) (o : Outcome) → FailsDue o (feed_at z content Dump [] (Some name)) → FailsDue o (load_at z content name)
+unfolding load_at
+load_refused z content name o f = fails_first o (feed_at z content Dump [] (Some name)) _ f
 
-abbrev due_feed : Content → Named → Result Feed Stop
-due_feed content named = feed_at (sizes_of named) content Dump [] (Some named.dump)
+-- one whose routes' tries have room
+pub load_due : (z : Sizes) (content : Content) (name : List ℕ) (load : Feed) → IsDueIfTold (feed_at z content Dump [] (Some name)) (Ok load) → shortage z (routes_by load.elems) ≡ None → IsDueIfTold (load_at z content name) (Ok load)
+unfolding load_at
+load_due z content name load i e =
+    is_then (feed_at z content Dump [] (Some name)) (λ l. with_room (shortage z (routes_by l.elems)) l) load load i (subst (λ d. IsDueIfTold d (fine load)) (sym (room (shortage z (routes_by load.elems)) load e)) refl)
 
 is_refusal : {X : Type 0} (o : Outcome) (d : Result X Stop) → d ≡ stopped o → IsDueIfTold d (stopped o)
 is_refusal o d e = rw e refl
 
-pub load_fits : (content : Content) (named : Named) (load : Feed) → IsDueIfTold (due_feed content named) (Ok load) → shortage (sizes_of named) (routes_by load.elems) ≡ None → IsDueIfTold (load_at (sizes_of named) content named.dump) (Ok load)
+-- and one whose tries lack places
+load_short : (z : Sizes) (content : Content) (name : List ℕ) (load : Feed) (full : CodeFull) → IsDueIfTold (feed_at z content Dump [] (Some name)) (Ok load) → shortage z (routes_by load.elems) ≡ Some (shortage_as full) → FailsDue (TrieFull 0 full.need full.have full.arena) (load_at z content name)
 unfolding load_at
-load_fits content named load i e =
-    is_then (due_feed content named) (λ l. with_room (shortage (sizes_of named) (routes_by l.elems)) l) load load i (subst (λ d. IsDueIfTold d (fine load)) (sym (room (shortage (sizes_of named) (routes_by load.elems)) load e)) refl)
+load_short z content name load full i e =
+    let o = TrieFull 0 full.need full.have full.arena in
+    let here : FailsDue {Y = Feed} o (with_room (shortage z (routes_by load.elems)) load) = is_refusal o _ (no_room (shortage z (routes_by load.elems)) (shortage_as full) load e) in
+    fails_then o (feed_at z content Dump [] (Some name)) (λ l. with_room (shortage z (routes_by l.elems)) l) load i here
+
+pub dump_fails : (content : Content) (named : Named) (o : Outcome) → FailsDue o (feed_at (sizes_of named) content Dump [] (Some named.dump)) → FailsDue o (feeds_at content named)
+unfolding feeds_at
+dump_fails content named o f = fails_first o (load_at (sizes_of named) content named.dump) _ (load_refused (sizes_of named) content named.dump o f)
+
+abbrev due_feed : Content → Named → Result Feed Stop
+due_feed content named = feed_at (sizes_of named) content Dump [] (Some named.dump)
+
+pub load_fits : (content : Content) (named : Named) (load : Feed) → IsDueIfTold (due_feed content named) (Ok load) → shortage (sizes_of named) (routes_by load.elems) ≡ None → IsDueIfTold (load_at (sizes_of named) content named.dump) (Ok load)
+load_fits content named load i e = load_due (sizes_of named) content named.dump load i e
 
 -- a load that lacks places is refused
 pub load_lacks : (content : Content) (named : Named) (load : Feed) (full : CodeFull) → IsDueIfTold (due_feed content named) (Ok load) → shortage (sizes_of named) (routes_by load.elems) ≡ Some (shortage_as full) → FailsDue (TrieFull 0 full.need full.have full.arena) (feeds_at content named)
-unfolding feeds_at load_at
+unfolding feeds_at
 load_lacks content named load full i e =
-    let o = TrieFull 0 full.need full.have full.arena in
-    let here : FailsDue {Y = Feed} o (with_room (shortage (sizes_of named) (routes_by load.elems)) load) = is_refusal o _ (no_room (shortage (sizes_of named) (routes_by load.elems)) (shortage_as full) load e) in
-    fails_first o (load_at (sizes_of named) content named.dump) _ (fails_then o (due_feed content named) (λ l. with_room (shortage (sizes_of named) (routes_by l.elems)) l) load i here)
+    fails_first (TrieFull 0 full.need full.have full.arena) (load_at (sizes_of named) content named.dump) _ (load_short (sizes_of named) content named.dump load full i e)
 
 abbrev due_updates : Content → Named → Feed → Result Feed Stop
 due_updates content named load = feed_at (sizes_of named) content Updates load.elems named.updates
@@ -150,12 +165,12 @@ all_due content named asks view feeds y i e =
 
 -- ---- the inputs that are read
 
-after_is : {X : Type 0} (d : Result X Stop) (x : X) (names : List (List ℕ)) → IsDueIfTold d (Ok x) → after d names ≡ names
+pub after_is : {X : Type 0} (d : Result X Stop) (x : X) (names : List (List ℕ)) → IsDueIfTold d (Ok x) → after d names ≡ names
 after_is (Err Untold) x names i = refl
 after_is (Err (Refused o)) x names i = absurd (refused_not_ok o x i)
 after_is (Ok y) x names i = refl
 
-reads_more : (cause more : Type 0) (before now : List ℕ → ℕ) (o : Outcome) → (cause → more) → ReadsBy cause before now o → ReadsBy more before now o
+pub reads_more : (cause more : Type 0) (before now : List ℕ → ℕ) (o : Outcome) → (cause → more) → ReadsBy cause before now o → ReadsBy more before now o
 reads_more cause more before now ReadFault f r = f r
 reads_more cause more before now Done f r = r
 reads_more cause more before now (CheckNo x) f r = r
@@ -216,6 +231,14 @@ end_fails content named load (feed.Malformed malformed) i e = absurd e
 end_fails content named load (feed.HopsFull n) i e = absurd e
 end_fails content named load feed.Fault i e = absurd e
 end_fails content named load feed.TooLarge i e = absurd e
+
+pub load_ends : (limits : Limits) (content : Content) (name : List ℕ) (load : Feed) (error : FeedError) → IsDueIfTold (feed_at limits.sizes content Dump [] (Some name)) (Ok load) → EndsShort limits load.elems error → FailsDue (refusal_of Dump error) (load_at limits.sizes content name)
+load_ends limits content name load (feed.TrieFull n full) i e = load_short limits.sizes content name load full i e.1
+load_ends limits content name load feed.NoMemory i e = tt
+load_ends limits content name load (feed.Malformed malformed) i e = absurd e
+load_ends limits content name load (feed.HopsFull n) i e = absurd e
+load_ends limits content name load feed.Fault i e = absurd e
+load_ends limits content name load feed.TooLarge i e = absurd e
 
 -- a state after the load's end has room
 pub load_has_room : (limits : Limits) (load : Feed) (state : State) → StateStands Updates limits load.elems [] state → shortage limits.sizes (routes_by load.elems) ≡ None

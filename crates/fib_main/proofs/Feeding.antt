@@ -14,7 +14,9 @@ use Rattle.reading_model.specs.Reading.{ReadsEvents}
 use Rattle.mrt_frame.specs.declared.Malformed as code_malformed
 use Rattle.mrt_read.specs.Standing as reading
 use Rattle.mrt_read.specs.declared.reader.Reader.{Reader}
-use Rattle.fib_main.proofs.Arriving.{Comes}
+use Rattle.whole_input.specs.Cuts.{is_small, is_cut}
+use Rattle.whole_input.proofs.Arriving.{Comes}
+use Rattle.whole_input.proofs.Cutting.{reads_on}
 use Rattle.fib_main.specs.declared.outcome.MrtInput.{MrtInput}
 use Rattle.fib_main.specs.declared.outcome.Outcome.TheVariants as outcome
 use Rattle.fib_main.specs.declared.state.State.{State}
@@ -24,7 +26,7 @@ use Rattle.std.specs.Prelude.{IfSome, Bool, true, false, not, ◌&&◌}
 use Rattle.fib_io.specs.Pieces.{octets_read, octets_from}
 use Rattle.reading_model.proofs.Reading.{reading_feeds}
 use Rattle.fib_main.specs.declared.outcome.Outcome.{Outcome}
-use Rattle.fib_main.specs.Stops.{Stop, Refused, IsDueIfTold, FailsDue, told_content, is_small, is_cut, all_records, bad_record, whole_records, unless_stopped, outcome_at, event_in, input_of}
+use Rattle.fib_main.specs.Stops.{Stop, Refused, IsDueIfTold, FailsDue, told_content, all_records, bad_record, whole_records, unless_stopped, outcome_at, event_in, input_of}
 use Rattle.fib_main.specs.Refusals.{Limits, ManyHops, Refusal, Short, stop_at, too_much}
 use Rattle.fib_main.proofs.Refusing.{stop_in_front}
 use Rattle.route_tries.specs.Sizes.{Sizes, shortage_as}
@@ -104,11 +106,6 @@ pub input_grows : (octets left : List ℕ) (read : Progress) → ReadsEvents oct
 input_grows octets left read r =
     let same : input octets ≡ until_end read_record read (left ++ []) = ap input (sym (append-nil octets)) ∙ r.whatever [] in
     subst (Grows read) (sym same) (steps_grow (length (left ++ [])) read (left ++ []))
-
--- ---- refusals
-
-pub reads_on : (octets : List ℕ) (read : Progress) (reader : Reader) → reading.reader_refusal reader ≡ None → reading.ReaderStands octets read reader → ReadsEvents octets read (reading.reader_left reader)
-reads_on octets read reader none s = rw none at s.goes_on
 
 -- ---- what is due, where it is told
 

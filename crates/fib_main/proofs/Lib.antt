@@ -1,5 +1,4 @@
 pub mod Addressed
-pub mod Arriving
 pub mod AskLemmas
 pub mod AskLines
 pub mod AskReading
@@ -22,3 +21,6 @@ pub mod Telling
 pub mod Untold
 pub mod Streaming
 pub mod Making
+pub mod Stepped
+pub mod Scripts
+pub mod Whole

@@ -14,7 +14,7 @@ use Rattle.fib_words.specs.Commands.{Named, Asked, Run, Make}
 use Rattle.fib_main.specs.declared.outcome.Outcome.{Outcome}
 use Rattle.fib_main.specs.declared.outcome.Outcome.TheVariants.{Done, CheckNo, Usage, ReadFault, WriteFault, NoMemory, TooLarge, Malformed, HopsFull, TrieFull, BadLine}
 use Rattle.fib_main.specs.declared.outcome.Which.{Which}
-use Rattle.fib_main.specs.declared.outcome.Which.TheVariants.{Asks, Dump, Updates, Printed}
+use Rattle.fib_main.specs.declared.outcome.Which.TheVariants.{Asks, Dump, Updates, Printed, Script}
 use Rattle.fib_main.specs.Stops.{Stop, FailsDue, IsDueIfTold}
 use Rattle.fib_main.specs.Owned.{HasInput, StopsIn}
 use Rattle.fib_main.specs.Ends.{OneRose, ReadsBy}
@@ -77,6 +77,7 @@ made_stops routes seed o s = (s.0, input s.0 s.1, s.2)
     input Dump h = tt
     input Updates h = tt
     input Printed h = h
+    input Script h = h
 
 -- inputs that can't fail have no fault
 none_rose : (names : List (List ℕ)) → OneRose names (λ n. 0) (λ n. 0) → ⊥

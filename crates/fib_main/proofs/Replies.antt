@@ -7,12 +7,13 @@ use Rattle.cert_model.proofs.Verdicts.{verdict_is, verdict_law}
 use Rattle.cert_model.specs.Verdict.{RowFits}
 use Rattle.printed_model.specs.Texts.{BadLine as BadRow}
 use Rattle.printed_model.specs.Used.{Used, printed_in}
-use Rattle.fib_words.specs.Commands.{Named, Asked, Run, Check, Make, command_of}
+use Rattle.fib_words.specs.Commands.{Named, Asked, Run, Check, Make, Steps, command_of}
 use Rattle.fib_main.specs.declared.outcome.Which.TheVariants as which
 use Rattle.fib_main.specs.declared.outcome.Outcome.{Outcome}
 use Rattle.fib_main.specs.declared.outcome.Outcome.TheVariants.{Done, CheckNo, Usage, ReadFault, WriteFault, NoMemory, TooLarge, Malformed, HopsFull, TrieFull, BadLine}
 use Rattle.fib_main.specs.Stops.{Stop, Untold, Refused, rowed, FailsDue, IsDueIfTold}
-use Rattle.fib_main.specs.Due.{Printed, Reply, ran, checked, due, made, made_at, with_counts, input_at, output_at, run_at, usage, used_at, printed_text, with_text, with_reply}
+use Rattle.step_run.specs.Stepping.{Stepping}
+use Rattle.fib_main.specs.Due.{Printed, Reply, stepped, stepping_at, ran, checked, due, made, made_at, with_counts, input_at, output_at, run_at, usage, used_at, printed_text, with_text, with_reply}
 use Rattle.fib_report.specs.Rows.{report_text}
 use Rattle.fib_main.specs.Proves.{IfChecked, Decides, YesProves}
 use Rattle.fib_main.proofs.Fitting.{read_fits}
@@ -115,6 +116,10 @@ none_made : (P : Used → Type 0) (p : Result Printed Stop) → IfChecked (made 
 none_made P (Ok p) = tt
 none_made P (Err stop) = tt
 
+none_stepped : (P : Used → Type 0) (s : Result Stepping Stop) → IfChecked (stepped s) P
+none_stepped P (Ok s) = tt
+none_stepped P (Err stop) = tt
+
 none_checked : (P : Used → Type 0) (p : Result Printed Stop) → IfChecked (ran p) P
 none_checked P (Ok p) = tt
 none_checked P (Err stop) = tt
@@ -125,6 +130,7 @@ words_checked P each content None = tt
 words_checked P each content (Some (Run named)) = none_checked P (run_at content named)
 words_checked P each content (Some (Check name)) = name_checked P each content name
 words_checked P each content (Some (Make routes seed)) = none_made P (made_at routes seed)
+words_checked P each content (Some (Steps named)) = none_stepped P (stepping_at content named)
 
 each_checked : (P : Used → Type 0) → OfEachText P → (words : List (List ℕ)) (content : List ℕ → Option (List ℕ)) → IfChecked (due words content) P
 unfolding due

@@ -22,7 +22,7 @@ use Rattle.feed_model.proofs.Tables.{entries_sorted}
 use Rattle.kept_feed.specs.Kept.{kept_at_load, kept_by}
 use Rattle.kept_feed.proofs.Steps.{kept_step}
 use Rattle.kept_feed.proofs.Sums.{all}
-use Rattle.fib_words.specs.Commands.{Named, Asked, Run, Check, Make, command_of}
+use Rattle.fib_words.specs.Commands.{Named, Asked, Run, Check, Make, Steps, command_of}
 use Rattle.printed_model.specs.Used.{Used}
 use Rattle.fib_main.specs.declared.outcome.MrtInput.{MrtInput}
 use Rattle.fib_main.specs.declared.outcome.MrtInput.TheVariants.{Dump, Updates}
@@ -30,10 +30,12 @@ use Rattle.std.specs.Prelude.{Bool, true, false, not, ◌&&◌}
 use Rattle.fib_io.specs.Pieces.{octets_read}
 use Rattle.poptrie_build.specs.Tries.{visits_of}
 use Rattle.fib_report.specs.Views.{Answer}
-use Rattle.fib_main.specs.Stops.{Stop, bad_record, is_cut, is_small, records_due, told_content, unless_stopped, whole_records, with_room}
+use Rattle.whole_input.specs.Cuts.{is_cut, is_small}
+use Rattle.fib_main.specs.Stops.{Stop, bad_record, records_due, told_content, unless_stopped, whole_records, with_room}
 use Rattle.fib_main.specs.Refusals.{Limits, Refusal, routes_by, stop_at, too_much}
 use Rattle.route_tries.specs.Sizes.{Shortage, Sizes, shortage}
-use Rattle.fib_main.specs.Due.{Feed, Printed, printed, asks_at, feed_at, feeds_at, limits_of, load_at, made, made_at, sizes_of, feed_of, feed_in, elems_in, read_part, changes_of, kept_of, told_at, run_at, used_at, output_at, ran, checked, due, usage, answers_to}
+use Rattle.step_run.specs.Stepping.{Stepping}
+use Rattle.fib_main.specs.Due.{Feed, Printed, stepped, stepping_at, printed, asks_at, feed_at, feeds_at, limits_of, load_at, made, made_at, sizes_of, feed_of, feed_in, elems_in, read_part, changes_of, kept_of, told_at, run_at, used_at, output_at, ran, checked, due, usage, answers_to}
 use Rattle.fib_main.specs.Proves.{IfRan}
 use Rattle.fib_main.specs.Runs.{IfDue, SumsUp, Forwards, Answers, HasLeast, HasAggregate, Certified, InPrefixOrder, IsInOrder, HasHops}
 use Rattle.fib_main.specs.Keeps.{Follows, HasTable, RenewsLeast, RepairsFewest, changes_to}
@@ -119,12 +121,17 @@ made_due : (P : Printed → Type 0) (p : Result Printed Stop) → IfRan (made p)
 made_due P (Ok p) = tt
 made_due P (Err stop) = tt
 
+steps_due : (P : Printed → Type 0) (s : Result Stepping Stop) → IfRan (stepped s) P
+steps_due P (Ok s) = tt
+steps_due P (Err stop) = tt
+
 words_due : (P : Printed → Type 0) → OfEach P → (content : List ℕ → Option (List ℕ)) (o : Option Asked) → IfRan (usage o >>= output_at content) P
 unfolding output_at run_at
 words_due P each content None = tt
 words_due P each content (Some (Run named)) = asks_due P each content named (asks_at content named.asks)
 words_due P each content (Some (Check name)) = check_due P (used_at content name)
 words_due P each content (Some (Make routes seed)) = made_due P (made_at routes seed)
+words_due P each content (Some (Steps named)) = steps_due P (stepping_at content named)
 
 each_due : (P : Printed → Type 0) → OfEach P → (words : List (List ℕ)) (content : List ℕ → Option (List ℕ)) → IfRan (due words content) P
 unfolding due

@@ -1,40 +1,40 @@
 -- An input that is taken piece by piece.
-use Rattle.std.proofs.Common.{◌≡◌, ℕ, zero, suc, ◌+◌, ◌^◌, ◌<◌, ◌≤◌, Bool, true, false, List, [], ◌∷◌, ◌++◌, length, take, Option, Some, None, Result, Ok, Err, refl, sym, ap, ◌∙◌, inl, inr, arith, length-append, length-take}
-use Rattle.std.specs.Prelude.{IfSome, IfNone, IsErrOf, not, ◌&&◌, ◌==◌, ◌⊎◌}
-use Rattle.std.proofs.lemmas.Bool.{and_right, eq-eqb, ne_eqb, le-leb, lt-leb}
-use Rattle.route_model.specs.Events.{Elem, Event, Peer}
-use Rattle.octet_fields.specs.Field.{◌>>=◌, steps}
+use Rattle.std.proofs.Common.{◌≡◌, ℕ, ◌+◌, ◌^◌, ◌<◌, ◌≤◌, true, false, List, [], ◌∷◌, ◌++◌, length, take, Option, Some, None, Ok, Err, refl, sym, ap, ◌∙◌, inl, inr, arith, length-append, length-take}
+use Rattle.std.specs.Prelude.{IfSome, IsErrOf, ◌⊎◌}
+use Rattle.std.proofs.lemmas.Bool.{le-leb, lt-leb}
+use Rattle.route_model.specs.Events.{Elem, Event}
 use Rattle.wire_model.specs.declared.rule.Rule.{Rule}
-use Rattle.wire_model.specs.declared.rule.Rule.TheVariants.{HeaderCut, BodyCut, TooLong, PeerTableForm, NoPeerTable, PrefixLength, PeerIndex, RibForm, AttributeCut, AttributeValue, SecondMp, SessionForm, MessageLength, UpdateLengths}
+use Rattle.wire_model.specs.declared.rule.Rule.TheVariants.{HeaderCut, BodyCut}
 use Rattle.wire_model.specs.Rules.{rule_number}
-use Rattle.wire_model.specs.Record.{Record, Fault, at_record, record_at, next_record, records_in}
+use Rattle.wire_model.specs.Record.{Record, record_at, records_in}
 use Rattle.wire_model.specs.Pieces.{TakesRecords}
-use Rattle.wire_model.proofs.More.{starts_so, feeds_on, takes_on, stays_too_long, ends_cut}
+use Rattle.wire_model.proofs.More.{starts_so, feeds_on, takes_on, ends_cut}
 use Rattle.reading_model.specs.Input.{start, input}
 use Rattle.reading_model.proofs.Reading.{reading_ends, reading_ends_cut}
 use Rattle.fib_io.specs.Pieces.{octets_read, octets_from, ComeNext, IsEnd, IsLarge}
 use Rattle.fib_io.specs.declared.pieces.ReadError.{ReadError}
 use Rattle.fib_io.specs.declared.pieces.ReadError.TheVariants as pieces
-use Rattle.mrt_frame.specs.Framing as framing
 use Rattle.mrt_frame.specs.Records.{fault_of}
 use Rattle.mrt_frame.specs.declared.Malformed as code_malformed
 use Rattle.mrt_read.specs.Standing as reading
 use Rattle.mrt_read.specs.declared.reader.Reader.{Reader}
 use Rattle.mrt_read.specs.declared.reader.EventsError.{EventsError}
 use Rattle.mrt_read.specs.declared.reader.EventsError.TheVariants as read
+use Rattle.whole_input.specs.Cuts.{cut_at, is_cut, is_small}
+use Rattle.whole_input.proofs.Arriving.{Comes, all_fed, comes_first, comes_next}
+use Rattle.whole_input.proofs.Cutting.{IsCutNow, cut_rules, ends_here, goes_past, not_cut, reads_on, uncut}
 use Rattle.fib_main.specs.declared.outcome.MrtInput.{MrtInput}
 use Rattle.fib_main.specs.declared.outcome.Outcome.TheVariants as outcome
 use Rattle.fib_main.specs.declared.state.State.{State}
 use Rattle.fib_main.specs.declared.state.FeedError.{FeedError}
 use Rattle.fib_main.specs.declared.state.FeedError.TheVariants.{Malformed, TooLarge}
 use Rattle.fib_main.specs.Counts.{AreFew, CountsFit, CountsOn}
-use Rattle.fib_main.specs.Stops.{Refused, FailsDue, IsDueIfTold, cut_at, is_cut, is_small, input_of}
+use Rattle.fib_main.specs.Stops.{Refused, FailsDue, IsDueIfTold, input_of}
 use Rattle.fib_main.specs.Refusals.{Limits}
 use Rattle.fib_main.specs.Due.{feed_in, feed_of}
 use Rattle.fib_main.specs.Standing.{StateStands, StateHas, StateBrings, StateTakesAll, next_elems, of_input, of_read, refusal_of}
 use Rattle.fib_main.proofs.Counting.{Counting, counting_end, counting_feeds, counting_fits, counting_next, counting_start, counting_still}
-use Rattle.fib_main.proofs.Arriving.{Comes, all_fed, comes_first, comes_next}
-use Rattle.fib_main.proofs.Feeding.{Going, due_of, going_start, going_next, going_still, going_feeds, refused_hops, refused_is, brought_is, reads_on, fault_due, whole_due, past_due, cut_due}
+use Rattle.fib_main.proofs.Feeding.{Going, due_of, going_start, going_next, going_still, going_feeds, refused_hops, refused_is, brought_is, fault_due, whole_due, past_due, cut_due}
 
 -- So many octets of the input were fed: its records were counted behind these candidates, the state has what they bring, and the reader isn't refused.
 pub record Streaming (which : MrtInput) (content : Option (List ℕ)) (first : State) (reader : Reader) (state : State) (at events : ℕ) : Type 0 where
@@ -47,10 +47,6 @@ pub record Streaming (which : MrtInput) (content : Option (List ℕ)) (first : S
   pub none : reading.reader_refusal reader ≡ None
   pub counting : Counting fed first.engine.candidates reader state.engine.candidates events
   pub going : (limits : Limits) (before : List Elem) → StateStands which limits before [] first → Going which limits before fed reader state events
-
--- no whole record is left, and no bad header
-abbrev pub IsCutNow : Reader → Type 0
-IsCutNow reader = (record_at (reading.reader_left reader) ≡ Err HeaderCut) ⊎ (record_at (reading.reader_left reader) ≡ Err BodyCut)
 
 -- ---- the start
 
@@ -66,18 +62,6 @@ streaming_start which content first reader empty none s = record {
   counting = counting_start [] first.engine.candidates reader s;
   going = λ limits before stands. going_start which limits before [] reader first s stands;
 }
-
-pub cut_at_start : (reader : Reader) → reading.reader_left reader ≡ [] → IsCutNow reader
-unfolding record_at
-cut_at_start reader empty = rw empty (inl refl)
-
-used_up_by : (reader : Reader) (front : Result (Record × List ℕ) Rule) → record_at (reading.reader_left reader) ≡ front → reading.reader_next_in reader.records (reading.peers reader) front ≡ Ok None → (refused : Option Fault) → IfNone refused (framing.kept_or refused (reading.reader_next_in reader.records (reading.peers reader) (record_at (reading.reader_left reader))) ≡ Ok None)
-used_up_by reader front e nothing None = rw e nothing
-used_up_by reader front e nothing (Some fault) = tt
-
-pub used_up : (reader : Reader) → IsCutNow reader → reading.ReaderIsUsedUp reader
-used_up reader (inl e) = used_up_by reader (Err HeaderCut) e refl (reading.reader_refusal reader)
-used_up reader (inr e) = used_up_by reader (Err BodyCut) e refl (reading.reader_refusal reader)
 
 -- ---- a piece more
 
@@ -127,70 +111,6 @@ streaming_still which content first old new state at events s nothing = record {
 pub streaming_fits : (which : MrtInput) (content : Option (List ℕ)) (first : State) (old new : Reader) (mid : State) (at events : ℕ) (more : List Event) → length first.engine.candidates ≤ 2 ^ 40 → at ≤ 2 ^ 36 → Streaming which content first old mid at events → reading.TakesEvents old more new → CountsFit mid.engine.candidates more events
 streaming_fits which content first old new mid at events more few within s t =
     counting_fits s.fed first.engine.candidates mid.engine.candidates old new events more (omega (arith, few, within, s.octets)) s.counting t
-
--- ---- a record that is cut, and one that isn't
-
-abbrev after_record : List Record → Result (Record × List ℕ) Rule → Result (List Record × List ℕ) Fault
-after_record taken r = at_record (length taken) r >>= λ x. Ok (taken ++ x.0 ∷ [], x.1)
-
-number_past : (n : ℕ) (taken : List Record) (octets : List ℕ) (k : ℕ) → k < length taken → cut_at k (steps next_record n taken octets) ≡ false
-unfolding steps next_record
-number_past n taken [] k h = refl
-number_past zero taken (o ∷ os) k h = refl
-number_past (suc n) taken (o ∷ os) k h = by_record (record_at (o ∷ os)) (number_past n)
-  where
-    by_record : (r : Result (Record × List ℕ) Rule) → ((taken : List Record) (octets : List ℕ) (k : ℕ) → k < length taken → cut_at k (steps next_record n taken octets) ≡ false)
-        → cut_at k (after_record taken r >>= λ x. steps next_record n x.0 x.1) ≡ false
-    by_record (Ok r) ih = ih (taken ++ r.0 ∷ []) r.1 k (omega (arith, length-append taken (r.0 ∷ [])))
-    by_record (Err rule) ih = rw (ne_eqb (length taken) k (λ e. omega arith)) refl
-
-long_rule : (number : ℕ) (table : Option (List Peer)) (rule : Rule) (fault : Fault) → reading.reader_next_in number table (Err rule) ≡ Err fault → rule ≡ TooLong
-long_rule number table HeaderCut fault e = absurd cc
-long_rule number table BodyCut fault e = absurd cc
-long_rule number table TooLong fault e = refl
-long_rule number table PeerTableForm fault e = absurd cc
-long_rule number table NoPeerTable fault e = absurd cc
-long_rule number table PrefixLength fault e = absurd cc
-long_rule number table PeerIndex fault e = absurd cc
-long_rule number table RibForm fault e = absurd cc
-long_rule number table AttributeCut fault e = absurd cc
-long_rule number table AttributeValue fault e = absurd cc
-long_rule number table SecondMp fault e = absurd cc
-long_rule number table SessionForm fault e = absurd cc
-long_rule number table MessageLength fault e = absurd cc
-long_rule number table UpdateLengths fault e = absurd cc
-
--- what is refused before the end isn't cut
-uncut : (fed rest : List ℕ) (old : Reader) (taken : List Record) (fault : Fault) → TakesRecords fed taken (reading.reader_left old) → length taken ≡ old.records → reading.reader_refusal old ≡ None → reading.reader_next old ≡ Err fault → cut_at old.records (records_in (fed ++ rest)) ≡ false
-uncut fed rest old taken fault t n none next = by_front (record_at (reading.reader_left old)) refl (rw none at next)
-  where
-    by_front : (front : Result (Record × List ℕ) Rule) → record_at (reading.reader_left old) ≡ front → reading.reader_next_in old.records (reading.peers old) front ≡ Err fault → cut_at old.records (records_in (fed ++ rest)) ≡ false
-    by_front (Ok r) is e =
-        let on = takes_on fed (reading.reader_left old) r.1 taken r.0 t is in
-        ap (cut_at old.records) (on.whatever rest) ∙ number_past (length (r.1 ++ rest)) (taken ++ r.0 ∷ []) (r.1 ++ rest) old.records (omega (arith, n, length-append taken (r.0 ∷ [])))
-    by_front (Err rule) is e =
-        let over = long_rule old.records (reading.peers old) rule fault e in
-        let b = stays_too_long fed (reading.reader_left old) taken t (is ∙ ap Err over) in
-        ap (cut_at old.records) (b.whatever rest) ∙ and_right (length taken == old.records) false refl
-
-same_eqb : (a b : ℕ) → a ≡ b → (a == b) ≡ true
-same_eqb a b h = eq-eqb a b h
-
-cut_rules : (n k : ℕ) (rule : Rule) → n ≡ k → (rule ≡ HeaderCut) ⊎ (rule ≡ BodyCut) → cut_at k (Err (record { number = n; rule = rule })) ≡ true
-cut_rules n k rule e (inl h) = rw (h, same_eqb n k e) refl
-cut_rules n k rule e (inr h) = rw (h, same_eqb n k e) refl
-
-not_cut : (ends b : Bool) → b ≡ false → (not ends && b) ≡ false
-not_cut true b e = refl
-not_cut false b e = e
-
-ends_here : (ends b : Bool) → ends ≡ true → (not ends && b) ≡ false
-ends_here true b e = refl
-ends_here false b e = absurd cc
-
-goes_past : (ends b : Bool) → ends ≡ false → b ≡ true → (not ends && b) ≡ true
-goes_past true b e h = absurd cc
-goes_past false b e h = h
 
 -- ---- refusals
 

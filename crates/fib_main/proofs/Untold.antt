@@ -5,14 +5,16 @@ use Rattle.fib_io.specs.Octets.{Adds, AddsSome}
 use Rattle.cert_model.specs.Verdict.{No}
 use Rattle.cert_check.specs.declared.refusal.No as code
 use Rattle.cert_check.specs.Views.{no_as}
-use Rattle.fib_words.specs.Commands.{Asked, Run, Check, Make}
+use Rattle.fib_words.specs.Commands.{Asked, Run, Check, Make, Steps}
 use Rattle.fib_main.specs.declared.check.Reply as code_reply
 use Rattle.fib_main.specs.declared.outcome.Outcome.{Outcome}
 use Rattle.fib_main.specs.declared.outcome.Outcome.TheVariants.{Done, CheckNo, Usage, ReadFault, WriteFault, NoMemory, TooLarge, Malformed, HopsFull, TrieFull, BadLine}
 use Rattle.fib_main.specs.Stops.{Stop, Untold, Refused, IsDueIfTold, FailsDue}
-use Rattle.fib_main.specs.Due.{Output, Checked, Reply, made, made_at, ran, reply_of, told_at, output_text, with_reply, wrong_in}
+use Rattle.fib_main.specs.Due.{Output, Checked, Reply, made, made_at, ran, reply_of, stepped, stepping_at, told_at, output_text, with_reply, with_world, world_at, wrong_in}
 use Rattle.fib_main.specs.Ends.{EndsBy, IsDue}
 use Rattle.fib_main.specs.Owned.{IsOf, Owns}
+use Rattle.step_run.specs.Stepping.{Stepping}
+use Rattle.fib_main.specs.Stepped.{EndsEarly, EndsRun, FitsSteps, GivesReply, GivesSteps, IfStepping}
 use Rattle.fib_main.specs.Untold.{FitsUntold, FitsSome, GivesSome}
 
 -- memory may run out whatever the words are
@@ -21,6 +23,7 @@ memory_some content None = tt
 memory_some content (Some (Run named)) = inl tt
 memory_some content (Some (Check name)) = inl tt
 memory_some content (Some (Make routes seed)) = tt
+memory_some content (Some (Steps named)) = inl tt
 
 -- ---- what fits what is due
 
@@ -83,6 +86,33 @@ stop_fits d (HopsFull event) old new f same = (is_stop d (HopsFull event) f, sam
 stop_fits d (TrieFull event need have arena) old new f same = (is_stop d (TrieFull event need have arena) f, same)
 stop_fits d (BadLine input line why) old new f same = (is_stop d (BadLine input line why) f, same)
 
+-- ---- the ends of a run in steps
+
+if_then : (d : Result Stepping Stop) (P Q : Stepping → Type 0) → ((s : Stepping) → P s → Q s) → IfStepping d P → IfStepping d Q
+if_then (Ok s) P Q f x = f s x
+if_then (Err stop) P Q f x = tt
+
+run_ends : (s : Stepping) (reply : code_reply.Reply) (old new : Option (List ℕ)) (o : Outcome) → GivesReply s (Ok reply) → EndsBy (option_map no_as reply.no) o → Adds old new reply.text.items → EndsRun s old new o
+run_ends s reply old new o g e a =
+    let done : EndsBy None o = subst (λ n. EndsBy (option_map no_as n) o) g.1 e in
+    subst (EndsRun s old new) (sym done) (reply.text.items, g.0, a)
+
+run_fault : (s : Stepping) (reply : code_reply.Reply) (old new : Option (List ℕ)) → GivesReply s (Ok reply) → AddsSome old new reply.text.items → EndsRun s old new WriteFault
+run_fault s reply old new g a = (reply.text.items, g.0, a)
+
+run_stops : (s : Stepping) (old new : Option (List ℕ)) (o : Outcome) → EndsEarly s o → EndsRun s old new o
+run_stops s old new Done e = absurd e
+run_stops s old new (CheckNo x) e = e
+run_stops s old new WriteFault e = absurd e
+run_stops s old new ReadFault e = e
+run_stops s old new NoMemory e = e
+run_stops s old new Usage e = e
+run_stops s old new (TooLarge input) e = e
+run_stops s old new (Malformed input number rule) e = e
+run_stops s old new (HopsFull event) e = e
+run_stops s old new (TrieFull event need have arena) e = e
+run_stops s old new (BadLine input line why) e = e
+
 -- ---- the same of what the words ask for
 
 abbrev Content : Type 0
@@ -95,6 +125,10 @@ some_ends content (Some (Run named)) reply old new o (inr x) e a = inr (x.0, end
 some_ends content (Some (Check name)) reply old new o (inl s) e a = absurd s
 some_ends content (Some (Check name)) reply old new o (inr x) e a = inr (x.0, ends_fit (Ok (Checked x.0)) reply.text.items (option_map no_as reply.no) old new o x.1 e a)
 some_ends content (Some (Make routes seed)) reply old new o x e a = ends_fit (made (made_at routes seed)) reply.text.items (option_map no_as reply.no) old new o x e a
+some_ends content (Some (Steps named)) reply old new o (inl s) e a = absurd s
+some_ends content (Some (Steps named)) reply old new o (inr x) e a =
+    let d : Result Stepping Stop = with_world x.0 (world_at content named) in
+    inr (x.0, (ends_fit (stepped d) reply.text.items (option_map no_as reply.no) old new o x.1.0 e a, if_then d _ _ (λ s g. run_ends s reply old new o g e a) x.1.1))
 
 pub some_fault : (content : Content) (asked : Option Asked) (reply : code_reply.Reply) (old new : Option (List ℕ)) → GivesSome content asked (Ok reply) → AddsSome old new reply.text.items → FitsSome content asked old new WriteFault
 some_fault content None reply old new g a = tt
@@ -103,6 +137,10 @@ some_fault content (Some (Run named)) reply old new (inr x) a = inr (x.0, fault_
 some_fault content (Some (Check name)) reply old new (inl s) a = absurd s
 some_fault content (Some (Check name)) reply old new (inr x) a = inr (x.0, fault_fits (Ok (Checked x.0)) reply.text.items (option_map no_as reply.no) old new x.1 a)
 some_fault content (Some (Make routes seed)) reply old new x a = fault_fits (made (made_at routes seed)) reply.text.items (option_map no_as reply.no) old new x a
+some_fault content (Some (Steps named)) reply old new (inl s) a = absurd s
+some_fault content (Some (Steps named)) reply old new (inr x) a =
+    let d : Result Stepping Stop = with_world x.0 (world_at content named) in
+    inr (x.0, (fault_fits (stepped d) reply.text.items (option_map no_as reply.no) old new x.1.0 a, if_then d _ _ (λ s g. run_fault s reply old new g a) x.1.1))
 
 pub some_stop : (content : Content) (asked : Option Asked) (o : Outcome) (old new : Option (List ℕ)) → GivesSome content asked (Err o) → new ≡ old → FitsSome content asked old new o
 some_stop content None o old new g same = tt
@@ -111,6 +149,33 @@ some_stop content (Some (Run named)) o old new (inr x) same = inr (x.0, stop_fit
 some_stop content (Some (Check name)) o old new (inl s) same = inl s
 some_stop content (Some (Check name)) o old new (inr x) same = inr (x.0, stop_fits (Ok (Checked x.0)) o old new x.1 same)
 some_stop content (Some (Make routes seed)) o old new x same = stop_fits (made (made_at routes seed)) o old new x same
+some_stop content (Some (Steps named)) o old new (inl s) same = inl s
+some_stop content (Some (Steps named)) o old new (inr x) same =
+    let d : Result Stepping Stop = with_world x.0 (world_at content named) in
+    inr (x.0, (stop_fits (stepped d) o old new x.1.0 same, if_then d _ _ (λ s g. run_stops s old new o g) x.1.1))
+
+-- ---- a run in steps
+
+pub steps_end : (content : Content) (asked : Option Asked) (reply : code_reply.Reply) (old new : Option (List ℕ)) (o : Outcome) → GivesSteps content asked (Ok reply) → EndsBy (option_map no_as reply.no) o → Adds old new reply.text.items → FitsSteps content asked old new o
+steps_end content None reply old new o g e a = tt
+steps_end content (Some (Run named)) reply old new o g e a = tt
+steps_end content (Some (Check name)) reply old new o g e a = tt
+steps_end content (Some (Make routes seed)) reply old new o g e a = tt
+steps_end content (Some (Steps named)) reply old new o g e a = if_then (stepping_at content named) _ _ (λ s x. run_ends s reply old new o x e a) g
+
+pub steps_fault : (content : Content) (asked : Option Asked) (reply : code_reply.Reply) (old new : Option (List ℕ)) → GivesSteps content asked (Ok reply) → AddsSome old new reply.text.items → FitsSteps content asked old new WriteFault
+steps_fault content None reply old new g a = tt
+steps_fault content (Some (Run named)) reply old new g a = tt
+steps_fault content (Some (Check name)) reply old new g a = tt
+steps_fault content (Some (Make routes seed)) reply old new g a = tt
+steps_fault content (Some (Steps named)) reply old new g a = if_then (stepping_at content named) _ _ (λ s x. run_fault s reply old new x a) g
+
+pub steps_stop : (content : Content) (asked : Option Asked) (o : Outcome) (old new : Option (List ℕ)) → GivesSteps content asked (Err o) → FitsSteps content asked old new o
+steps_stop content None o old new g = tt
+steps_stop content (Some (Run named)) o old new g = tt
+steps_stop content (Some (Check name)) o old new g = tt
+steps_stop content (Some (Make routes seed)) o old new g = tt
+steps_stop content (Some (Steps named)) o old new g = if_then (stepping_at content named) _ _ (λ s x. run_stops s old new o x) g
 
 -- ---- whose outcome it is
 
@@ -123,6 +188,7 @@ own_end None reply o own e = absurd own
 own_end (Some (Run named)) reply o own e = let done : EndsBy None o = subst (λ n. EndsBy (option_map no_as n) o) own e in subst (IsOf (Some (Run named))) (sym done) tt
 own_end (Some (Check name)) reply o own e = check_owns name (option_map no_as reply.no) o e
 own_end (Some (Make routes seed)) reply o own e = let done : EndsBy None o = subst (λ n. EndsBy (option_map no_as n) o) own e in subst (IsOf (Some (Make routes seed))) (sym done) tt
+own_end (Some (Steps named)) reply o own e = let done : EndsBy None o = subst (λ n. EndsBy (option_map no_as n) o) own e in subst (IsOf (Some (Steps named))) (sym done) tt
 
 pub own_fault : (asked : Option Asked) (reply : code_reply.Reply) → Owns asked reply → IsOf asked WriteFault
 own_fault None reply own = absurd own

@@ -20,17 +20,22 @@ use Rattle.fib_report.specs.Rows.{report_text, run_text}
 use Rattle.fib_report.specs.declared.run.Report.{Report}
 use Rattle.cert_model.specs.Verdict.{No}
 use Rattle.printed_model.specs.Used.{Used, printed_in}
-use Rattle.fib_words.specs.Commands.{Named, Asked, Run, Check, Make, command_of}
+use Rattle.fib_words.specs.Commands.{Named, NamedSteps, Asked, Run, Check, Make, Steps, command_of}
 use Rattle.fib_main.specs.declared.outcome.Outcome.TheVariants.{Usage}
 use Rattle.fib_main.specs.declared.outcome.MrtInput.{MrtInput}
 use Rattle.fib_main.specs.declared.outcome.MrtInput.TheVariants.{Dump, Updates}
 use Rattle.fib_main.specs.declared.outcome.Which.{Which}
 use Rattle.fib_main.specs.declared.outcome.Which.TheVariants as all
-use Rattle.fib_main.specs.Stops.{Stop, Refused, told_content, is_small, sized, lined, lined_past, rowed, records_due, unless_stopped, with_room}
+use Rattle.fib_main.specs.Stops.{Stop, Refused, Untold, told_content, sized, lined, lined_past, rowed, scripted, records_due, unless_stopped, with_room}
 use Rattle.fib_main.specs.Refusals.{Limits, routes_by, stop_at, too_much}
 use Rattle.fib_io.specs.Pieces.{octets_read}
+use Rattle.whole_input.specs.Cuts.{is_small}
 use Rattle.fib_main.specs.Asks.{asks_in, ended_asks_in}
 use Rattle.fib_main.specs.Checks.{verdict_of, verdict_text}
+use Rattle.step_model.specs.Script.{Step, script_in}
+use Rattle.step_model.specs.Machine.{World}
+use Rattle.step_run.specs.Stepping.{Stepping, world_of}
+use Rattle.fib_main.specs.Stepping.{events_at}
 
 abbrev pub usage : Option Asked → Result Asked Stop
 usage None = Err (Refused Usage)
@@ -97,6 +102,36 @@ unfoldable pub load_at : Sizes → (List ℕ → Option (List ℕ)) → List ℕ
 load_at z content name = do
   load ← feed_at z content Dump [] (Some name)
   with_room (shortage z (routes_by load.elems)) load
+
+-- ---- what a run in steps stands on
+
+-- the steps of the script of this name, or the script's refusal
+unfoldable pub script_at : (List ℕ → Option (List ℕ)) → List ℕ → Result (List Step) Stop
+script_at content name = do
+  octets ← input_at content all.Script name
+  scripted (script_in octets)
+
+-- the sizes of its tries
+abbrev pub steps_sizes : NamedSteps → Sizes
+steps_sizes named = record { direct = named.direct; nodes = named.nodes; leaves = named.leaves }
+
+-- The world of the dump's elementary events and of those of the updates, which are all read before the first step. The tries of the dump's
+-- routes need room before the updates are read.
+unfoldable pub world_at : (List ℕ → Option (List ℕ)) → NamedSteps → Result World Stop
+world_at content named = do
+  load ← load_at (steps_sizes named) content named.dump
+  events ← events_at content named.updates
+  Ok (world_of (steps_sizes named) load.elems events)
+
+-- the world, with these steps to make in it
+abbrev pub with_world : List Step → Result World Stop → Result Stepping Stop
+with_world script world = world >>= λ w. Ok (record { script = script; world = w })
+
+-- what a run in steps is to make in which world, or the first refusal: of the script, the dump, the updates
+unfoldable pub stepping_at : (List ℕ → Option (List ℕ)) → NamedSteps → Result Stepping Stop
+stepping_at content named = do
+  script ← script_at content named.script
+  with_world script (world_at content named)
 
 -- ---- what is told
 
@@ -237,11 +272,16 @@ checked used = used >>= λ u. Ok (Checked u)
 abbrev pub made : Result Printed Stop → Result Output Stop
 made printed = printed >>= λ p. Ok (Made p)
 
--- of a run, of a check, or of a run on made inputs
+-- A run in steps may print any run of its machine, so its inputs alone don't tell its text; but they tell what is refused.
+abbrev pub stepped : Result Stepping Stop → Result Output Stop
+stepped stepping = stepping >>= λ s. Err Untold
+
+-- of a run, of a check, of a run on made inputs, or of a run in steps
 unfoldable pub output_at : (List ℕ → Option (List ℕ)) → Asked → Result Output Stop
 output_at content (Run named) = ran (run_at content named)
 output_at content (Check name) = checked (used_at content name)
 output_at content (Make routes seed) = made (made_at routes seed)
+output_at content (Steps named) = stepped (stepping_at content named)
 
 -- What is to be printed, or the first refusal: of the words, and then of the inputs that they name.
 unfoldable pub due : List (List ℕ) → (List ℕ → Option (List ℕ)) → Result Output Stop

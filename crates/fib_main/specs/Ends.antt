@@ -6,12 +6,12 @@ use Rattle.cert_model.specs.Verdict.{No}
 use Rattle.cert_check.specs.declared.refusal.No as code
 use Rattle.cert_check.specs.Views.{no_as}
 use Rattle.fib_main.specs.declared.outcome.Which.{Which}
-use Rattle.fib_main.specs.declared.outcome.Which.TheVariants.{Asks, Dump, Updates, Printed}
+use Rattle.fib_main.specs.declared.outcome.Which.TheVariants.{Asks, Dump, Updates, Printed, Script}
 use Rattle.fib_main.specs.declared.outcome.Outcome.{Outcome}
 use Rattle.fib_main.specs.declared.outcome.Outcome.TheVariants.{Done, CheckNo, Usage, ReadFault, WriteFault, NoMemory, TooLarge, Malformed, HopsFull, TrieFull, BadLine}
 use Rattle.fib_main.specs.Stops.{Stop, Untold, Refused}
-use Rattle.fib_words.specs.Commands.{Named, Asked, Run, Check, Make, command_of}
-use Rattle.fib_main.specs.Due.{Output, asks_at, load_at, output_text, sizes_of, wrong_in}
+use Rattle.fib_words.specs.Commands.{Named, NamedSteps, Asked, Run, Check, Make, Steps, command_of}
+use Rattle.fib_main.specs.Due.{Output, asks_at, load_at, output_text, script_at, sizes_of, steps_sizes, wrong_in}
 
 -- the outcome at the end: Done, or what a check finds wrong
 abbrev pub EndsBy : Option No → Outcome → Type 0
@@ -64,12 +64,17 @@ feeds_named content named = named.dump ∷ after (load_at (sizes_of named) conte
 abbrev pub reads_named : (List ℕ → Option (List ℕ)) → Named → List (List ℕ)
 reads_named content named = option_to_list named.asks ++ after (asks_at content named.asks) (feeds_named content named)
 
+-- the script, the dump, and then the updates, each where those before it are accepted
+abbrev pub reads_steps : (List ℕ → Option (List ℕ)) → NamedSteps → List (List ℕ)
+reads_steps content named = named.script ∷ after (script_at content named.script) (named.dump ∷ after (load_at (steps_sizes named) content named.dump) (named.updates ∷ []))
+
 -- the same of what the words ask for
 abbrev pub reads_asked : (List ℕ → Option (List ℕ)) → Option Asked → List (List ℕ)
 reads_asked content None = []
 reads_asked content (Some (Run named)) = reads_named content named
 reads_asked content (Some (Check name)) = name ∷ []
 reads_asked content (Some (Make routes seed)) = []
+reads_asked content (Some (Steps named)) = reads_steps content named
 
 unfoldable pub reads : List (List ℕ) → (List ℕ → Option (List ℕ)) → List (List ℕ)
 reads words content = reads_asked content (command_of words)
@@ -111,6 +116,7 @@ name_of Asks = codes "asks"
 name_of Dump = codes "dump"
 name_of Updates = codes "updates"
 name_of Printed = codes "printed"
+name_of Script = codes "script"
 
 -- the line for an outcome
 abbrev pub outcome_line : Outcome → List ℕ

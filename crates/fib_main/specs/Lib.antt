@@ -15,3 +15,6 @@ pub mod Proves
 pub mod Owned
 pub mod Untold
 pub mod Words
+pub mod Stepped
+pub mod Stepping
+pub mod Loaded

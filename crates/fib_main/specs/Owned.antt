@@ -1,8 +1,8 @@
 -- Which outcomes a command can have, whether or not its inputs tell what they hold.
 use Rattle.std.specs.Prelude.{◌≡◌, ℕ, Option, Some, None, IsSome, Result, Ok, Err}
-use Rattle.fib_words.specs.Commands.{Asked, Run, Check, Make}
+use Rattle.fib_words.specs.Commands.{Asked, Run, Check, Make, Steps}
 use Rattle.fib_main.specs.declared.outcome.Which.{Which}
-use Rattle.fib_main.specs.declared.outcome.Which.TheVariants.{Asks, Dump, Updates, Printed}
+use Rattle.fib_main.specs.declared.outcome.Which.TheVariants.{Asks, Dump, Updates, Printed, Script}
 use Rattle.fib_main.specs.declared.outcome.Outcome.{Outcome}
 use Rattle.fib_main.specs.declared.outcome.Outcome.TheVariants.{Done, CheckNo, Usage, ReadFault, WriteFault, NoMemory, TooLarge, Malformed, HopsFull, TrieFull, BadLine}
 use Rattle.fib_main.specs.declared.check.Reply as code_reply
@@ -13,14 +13,22 @@ HasInput (Run named) Asks = IsSome named.asks
 HasInput (Run named) Dump = Unit {0}
 HasInput (Run named) Updates = IsSome named.updates
 HasInput (Run named) Printed = ⊥
+HasInput (Run named) Script = ⊥
 HasInput (Check name) Asks = ⊥
 HasInput (Check name) Dump = ⊥
 HasInput (Check name) Updates = ⊥
 HasInput (Check name) Printed = Unit {0}
+HasInput (Check name) Script = ⊥
 HasInput (Make routes seed) Asks = ⊥
 HasInput (Make routes seed) Dump = Unit {0}
 HasInput (Make routes seed) Updates = Unit {0}
 HasInput (Make routes seed) Printed = ⊥
+HasInput (Make routes seed) Script = ⊥
+HasInput (Steps named) Asks = ⊥
+HasInput (Steps named) Dump = Unit {0}
+HasInput (Steps named) Updates = Unit {0}
+HasInput (Steps named) Printed = ⊥
+HasInput (Steps named) Script = Unit {0}
 
 -- the input is one of lines
 abbrev pub HasLines : Which → Type 0
@@ -28,6 +36,7 @@ HasLines Asks = Unit {0}
 HasLines Dump = ⊥
 HasLines Updates = ⊥
 HasLines Printed = Unit {0}
+HasLines Script = Unit {0}
 
 -- the input is one of records
 abbrev pub HasRecords : Which → Type 0
@@ -35,6 +44,7 @@ HasRecords Asks = ⊥
 HasRecords Dump = Unit {0}
 HasRecords Updates = Unit {0}
 HasRecords Printed = ⊥
+HasRecords Script = ⊥
 
 -- the input has events of this number: those of a dump are the load, event 0
 abbrev pub HasEvent : Which → ℕ → Type 0
@@ -42,6 +52,7 @@ HasEvent Asks n = ⊥
 HasEvent Dump n = n ≡ 0
 HasEvent Updates n = Unit {0}
 HasEvent Printed n = ⊥
+HasEvent Script n = ⊥
 
 -- a refusal of this input, a fault of reading, or want of memory
 abbrev pub StopsAt : Which → Outcome → Type 0
@@ -76,6 +87,7 @@ Owns None reply = ⊥
 Owns (Some (Run named)) reply = reply.no ≡ None
 Owns (Some (Check name)) reply = Unit {0}
 Owns (Some (Make routes seed)) reply = reply.no ≡ None
+Owns (Some (Steps named)) reply = reply.no ≡ None
 
 -- a call was stopped at this input
 abbrev pub StoppedAt : {X : Type 0} → Which → Result X Outcome → Type 0

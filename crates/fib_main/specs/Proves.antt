@@ -4,7 +4,7 @@ use Rattle.fib_io.specs.Octets.{Adds, AddsSome}
 use Rattle.least_model.specs.Both.{LeastInBoth}
 use Rattle.cert_model.specs.Right.{IsCertificate}
 use Rattle.printed_model.specs.Used.{Used, printed_in}
-use Rattle.fib_words.specs.Commands.{Asked, Run, Check, Make}
+use Rattle.fib_words.specs.Commands.{Asked, Run, Check, Make, Steps}
 use Rattle.fib_main.specs.Stops.{Stop}
 use Rattle.fib_main.specs.Checks.{verdict_of}
 use Rattle.fib_main.specs.Due.{Output, Ran, Checked, Made, Printed, printed_text}
@@ -47,6 +47,7 @@ abbrev pub IsRun : Option Asked → Type 0
 IsRun (Some (Run named)) = Unit {0}
 IsRun (Some (Check name)) = ⊥
 IsRun (Some (Make routes seed)) = ⊥
+IsRun (Some (Steps named)) = ⊥
 IsRun None = ⊥
 
 -- a text that a check says yes to was added, where out tells it

@@ -1,24 +1,23 @@
 -- Where a run stops, and what a call gives of it.
-use Rattle.std.specs.Prelude.{◌≡◌, ℕ, ◌^◌, List, length, Option, Some, None, Result, Ok, Err, Bool, true, false, not, ◌&&◌, ◌==◌, nat_le, if◌then◌else◌}
-use Rattle.wire_model.specs.declared.rule.Rule.{Rule}
-use Rattle.wire_model.specs.declared.rule.Rule.TheVariants.{HeaderCut, BodyCut}
+use Rattle.std.specs.Prelude.{◌≡◌, ℕ, List, Option, Some, None, Result, Ok, Err, Bool, true, false, not, ◌&&◌, if◌then◌else◌}
 use Rattle.wire_model.specs.Rules.{rule_number}
-use Rattle.wire_model.specs.Record.{Record, Fault, records_in}
 use Rattle.reading_model.specs.Input.{Progress, Stopped, input}
 use Rattle.fib_io.specs.Pieces.{octets_read}
+use Rattle.whole_input.specs.Cuts.{is_cut, is_small}
 use Rattle.printed_model.specs.Texts.{BadLine as BadRow}
 use Rattle.route_tries.specs.Sizes.{Shortage}
 use Rattle.printed_model.specs.Used.{Used}
+use Rattle.step_model.specs.Script.{Step}
 use Rattle.fib_main.specs.declared.outcome.Outcome.{Outcome}
 use Rattle.fib_main.specs.declared.outcome.Outcome.TheVariants.{Done, CheckNo, NoMemory, ReadFault, WriteFault, TooLarge, Malformed, HopsFull, TrieFull, BadLine}
 use Rattle.fib_main.specs.declared.outcome.MrtInput.{MrtInput}
 use Rattle.fib_main.specs.declared.outcome.MrtInput.TheVariants.{Dump, Updates}
 use Rattle.fib_main.specs.declared.outcome.Which.{Which}
-use Rattle.fib_main.specs.declared.outcome.Which.TheVariants.{Printed}
+use Rattle.fib_main.specs.declared.outcome.Which.TheVariants.{Printed, Script}
 use Rattle.fib_main.specs.declared.outcome.Which.TheVariants as all
 use Rattle.fib_main.specs.Refusals.{Refusal, ManyHops, Short}
 
--- an input that doesn't tell its content, or a refusal
+-- what isn't told: an input's content, or the text of a run in steps, which isn't a function of the inputs; or a refusal
 pub data Stop : Type 0 where
   Untold : Stop
   Refused : Outcome → Stop
@@ -27,10 +26,6 @@ pub data Stop : Type 0 where
 abbrev pub told_content : Option (List ℕ) → Result (List ℕ) Stop
 told_content None = Err Untold
 told_content (Some octets) = Ok octets
-
--- the octets are few enough for an input: 2^36 at most
-abbrev pub is_small : List ℕ → Bool
-is_small octets = nat_le (length octets) (2 ^ 36)
 
 unfoldable pub sized : Which → List ℕ → Result (List ℕ) Stop
 sized which octets = if is_small octets then Ok octets else Err (Refused (TooLarge which))
@@ -50,24 +45,15 @@ abbrev pub rowed : Result Used BadRow → Result Used Stop
 rowed (Ok used) = Ok used
 rowed (Err bad) = Err (Refused (BadLine Printed bad.line bad.why))
 
+-- the steps of a script, or the first of its lines that has none
+abbrev pub scripted : Result (List Step) BadRow → Result (List Step) Stop
+scripted (Ok steps) = Ok steps
+scripted (Err bad) = Err (Refused (BadLine Script bad.line bad.why))
+
 -- an input of records, among all inputs
 abbrev pub input_of : MrtInput → Which
 input_of Dump = all.Dump
 input_of Updates = all.Updates
-
--- a record that breaks this rule is cut, in its header or in its body
-abbrev pub is_cut_by : Rule → Bool
-is_cut_by HeaderCut = true
-is_cut_by BodyCut = true
-is_cut_by rule = false
-
--- the record of this number is cut by the end of the octets (RFC 6396, 2)
-abbrev pub cut_at : ℕ → Result (List Record) Fault → Bool
-cut_at n (Ok records) = false
-cut_at n (Err fault) = fault.number == n && is_cut_by fault.rule
-
-abbrev pub is_cut : List ℕ → ℕ → Bool
-is_cut octets n = cut_at n (records_in octets)
 
 -- records that break no rule, if they are all of the input
 abbrev pub all_records : MrtInput → Bool → Progress → Result Progress Stop

@@ -1,28 +1,37 @@
 -- What holds where an input doesn't tell what it holds.
-use Rattle.std.specs.Prelude.{ℕ, List, Option, Some, None, Result, Ok, ◌⊎◌}
+use Rattle.std.specs.Prelude.{ℕ, List, Option, Some, None, Result, Ok, Err, ◌⊎◌}
 use Rattle.std.specs.declared.vec.Vec.{Vec}
 use Rattle.address_model.specs.Address.{Address}
 use Rattle.printed_model.specs.Used.{Used}
-use Rattle.fib_words.specs.Commands.{Asked, Named, Run, Check, Make}
+use Rattle.fib_words.specs.Commands.{Asked, Named, NamedSteps, Run, Check, Make, Steps}
 use Rattle.fib_main.specs.declared.check.Reply as code_reply
-use Rattle.fib_main.specs.declared.outcome.Which.TheVariants.{Asks, Printed}
+use Rattle.fib_main.specs.declared.outcome.Which.TheVariants.{Asks, Printed, Script}
 use Rattle.fib_main.specs.declared.outcome.Outcome.{Outcome}
-use Rattle.fib_main.specs.Stops.{Stop, GivesDue}
-use Rattle.fib_main.specs.Due.{Output, Checked, made, made_at, ran, told_at, with_reply, with_text}
+use Rattle.fib_main.specs.Stops.{Stop, Untold, GivesDue}
+use Rattle.fib_main.specs.Due.{Output, Checked, made, made_at, ran, stepped, told_at, with_reply, with_text, with_world, world_at}
 use Rattle.fib_main.specs.Ends.{Meets, Writes, text_due}
 use Rattle.fib_main.specs.Owned.{StopsAt, StoppedAt}
 use Rattle.fib_main.specs.Views.{reply_as}
+use Rattle.fib_main.specs.Stepped.{EndsRun, GivesReply, GivesRun, IfStepping}
+use Rattle.octet_fields.specs.Field.{◌>>=◌}
+use Rattle.step_model.specs.Script.{Step}
+use Rattle.step_run.specs.Stepping.{Stepping}
 
 -- the outcome is the due one, and out has what is due
 abbrev pub FitsUntold : Result Output Stop → Option (List ℕ) → Option (List ℕ) → Outcome → Type 0
 FitsUntold d old new outcome = Meets d outcome × Writes (text_due d) old new outcome
 
--- Whatever the asks hold: they are refused, or all is as due of some asks, with the dump and the updates. Whatever a printed text holds: it is refused, or all is as due of some rows.
+-- so it is of a run in steps, which besides ends as its machine lets it
+abbrev pub FitsStepping : Result Stepping Stop → Option (List ℕ) → Option (List ℕ) → Outcome → Type 0
+FitsStepping d old new outcome = FitsUntold (stepped d) old new outcome × IfStepping d (λ s. EndsRun s old new outcome)
+
+-- Whatever the asks hold: they are refused, or all is as due of some asks, with the dump and the updates. Whatever a printed text holds: it is refused, or all is as due of some rows. Whatever a script holds: it is refused, or all is as due of some steps.
 abbrev pub FitsSome : (List ℕ → Option (List ℕ)) → Option Asked → Option (List ℕ) → Option (List ℕ) → Outcome → Type 0
 FitsSome content None old new outcome = Unit {0}
 FitsSome content (Some (Run named)) old new outcome = StopsAt Asks outcome ⊎ ((asks : List Address) × FitsUntold (ran (told_at content named asks)) old new outcome)
 FitsSome content (Some (Check name)) old new outcome = StopsAt Printed outcome ⊎ ((used : Used) × FitsUntold (Ok (Checked used)) old new outcome)
 FitsSome content (Some (Make routes seed)) old new outcome = FitsUntold (made (made_at routes seed)) old new outcome
+FitsSome content (Some (Steps named)) old new outcome = StopsAt Script outcome ⊎ ((script : List Step) × FitsStepping (with_world script (world_at content named)) old new outcome)
 
 -- the same of the text of a run's rows
 abbrev pub TextOfSome : {X : Type 0} → (List ℕ → Option (List ℕ)) → Named → Result (Vec ℕ X) Outcome → Type 0
@@ -32,9 +41,24 @@ TextOfSome content named result = StoppedAt Asks result ⊎ ((asks : List Addres
 abbrev pub ReplyOfSome : Result code_reply.Reply Outcome → Type 0
 ReplyOfSome result = StoppedAt Printed result ⊎ ((used : Used) × GivesDue reply_as result (with_reply (Ok (Checked used))))
 
+-- the same of the text of a run in steps, once its script is read
+abbrev pub untold_text : Result Stepping Stop → Result (List ℕ) Stop
+untold_text stepping = stepping >>= λ s. Err Untold
+
+abbrev pub GivesText : {X : Type 0} → Result Stepping Stop → Result (Vec ℕ X) Outcome → Type 0
+GivesText d result = GivesDue (λ v. v.items) result (untold_text d) × IfStepping d (λ s. GivesRun (λ v. v.items) s result)
+
+abbrev pub StepsOfSome : {X : Type 0} → (List ℕ → Option (List ℕ)) → NamedSteps → Result (Vec ℕ X) Outcome → Type 0
+StepsOfSome content named result = StoppedAt Script result ⊎ ((script : List Step) × GivesText (with_world script (world_at content named)) result)
+
+-- the same of a reply to it
+abbrev pub GivesStepping : Result Stepping Stop → Result code_reply.Reply Outcome → Type 0
+GivesStepping d result = GivesDue reply_as result (with_reply (stepped d)) × IfStepping d (λ s. GivesReply s result)
+
 -- the same of a reply to a command
 abbrev pub GivesSome : (List ℕ → Option (List ℕ)) → Option Asked → Result code_reply.Reply Outcome → Type 0
 GivesSome content None result = Unit {0}
 GivesSome content (Some (Run named)) result = StoppedAt Asks result ⊎ ((asks : List Address) × GivesDue reply_as result (with_reply (ran (told_at content named asks))))
 GivesSome content (Some (Check name)) result = ReplyOfSome result
 GivesSome content (Some (Make routes seed)) result = GivesDue reply_as result (with_reply (made (made_at routes seed)))
+GivesSome content (Some (Steps named)) result = StoppedAt Script result ⊎ ((script : List Step) × GivesStepping (with_world script (world_at content named)) result)

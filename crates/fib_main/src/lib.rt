@@ -1,7 +1,8 @@
 //! The compiler's top call, and what stands behind it.
 //!
 //! `run_fib` reads the words. Of a run it reads the asks, the dump and the updates, chooses among the candidates of all peers,
-//! keeps a table for the chosen routes, and writes the rows. Of a check it reads a printed text, and writes whether its certificate proves its least table least.
+//! keeps a table for the chosen routes, and writes the rows. Of a check it reads a printed text, and writes whether its certificate
+//! proves its least table least. Of a run in steps it reads a script, the dump and the updates, makes the steps, and writes their rows.
 //! What is due is a definition over the words and the octets of the inputs; the contract of `run_fib` ties its outcome, what
 //! it wrote and its faults to it.
 #![tactic(auto)]
@@ -13,6 +14,7 @@ mod outcome;
 mod report;
 mod run;
 mod state;
+mod stepping;
 mod top_call;
 
 pub use cert_check::No;

@@ -24,6 +24,8 @@ pub enum Which {
     Updates,
     /// The printed text that is checked.
     Printed,
+    /// The script of a run in steps.
+    Script,
 }
 
 /// An input of MRT records.
@@ -91,7 +93,7 @@ pub enum Outcome {
         input: Which,
         /// The line's number, from 1.
         line: u64,
-        /// What is wrong with it. Of asks 1: it is no address. Of a printed text `cost_cert::why` names it.
+        /// What is wrong with it. Of asks 1: it is no address. Of a printed text and of a script `cost_cert::why` names it.
         why: u8,
     },
     /// Memory ran out.
@@ -117,6 +119,7 @@ impl Which {
             Which::Dump => "dump",
             Which::Updates => "updates",
             Which::Printed => "printed",
+            Which::Script => "script",
         }
     }
 }

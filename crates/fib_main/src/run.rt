@@ -12,6 +12,7 @@ ghost use Rattle.fib_main.specs.Views.{limits_as, reply_as};
 ghost use Rattle.fib_main.specs.Standing.{FeedsBoth, HoldsMade, IsReady, StateFeeds, refusal_of, StateStands};
 ghost use Rattle.fib_main.specs.Refusals.{Limits as ends};
 ghost use Rattle.fib_main.specs.Stops.{GivesDue, event_in, input_of};
+ghost use Rattle.fib_main.specs.Stepped.{GivesSteps};
 ghost use Rattle.fib_main.specs.Untold.{GivesSome, ReplyOfSome, TextOfSome};
 ghost use Rattle.fib_main.specs.Words.{asked_by, due_by, read_by, texts_of};
 ghost use Rattle.fib_words.specs.Commands.{asked_as, Check, IsWithin, Make, named_as, Run};
@@ -23,6 +24,7 @@ use crate::feed::{Counts, feed};
 use crate::outcome::{MrtInput, Outcome, Which};
 use crate::report::{Fed, write_counts, write_text};
 use crate::state::{FeedError, State};
+use crate::stepping::steps_for;
 use cost_cert::PrintedError;
 use fib_engine::{Limits, Sizes};
 use fib_io::{Inputs, ReadError, SureInputs, read_whole};
@@ -36,7 +38,7 @@ const NO_ADDRESS: u8 = 1;
 
 /// The octets of an input.
 #[tactic(auto, unfolding(crate::specs::Due::input_at, crate::specs::Stops::sized))]
-fn octets_of<I: Inputs>(
+pub(crate) fn octets_of<I: Inputs>(
     alloc: Global,
     inputs: &mut I,
     name: &str,
@@ -104,7 +106,7 @@ fn event_in(which: MrtInput, event: u64) -> u64
 }
 
 /// The outcome where an input brings nothing.
-fn outcome_of_refusal(which: MrtInput, error: FeedError) -> Outcome
+pub(crate) fn outcome_of_refusal(which: MrtInput, error: FeedError) -> Outcome
     ensures { result ≡ refusal_of which error }
 {
     match error {
@@ -131,7 +133,7 @@ fn outcome_of_refusal(which: MrtInput, error: FeedError) -> Outcome
 }
 
 /// Takes what an input brings. The candidates of the inputs before it are few enough: 2^40 at most.
-fn feed_of<I: Inputs>(
+pub(crate) fn feed_of<I: Inputs>(
     alloc: Global,
     inputs: &mut I,
     state: &mut State,
@@ -378,6 +380,7 @@ fn reply_to<I: Inputs>(
     ensures due { GivesDue reply_as result
         (with_reply (output_at (I.content inputs.old) (asked_as command.now))) }
     ensures some { GivesSome (I.content inputs.old) (Some (asked_as command.now)) result }
+    ensures steps { GivesSteps (I.content inputs.old) (Some (asked_as command.now)) result }
     ensures stops { IfErr result (StopsIn (asked_as command.now)) }
     ensures owns { IfOk result (Owns (Some (asked_as command.now))) }
     ensures yes { IsRun (Some (asked_as command.now))
@@ -398,6 +401,10 @@ fn reply_to<I: Inputs>(
             let text = made_for(alloc, made)?;
             Ok(reply_of(text))
         }
+        CommandWords::Steps(steps) => {
+            let text = steps_for(alloc, inputs, steps)?;
+            Ok(reply_of(text))
+        }
     }
 }
 
@@ -410,6 +417,7 @@ pub fn reply_for<I: Inputs>(
 ) -> Result<Reply, Outcome>
     ensures due { GivesDue reply_as result (reply_at (texts_of words.now) (I.content inputs.old)) }
     ensures some { GivesSome (I.content inputs.old) (asked_by words.now) result }
+    ensures steps { GivesSteps (I.content inputs.old) (asked_by words.now) result }
     ensures own { IfErr result (IsOf (asked_by words.now)) }
     ensures owns { IfOk result (Owns (asked_by words.now)) }
     ensures yes { IsRun (asked_by words.now) → IfOk result (λ reply. ChecksYes reply.text.items) }

@@ -8,6 +8,7 @@ ghost use Rattle.fib_main.specs.Keeps.{Follows, RenewsLeast, RepairsFewest};
 ghost use Rattle.fib_main.specs.Owned.{IsOf};
 ghost use Rattle.fib_main.specs.Proves.{AddsFrontOfYes, AddsYes, Decides, IfChecked, IfRan, IsRun, PrintsYes, YesProves};
 ghost use Rattle.fib_main.specs.Runs.{Answers, Certified, Forwards, HasAggregate, HasHops, HasLeast, IfDue, IsInOrder, SumsUp};
+ghost use Rattle.fib_main.specs.Stepped.{FitsSteps};
 ghost use Rattle.fib_main.specs.Untold.{FitsSome};
 ghost use Rattle.fib_main.specs.Words.{asked_by, due_by, read_by};
 
@@ -28,7 +29,7 @@ fn end_of(no: Option<No>) -> Outcome
 }
 
 /// The outcome, with nothing told of it yet.
-#[tactic(auto, using(crate::proofs::Untold::own_end, crate::proofs::Untold::own_fault, crate::proofs::Untold::some_ends, crate::proofs::Untold::some_fault, crate::proofs::Untold::some_stop), unfolding(crate::specs::Due::reply_at))]
+#[tactic(auto, using(crate::proofs::Untold::own_end, crate::proofs::Untold::own_fault, crate::proofs::Untold::some_ends, crate::proofs::Untold::some_fault, crate::proofs::Untold::some_stop, crate::proofs::Untold::steps_end, crate::proofs::Untold::steps_fault, crate::proofs::Untold::steps_stop), unfolding(crate::specs::Due::reply_at))]
 fn outcome_of<I: Inputs, O: Sink>(
     alloc: Global,
     words: &[String],
@@ -43,6 +44,8 @@ fn outcome_of<I: Inputs, O: Sink>(
         (O.written out.new) result }
     ensures own { IsOf (asked_by words.now) result }
     ensures some { FitsSome (I.content inputs.old) (asked_by words.now) (O.written out.old)
+        (O.written out.new) result }
+    ensures steps { FitsSteps (I.content inputs.old) (asked_by words.now) (O.written out.old)
         (O.written out.new) result }
     ensures same { I.content inputs.new ≡ I.content inputs.old }
     ensures printed { result ≡ Outcome.Done → IsRun (asked_by words.now) → AddsYes
@@ -88,6 +91,8 @@ fn run_and_tell<I: Inputs, O: Sink, E: Sink>(
     ensures own { IsOf (asked_by words.now) result }
     ensures some { FitsSome (I.content inputs.old) (asked_by words.now) (O.written out.old)
         (O.written out.new) result }
+    ensures steps { FitsSteps (I.content inputs.old) (asked_by words.now) (O.written out.old)
+        (O.written out.new) result }
     ensures same { I.content inputs.new ≡ I.content inputs.old }
     ensures printed { result ≡ Outcome.Done → IsRun (asked_by words.now) → AddsYes
         (O.written out.old) (O.written out.new) }
@@ -103,17 +108,19 @@ fn run_and_tell<I: Inputs, O: Sink, E: Sink>(
     outcome
 }
 
-/// Does what the words say: reads the inputs that they name, and writes the rows of a run, or the verdict on a printed text,
-/// to `out`.
+/// Does what the words say: reads the inputs that they name, and writes the rows of a run, the verdict on a printed text, or the
+/// rows of a run in steps to `out`.
 ///
-/// What is due is a function of the words and of what the inputs hold. The outcome is the due one, but that a fault of
-/// reading or want of memory may come before it, and a fault of writing in place of Done and of CheckNo. Nothing is written
-/// to `out` before all is accepted. Every outcome but Done is told by one line to `err`, and a fault of `err` changes nothing.
+/// What is due is a function of the words and of what the inputs hold, but for the text of a run in steps, which is that of one
+/// of the runs that its machine allows. The outcome is the due one, but that a fault of reading or want of memory may come
+/// before it, and a fault of writing in place of Done and of CheckNo. Nothing is written to `out` before all is accepted. Every
+/// outcome but Done is told by one line to `err`, and a fault of `err` changes nothing.
 ///
 /// It costs n log n in the octets read and the rows written, and the routes' number times the lengths of their prefixes. In
 /// memory are, at most, the asks, one line or record and a piece while an input is read, the candidates of all peers, the kept
 /// table with its tree and its changes, and the whole text. A check keeps the printed text until it is read, its routes, least
-/// table and certificate, and then the runs of both tables.
+/// table and certificate, and then the runs of both tables. A run in steps keeps its script, the events of the updates and what
+/// they do, each family's routes with two sets of arenas, and its rows and their text.
 #[tactic(auto, using(crate::proofs::Completing::completes, crate::proofs::Running::sums_up, crate::proofs::Running::forwards, crate::proofs::Running::answers, crate::proofs::Running::least, crate::proofs::Running::follows, crate::proofs::Running::renewed, crate::proofs::Running::fewest, crate::proofs::Running::aggregated, crate::proofs::Running::sorted, crate::proofs::Running::certified, crate::proofs::Running::addressed, crate::proofs::Replies::decides, crate::proofs::Replies::yes_proves))]
 pub fn run_fib<I: Inputs, O: Sink, E: Sink>(
     alloc: Global,
@@ -143,8 +150,15 @@ pub fn run_fib<I: Inputs, O: Sink, E: Sink>(
     // The words have the outcome, whether or not an input tells what it holds.
     ensures own { IsOf (asked_by words.now) result }
 
-    // Where the asks of a run or the text of a check don't tell, all is as it is due of some that there could be.
+    // Where the asks of a run, the text of a check or the script of a run in steps don't tell, all is as it is due of some that
+    // there could be.
     ensures some { FitsSome (I.content inputs.old) (asked_by words.now) (O.written out.old)
+        (O.written out.new) result }
+
+    // A run in steps: at Done out has the rows of a run of the machine of steps over the whole script, from the routes after the
+    // load. A look-up's answer is the longest match among the routes after exactly the events that were published to its address
+    // at its first read. Too many hops and too small tries end it at the prepare of that event.
+    ensures steps { FitsSteps (I.content inputs.old) (asked_by words.now) (O.written out.old)
         (O.written out.new) result }
 
     // No content changes.

@@ -23,6 +23,7 @@ pub struct Given<'a> {
     pub dump_len: usize,
     pub updates: &'a [Record<'a>],
     pub asks: &'a [u8],
+    pub script: &'a [u8],
     pub printed: Rows<'a>,
     // follows the printed rows
     pub printed_end: &'a [u8],
@@ -62,6 +63,7 @@ pub const FIRST: Given<'static> = Given {
     dump_len: ALL,
     updates: &[],
     asks: b"10.1.2.3\n11.0.0.1\n",
+    script: b"",
     printed: &[],
     printed_end: b"",
     failing_read: 0,
@@ -146,11 +148,13 @@ pub fn text_of(alloc: Global, rows: Rows) -> Result<Vec<u8>, Fail> {
     Ok(text)
 }
 
-/// The inputs `dump`, `updates`, `asks` and `printed`; the dump isn't held where it has no records.
+/// The inputs `dump`, `updates`, `asks`, `script` and `printed`; the dump isn't held where it has no records.
 pub fn inputs_of(alloc: Global, given: &Given) -> Result<MemInputs, Fail> {
     let mut names = Vec::new(alloc);
     let asks = Vec::from_slice(alloc, given.asks)?;
     names.push((String::from_str(alloc, "asks")?, asks))?;
+    let script = Vec::from_slice(alloc, given.script)?;
+    names.push((String::from_str(alloc, "script")?, script))?;
     let updates = octets_of(alloc, given.updates)?;
     names.push((String::from_str(alloc, "updates")?, updates))?;
     let mut printed = text_of(alloc, given.printed)?;

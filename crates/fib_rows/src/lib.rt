@@ -50,6 +50,8 @@ mod hostile;
 #[cfg(test)]
 mod records;
 #[cfg(test)]
+mod steps;
+#[cfg(test)]
 mod tests;
 #[cfg(test)]
 mod texts;

@@ -130,6 +130,54 @@ pub const LONGER: &[&str] = &[
     "08 0a",
 ];
 
+/// The first peer announces 10.0.0.0/8 by 192.0.2.2.
+pub const TEN_TO_B: &[&str] = &[
+    "00000000 0010 0004 00000041",
+    SESSION,
+    "ffffffffffffffffffffffffffffffff 002d 02",
+    "0000",
+    "0014",
+    ORIGIN,
+    PATH,
+    HOP_B,
+    "08 0a",
+];
+
+/// The first peer announces 10.0.0.0/8 by 192.0.2.1.
+pub const TEN_TO_A: &[&str] = &[
+    "00000000 0010 0004 00000041",
+    SESSION,
+    "ffffffffffffffffffffffffffffffff 002d 02",
+    "0000",
+    "0014",
+    ORIGIN,
+    PATH,
+    HOP_A,
+    "08 0a",
+];
+
+/// The first peer announces 2001:db8::/32 by 2001:db8::2.
+pub const SIX_TO_SECOND: &[&str] = &[
+    "00000000 0010 0004 00000051",
+    SESSION,
+    "ffffffffffffffffffffffffffffffff 003d 02",
+    "0000",
+    "0026",
+    PATH,
+    "800e1a 0002 01 10 20010db8000000000000000000000002 00 20 20010db8",
+];
+
+/// The first peer announces 2001:db8::/32 by 2001:db8::3.
+pub const SIX_TO_THIRD: &[&str] = &[
+    "00000000 0010 0004 00000051",
+    SESSION,
+    "ffffffffffffffffffffffffffffffff 003d 02",
+    "0000",
+    "0026",
+    PATH,
+    "800e1a 0002 01 10 20010db8000000000000000000000003 00 20 20010db8",
+];
+
 /// The first peer withdraws 10.0.0.0/8 and announces it in one message.
 pub const GONE_AND_BACK: &[&str] = &[
     "00000000 0010 0004 00000043",

@@ -8,8 +8,9 @@ use crate::records::{
     ALL_TWICE, GONE_AND_BACK, HALVES, LONG_HEADER, LONGER, LOST, LOWER_HALF, ONE_ADDRESS,
     ONE_OF_SIX, OTHER, PATH_CUT, PATH_WITHDRAWN, PEERS, PREFIX_OF_33, QUARTERS, SET_OF_THREE,
     SEVEN_EIGHTHS, SHORT_HOP, SIX, TEN, TEN_LONG_ORIGIN, TEN_OF_TWO, TEN_ONE, TEN_ONE_BY_A,
-    TEN_SHORT_SEGMENT, TEN_TWICE, TEN_WRONG_SEGMENT, TOO_WIDE, TWO_PATHS, TWO_PEERS, UPPER_HALF,
-    WIDE_WITHDRAWN, WITH_A_GAP, WRONG_LENGTH, WRONG_SEGMENT, WRONG_SEGMENT_AND_FLAGS,
+    TEN_SHORT_SEGMENT, TEN_TO_A, TEN_TO_B, TEN_TWICE, TEN_WRONG_SEGMENT, TOO_WIDE, TWO_PATHS,
+    TWO_PEERS, UPPER_HALF, WIDE_WITHDRAWN, WITH_A_GAP, WRONG_LENGTH, WRONG_SEGMENT,
+    WRONG_SEGMENT_AND_FLAGS,
 };
 use crate::texts::{
     CERTIFICATE_OF_NONE, PRINTED_TIE, REPORT_OF_MADE, REPORT_OF_ONE_MADE, ROWS_OF_BOTH,
@@ -792,6 +793,49 @@ fn visits_and_needs(rt: HostRuntime) -> Result<(), Fail> {
         };
         compare_visits(&rt, &given, rows)?;
     }
+    Ok(())
+}
+
+#[test]
+fn a_hundred_updates_of_one_prefix(rt: HostRuntime) -> Result<(), Fail> {
+    let alloc = rt.alloc();
+    let mut updates: Vec<Record> = Vec::new(alloc);
+    for _ in 0..50 {
+        updates.push(TEN_TO_B)?;
+        updates.push(TEN_TO_A)?;
+    }
+    let given = Given {
+        words: &[
+            "fib",
+            "run",
+            "dump",
+            "--updates",
+            "updates",
+            "--every",
+            "1",
+            "--direct",
+            "0",
+            "--nodes",
+            "1",
+            "--leaves",
+            "3",
+        ],
+        updates: &updates,
+        room: 100_000,
+        ..FIRST
+    };
+    let came = run_on(alloc, &given, inputs_of(alloc, &given)?)?;
+    assert_eq!(&rt; came.outcome, Outcome::Done);
+    let text = came.out.written();
+    let changes = text
+        .split(|octet| *octet == b'\n')
+        .filter(|row| row.starts_with(b"change,") && row.contains(&b'='))
+        .count();
+    assert_eq!(&rt; changes, 100);
+    let names = &["report,events,", "report,nodes,", "report,leaves,"];
+    let told = rows_named(alloc, text, names)?;
+    let expected: &[&str] = &["report,events,101", "report,nodes,2", "report,leaves,5"];
+    assert_eq!(&rt; told.as_slice(), text_of(alloc, &[expected])?.as_slice());
     Ok(())
 }
 

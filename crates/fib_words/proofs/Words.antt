@@ -1,5 +1,5 @@
 -- What clap answers, and the definition of the command line.
-use Rattle.std.proofs.Common.{◌≡◌, ℕ, ◌^◌, true, false, cond, List, [], ◌∷◌, Option, Some, None, Err, refl, sym, ap, ◌∙◌, subst, inl, inr, codes}
+use Rattle.std.proofs.Common.{◌≡◌, ℕ, ◌^◌, true, false, cond, List, [], ◌∷◌, Option, Some, None, Result, Err, IfOk, refl, sym, ap, ◌∙◌, subst, inl, inr, codes}
 use Rattle.std.specs.Prelude.{◌≢◌, option_map, Box}
 use Rattle.std.specs.Option.{option_and_then}
 use Rattle.std.specs.Str.{bytes_eq}
@@ -7,7 +7,8 @@ use Rattle.std.specs.Box.{box_value}
 use Rattle.clap.specs.Kinds.{HasKind, IsAmong}
 use Rattle.clap.specs.Matches.{found_of, subcommand_name_of}
 use Rattle.clap.specs.Simple.{subcommand_rows}
-use Rattle.clap.specs.Words.{App, Row, Text, HasMatchesOf, fault_of, first_of, first_value, is_simple, is_simple_and_free, kind_of, rows_of, subcommand_of, subcommand_rows_of}
+use Rattle.clap.specs.Words.{App, Row, Text, HasMatchesOf, fault_of, first_of, first_value, is_simple, is_simple_and_free, kind_of, app_of, rows_of, subcommand_of, subcommand_rows_of, with_subcommand}
+use Rattle.clap.specs.declared.builder.Command.{Command}
 use Rattle.clap.specs.declared.error.Error.{Error}
 use Rattle.clap.specs.declared.error.ErrorKind.TheVariants.{OutOfMemory}
 use Rattle.clap.specs.declared.parser.matches.ArgMatches.{ArgMatches}
@@ -18,7 +19,7 @@ use Rattle.clap.proofs.OnLiterals.{clap_on_literals}
 use Rattle.fib_addr.specs.Text.{number_below}
 use Rattle.fib_words.specs.declared.WordsError.{WordsError}
 use Rattle.fib_words.specs.declared.WordsError.TheVariants.{Usage, NoMemory}
-use Rattle.fib_words.specs.Commands.{Asked, fib_app, takes, is_empty, Run, Check, asked_in, named_by, named_with, number_or, made_by, made_with, Make, from_one, command_of, IsCommand}
+use Rattle.fib_words.specs.Commands.{Asked, Named, NamedSizes, HasApp, bare_app, run_app, check_app, make_app, steps_app, fib_app, takes, is_empty, Run, Check, Steps, asked_in, named_by, named_with, number_or, made_by, made_with, Make, from_one, sizes_by, sizes_with, steps_by, steps_with, command_of, IsCommand}
 
 fib_free : is_simple_and_free fib_app ≡ true
 unfolding clap_on_literals
@@ -27,6 +28,20 @@ fib_free = refl
 fib_simple : is_simple fib_app ≡ true
 unfolding clap_on_literals
 fib_simple = refl
+
+-- ---- the commands, one under the other
+
+under : (a b c d : App) → a ≡ with_subcommand b c.top → b ≡ d → (e : App) → c ≡ e → a ≡ with_subcommand d e.top
+under a b c d is same e inner = is ∙ (ap (λ x. with_subcommand x c.top) same ∙ ap (λ x. with_subcommand d x.top) inner)
+
+pub all_under : {E : Type 0} (r : Result Command E) (bare first second third run check make steps : Command) → HasApp bare bare_app → HasApp run run_app → HasApp check check_app → HasApp make make_app → HasApp steps steps_app
+    → HasApp first (with_subcommand (app_of bare) (app_of run).top) → HasApp second (with_subcommand (app_of first) (app_of check).top) → HasApp third (with_subcommand (app_of second) (app_of make).top)
+    → IfOk r (λ c. HasApp c (with_subcommand (app_of third) (app_of steps).top)) → IfOk r (λ c. HasApp c fib_app)
+all_under r bare first second third run check make steps at_bare at_run at_check at_make at_steps at_first at_second at_third ok =
+    let one = under _ _ _ _ at_first.same at_bare.same _ at_run.same in
+    let two = under _ _ _ _ at_second.same one _ at_check.same in
+    let three = under _ _ _ _ at_third.same two _ at_make.same in
+    subst (λ app. IfOk r (λ c. HasApp c app)) (under _ _ _ _ refl three _ at_steps.same) ok
 
 -- ---- what clap refuses is no command
 
@@ -66,8 +81,11 @@ name_is (Some b) = refl
 
 -- what a command of this name asks for
 
+abbrev asked_of_steps : Text → List Row → Option Asked
+asked_of_steps name rows = cond (bytes_eq name (codes "steps")) (option_map Steps (steps_by rows)) None
+
 abbrev asked_of_make : Text → List Row → Option Asked
-asked_of_make name rows = cond (bytes_eq name (codes "make")) (made_by rows) None
+asked_of_make name rows = cond (bytes_eq name (codes "make")) (made_by rows) (asked_of_steps name rows)
 
 abbrev asked_of_others : Text → List Row → Option Asked
 asked_of_others name rows = cond (bytes_eq name (codes "check")) (option_map Check (first_of (codes "printed") rows)) (asked_of_make name rows)
@@ -85,6 +103,11 @@ entered_as name (Some p) rows e f =
 entered : (m inner : ArgMatches) (name : Text) → subcommand_name_of m ≡ Some name → option_map (λ (p : Text × List Row). p.1) (subcommand_rows_of m) ≡ Some (rows_of (found_of inner)) → option_and_then asked_in (subcommand_rows_of m) ≡ asked_of name (rows_of (found_of inner))
 entered m inner name e f = entered_as name (subcommand_rows_of m) (rows_of (found_of inner)) (name_is (out-ArgMatches m).subcommand ∙ e) f
 
+pub run_is : (m run : ArgMatches) (names : Option Named) → subcommand_name_of m ≡ Some (codes "run") → option_map (λ (p : Text × List Row). p.1) (subcommand_rows_of m) ≡ Some (rows_of (found_of run)) → names ≡ named_by (rows_of (found_of run)) → option_and_then asked_in (subcommand_rows_of m) ≡ option_map Run names
+run_is m run names e f g =
+    entered m run (codes "run") e f
+    ∙ ap (option_map Run) (sym g)
+
 pub check_is : (m check : ArgMatches) (printed : Option Text) → subcommand_name_of m ≡ Some (codes "check") → option_map (λ (p : Text × List Row). p.1) (subcommand_rows_of m) ≡ Some (rows_of (found_of check)) → printed ≡ first_value (found_of check) (codes "printed") → option_and_then asked_in (subcommand_rows_of m) ≡ option_map Check printed
 check_is m check printed e f g =
     entered m check (codes "check") e f
@@ -98,26 +121,47 @@ make_is m make e f = entered m make (codes "make") e f
 abbrev found : ArgMatches → List ℕ → Option Text
 found m name = first_value (found_of m) name
 
-pub names_are : (m : ArgMatches) → named_with (found m (codes "dump")) (found m (codes "updates")) (found m (codes "ask")) (found m (codes "every")) (found m (codes "direct")) (found m (codes "nodes")) (found m (codes "leaves")) ≡ named_by (rows_of (found_of m))
+pub names_are : (m : ArgMatches) → named_with (found m (codes "dump")) (found m (codes "updates")) (found m (codes "ask")) (found m (codes "every")) (sizes_by (rows_of (found_of m))) ≡ named_by (rows_of (found_of m))
 names_are m =
     rw (
       first_value-rows (found_of m) (codes "dump"),
       first_value-rows (found_of m) (codes "updates"),
       first_value-rows (found_of m) (codes "ask"),
       first_value-rows (found_of m) (codes "every"),
-      first_value-rows (found_of m) (codes "direct"),
-      first_value-rows (found_of m) (codes "nodes"),
-      first_value-rows (found_of m) (codes "leaves"),
     ) refl
+
+-- the names in the matches of `steps`
+pub steps_are : (m : ArgMatches) → steps_with (found m (codes "dump")) (found m (codes "updates")) (found m (codes "script")) (sizes_by (rows_of (found_of m))) ≡ steps_by (rows_of (found_of m))
+steps_are m = rw (first_value-rows (found_of m) (codes "dump"), first_value-rows (found_of m) (codes "updates"), first_value-rows (found_of m) (codes "script")) refl
+
+-- the sizes in the matches of either
+pub sizes_are : (m : ArgMatches) → sizes_with (found m (codes "direct")) (found m (codes "nodes")) (found m (codes "leaves")) ≡ sizes_by (rows_of (found_of m))
+sizes_are m = rw (first_value-rows (found_of m) (codes "direct"), first_value-rows (found_of m) (codes "nodes"), first_value-rows (found_of m) (codes "leaves")) refl
 
 -- the names in the matches of `make`
 pub made_are : (m : ArgMatches) → made_with (found m (codes "routes")) (found m (codes "seed")) ≡ made_by (rows_of (found_of m))
 made_are m = rw (first_value-rows (found_of m) (codes "routes"), first_value-rows (found_of m) (codes "seed")) refl
 
--- a number of a run that is none, or all that there are
+-- a number of a trie's sizes that is none, or all that there are
 
 abbrev Is : Option Text → ArgMatches → List ℕ → Type 0
 Is o m name = o ≡ first_value (found_of m) name
+
+pub no_direct : (m : ArgMatches) (s : Option Text) → Is s m (codes "direct") → None ≡ number_or 16 19 s → None ≡ sizes_by (rows_of (found_of m))
+no_direct m s is_s f = rw (← sizes_are m, ← is_s, ← f) refl
+
+pub no_nodes : (m : ArgMatches) (s n : Option Text) (direct : ℕ) → Is s m (codes "direct") → Some direct ≡ number_or 16 19 s → Is n m (codes "nodes") → None ≡ number_or 16 25 n → None ≡ sizes_by (rows_of (found_of m))
+no_nodes m s n direct is_s f is_n g = rw (← sizes_are m, ← is_s, ← f, ← is_n, ← g) refl
+
+pub no_leaves : (m : ArgMatches) (s n l : Option Text) (direct nodes : ℕ) → Is s m (codes "direct") → Some direct ≡ number_or 16 19 s → Is n m (codes "nodes") → Some nodes ≡ number_or 16 25 n
+    → Is l m (codes "leaves") → None ≡ number_or 18 27 l → None ≡ sizes_by (rows_of (found_of m))
+no_leaves m s n l direct nodes is_s f is_n g is_l h = rw (← sizes_are m, ← is_s, ← f, ← is_n, ← g, ← is_l, ← h) refl
+
+pub all_sizes : (m : ArgMatches) (s n l : Option Text) (direct nodes leaves : ℕ) → Is s m (codes "direct") → Some direct ≡ number_or 16 19 s → Is n m (codes "nodes") → Some nodes ≡ number_or 16 25 n
+    → Is l m (codes "leaves") → Some leaves ≡ number_or 18 27 l → Some (record { direct = direct; nodes = nodes; leaves = leaves }) ≡ sizes_by (rows_of (found_of m))
+all_sizes m s n l direct nodes leaves is_s f is_n g is_l h = rw (← sizes_are m, ← is_s, ← f, ← is_n, ← g, ← is_l, ← h) refl
+
+-- the numbers of a run
 
 pub no_dump : (m : ArgMatches) → Is None m (codes "dump") → None ≡ named_by (rows_of (found_of m))
 no_dump m d = rw (← names_are m, ← d) refl
@@ -125,23 +169,34 @@ no_dump m d = rw (← names_are m, ← d) refl
 pub no_every : (m : ArgMatches) (dump : Text) (k : Option Text) → Is (Some dump) m (codes "dump") → Is k m (codes "every") → None ≡ number_or 0 (2 ^ 32) k → None ≡ named_by (rows_of (found_of m))
 no_every m dump k d is e = rw (← names_are m, ← d, ← is, ← e) refl
 
-pub no_direct : (m : ArgMatches) (dump : Text) (k s : Option Text) (every : ℕ) → Is (Some dump) m (codes "dump") → Is k m (codes "every") → Some every ≡ number_or 0 (2 ^ 32) k
-    → Is s m (codes "direct") → None ≡ number_or 16 19 s → None ≡ named_by (rows_of (found_of m))
-no_direct m dump k s every d is e is_s f = rw (← names_are m, ← d, ← is, ← e, ← is_s, ← f) refl
+pub no_sizes : (m : ArgMatches) (dump : Text) (k : Option Text) (every : ℕ) → Is (Some dump) m (codes "dump") → Is k m (codes "every") → Some every ≡ number_or 0 (2 ^ 32) k
+    → None ≡ sizes_by (rows_of (found_of m)) → None ≡ named_by (rows_of (found_of m))
+no_sizes m dump k every d is e f = rw (← names_are m, ← d, ← is, ← e, ← f) refl
 
-pub no_nodes : (m : ArgMatches) (dump : Text) (k s n : Option Text) (every direct : ℕ) → Is (Some dump) m (codes "dump") → Is k m (codes "every") → Some every ≡ number_or 0 (2 ^ 32) k
-    → Is s m (codes "direct") → Some direct ≡ number_or 16 19 s → Is n m (codes "nodes") → None ≡ number_or 16 25 n → None ≡ named_by (rows_of (found_of m))
-no_nodes m dump k s n every direct d is e is_s f is_n g = rw (← names_are m, ← d, ← is, ← e, ← is_s, ← f, ← is_n, ← g) refl
+pub all_names : (m : ArgMatches) (dump : Text) (u a k : Option Text) (every : ℕ) (sizes : NamedSizes) → Is (Some dump) m (codes "dump") → Is k m (codes "every") → Some every ≡ number_or 0 (2 ^ 32) k
+    → Some sizes ≡ sizes_by (rows_of (found_of m)) → Is u m (codes "updates") → Is a m (codes "ask")
+    → Some (record { dump = dump; updates = u; asks = a; every = every; direct = sizes.direct; nodes = sizes.nodes; leaves = sizes.leaves }) ≡ named_by (rows_of (found_of m))
+all_names m dump u a k every sizes d is e f is_u is_a = rw (← names_are m, ← d, ← is, ← e, ← f, ← is_u, ← is_a) refl
 
-pub no_leaves : (m : ArgMatches) (dump : Text) (k s n l : Option Text) (every direct nodes : ℕ) → Is (Some dump) m (codes "dump") → Is k m (codes "every") → Some every ≡ number_or 0 (2 ^ 32) k
-    → Is s m (codes "direct") → Some direct ≡ number_or 16 19 s → Is n m (codes "nodes") → Some nodes ≡ number_or 16 25 n → Is l m (codes "leaves") → None ≡ number_or 18 27 l → None ≡ named_by (rows_of (found_of m))
-no_leaves m dump k s n l every direct nodes d is e is_s f is_n g is_l h = rw (← names_are m, ← d, ← is, ← e, ← is_s, ← f, ← is_n, ← g, ← is_l, ← h) refl
+-- the same of a run in steps
 
-pub all_numbers : (m : ArgMatches) (dump : Text) (u a k s n l : Option Text) (every direct nodes leaves : ℕ) → Is (Some dump) m (codes "dump") → Is k m (codes "every") → Some every ≡ number_or 0 (2 ^ 32) k
-    → Is s m (codes "direct") → Some direct ≡ number_or 16 19 s → Is n m (codes "nodes") → Some nodes ≡ number_or 16 25 n → Is l m (codes "leaves") → Some leaves ≡ number_or 18 27 l
-    → Is u m (codes "updates") → Is a m (codes "ask")
-    → Some (record { dump = dump; updates = u; asks = a; every = every; direct = direct; nodes = nodes; leaves = leaves }) ≡ named_by (rows_of (found_of m))
-all_numbers m dump u a k s n l every direct nodes leaves d is e is_s f is_n g is_l h is_u is_a = rw (← names_are m, ← d, ← is, ← e, ← is_s, ← f, ← is_n, ← g, ← is_l, ← h, ← is_u, ← is_a) refl
+pub no_steps_dump : (m : ArgMatches) → Is None m (codes "dump") → None ≡ steps_by (rows_of (found_of m))
+no_steps_dump m d = rw (← steps_are m, ← d) refl
+
+pub no_steps_updates : (m : ArgMatches) (dump : Text) → Is (Some dump) m (codes "dump") → Is None m (codes "updates") → None ≡ steps_by (rows_of (found_of m))
+no_steps_updates m dump d u = rw (← steps_are m, ← d, ← u) refl
+
+pub no_script : (m : ArgMatches) (dump updates : Text) → Is (Some dump) m (codes "dump") → Is (Some updates) m (codes "updates") → Is None m (codes "script") → None ≡ steps_by (rows_of (found_of m))
+no_script m dump updates d u s = rw (← steps_are m, ← d, ← u, ← s) refl
+
+pub no_steps_sizes : (m : ArgMatches) (dump updates script : Text) → Is (Some dump) m (codes "dump") → Is (Some updates) m (codes "updates") → Is (Some script) m (codes "script")
+    → None ≡ sizes_by (rows_of (found_of m)) → None ≡ steps_by (rows_of (found_of m))
+no_steps_sizes m dump updates script d u s f = rw (← steps_are m, ← d, ← u, ← s, ← f) refl
+
+pub all_steps : (m : ArgMatches) (dump updates script : Text) (sizes : NamedSizes) → Is (Some dump) m (codes "dump") → Is (Some updates) m (codes "updates") → Is (Some script) m (codes "script")
+    → Some sizes ≡ sizes_by (rows_of (found_of m))
+    → Some (record { dump = dump; updates = updates; script = script; direct = sizes.direct; nodes = sizes.nodes; leaves = sizes.leaves }) ≡ steps_by (rows_of (found_of m))
+all_steps m dump updates script sizes d u s f = rw (← steps_are m, ← d, ← u, ← s, ← f) refl
 
 -- the same of routes that are to be made
 

@@ -7,6 +7,8 @@ use Rattle.clap.specs.declared.builder.Command.TheViews.{out-Command}
 use Rattle.clap.specs.Words.{App, Row, Rule, Text, app_of, fault_of, first_of, new_app, new_rule, subcommand_of, with_rule, with_subcommand}
 use Rattle.fib_addr.specs.Text.{number_below}
 use Rattle.fib_words.specs.declared.RunWords.{RunWords}
+use Rattle.fib_words.specs.declared.SizesWords.{SizesWords}
+use Rattle.fib_words.specs.declared.StepsWords.{StepsWords}
 use Rattle.fib_words.specs.declared.CommandWords.{CommandWords}
 use Rattle.fib_words.specs.declared.CommandWords.TheVariants as code
 use Rattle.fib_words.specs.declared.WordsError.{WordsError}
@@ -24,9 +26,13 @@ option_rule id = record (new_rule id) { long = Some id }
 abbrev pub due_option_rule : List ℕ → Rule
 due_option_rule id = record (new_rule id) { long = Some id; required = true }
 
+-- the command with the sizes of a trie: `[--direct S] [--nodes N] [--leaves N]`
+abbrev pub sized_app : App → App
+sized_app app = with_rule (with_rule (with_rule app (option_rule (codes "direct"))) (option_rule (codes "nodes"))) (option_rule (codes "leaves"))
+
 -- `run DUMP [--updates F] [--ask F] [--every K] [--direct S] [--nodes N] [--leaves N]`
 abbrev pub run_app : App
-run_app = with_rule (with_rule (with_rule (with_rule (with_rule (with_rule (with_rule (new_app (codes "run")) (word_rule (codes "dump"))) (option_rule (codes "updates"))) (option_rule (codes "ask"))) (option_rule (codes "every"))) (option_rule (codes "direct"))) (option_rule (codes "nodes"))) (option_rule (codes "leaves"))
+run_app = sized_app (with_rule (with_rule (with_rule (with_rule (new_app (codes "run")) (word_rule (codes "dump"))) (option_rule (codes "updates"))) (option_rule (codes "ask"))) (option_rule (codes "every")))
 
 -- `check PRINTED`
 abbrev pub check_app : App
@@ -36,13 +42,21 @@ check_app = with_rule (new_app (codes "check")) (word_rule (codes "printed"))
 abbrev pub make_app : App
 make_app = with_rule (with_rule (new_app (codes "make")) (word_rule (codes "routes"))) (due_option_rule (codes "seed"))
 
+-- `steps DUMP UPDATES SCRIPT [--direct S] [--nodes N] [--leaves N]`
+abbrev pub steps_app : App
+steps_app = sized_app (with_rule (with_rule (with_rule (new_app (codes "steps")) (word_rule (codes "dump"))) (word_rule (codes "updates"))) (word_rule (codes "script")))
+
 -- a command has to be there
 abbrev pub with_commands : App → App
 with_commands app = record { top = record app.top { subcommand_required = true }; subs = app.subs }
 
+-- `fib`, with no command under it yet
+abbrev pub bare_app : App
+bare_app = with_commands (new_app (codes "fib"))
+
 -- `fib COMMAND`
 abbrev pub fib_app : App
-fib_app = with_subcommand (with_subcommand (with_subcommand (with_commands (new_app (codes "fib"))) run_app.top) check_app.top) make_app.top
+fib_app = with_subcommand (with_subcommand (with_subcommand (with_subcommand bare_app run_app.top) check_app.top) make_app.top) steps_app.top
 
 -- ---- what the words name
 
@@ -53,6 +67,21 @@ pub record Named : Type 0 where
   pub updates : Option Text
   pub asks : Option Text
   pub every : ℕ
+  pub direct : ℕ
+  pub nodes : ℕ
+  pub leaves : ℕ
+
+-- The inputs of a run in steps, and of each family's trie the direct bits and the orders of its arenas of nodes and of leaves.
+pub record NamedSteps : Type 0 where
+  pub dump : Text
+  pub updates : Text
+  pub script : Text
+  pub direct : ℕ
+  pub nodes : ℕ
+  pub leaves : ℕ
+
+-- of each family's trie the direct bits and the orders of its arenas of nodes and of leaves
+pub record NamedSizes : Type 0 where
   pub direct : ℕ
   pub nodes : ℕ
   pub leaves : ℕ
@@ -80,24 +109,46 @@ infixl 10 ◌>>=◌
 abbrev ◌>>=◌ : {A B : Type 0} → Option A → (A → Option B) → Option B
 o >>= f = option_and_then f o
 
--- A run with these names, if it names a dump and its numbers are such: snapshots from 0 to 2^32 - 1, direct bits to 18, orders to 24 and 26
-abbrev pub named_with : Option Text → Option Text → Option Text → Option Text → Option Text → Option Text → Option Text → Option Named
-named_with dump updates asks every direct nodes leaves = do
-  d ← dump
-  k ← number_or 0 (2 ^ 32) every
+-- the sizes of a trie: direct bits to 18, orders to 24 and 26
+abbrev pub sizes_with : Option Text → Option Text → Option Text → Option NamedSizes
+sizes_with direct nodes leaves = do
   s ← number_or 16 19 direct
   n ← number_or 16 25 nodes
   l ← number_or 18 27 leaves
-  Some (record { dump = d; updates = updates; asks = asks; every = k; direct = s; nodes = n; leaves = l })
+  Some (record { direct = s; nodes = n; leaves = l })
+
+abbrev pub sizes_by : List Row → Option NamedSizes
+sizes_by rows = sizes_with (first_of (codes "direct") rows) (first_of (codes "nodes") rows) (first_of (codes "leaves") rows)
+
+-- a run with these names and sizes, if it names a dump and its snapshots are a number from 0 to 2^32 - 1
+abbrev pub named_with : Option Text → Option Text → Option Text → Option Text → Option NamedSizes → Option Named
+named_with dump updates asks every sizes = do
+  d ← dump
+  k ← number_or 0 (2 ^ 32) every
+  z ← sizes
+  Some (record { dump = d; updates = updates; asks = asks; every = k; direct = z.direct; nodes = z.nodes; leaves = z.leaves })
 
 abbrev pub named_by : List Row → Option Named
-named_by rows = named_with (first_of (codes "dump") rows) (first_of (codes "updates") rows) (first_of (codes "ask") rows) (first_of (codes "every") rows) (first_of (codes "direct") rows) (first_of (codes "nodes") rows) (first_of (codes "leaves") rows)
+named_by rows = named_with (first_of (codes "dump") rows) (first_of (codes "updates") rows) (first_of (codes "ask") rows) (first_of (codes "every") rows) (sizes_by rows)
 
--- A run; the check of a printed text; or a run on so many routes that are made from a seed
+-- a run in steps with these names and sizes, if it names a dump, updates and a script
+abbrev pub steps_with : Option Text → Option Text → Option Text → Option NamedSizes → Option NamedSteps
+steps_with dump updates script sizes = do
+  d ← dump
+  u ← updates
+  s ← script
+  z ← sizes
+  Some (record { dump = d; updates = u; script = s; direct = z.direct; nodes = z.nodes; leaves = z.leaves })
+
+abbrev pub steps_by : List Row → Option NamedSteps
+steps_by rows = steps_with (first_of (codes "dump") rows) (first_of (codes "updates") rows) (first_of (codes "script") rows) (sizes_by rows)
+
+-- A run; the check of a printed text; a run on so many routes that are made from a seed; or a run in steps
 pub data Asked : Type 0 where
   Run : Named → Asked
   Check : Text → Asked
   Make : ℕ → ℕ → Asked
+  Steps : NamedSteps → Asked
 
 -- so many routes, from 1 to 200,000, made from a seed below 2^64
 abbrev pub made_with : Option Text → Option Text → Option Asked
@@ -116,7 +167,8 @@ abbrev pub asked_in : Text × List Row → Option Asked
 asked_in entered =
     if bytes_eq entered.0 (codes "run") then option_map Run (named_by entered.1)
     else (if bytes_eq entered.0 (codes "check") then option_map Check (first_of (codes "printed") entered.1)
-    else (if bytes_eq entered.0 (codes "make") then made_by entered.1 else None))
+    else (if bytes_eq entered.0 (codes "make") then made_by entered.1
+    else (if bytes_eq entered.0 (codes "steps") then option_map Steps (steps_by entered.1) else None)))
 
 -- what the words ask for, where the definition takes them
 unfoldable pub command_of : List Text → Option Asked
@@ -128,16 +180,28 @@ command_of words = if takes words then option_and_then asked_in (subcommand_of f
 abbrev pub named_as : RunWords → Named
 named_as run = record { dump = run.dump.now; updates = option_map (λ name. name.now) run.updates; asks = option_map (λ name. name.now) run.asks; every = run.every; direct = run.direct; nodes = run.nodes; leaves = run.leaves }
 
+abbrev pub sizes_as : SizesWords → NamedSizes
+sizes_as sizes = record { direct = sizes.direct; nodes = sizes.nodes; leaves = sizes.leaves }
+
+abbrev pub steps_as : StepsWords → NamedSteps
+steps_as steps = record { dump = steps.dump.now; updates = steps.updates.now; script = steps.script.now; direct = steps.direct; nodes = steps.nodes; leaves = steps.leaves }
+
 abbrev pub asked_as : CommandWords → Asked
 asked_as (code.Run run) = Run (named_as run)
 asked_as (code.Check printed) = Check printed.now
 asked_as (code.Make made) = Make made.routes made.seed
+asked_as (code.Steps steps) = Steps (steps_as steps)
+
+-- the sizes are no greater than they may be
+abbrev pub AreSizes : SizesWords → Type 0
+AreSizes sizes = (sizes.direct ≤ 18) × (sizes.nodes ≤ 24) × (sizes.leaves ≤ 26)
 
 -- the numbers are no greater than they may be
 abbrev pub IsWithin : CommandWords → Type 0
 IsWithin (code.Run run) = (run.direct ≤ 18) × (run.nodes ≤ 24) × (run.leaves ≤ 26)
 IsWithin (code.Check printed) = Unit {0}
 IsWithin (code.Make made) = (1 ≤ made.routes) × (made.routes ≤ 200000)
+IsWithin (code.Steps steps) = (steps.direct ≤ 18) × (steps.nodes ≤ 24) × (steps.leaves ≤ 26)
 
 -- what a reading of words returned is what the words ask for, unless memory ran out
 abbrev pub IsCommand : Result CommandWords WordsError → Option Asked → Type 0

@@ -7,9 +7,9 @@
 ghost use Rattle.std.specs.Prelude.{◌≡◌, ◌≢◌, ◌≤◌, ◌+◌, ◌^◌, ◌↔◌, IfOk, IfSome, map, option_map};
 ghost use Rattle.std.specs.Option.{option_and_then};
 ghost use Rattle.std.specs.String.{string_bytes};
-ghost use Rattle.clap.specs.Words.{app_of, found_of, rows_of, subcommand_rows_of, with_rule};
+ghost use Rattle.clap.specs.Words.{app_of, found_of, rows_of, subcommand_rows_of, with_rule, with_subcommand};
 ghost use Rattle.clap.specs.Values.{kind_of};
-ghost use Rattle.fib_words.specs.Commands.{asked_as, asked_in, check_app, command_of, due_option_rule, fib_app, from_one, HasApp, IsCommand, IsLocal, IsWithin, made_by, make_app, named_as, named_by, number_or, option_rule, run_app, word_rule};
+ghost use Rattle.fib_words.specs.Commands.{AreSizes, asked_as, asked_in, bare_app, check_app, command_of, due_option_rule, fib_app, from_one, HasApp, IsCommand, IsLocal, IsWithin, made_by, make_app, named_as, named_by, number_or, option_rule, run_app, sized_app, sizes_as, sizes_by, steps_app, steps_as, steps_by, word_rule};
 ghost use Rattle.fib_addr.specs.Text.{number_below};
 ghost use Rattle.fib_words.specs.declared.WordsError.TheVariants.{NoMemory};
 
@@ -46,6 +46,23 @@ pub struct MakeWords {
     pub routes: u32,
 }
 
+/// A run in steps, as the words ask for it.
+#[derive(Clone, Copy, Debug)]
+pub struct StepsWords<'a> {
+    /// The dump.
+    pub dump: &'a str,
+    /// The updates.
+    pub updates: &'a str,
+    /// The script.
+    pub script: &'a str,
+    /// The direct bits of a trie: 18 at most.
+    pub direct: u8,
+    /// The order of a trie's arena of nodes: 24 at most.
+    pub nodes: u8,
+    /// The order of a trie's arena of leaves: 26 at most.
+    pub leaves: u8,
+}
+
 /// What the words ask for.
 #[derive(Clone, Copy, Debug)]
 pub enum CommandWords<'a> {
@@ -55,6 +72,19 @@ pub enum CommandWords<'a> {
     Check(&'a str),
     /// A run on routes that are made.
     Make(MakeWords),
+    /// A run in steps.
+    Steps(StepsWords<'a>),
+}
+
+/// The sizes of a trie, as the words ask for them.
+#[derive(Clone, Copy)]
+struct SizesWords {
+    /// The direct bits: 18 at most.
+    direct: u8,
+    /// The order of the arena of nodes: 24 at most.
+    nodes: u8,
+    /// The order of the arena of leaves: 26 at most.
+    leaves: u8,
 }
 
 /// The orders and direct bits of a run whose words name none.
@@ -125,6 +155,26 @@ fn with_word<'a>(
     command.arg(word)
 }
 
+/// The command with one more command under it.
+fn with_command<'a>(command: Command<'a>, inner: Command<'a>) -> Result<Command<'a>, AllocError>
+    requires command { IsLocal command }
+    requires inner { IsLocal inner }
+    ensures { IfOk result (λ c. HasApp c (with_subcommand (app_of command.entry)
+        (app_of inner.entry).top)) }
+{
+    command.subcommand(inner)
+}
+
+/// The command with the sizes of a trie: `[--direct S] [--nodes N] [--leaves N]`.
+fn with_sizes<'a>(alloc: Global, command: Command<'a>) -> Result<Command<'a>, AllocError>
+    requires { IsLocal command }
+    ensures { IfOk result (λ c. HasApp c (sized_app (app_of command.entry))) }
+{
+    let command = with_option(alloc, command, "direct")?;
+    let command = with_option(alloc, command, "nodes")?;
+    with_option(alloc, command, "leaves")
+}
+
 /// `run DUMP [--updates F] [--ask F] [--every K] [--direct S] [--nodes N] [--leaves N]`.
 fn run_command<'a>(alloc: Global) -> Result<Command<'a>, AllocError>
     ensures { IfOk result (λ c. HasApp c run_app) }
@@ -133,9 +183,7 @@ fn run_command<'a>(alloc: Global) -> Result<Command<'a>, AllocError>
     let command = with_option(alloc, command, "updates")?;
     let command = with_option(alloc, command, "ask")?;
     let command = with_option(alloc, command, "every")?;
-    let command = with_option(alloc, command, "direct")?;
-    let command = with_option(alloc, command, "nodes")?;
-    with_option(alloc, command, "leaves")
+    with_sizes(alloc, command)
 }
 
 /// `check PRINTED`.
@@ -153,6 +201,23 @@ fn make_command<'a>(alloc: Global) -> Result<Command<'a>, AllocError>
     with_due_option(alloc, command, "seed")
 }
 
+/// `steps DUMP UPDATES SCRIPT [--direct S] [--nodes N] [--leaves N]`.
+fn steps_command<'a>(alloc: Global) -> Result<Command<'a>, AllocError>
+    ensures { IfOk result (λ c. HasApp c steps_app) }
+{
+    let command = with_word(alloc, Command::new(alloc, "steps"), "dump")?;
+    let command = with_word(alloc, command, "updates")?;
+    let command = with_word(alloc, command, "script")?;
+    with_sizes(alloc, command)
+}
+
+/// `fib`, with no command under it yet.
+fn bare_command<'a>(alloc: Global) -> Command<'a>
+    ensures { HasApp result bare_app }
+{
+    Command::new(alloc, "fib").subcommand_required(true)
+}
+
 /// `fib COMMAND`.
 fn fib_command<'a>(alloc: Global) -> Result<Command<'a>, AllocError>
     ensures { IfOk result (λ c. HasApp c fib_app) }
@@ -160,11 +225,11 @@ fn fib_command<'a>(alloc: Global) -> Result<Command<'a>, AllocError>
     let run = run_command(alloc)?;
     let check = check_command(alloc)?;
     let make = make_command(alloc)?;
-    Command::new(alloc, "fib")
-        .subcommand_required(true)
-        .subcommand(run)?
-        .subcommand(check)?
-        .subcommand(make)
+    let steps = steps_command(alloc)?;
+    let command = with_command(bare_command(alloc), run)?;
+    let command = with_command(command, check)?;
+    let command = with_command(command, make)?;
+    with_command(command, steps)
 }
 
 /// How many events a snapshot follows, by the word after `--every`, and 0 where there is none. `None` exactly where the word isn't
@@ -197,6 +262,21 @@ fn size_of(word: Option<&str>, usual: u8, most: u8) -> Option<u8>
     }
 }
 
+/// The sizes of a trie that the matches name.
+fn sizes_of(matches: &ArgMatches<'_>) -> Option<SizesWords>
+    ensures same { option_map sizes_as result ≡ sizes_by (rows_of (found_of matches.now)) }
+    ensures within { IfSome result AreSizes }
+{
+    let direct = size_of(matches.get_str("direct"), USUAL_DIRECT, 18)?;
+    let nodes = size_of(matches.get_str("nodes"), USUAL_NODES, 24)?;
+    let leaves = size_of(matches.get_str("leaves"), USUAL_LEAVES, 26)?;
+    Some(SizesWords {
+        direct,
+        nodes,
+        leaves,
+    })
+}
+
 /// What the matches of `run` name.
 fn run_words<'a>(matches: &ArgMatches<'a>) -> Option<RunWords<'a>>
     ensures same { option_map named_as result ≡ named_by (rows_of (found_of matches.now)) }
@@ -204,17 +284,15 @@ fn run_words<'a>(matches: &ArgMatches<'a>) -> Option<RunWords<'a>>
 {
     let dump = matches.get_str("dump")?;
     let every = every_of(matches.get_str("every"))?;
-    let direct = size_of(matches.get_str("direct"), USUAL_DIRECT, 18)?;
-    let nodes = size_of(matches.get_str("nodes"), USUAL_NODES, 24)?;
-    let leaves = size_of(matches.get_str("leaves"), USUAL_LEAVES, 26)?;
+    let sizes = sizes_of(matches)?;
     Some(RunWords {
         dump,
         updates: matches.get_str("updates"),
         asks: matches.get_str("ask"),
         every,
-        direct,
-        nodes,
-        leaves,
+        direct: sizes.direct,
+        nodes: sizes.nodes,
+        leaves: sizes.leaves,
     })
 }
 
@@ -247,6 +325,25 @@ fn make_words(matches: &ArgMatches<'_>) -> Option<MakeWords>
     Some(MakeWords { seed, routes })
 }
 
+/// What the matches of `steps` name.
+fn steps_words<'a>(matches: &ArgMatches<'a>) -> Option<StepsWords<'a>>
+    ensures same { option_map steps_as result ≡ steps_by (rows_of (found_of matches.now)) }
+    ensures within { IfSome result (λ steps. IsWithin (CommandWords.Steps steps)) }
+{
+    let dump = matches.get_str("dump")?;
+    let updates = matches.get_str("updates")?;
+    let script = matches.get_str("script")?;
+    let sizes = sizes_of(matches)?;
+    Some(StepsWords {
+        dump,
+        updates,
+        script,
+        direct: sizes.direct,
+        nodes: sizes.nodes,
+        leaves: sizes.leaves,
+    })
+}
+
 /// Why clap refused the words.
 fn why(error: &Error) -> WordsError
     ensures usage { result ≡ WordsError.Usage ↔ kind_of error.now ≢ ErrorKind.OutOfMemory }
@@ -272,9 +369,13 @@ fn command_in<'a>(matches: &ArgMatches<'a>) -> Option<CommandWords<'a>>
         let printed = check.get_str("printed")?;
         return Some(CommandWords::Check(printed));
     }
-    let make = matches.subcommand_matches("make")?;
-    let made = make_words(make)?;
-    Some(CommandWords::Make(made))
+    if let Some(make) = matches.subcommand_matches("make") {
+        let made = make_words(make)?;
+        return Some(CommandWords::Make(made));
+    }
+    let steps = matches.subcommand_matches("steps")?;
+    let names = steps_words(steps)?;
+    Some(CommandWords::Steps(names))
 }
 
 /// Reads the words of the command line, the program's name first.

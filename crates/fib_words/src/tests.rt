@@ -123,6 +123,44 @@ const MAKES: [MakeCase<'static>; 12] = [
     (&["fib", "make", "1", "--seed", "1", "--every", "1"], None),
 ];
 
+/// Words, and the names of the dump, the updates and the script that they ask for, the direct bits, and the orders of the arenas of
+/// nodes and of leaves, if they ask for a run in steps.
+type StepsCase<'a> = (&'a [&'a str], Option<([&'a str; 3], [u8; 3])>);
+
+const STEPS: [StepsCase<'static>; 11] = [
+    (
+        &["fib", "steps", "D", "U", "S"],
+        Some((["D", "U", "S"], [16, 16, 18])),
+    ),
+    (
+        &[
+            "fib",
+            "steps",
+            "--direct",
+            "0",
+            "D",
+            "--nodes=24",
+            "U",
+            "S",
+            "--leaves",
+            "26",
+        ],
+        Some((["D", "U", "S"], [0, 24, 26])),
+    ),
+    (
+        &["fib", "steps", "--direct=18", "--", "D", "-U", "S"],
+        Some((["D", "-U", "S"], [18, 16, 18])),
+    ),
+    (&["fib", "steps", "D", "U"], None),
+    (&["fib", "steps", "D", "U", "S", "T"], None),
+    (&["fib", "steps", "D", "--updates", "U", "S"], None),
+    (&["fib", "steps", "D", "U", "S", "--every", "1"], None),
+    (&["fib", "steps", "D", "U", "S", "--direct", "19"], None),
+    (&["fib", "steps", "D", "U", "S", "--nodes", "024"], None),
+    (&["fib", "steps", "D", "U", "S", "--leaves", "27"], None),
+    (&["fib", "steps", "--help"], None),
+];
+
 /// The words, in memory.
 fn words_of(alloc: Global, texts: &[&str]) -> Result<Vec<String>, Fail> {
     let mut words = Vec::new(alloc);
@@ -187,6 +225,27 @@ fn routes_are_made_from_a_seed(rt: HostRuntime) -> Result<(), Fail> {
                 assert_eq!(rt; Some((made.routes, made.seed)), expected);
             }
             Ok(_) => assert!(rt; false, "routes are to be made"),
+            Err(error) => {
+                assert_eq!(rt; error, WordsError::Usage);
+                assert_eq!(rt; expected, None);
+            }
+        }
+    }
+    Ok(())
+}
+
+#[test]
+fn steps_name_three_inputs(rt: HostRuntime) -> Result<(), Fail> {
+    let alloc = rt.alloc();
+    for (texts, expected) in STEPS {
+        let words = words_of(alloc, texts)?;
+        match read_words(alloc, &words) {
+            Ok(CommandWords::Steps(steps)) => {
+                let names = [steps.dump, steps.updates, steps.script];
+                let sizes = [steps.direct, steps.nodes, steps.leaves];
+                assert_eq!(rt; Some((names, sizes)), expected);
+            }
+            Ok(_) => assert!(rt; false, "a run in steps is asked for"),
             Err(error) => {
                 assert_eq!(rt; error, WordsError::Usage);
                 assert_eq!(rt; expected, None);

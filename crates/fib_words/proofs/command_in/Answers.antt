@@ -1,8 +1,12 @@
 use Rattle.std.proofs.Common.{◌∙◌, sym, refl, ap, None, Some}
 use Rattle.std.specs.Prelude.{option_map}
-use Rattle.fib_words.specs.Commands.{asked_as}
-use Rattle.fib_words.proofs.Words.{check_is}
+use Rattle.fib_words.specs.Commands.{asked_as, named_as}
+use Rattle.fib_words.proofs.Words.{run_is, check_is}
 use Rattle.fib_words.proofs.command_in.Goals as goal
+
+pub returns-in-Some-clause-same : goal.returns-in-Some-clause-same
+returns-in-Some-clause-same c =
+    sym (run_is c.args.matches.now c.in-Some.run'.now (Some (named_as c.in_ok-names.names)) (c.in-Some.ensures.found.0 refl) c.in-Some.ensures.rows c.in_ok-names.ensures.same)
 
 pub returns-in_err-printed-clause-same : goal.returns-in_err-printed-clause-same
 returns-in_err-printed-clause-same c =

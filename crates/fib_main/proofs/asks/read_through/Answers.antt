@@ -1,7 +1,7 @@
 use Rattle.std.proofs.Common.{◌∙◌, Err, ap, arith, refl}
 use Rattle.std.proofs.lemmas.Result.{err_from_is_err_and}
 use Rattle.fib_io.specs.Pieces.{ComeNext, IsEnd, IsLarge}
-use Rattle.fib_main.proofs.Arriving.{told_before}
+use Rattle.whole_input.proofs.Arriving.{told_before}
 use Rattle.fib_main.proofs.AskReading.{asking_feeds, asking_start, brings_all, cause_of_end, cause_of_feed, feed_fits, finish_fits, refused_feed, refused_piece}
 use Rattle.fib_main.proofs.asks.read_through.Goals as goal
 

@@ -2,8 +2,9 @@ use Rattle.std.proofs.Common.{◌∙◌, arith, refl, sym}
 use Rattle.std.proofs.lemmas.Result.{err_from_is_err_and}
 use Rattle.fib_io.specs.Pieces.{ComeNext, IsEnd, IsLarge}
 use Rattle.fib_main.specs.Due.{feed_at}
-use Rattle.fib_main.proofs.Arriving.{told_before}
-use Rattle.fib_main.proofs.Streaming.{brings_all, cut_at_start, few_all, refused_end, refused_event, refused_piece, refused_read, streaming_feeds, streaming_fits, streaming_start, streaming_takes}
+use Rattle.whole_input.proofs.Arriving.{told_before}
+use Rattle.whole_input.proofs.Cutting.{cut_at_start}
+use Rattle.fib_main.proofs.Streaming.{brings_all, few_all, refused_end, refused_event, refused_piece, refused_read, streaming_feeds, streaming_fits, streaming_start, streaming_takes}
 use Rattle.fib_main.proofs.feed.feed_through.Goals as goal
 
 pub loop-more-init : goal.loop-more-init

@@ -1,7 +1,8 @@
 use Rattle.std.proofs.Common.{◌≡◌, ◌+◌, ◌-◌, ◌^◌, ◌<◌, ◌≤◌, length}
 use Rattle.mrt_read.specs.Standing.{reader_left}
 use Rattle.fib_main.specs.Standing.{IsReady}
-use Rattle.fib_main.proofs.Streaming.{IsCutNow, Streaming}
+use Rattle.whole_input.proofs.Cutting.{IsCutNow}
+use Rattle.fib_main.proofs.Streaming.{Streaming}
 use Rattle.fib_main.proofs.feed.feed_through.Given as goal
 
 abbrev pub invariant-loop-more : goal.invariant-loop-more

@@ -4,6 +4,7 @@ use Rattle.fib_words.specs.Commands.{asked_as}
 use Rattle.fib_main.proofs.Printing.{run_yes}
 use Rattle.fib_main.proofs.Making.{kept_reads, some_refused}
 use Rattle.fib_main.proofs.Replies.{ran_replied}
+use Rattle.fib_main.proofs.Stepped.{check_gives, make_gives, run_gives, some_replied, some_steps_refused, steps_refused, steps_replied}
 use Rattle.fib_main.proofs.run.reply_to.Goals as goal
 
 pub returns-in_ok-text-in-Run-clause-due : goal.returns-in_ok-text-in-Run-clause-due
@@ -21,3 +22,42 @@ pub returns-in_err-text-in-Make-clause-cause : goal.returns-in_err-text-in-Make-
 returns-in_err-text-in-Make-clause-cause g c =
     let p = err_from_is_err_and c.from_residual-in_err-text-in-Make.result c.from_residual-in_err-text-in-Make.ensures.1 in
     rw (p.1, p.2) (kept_reads _ _ _ _ refl c.in_err-text-in-Make.ensures.sure)
+
+pub returns-in_ok-text-in-Steps-clause-due : goal.returns-in_ok-text-in-Steps-clause-due
+returns-in_ok-text-in-Steps-clause-due g c = (steps_replied _ _ _ (ap asked_as c.in-Steps.is) _ c.in_ok-text-in-Steps.text c.reply_of-in-Steps.result c.reply_of-in-Steps.ensures c.in_ok-text-in-Steps.ensures.gives).0
+
+pub returns-in_ok-text-in-Steps-clause-steps : goal.returns-in_ok-text-in-Steps-clause-steps
+returns-in_ok-text-in-Steps-clause-steps g c = (steps_replied _ _ _ (ap asked_as c.in-Steps.is) _ c.in_ok-text-in-Steps.text c.reply_of-in-Steps.result c.reply_of-in-Steps.ensures c.in_ok-text-in-Steps.ensures.gives).1
+
+pub returns-in_ok-text-in-Steps-clause-some : goal.returns-in_ok-text-in-Steps-clause-some
+returns-in_ok-text-in-Steps-clause-some g c = some_replied _ _ _ (ap asked_as c.in-Steps.is) _ c.in_ok-text-in-Steps.text c.reply_of-in-Steps.result c.reply_of-in-Steps.ensures c.in_ok-text-in-Steps.ensures.some
+
+pub returns-in_err-text-in-Steps-clause-due : goal.returns-in_err-text-in-Steps-clause-due
+returns-in_err-text-in-Steps-clause-due g c =
+    let p = err_from_is_err_and c.from_residual-in_err-text-in-Steps.result c.from_residual-in_err-text-in-Steps.ensures.1 in
+    rw (p.1, p.2) (steps_refused _ _ _ (ap asked_as c.in-Steps.is) ℕ _ c.in_err-text-in-Steps.ensures.gives).0
+
+pub returns-in_err-text-in-Steps-clause-steps : goal.returns-in_err-text-in-Steps-clause-steps
+returns-in_err-text-in-Steps-clause-steps g c =
+    let p = err_from_is_err_and c.from_residual-in_err-text-in-Steps.result c.from_residual-in_err-text-in-Steps.ensures.1 in
+    rw (p.1, p.2) (steps_refused _ _ _ (ap asked_as c.in-Steps.is) ℕ _ c.in_err-text-in-Steps.ensures.gives).1
+
+pub returns-in_err-text-in-Steps-clause-some : goal.returns-in_err-text-in-Steps-clause-some
+returns-in_err-text-in-Steps-clause-some g c =
+    let p = err_from_is_err_and c.from_residual-in_err-text-in-Steps.result c.from_residual-in_err-text-in-Steps.ensures.1 in
+    rw (p.1, p.2) (some_steps_refused _ _ _ (ap asked_as c.in-Steps.is) ℕ _ c.in_err-text-in-Steps.ensures.some)
+
+pub returns-in_ok-text-in-Run-clause-steps : goal.returns-in_ok-text-in-Run-clause-steps
+returns-in_ok-text-in-Run-clause-steps g c = run_gives _ _ _ _ (ap asked_as c.in-Run.is)
+
+pub returns-in_err-text-in-Run-clause-steps : goal.returns-in_err-text-in-Run-clause-steps
+returns-in_err-text-in-Run-clause-steps g c = run_gives _ _ _ _ (ap asked_as c.in-Run.is)
+
+pub returns-in-Check-clause-steps : goal.returns-in-Check-clause-steps
+returns-in-Check-clause-steps g c = check_gives _ _ _ _ (ap asked_as c.in-Check.is)
+
+pub returns-in_ok-text-in-Make-clause-steps : goal.returns-in_ok-text-in-Make-clause-steps
+returns-in_ok-text-in-Make-clause-steps g c = make_gives _ _ _ _ _ (ap asked_as c.in-Make.is)
+
+pub returns-in_err-text-in-Make-clause-steps : goal.returns-in_err-text-in-Make-clause-steps
+returns-in_err-text-in-Make-clause-steps g c = make_gives _ _ _ _ _ (ap asked_as c.in-Make.is)

@@ -1,4 +1,4 @@
-use Rattle.std.proofs.Common.{◌≡◌, ℕ, ◌+◌, List, ◌++◌, length, take, map}
+use Rattle.std.proofs.Common.{◌≡◌, ◌+◌, List, ◌++◌, length, take, map}
 use Rattle.route_model.specs.Events.{Elem}
 use Rattle.route_model.specs.Choice.{after_elems}
 use Rattle.fib_prefix.specs.Views.{elem_as}

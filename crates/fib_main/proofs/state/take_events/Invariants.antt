@@ -1,4 +1,4 @@
-use Rattle.std.proofs.Common.{◌≡◌, ℕ, List, ◌++◌, length, take, map}
+use Rattle.std.proofs.Common.{◌≡◌, List, ◌++◌, length, take, map}
 use Rattle.route_model.specs.Events.{Elem}
 use Rattle.fib_prefix.specs.Views.{event_as}
 use Rattle.fib_main.specs.Counts.{CountsOn}

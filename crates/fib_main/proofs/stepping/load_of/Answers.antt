@@ -1,0 +1,54 @@
+use Rattle.std.proofs.Common.{[], sym, subst}
+use Rattle.std.proofs.lemmas.Result.{err_from_is_err_and}
+use Rattle.fib_words.specs.Commands.{steps_as}
+use Rattle.fib_main.specs.declared.outcome.MrtInput.TheVariants.{Dump}
+use Rattle.fib_io.specs.Causes.{Rose}
+use Rattle.fib_main.specs.declared.outcome.Which.TheVariants as which
+use Rattle.fib_main.specs.Stops.{FailsDue}
+use Rattle.fib_main.specs.Ends.{ReadsBy}
+use Rattle.fib_main.specs.Owned.{StopsAt}
+use Rattle.fib_main.specs.Due.{load_at, steps_sizes}
+use Rattle.fib_main.specs.Standing.{StateStands}
+use Rattle.fib_main.proofs.Due.{dump_stops, end_reads, load_due, load_ends, load_has_room, load_refused}
+use Rattle.fib_main.proofs.stepping.load_of.Goals as goal
+
+pub returns-in_err-feed_of-clause-due : goal.returns-in_err-feed_of-clause-due
+returns-in_err-feed_of-clause-due g c =
+    let z = steps_sizes (steps_as c.args.command.now) in
+    let stands = subst (λ z. StateStands Dump (record { every = 0; sizes = z }) [] [] c.new-state.result) c.sizes_of.ensures c.new-state.ensures.stands in
+    let p = err_from_is_err_and c.from_residual.result c.from_residual.ensures.1 in
+    rw (p.1, p.2) (load_refused z _ _ _ (c.in_err-feed_of.ensures.due (record { every = 0; sizes = z }) [] stands))
+
+pub returns-in-Err-clause-due : goal.returns-in-Err-clause-due
+returns-in-Err-clause-due g c =
+    let z = steps_sizes (steps_as c.args.command.now) in
+    let stands = subst (λ z. StateStands Dump (record { every = 0; sizes = z }) [] [] c.new-state.result) c.sizes_of.ensures c.new-state.ensures.stands in
+    let load = c.in_ok-feed_of.ensures.due (record { every = 0; sizes = z }) [] stands in
+    subst (λ o. FailsDue o (load_at z (g.I.Inputs.content c.args.inputs.now) (steps_as c.args.command.now).dump)) (sym c.outcome_of_refusal.ensures) (load_ends (record { every = 0; sizes = z }) _ _ load.0 c.in-Err.error load.2 (c.in-Err.ensures.short (record { every = 0; sizes = z }) load.0.elems load.1.stands))
+
+pub returns-in_err-feed_of-clause-stops : goal.returns-in_err-feed_of-clause-stops
+returns-in_err-feed_of-clause-stops g c =
+    let p = err_from_is_err_and c.from_residual.result c.from_residual.ensures.1 in
+    rw (p.1, p.2) c.in_err-feed_of.ensures.stops
+
+pub returns-in_err-feed_of-clause-cause : goal.returns-in_err-feed_of-clause-cause
+returns-in_err-feed_of-clause-cause g c =
+    let p = err_from_is_err_and c.from_residual.result c.from_residual.ensures.1 in
+    rw (p.1, p.2) c.in_err-feed_of.ensures.cause
+
+pub returns-in-Err-clause-stops : goal.returns-in-Err-clause-stops
+returns-in-Err-clause-stops g c = subst (λ o. StopsAt which.Dump o) (sym c.outcome_of_refusal.ensures) (dump_stops c.in-Err.error)
+
+pub returns-in-Err-clause-cause : goal.returns-in-Err-clause-cause
+returns-in-Err-clause-cause g c =
+    let name = (steps_as c.args.command.now).dump in
+    let before = g.I.Inputs.faults c.args.inputs.now in
+    subst (λ o. ReadsBy (Rose (before name) (g.I.Inputs.faults c.feed_of.new.inputs name)) before (g.I.Inputs.faults c.feed_of.new.inputs) o) (sym c.outcome_of_refusal.ensures) (end_reads _ _ _ c.in-Err.error c.in-Err.ensures.kinds c.in_ok-feed_of.ensures.cause)
+
+pub returns-clause-due : goal.returns-clause-due
+returns-clause-due g c =
+    let z = steps_sizes (steps_as c.args.command.now) in
+    let stands = subst (λ z. StateStands Dump (record { every = 0; sizes = z }) [] [] c.new-state.result) c.sizes_of.ensures c.new-state.ensures.stands in
+    let load = c.in_ok-feed_of.ensures.due (record { every = 0; sizes = z }) [] stands in
+    let ended = c.in_default.ensures.stands (record { every = 0; sizes = z }) load.0.elems load.1.stands in
+    (load.0, ended.engine, ended.sizes_are, load_due z _ _ load.0 load.2 (load_has_room (record { every = 0; sizes = z }) load.0 _ ended))
