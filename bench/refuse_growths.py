@@ -88,6 +88,7 @@ def main():
             ["run", example("two_peers.mrt"), "--updates", example("updates.mrt"), "--every", "1"],
             ["run", example("addpath.mrt"), "--updates", example("addpath_updates.mrt")],
             ["run", dump, "--updates", updates, "--every", "1"] + small,
+            ["steps", dump, updates, example("script.txt")] + small,
             ["check", printed],
             ["make", "20", "--seed", "7"],
         ]

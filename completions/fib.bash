@@ -4,12 +4,13 @@ _fib() {
     local word=${COMP_WORDS[COMP_CWORD]} before=${COMP_WORDS[COMP_CWORD - 1]} words=
     COMPREPLY=()
     if [ "$COMP_CWORD" -eq 1 ]; then
-        words="run check make"
+        words="run check make steps"
     elif [[ $word == -* && $before != --* ]]; then
         # An option may be given once.
         local option options=
         [[ ${COMP_WORDS[1]} == run ]] && options="--updates --ask --every --direct --nodes --leaves"
         [[ ${COMP_WORDS[1]} == make ]] && options="--seed"
+        [[ ${COMP_WORDS[1]} == steps ]] && options="--direct --nodes --leaves"
         for option in $options; do
             [[ " ${COMP_WORDS[*]} " == *" $option "* ]] || words="$words${words:+ }$option"
         done
