@@ -1,12 +1,12 @@
 -- The numbers that a script's steps have.
-use Rattle.std.proofs.Common.{◌≡◌, ℕ, ◌+◌, List, [], ◌∷◌, ◌++◌, Bool, true, false, Option, Some, None, Result, Ok, Err, refl, subst, ap, sym}
+use Rattle.std.proofs.Common.{◌≡◌, ℕ, ◌+◌, List, [], ◌∷◌, ◌++◌, Bool, true, false, Option, Some, None, Result, Ok, Err, refl, subst}
 use Rattle.std.specs.Prelude.{if◌then◌else◌, codes, bytes_eq}
-use Rattle.std.specs.List.{AllByRecursion, slice_split}
+use Rattle.std.specs.List.{slice_split}
 use Rattle.octet_fields.specs.Field.{◌>>=◌}
 use Rattle.address_model.specs.Address.{Address}
 use Rattle.fib_addr.specs.Text.{number_below}
 use Rattle.fib_addr.proofs.Numbers.{number_is}
-use Rattle.printed_model.specs.Reading.{address_field, bad_number, bad_word, next_field, one_field, or_why}
+use Rattle.printed_model.specs.Reading.{address_field, bad_number, next_field, one_field, or_why}
 use Rattle.printed_model.specs.Texts.{BadLine, line_texts}
 use Rattle.step_model.specs.Script.{Step, opens, goes, prepares, stores, ends, cancels, bare, cursor_field, is_space, step_of, step_in, steps_after, script_in, with_step}
 use Rattle.stepper.specs.Runs.{IsPrinted, ArePrinted}

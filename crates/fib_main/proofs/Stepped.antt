@@ -1,5 +1,5 @@
 -- A run in steps: what its inputs bring, and its text as a reply.
-use Rattle.std.proofs.Common.{◌≡◌, ℕ, List, ◌∷◌, Option, Some, None, Result, Ok, Err, inl, inr, refl, sym, ap, subst, ◌∙◌}
+use Rattle.std.proofs.Common.{◌≡◌, ℕ, List, ◌∷◌, Option, Some, None, Result, Ok, Err, inl, inr, refl, sym, ap, subst}
 use Rattle.std.specs.Prelude.{◌⊎◌, option_map}
 use Rattle.std.specs.declared.vec.Vec.{Vec}
 use Rattle.octet_fields.specs.Field.{◌>>=◌}
@@ -24,8 +24,8 @@ use Rattle.fib_main.specs.Due.{Feed, Reply, load_at, output_at, script_at, stepp
 use Rattle.fib_main.specs.declared.outcome.Which.TheVariants as which
 use Rattle.fib_main.specs.Ends.{OneRose, ReadsBy, after}
 use Rattle.fib_main.specs.Loaded.{of_step}
-use Rattle.fib_main.specs.Owned.{StopsIn, StoppedAt}
-use Rattle.fib_main.specs.Stepped.{EndsEarly, GivesReply, GivesRun, GivesSteps, IfStepping}
+use Rattle.fib_main.specs.Owned.{StopsIn}
+use Rattle.fib_main.specs.Stepped.{EndsEarly, GivesSteps, IfStepping}
 use Rattle.fib_main.specs.Untold.{GivesSome, GivesStepping, GivesText, StepsOfSome, untold_text}
 use Rattle.fib_main.proofs.Due.{after_is, reads_more}
 
@@ -185,11 +185,6 @@ pub step_stops : (named : NamedSteps) (e : StepError) → StopsIn (Steps named) 
 step_stops named (step.HopsFull n) = (which.Updates, tt, tt)
 step_stops named (step.TrieFull n f t) = (which.Updates, tt, tt)
 step_stops named step.NoMemory = (which.Updates, tt, tt)
-
-pub step_reads : (cause : Type 0) (before now : List ℕ → ℕ) (e : StepError) → now ≡ before → ReadsBy cause before now (of_step e)
-step_reads cause before now (step.HopsFull n) same = same
-step_reads cause before now (step.TrieFull n f t) same = same
-step_reads cause before now step.NoMemory same = same
 
 -- ---- the inputs that are read
 

@@ -1,7 +1,7 @@
 -- Events that are taken one after another.
 use Rattle.std.proofs.Common.{◌≡◌, ℕ, ◌+◌, ◌<◌, ◌≤◌, List, [], ◌∷◌, ◌++◌, take, get_or, map, length, sym, ap, ◌∙◌, append-nil}
 use Rattle.std.proofs.lemmas.List.{map_push, take_all, take_more}
-use Rattle.route_model.specs.Events.{Elem, Event}
+use Rattle.route_model.specs.Events.{Event}
 use Rattle.route_model.specs.Choice.{Candidates, after_elems, elems_after, elems_of}
 use Rattle.route_model.proofs.Elems.{elems_more}
 use Rattle.fib_prefix.specs.Views.{event_as}

@@ -1,4 +1,4 @@
-use Rattle.std.proofs.Common.{ℕ, Err, [], ◌∷◌, map, inl, sym, subst, ◌∙◌}
+use Rattle.std.proofs.Common.{ℕ, Err, [], ◌∷◌, map, sym, subst, ◌∙◌}
 use Rattle.std.proofs.lemmas.Result.{err_from_is_err_and}
 use Rattle.fib_prefix.specs.Views.{event_as}
 use Rattle.step_script.specs.Steps.{step_as}
@@ -7,11 +7,10 @@ use Rattle.stepper.specs.Runs.{EndsBy}
 use Rattle.fib_words.specs.Commands.{Steps, steps_as}
 use Rattle.fib_main.specs.declared.outcome.Which.TheVariants as which
 use Rattle.fib_main.specs.Due.{load_at, steps_sizes, with_world, world_at}
-use Rattle.fib_main.specs.Ends.{OneRose, ReadsBy, after}
 use Rattle.fib_main.specs.Loaded.{of_step}
 use Rattle.fib_main.specs.Owned.{StopsIn}
 use Rattle.fib_main.specs.Untold.{GivesText}
-use Rattle.fib_main.proofs.Stepped.{dump_stops, early_due, early_of, first_read, is_of_step, later_read, step_reads, step_stops, text_due, updates_stop, world_due}
+use Rattle.fib_main.proofs.Stepped.{dump_stops, early_due, early_of, first_read, is_of_step, later_read, step_stops, text_due, updates_stop, world_due}
 use Rattle.fib_main.proofs.stepping.rows_of.Goals as goal
 
 pub returns-in_err-engine-clause-gives : goal.returns-in_err-engine-clause-gives

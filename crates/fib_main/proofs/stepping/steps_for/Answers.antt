@@ -1,4 +1,4 @@
-use Rattle.std.proofs.Common.{ℕ, Ok, Err, map, inl, inr, ◌∙◌}
+use Rattle.std.proofs.Common.{ℕ, Ok, Err, map, inl, inr}
 use Rattle.std.proofs.lemmas.Result.{err_from_is_err_and}
 use Rattle.step_script.specs.Steps.{step_as}
 use Rattle.fib_words.specs.Commands.{steps_as}
