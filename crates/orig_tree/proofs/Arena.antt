@@ -1,5 +1,5 @@
 -- What places stand for after a write, and one level of each walk down the array.
-use Rattle.std.proofs.Common.{◌≡◌, ◌≢◌, ℕ, zero, suc, ◌+◌, ◌-◌, ◌<◌, ◌≤◌, List, [], ◌∷◌, ◌++◌, length, Bool, true, false, ◌||◌, refl, sym, ap, ◌∙◌, subst, arith, Option, Some, None, slice_set}
+use Rattle.std.proofs.Common.{◌≡◌, ◌≢◌, ℕ, zero, suc, ◌-◌, ◌<◌, ◌≤◌, List, [], ◌∷◌, ◌++◌, length, Bool, true, false, refl, sym, ap, ◌∙◌, subst, arith, Option, Some, None, slice_set}
 use Rattle.std.specs.Prelude.{nat_eq}
 use Rattle.std.specs.Int.{bit_at}
 use Rattle.std.specs.Option.{unwrap_or}
@@ -12,7 +12,7 @@ use Rattle.orig_tree.specs.Walk.{Walks, no_walks, walks_of, rows_of, edited, All
 use Rattle.orig_tree.specs.Cover.{IsCover, covered, only_of}
 use Rattle.orig_tree.specs.Slots.{AreCovers, Retold}
 use Rattle.orig_tree.specs.Uniform.{IsUniform}
-use Rattle.orig_tree.specs.Arena.{Place, At, Spare, Nowhere, blank, node_at, half_place, from_half, walks_by, walks_at, IfHalf, OwnsPair, IsNode, IsTree, is_in, Keeps, retold, cover_of, cover_at, bare_cover_is, IsSet}
+use Rattle.orig_tree.specs.Arena.{Place, At, Spare, Nowhere, blank, node_at, half_place, from_half, walks_by, walks_at, IfHalf, IsNode, IsTree, is_in, Keeps, retold, cover_of, cover_at, bare_cover_is, IsSet}
 use Rattle.orig_tree.specs.Packed.{opened, packed}
 use Rattle.orig_tree.specs.declared.cover.Cover.{Cover}
 use Rattle.orig_tree.specs.declared.cover.Hops.{Hops}
@@ -181,36 +181,27 @@ half_carried d old new name name' r (Some j) c t = c j t
 -- a node whose halves are carried over
 node_carried : (d : ℕ) (old new : List Node) (name name' : ℕ → Place) (p : List Bool) (n : Node) →
     ((b : Bool) (j : ℕ) → IsTree d old name j (p ++ (b ∷ [])) → (walks_at d new j ≡ walks_at d old j) × IsTree d new name' j (p ++ (b ∷ []))) →
-    (OwnsPair (length old) name p n.kids → OwnsPair (length new) name' p n.kids) →
-    IsNode (walks_at d old) (λ b j. IsTree d old name j (p ++ (b ∷ []))) (length old) name p n →
-    (walks_by (walks_at d new) n ≡ walks_by (walks_at d old) n) × IsNode (walks_at d new) (λ b j. IsTree d new name' j (p ++ (b ∷ []))) (length new) name' p n
-node_carried d old new name name' p n c w k =
+    IsNode (walks_at d old) (λ b j. IsTree d old name j (p ++ (b ∷ []))) n →
+    (walks_by (walks_at d new) n ≡ walks_by (walks_at d old) n) × IsNode (walks_at d new) (λ b j. IsTree d new name' j (p ++ (b ∷ []))) n
+node_carried d old new name name' p n c k =
     let low = half_carried d old new name name' (p ++ (false ∷ [])) (half_place n false) (c false) (k.halves false) in
     let high = half_carried d old new name name' (p ++ (true ∷ [])) (half_place n true) (c true) (k.halves true) in
     let W : Walks → Walks → Type 0 = λ x y. AreCovers n.route n.entry x y in (
       ap (λ x. walks_of n.route.hop n.entry.hop x (from_half (walks_at d new) (half_place n true))) low.0 ∙ ap (λ x. walks_of n.route.hop n.entry.hop (from_half (walks_at d old) (half_place n false)) x) high.0,
       record {
         covers = subst (λ (x : Walks). W x (from_half (walks_at d new) (half_place n true))) (sym low.0) (subst (λ (x : Walks). W (from_half (walks_at d old) (half_place n false)) x) (sym high.0) k.covers);
-        pair = λ h. w (k.pair h);
         halves = λ b. elim b as (λ b. IfHalf (λ j. IsTree d new name' j (p ++ (b ∷ []))) (half_place n b)) [ true ↦ high.1 | false ↦ low.1 ];
       },
     )
-
-pair_carried : (p : List Bool) (old new : List Node) (name name' : ℕ → Place) (kids : ℕ) → Carries p old new name name' → OwnsPair (length old) name p kids → OwnsPair (length new) name' p kids
-pair_carried p old new name name' kids c o = record {
-  low = (c.same kids (p ++ (false ∷ [])) o.low (begins_front p (false ∷ []))).1;
-  high = (c.same (kids + 1) (p ++ (true ∷ [])) o.high (begins_front p (true ∷ []))).1;
-  inside = omega (arith, c.long, o.inside);
-}
 
 pub carry : (d : ℕ) (old new : List Node) (name name' : ℕ → Place) (i : ℕ) (p : List Bool) → Carries p old new name name' → IsTree d old name i p → (walks_at d new i ≡ walks_at d old i) × IsTree d new name' i p
 unfolding walks_at IsTree
 carry zero old new name name' i p c t = absurd t
 carry (suc d) old new name name' i p c t =
     let e = c.same i p t.0 (begins_self p) in
-    let k = node_carried d old new name name' p (node_at old i) (λ b j s. carry d old new name name' j (p ++ (b ∷ [])) (deeper p b old new name name' c) s) (pair_carried p old new name name' (node_at old i).kids c) t.2 in (
+    let k = node_carried d old new name name' p (node_at old i) (λ b j s. carry d old new name name' j (p ++ (b ∷ [])) (deeper p b old new name name' c) s) t.2 in (
       ap (walks_by (walks_at d new)) e.0 ∙ k.0,
-      (e.1, omega (arith, c.long, t.1), subst (λ (m : Node). IsNode (walks_at d new) (λ b j. IsTree d new name' j (p ++ (b ∷ []))) (length new) name' p m) (sym e.0) k.1),
+      (e.1, omega (arith, c.long, t.1), subst (λ (m : Node). IsNode (walks_at d new) (λ b j. IsTree d new name' j (p ++ (b ∷ []))) m) (sym e.0) k.1),
     )
 
 at_path : (p q : List Bool) → At p ≡ At q → p ≡ q
@@ -225,7 +216,7 @@ below_it name i j p q b e f h s =
 
 -- a node is put at its place
 pub placed : (d : ℕ) (cells : List Node) (i : ℕ) (n : Node) (name : ℕ → Place) (p : List Bool) → name i ≡ At p → i < length cells →
-    IsNode (walks_at d cells) (λ b j. IsTree d cells name j (p ++ (b ∷ []))) (length cells) name p n →
+    IsNode (walks_at d cells) (λ b j. IsTree d cells name j (p ++ (b ∷ []))) n →
     (walks_at (suc d) (slice_set cells i n) i ≡ walks_by (walks_at d cells) n) × IsTree (suc d) (slice_set cells i n) name i p
 unfolding walks_at IsTree
 placed d cells i n name p e l k =
@@ -233,9 +224,9 @@ placed d cells i n name p e l k =
     let long : length new ≡ length cells = length-set cells i n in
     let c : (b : Bool) → Carries (p ++ (b ∷ [])) cells new name name = λ b. record { long = omega (arith, long); same = λ j q f h. (get_or-set_other cells i j n blank (below_it name i j p q b e f h), f) } in
     let is : node_at new i ≡ n = get_or-set_same cells i n blank l in
-    let m = node_carried d cells new name name p n (λ b j s. carry d cells new name name j (p ++ (b ∷ [])) (c b) s) (λ o. record { low = o.low; high = o.high; inside = omega (arith, long, o.inside) }) k in (
+    let m = node_carried d cells new name name p n (λ b j s. carry d cells new name name j (p ++ (b ∷ [])) (c b) s) k in (
       ap (walks_by (walks_at d new)) is ∙ m.0,
-      (e, omega (arith, long), subst (λ (x : Node). IsNode (walks_at d new) (λ b j. IsTree d new name j (p ++ (b ∷ []))) (length new) name p x) (sym is) m.1),
+      (e, omega (arith, long), subst (λ (x : Node). IsNode (walks_at d new) (λ b j. IsTree d new name j (p ++ (b ∷ []))) x) (sym is) m.1),
     )
 
 pub put_keeps : (old mid : List Node) (i : ℕ) (n : Node) (name : ℕ → Place) (p : List Bool) → name i ≡ At p → length mid ≡ length old → ((j : ℕ) → is_in p (name j) ≡ false → node_at mid j ≡ node_at old j) → Keeps p old (slice_set mid i n) name
@@ -266,13 +257,13 @@ retold_is : (label : Label) (hop : Option ℕ) (cl ch : Cover) (n : Node) (low h
 retold_is Route hop cl ch n low high a b = (refl, cover_packed (join hop low.routes high.routes) (covered hop cl ch) (cover_level hop low.routes high.routes cl ch a b), refl)
 retold_is Entry hop cl ch n low high a b = (refl, cover_packed (join hop low.entries high.entries) (covered hop cl ch) (cover_level hop low.entries high.entries cl ch a b), refl)
 
-renode : (label : Label) (hop : Option ℕ) (cl ch : Cover) (n : Node) (walks : ℕ → Walks) (S : Bool → ℕ → Type 0) (long : ℕ) (name : ℕ → Place) (p : List Bool) →
+renode : (label : Label) (hop : Option ℕ) (cl ch : Cover) (n : Node) (walks : ℕ → Walks) (S : Bool → ℕ → Type 0) →
     AreCovers (retold label hop cl ch n).route (retold label hop cl ch n).entry (from_half walks (half_place n false)) (from_half walks (half_place n true)) →
-    (n.low || n.high ≡ true → OwnsPair long name p n.kids) → ((b : Bool) → IfHalf (S b) (half_place n b)) →
+    ((b : Bool) → IfHalf (S b) (half_place n b)) →
     (walks_by walks (retold label hop cl ch n) ≡ walks_of (retold label hop cl ch n).route.hop (retold label hop cl ch n).entry.hop (from_half walks (half_place n false)) (from_half walks (half_place n true)))
-    × IsNode walks S long name p (retold label hop cl ch n)
-renode Route hop cl ch n walks S long name p c w k = (refl, record { covers = c; pair = w; halves = λ b. elim b as (λ b. IfHalf (S b) (half_place (retold Route hop cl ch n) b)) [ true ↦ k true | false ↦ k false ] })
-renode Entry hop cl ch n walks S long name p c w k = (refl, record { covers = c; pair = w; halves = λ b. elim b as (λ b. IfHalf (S b) (half_place (retold Entry hop cl ch n) b)) [ true ↦ k true | false ↦ k false ] })
+    × IsNode walks S (retold label hop cl ch n)
+renode Route hop cl ch n walks S c k = (refl, record { covers = c; halves = λ b. elim b as (λ b. IfHalf (S b) (half_place (retold Route hop cl ch n) b)) [ true ↦ k true | false ↦ k false ] })
+renode Entry hop cl ch n walks S c k = (refl, record { covers = c; halves = λ b. elim b as (λ b. IfHalf (S b) (half_place (retold Entry hop cl ch n) b)) [ true ↦ k true | false ↦ k false ] })
 
 pub tree_named : (d : ℕ) (cells : List Node) (name : ℕ → Place) (i : ℕ) (p : List Bool) → IsTree d cells name i p → name i ≡ At p
 unfolding IsTree
@@ -307,9 +298,9 @@ module _ (label : Label) (q left : ℕ) (hop : Option ℕ) (old : List Node) (i 
       let cl = cover_at old label (half_place n false) in
       let ch = cover_at old label (half_place n true) in
       let m = retold label hop cl ch n in
-      let k : IsNode f (λ b j. IsTree d old name j (p ++ (b ∷ []))) (length old) name p n = subst (λ (x : Node). IsNode f (λ b j. IsTree d old name j (p ++ (b ∷ []))) (length old) name p x) (sym at) t.2 in
+      let k : IsNode f (λ b j. IsTree d old name j (p ++ (b ∷ []))) n = subst (λ (x : Node). IsNode f (λ b j. IsTree d old name j (p ++ (b ∷ []))) x) (sym at) t.2 in
       let told : Retold label hop n.route n.entry m.route m.entry low high = retold_is label hop cl ch n low high (cover_half label d old name (p ++ (false ∷ [])) (half_place n false) (k.halves false)) (cover_half label d old name (p ++ (true ∷ [])) (half_place n true) (k.halves true)) in
-      let g = renode label hop cl ch n f (λ b j. IsTree d old name j (p ++ (b ∷ []))) (length old) name p (told_covers_here label hop n.route n.entry m.route m.entry low high k.covers told) k.pair k.halves in
+      let g = renode label hop cl ch n f (λ b j. IsTree d old name j (p ++ (b ∷ []))) (told_covers_here label hop n.route n.entry m.route m.entry low high k.covers told) k.halves in
       let x = placed d old i m name p t.0 t.1 g.1 in
       let e : new ≡ slice_set old i m = s ∙ ap (slice_set old i) r in
       subst (λ (y : List Node). IsSet (suc d) label (bits_of left q) hop old y name i p) (sym e) (record {
@@ -378,7 +369,7 @@ module _ (label : Label) (q left : ℕ) (hop : Option ℕ) (old : List Node) (i 
       let cl = cover_at old label (half_place n false) in
       let ch = cover_at old label (half_place n true) in
       let w : walks_by f n ≡ walks_by f (node_at old i) = ap (walks_by f) at in
-      let kn : IsNode f (λ b j. IsTree d old name j (p ++ (b ∷ []))) (length old) name p n = subst (λ (x : Node). IsNode f (λ b j. IsTree d old name j (p ++ (b ∷ []))) (length old) name p x) (sym at) t.2 in
+      let kn : IsNode f (λ b j. IsTree d old name j (p ++ (b ∷ []))) n = subst (λ (x : Node). IsNode f (λ b j. IsTree d old name j (p ++ (b ∷ []))) x) (sym at) t.2 in
       let there : (x : Bool) → half_place n x ≡ Some k → Allowed (bits_of (left - 1) q) hop (from_half f (half_place n x)).nodes → IsSet d label (bits_of (left - 1) q) hop old mid name k (p ++ (x ∷ [])) × (cover_of label (node_at mid k) ≡ cover_of label (node_at old k)) =
       λ x h v. below d (p ++ (x ∷ [])) refl (omega arith) (subst (λ (o : Option ℕ). IfHalf (λ j. IsTree d old name j (p ++ (x ∷ []))) o) h (kn.halves x)) (subst (λ (o : Option ℕ). Allowed (bits_of (left - 1) q) hop (from_half f o).nodes) h v) in
       let is : cover_of label n ≡ covered own cl ch =
@@ -397,8 +388,8 @@ module _ (label : Label) (q left : ℕ) (hop : Option ℕ) (old : List Node) (i 
           tree = (
             t.0,
             omega (arith, c.long, t.1),
-            subst (λ (y : Node). IsNode g (λ b j. IsTree d mid name j (p ++ (b ∷ []))) (length mid) name p y) (at ∙ sym (same x c))
-                (record { covers = v; pair = λ m. let o = kn.pair m in record { low = o.low; high = o.high; inside = omega (arith, c.long, o.inside) }; halves = h }),
+            subst (λ (y : Node). IsNode g (λ b j. IsTree d mid name j (p ++ (b ∷ []))) y) (at ∙ sym (same x c))
+                (record { covers = v; halves = h }),
           );
           keeps = record { long = c.long; same = λ j r. c.same j (is_in_deeper p x (name j) r) };
         },
@@ -426,7 +417,7 @@ module _ (label : Label) (q left : ℕ) (hop : Option ℕ) (old : List Node) (i 
 
   module _ (own : Option ℕ) (mid new : List Node) (n' : Node) (own_is : own ≡ labelled label n.route.hop n.entry.hop)
       (r : n' ≡ retold label own (cover_at mid label (half_place n false)) (cover_at mid label (half_place n true)) n) (s : new ≡ slice_set mid i n') where
-    set_after : (d : ℕ) (name : ℕ → Place) (p : List Bool) → name i ≡ At p → i < length mid → (n.low || n.high ≡ true → OwnsPair (length mid) name p n.kids) →
+    set_after : (d : ℕ) (name : ℕ → Place) (p : List Bool) → name i ≡ At p → i < length mid →
         ((b : Bool) → IfHalf (λ j. IsTree d mid name j (p ++ (b ∷ []))) (half_place n b)) →
         (let m = retold label own (cover_at mid label (half_place n false)) (cover_at mid label (half_place n true)) n in
         let low = from_half (walks_at d mid) (half_place n false) in
@@ -435,14 +426,14 @@ module _ (label : Label) (q left : ℕ) (hop : Option ℕ) (old : List Node) (i 
         Retold label own n.route n.entry m.route m.entry low high
         × (walks_at (suc d) new i ≡ walks_of m.route.hop m.entry.hop low high)
         × IsTree (suc d) new name i p)
-    set_after d name p f l w h c =
+    set_after d name p f l h c =
         let low = from_half (walks_at d mid) (half_place n false) in
         let high = from_half (walks_at d mid) (half_place n true) in
         let cl = cover_at mid label (half_place n false) in
         let ch = cover_at mid label (half_place n true) in
         let m = retold label own cl ch n in
         let told : Retold label own n.route n.entry m.route m.entry low high = retold_is label own cl ch n low high (cover_half label d mid name (p ++ (false ∷ [])) (half_place n false) (h false)) (cover_half label d mid name (p ++ (true ∷ [])) (half_place n true) (h true)) in
-        let g = renode label own cl ch n (walks_at d mid) (λ b j. IsTree d mid name j (p ++ (b ∷ []))) (length mid) name p (c told) w h in
+        let g = renode label own cl ch n (walks_at d mid) (λ b j. IsTree d mid name j (p ++ (b ∷ []))) (c told) h in
         let x = placed d mid i m name p f l g.1 in
         let e : new ≡ slice_set mid i m = s ∙ ap (slice_set mid i) r in
         (told, ap (λ y. walks_at (suc d) y i) e ∙ x.0 ∙ g.0, subst (λ (y : List Node). IsTree (suc d) y name i p) (sym e) x.1)
@@ -461,7 +452,7 @@ module _ (label : Label) (q left : ℕ) (hop : Option ℕ) (old : List Node) (i 
         let ch = cover_at mid label (half_place n true) in
         let m = retold label own cl ch n in
         let w : walks_by f n ≡ walks_by f (node_at old i) = ap (walks_by f) at in
-        let kn : IsNode f (λ b j. IsTree d old name j (p ++ (b ∷ []))) (length old) name p n = subst (λ (x : Node). IsNode f (λ b j. IsTree d old name j (p ++ (b ∷ []))) (length old) name p x) (sym at) t.2 in
+        let kn : IsNode f (λ b j. IsTree d old name j (p ++ (b ∷ []))) n = subst (λ (x : Node). IsNode f (λ b j. IsTree d old name j (p ++ (b ∷ []))) x) (sym at) t.2 in
         let there : (x : Bool) → half_place n x ≡ Some k → Allowed (bits_of (left - 1) q) hop (from_half f (half_place n x)).nodes → IsSet d label (bits_of (left - 1) q) hop old mid name k (p ++ (x ∷ [])) =
         λ x h v. below d (p ++ (x ∷ [])) refl (omega arith) (subst (λ (o : Option ℕ). IfHalf (λ j. IsTree d old name j (p ++ (x ∷ []))) o) h (kn.halves x)) (subst (λ (o : Option ℕ). Allowed (bits_of (left - 1) q) hop (from_half f o).nodes) h v) in
         let done : (x : Bool) → Keeps (p ++ (x ∷ [])) old mid name → walks_at (suc d) new i ≡ edited label (bits_of left q) hop (walks_by f (node_at old i)) → IsTree (suc d) new name i p → IsSet (suc d) label (bits_of left q) hop old new name i p =
@@ -470,7 +461,6 @@ module _ (label : Label) (q left : ℕ) (hop : Option ℕ) (old : List Node) (i 
           tree = u;
           keeps = subst (λ (o : List Node). Keeps p old o name) (sym s) (put_keeps old mid i n' name p t.0 c.long (λ j h. c.same j (is_in_deeper p x (name j) h)));
         } in
-        let pair : length mid ≡ length old → n.low || n.high ≡ true → OwnsPair (length mid) name p n.kids = λ x h. let o = kn.pair h in record { low = o.low; high = o.high; inside = omega (arith, x, o.inside) } in
         let P : Bool → Type 0 = λ x. x ≡ nat_eq (bit_at q (left - 1)) 1 → half_place n x ≡ Some k → IsSet (suc d) label (bits_of left q) hop old new name i p in
         (elim b as P [
           | true ↦ λ x h.
@@ -478,7 +468,7 @@ module _ (label : Label) (q left : ℕ) (hop : Option ℕ) (old : List Node) (i 
               let mine = the_half true k mid d name p (bits_of (left - 1) q) h c in
               let rest = other_half true false mid d name p (λ v u o. begins_other p v u o) c.keeps (kn.halves false) in
               let after = from_half g (half_place n true) in
-              let v = set_after d name p t.0 (omega (arith, c.keeps.long, t.1)) (pair c.keeps.long) (λ x. elim x as (λ x. IfHalf (λ j. IsTree d mid name j (p ++ (x ∷ []))) (half_place n x)) [ true ↦ mine.1 | false ↦ rest.1 ])
+              let v = set_after d name p t.0 (omega (arith, c.keeps.long, t.1)) (λ x. elim x as (λ x. IfHalf (λ j. IsTree d mid name j (p ++ (x ∷ []))) (half_place n x)) [ true ↦ mine.1 | false ↦ rest.1 ])
               (λ told. told_covers_high (bits_of (left - 1) q) hop label own n.route n.entry m.route m.entry (from_half g (half_place n false)) high after (subst (λ (u : Walks). AreCovers n.route n.entry u high) (sym rest.0) kn.covers) mine.0 told) in
               done true c.keeps (v.1 ∙ told_high label hop own n.route n.entry m.route m.entry (from_half g (half_place n false)) high _ after left q z x (ap (λ u. walks_of n.route.hop n.entry.hop u high) rest.0 ∙ w) own_is mine.0 v.0) v.2
           | false ↦ λ x h.
@@ -486,7 +476,7 @@ module _ (label : Label) (q left : ℕ) (hop : Option ℕ) (old : List Node) (i 
               let mine = the_half false k mid d name p (bits_of (left - 1) q) h c in
               let rest = other_half false true mid d name p (λ v u o. begins_other p v o u) c.keeps (kn.halves true) in
               let after = from_half g (half_place n false) in
-              let v = set_after d name p t.0 (omega (arith, c.keeps.long, t.1)) (pair c.keeps.long) (λ x. elim x as (λ x. IfHalf (λ j. IsTree d mid name j (p ++ (x ∷ []))) (half_place n x)) [ true ↦ rest.1 | false ↦ mine.1 ])
+              let v = set_after d name p t.0 (omega (arith, c.keeps.long, t.1)) (λ x. elim x as (λ x. IfHalf (λ j. IsTree d mid name j (p ++ (x ∷ []))) (half_place n x)) [ true ↦ rest.1 | false ↦ mine.1 ])
               (λ told. told_covers (bits_of (left - 1) q) hop label own n.route n.entry m.route m.entry low after high (from_half g (half_place n true)) kn.covers mine.0 rest.0 told) in
               done false c.keeps (v.1 ∙ told_low label hop own n.route n.entry m.route m.entry low (from_half g (half_place n true)) _ after left q z x (ap (λ u. walks_of n.route.hop n.entry.hop low u) rest.0 ∙ w) own_is mine.0 v.0) v.2
         ]) y e

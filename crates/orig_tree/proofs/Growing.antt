@@ -13,8 +13,8 @@ use Rattle.orig_tree.specs.Arena.{Place, At, blank, node_at, half_place, from_ha
 use Rattle.orig_tree.specs.Bests.{Stands, AreBest, laid, IsGrown}
 use Rattle.orig_tree.specs.declared.node.Node.{Node}
 use Rattle.orig_tree.specs.declared.best.Best.{Best}
-use Rattle.orig_tree.proofs.Arena.{begins_self, begins_front, begins_self_not}
-use Rattle.orig_tree.proofs.Rooms.{at_same, apart, no, no_begin, both_not, nowhere_not, tree_name}
+use Rattle.orig_tree.proofs.Arena.{begins_self_not}
+use Rattle.orig_tree.proofs.Rooms.{no, no_begin, both_not, nowhere_not}
 use Rattle.orig_tree.proofs.Paths.{first_bit}
 use Rattle.orig_tree.proofs.Steps.{given_is}
 use Rattle.orig_tree.proofs.Standing.{stands_alike, both_half, best_alike, best_carry}
@@ -76,9 +76,7 @@ unfolding AreBest IsTree
 split_best e old mid free i j name p b f S S1 x t s same here stands k =
     let at : name i ≡ At p = t.0 in
     let R : Bool → ℕ → Type 0 = λ c y. AreBest (suc e) mid S1 (side c f) y in
-    let name_i : s.name' i ≡ At p = s.tree.0 in
-    let name_j : s.name' j ≡ At (p ++ (b ∷ [])) = tree_name (suc e) mid s.name' j (p ++ (b ∷ [])) (subst (λ (o : Option ℕ). IfHalf (λ y. IsTree (suc e) mid s.name' y (p ++ (b ∷ []))) o) s.half (s.tree.2.halves b)) in
-    let not_i : i ≢ j = apart s.name' i j (At p) (At (p ++ (b ∷ []))) name_i name_j (λ u. let z : true ≡ false = sym (begins_self (p ++ (b ∷ []))) ∙ ap (begins (p ++ (b ∷ []))) (sym (at_same p (p ++ (b ∷ [])) u)) ∙ begins_self_not p b in cc) in
+    let not_i : i ≢ j = not_j i p at in
     let mine : R b j = (
       subst (λ (y : Best). Stands e (side b f) y) (sym here) stands,
       λ c. subst (λ (n : Node). IfHalf (λ y. AreBest e mid S1 (side c (side b f)) y) (half_place n c)) (sym s.blank) (subst (λ (o : Option ℕ). IfHalf (λ y. AreBest e mid S1 (side c (side b f)) y) o) (sym (no_half c)) tt),
@@ -86,7 +84,7 @@ split_best e old mid free i j name p b f S S1 x t s same here stands k =
     let rest : (c : Bool) → b ≢ c → IfHalf (R c) (half_place (node_at mid i) c) =
     λ c ne. subst (λ (o : Option ℕ). IfHalf (R c) o) (sym (s.other c ne))
     (both_half (λ y. IsTree (suc e) old name y (p ++ (c ∷ []))) (λ y. AreBest (suc e) old S (side c f) y) (R c) (half_place (node_at old i) c)
-    (λ y u v. best_carry (suc e) old mid S S1 name (side c f) y (p ++ (c ∷ [])) u (λ z q g h. (s.rest z q c ne g h, same z q g (not_j z q c ne g h))) v) (t.2.halves c) (k.1 c))
+    (λ y u v. best_carry (suc e) old mid S S1 name (side c f) y (p ++ (c ∷ [])) u (λ z q g h. (s.rest z q c ne g h, same z q g (not_j z q g))) v) (t.2.halves c) (k.1 c))
     in (
       subst (λ (y : Best). Stands (suc e) f y) (sym (same i p at not_i)) k.0,
       λ c. elim (same_side b c) [
@@ -95,10 +93,8 @@ split_best e old mid free i j name p b f S S1 x t s same here stands k =
       ],
     )
   where
-    not_j : (z : ℕ) (q : List Bool) (c : Bool) → b ≢ c → name z ≡ At q → begins (p ++ (c ∷ [])) q ≡ true → z ≢ j
-    not_j z q c ne g h w =
-        let r : q ≡ p ++ (b ∷ []) = s.mine q (ap name (sym w) ∙ g) in
-        both_not p (p ++ (b ∷ [])) b c ne (begins_self (p ++ (b ∷ []))) (ap (begins (p ++ (c ∷ []))) (sym r) ∙ h)
+    not_j : (z : ℕ) (q : List Bool) → name z ≡ At q → z ≢ j
+    not_j z q g w = s.fresh q (ap name (sym w) ∙ g)
 
 -- ---- room below a half is room below the node
 
@@ -203,7 +199,7 @@ split_grown left q h hop b set n old mid new free1 i j (suc (suc e)) name p S S1
           let y = g (best_alike (suc (suc e)) mid S1 f f1 i (λ a u. alike a) k1) in
           record {
             best = best_alike (suc (suc e)) new S' f1 f i (λ a u. sym (alike a)) y.best;
-            keeps = λ c v w out. y.keeps c v (s.keeps.same c v w out).1 out ∙ same c v w (λ c_is. let a : v ≡ p ++ (b ∷ []) = s.mine v (ap name (sym c_is) ∙ w) in let u : true ≡ false = sym (begins_front p (b ∷ [])) ∙ ap (begins p) (sym a) ∙ out in cc);
+            keeps = λ c v w out. y.keeps c v (s.keeps.same c v w out).1 out ∙ same c v w (λ c_is. s.fresh v (ap name (sym c_is) ∙ w));
           },
     )
 

@@ -14,7 +14,7 @@ use Rattle.orig_tree.specs.declared.node.Label.TheVariants.{Route}
 use Rattle.orig_tree.specs.declared.best.Best.{Best}
 use Rattle.orig_tree.specs.declared.best.Change.{Change}
 use Rattle.orig_tree.proofs.Roots.{same_whole, room_whole}
-use Rattle.orig_tree.proofs.Standing.{stands_one, best_same, best_alike, best_fewer, best_carry}
+use Rattle.orig_tree.proofs.Standing.{stands_one, best_same, best_alike, best_stay, best_carry}
 use Rattle.orig_tree.proofs.Growing.{within_it}
 use Rattle.orig_tree.proofs.Undoing.{Assigns, put_in}
 use Rattle.orig_tree.proofs.Placing.{Places, placed_whole}
@@ -102,4 +102,4 @@ module _ (f : Family) (q len : ℕ) (few : len ≤ width f) (old mid : List Node
 
 pub stays_by : (f : Family) (old new : List Node) (S : ℕ → Best) → HalvesStay old new → (whole f new).routes ≡ (whole f old).routes → KeepsBest f old S → KeepsBest f new S
 stays_by f old new S h e k =
-    best_alike (suc (width f)) new S (λ a. lpm (whole f old).routes a 0) (λ a. lpm (whole f new).routes a 0) 0 (λ a l. ap (λ R. lpm R a 0) (sym e)) (best_fewer (suc (width f)) old new S (λ a. lpm (whole f old).routes a 0) 0 h k)
+    best_alike (suc (width f)) new S (λ a. lpm (whole f old).routes a 0) (λ a. lpm (whole f new).routes a 0) 0 (λ a l. ap (λ R. lpm R a 0) (sym e)) (best_stay (suc (width f)) old new S (λ a. lpm (whole f old).routes a 0) 0 h k)

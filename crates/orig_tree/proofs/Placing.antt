@@ -18,7 +18,7 @@ use Rattle.orig_tree.specs.declared.best.Best.{Best}
 use Rattle.orig_tree.proofs.Arena.{set_here, set_below, set_stop, renewed, tree_long, begins_self_not}
 use Rattle.orig_tree.proofs.Rooms.{room_end, room_below, roomier_same, split_room}
 use Rattle.orig_tree.proofs.Roots.{set_at}
-use Rattle.orig_tree.proofs.Standing.{best_same, best_fewer, best_alike}
+use Rattle.orig_tree.proofs.Standing.{best_same, best_stay, best_alike}
 use Rattle.orig_tree.proofs.Halving.{halves_same, halves_after, halves_retold}
 use Rattle.orig_tree.proofs.Growing.{laid_answers, grown_end, grown_at, split_grown, tree_side}
 
@@ -94,7 +94,7 @@ placed_none label left q h low hop b changed more set n old mid below new free1 
       grown = λ k. (split_grown left q h low b set n old mid y.middle free1 i j d name p S S1 S' x at z bit low_is gone l t s same here fr).1 y.grown k;
     }
 
--- the spare pairs begin where they did
+-- the spare places begin where they did
 pub placed_free : (d : ℕ) (label : Label) (q : List Bool) (hop : ℕ) (old new : List Node) (free free' : ℕ) (name : ℕ → Place) (i : ℕ) (p : List Bool) (f : List Bool → ℕ) (S S' : ℕ → Best) (more : Bool) → free' ≡ free →
     IsPlaced d label q hop old new free name i p f S S' more → IsPlaced d label q hop old new free' name i p f S S' more
 placed_free d label q hop old new free free' name i p f S S' more e y = subst (λ (x : ℕ). IsPlaced d label q hop old new x name i p f S S' more) (sym e) y
@@ -130,7 +130,7 @@ placed_whole f label q len hop free free' old new S S' more few a made =
     let s = set_at f label (bits_of len q) free' free' (Some hop) y.middle new refl m (y.set y.room.name' [] y.room.tree).0 in (
       s.1,
       record { middle = whole f y.middle; room = y.room.walks; there = y.room.there; set = s.0 },
-      λ k. best_fewer (suc (width f)) y.middle new S' (λ a. lpm (laid (route_set label hop) (bits_of len q) (whole f old).routes) a 0) 0 y.stay (y.grown k).best,
+      λ k. best_stay (suc (width f)) y.middle new S' (λ a. lpm (laid (route_set label hop) (bits_of len q) (whole f old).routes) a 0) 0 y.stay (y.grown k).best,
     )
 
 -- an entry changes nothing of what is kept

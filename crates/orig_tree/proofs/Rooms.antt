@@ -1,5 +1,5 @@
 -- Nodes made down to a path.
-use Rattle.std.proofs.Common.{inl, inr, ◌⊎◌, ◌≡◌, ◌≢◌, ℕ, zero, suc, ◌+◌, ◌-◌, ◌<◌, ◌≤◌, List, [], ◌∷◌, ◌++◌, length, length-append, Bool, true, false, ◌||◌, cond, refl, sym, ap, ◌∙◌, subst, arith, Option, Some, None, get_or, slice_set}
+use Rattle.std.proofs.Common.{inl, inr, ◌≡◌, ◌≢◌, ℕ, zero, suc, ◌+◌, ◌-◌, ◌<◌, ◌≤◌, List, [], ◌∷◌, ◌++◌, length, length-append, Bool, true, false, cond, refl, sym, ap, ◌∙◌, subst, arith, Option, Some, None, get_or, slice_set}
 use Rattle.std.specs.Prelude.{nat_eq}
 use Rattle.std.specs.Int.{bit_at}
 use Rattle.std.proofs.lemmas.Bool.{eqb-true, eqb-false, cases_lt}
@@ -9,7 +9,7 @@ use Rattle.least_model.specs.Regions.{join}
 use Rattle.orig_tree.specs.Walk.{Walks, no_walks, walks_of, AreMadeTo, has_node}
 use Rattle.orig_tree.specs.Cover.{IsCover}
 use Rattle.orig_tree.specs.Slots.{AreCovers}
-use Rattle.orig_tree.specs.Arena.{Place, At, Spare, Nowhere, blank, bare_cover_is, node_at, half_place, from_half, walks_by, walks_at, IfHalf, OwnsPair, IsNode, IsTree, side_at, SpareFrom, IsHeld, IsRoomier, GivesPair, with_half, IsSplit, HasRoom}
+use Rattle.orig_tree.specs.Arena.{Place, At, Spare, Nowhere, blank, bare_cover_is, node_at, half_place, from_half, walks_by, walks_at, IfHalf, link, IsNode, IsTree, SpareFrom, IsHeld, IsRoomier, GivesPlace, with_half, IsSplit, HasRoom}
 use Rattle.orig_tree.specs.Packed.{cover_in}
 use Rattle.orig_tree.specs.declared.node.Node.{Node}
 use Rattle.orig_tree.proofs.Covers.{bare_cover}
@@ -57,22 +57,15 @@ eq_is a b e = (elim (nat_eq a b) as (λ t. nat_eq a b ≡ t → t ≡ true) [ tr
 pub ne_is : (a b : ℕ) → a ≢ b → nat_eq a b ≡ false
 ne_is a b n = (elim (nat_eq a b) as (λ t. nat_eq a b ≡ t → t ≡ false) [ true ↦ λ h. absurd (n (eqb-true a b h)) | false ↦ λ h. refl ]) refl
 
--- two places are the halves of path p, and all others whose they were
-abbrev renamed : (ℕ → Place) → ℕ → List Bool → ℕ → Place
-renamed name kids p j = cond (nat_eq j kids) (At (p ++ (false ∷ []))) (cond (nat_eq j (kids + 1)) (At (p ++ (true ∷ []))) (name j))
+-- place k gets the name x, and all others keep theirs
+abbrev pub renamed : (ℕ → Place) → ℕ → Place → ℕ → Place
+renamed name k x j = cond (nat_eq j k) x (name j)
 
-re_low : (name : ℕ → Place) (kids : ℕ) (p : List Bool) → renamed name kids p kids ≡ At (p ++ (false ∷ []))
-re_low name kids p = ap (λ t. cond t (At (p ++ (false ∷ []))) (cond (nat_eq kids (kids + 1)) (At (p ++ (true ∷ []))) (name kids))) (eq_is kids kids refl)
+pub re_here : (name : ℕ → Place) (k : ℕ) (x : Place) → renamed name k x k ≡ x
+re_here name k x = ap (λ t. cond t x (name k)) (eq_is k k refl)
 
-re_high : (name : ℕ → Place) (kids : ℕ) (p : List Bool) → renamed name kids p (kids + 1) ≡ At (p ++ (true ∷ []))
-re_high name kids p =
-    ap (λ t. cond t (At (p ++ (false ∷ []))) (cond (nat_eq (kids + 1) (kids + 1)) (At (p ++ (true ∷ []))) (name (kids + 1)))) (ne_is (kids + 1) kids (λ e. absurd (omega arith)))
-    ∙ ap (λ t. cond t (At (p ++ (true ∷ []))) (name (kids + 1))) (eq_is (kids + 1) (kids + 1) refl)
-
-re_other : (name : ℕ → Place) (kids : ℕ) (p : List Bool) (j : ℕ) → j ≢ kids → j ≢ kids + 1 → renamed name kids p j ≡ name j
-re_other name kids p j a b =
-    ap (λ t. cond t (At (p ++ (false ∷ []))) (cond (nat_eq j (kids + 1)) (At (p ++ (true ∷ []))) (name j))) (ne_is j kids a)
-    ∙ ap (λ t. cond t (At (p ++ (true ∷ []))) (name j)) (ne_is j (kids + 1) b)
+pub re_other : (name : ℕ → Place) (k : ℕ) (x : Place) (j : ℕ) → j ≢ k → renamed name k x j ≡ name j
+re_other name k x j a = ap (λ t. cond t x (name j)) (ne_is j k a)
 
 -- what has two names is two places
 pub apart : (name : ℕ → Place) (i j : ℕ) (x y : Place) → name i ≡ x → name j ≡ y → (x ≡ y → ⊥) → i ≢ j
@@ -85,9 +78,8 @@ spare_kept zero old new name name' f l c s = s
 spare_kept (suc k) old new name name' f l c s = (
   s.0,
   (c f k (omega arith) s.1).1,
-  (c (f + 1) k (omega arith) s.2).1,
-  omega (arith, l, s.3),
-  subst (λ (x : Node). SpareFrom k new name' x.kids) (sym (c f k (omega arith) s.1).0) (spare_kept k old new name name' (node_at old f).kids l (λ j m h e. c j m (omega arith) e) s.4),
+  omega (arith, l, s.2),
+  subst (λ (x : Node). SpareFrom k new name' x.low) (sym (c f k (omega arith) s.1).0) (spare_kept k old new name name' (node_at old f).low l (λ j m h e. c j m (omega arith) e) s.3),
 )
 
 spare_at : (m k : ℕ) → Spare m ≡ Spare k → m ≡ k
@@ -106,61 +98,53 @@ nowhere_spare m e = cc
 inside : (cells : List Node) (free n : ℕ) (name : ℕ → Place) (j : ℕ) → IsHeld cells free name n → (name j ≡ Nowhere → ⊥) → j < length cells
 inside cells free n name j h e = elim (cases_lt j (length cells)) [ inl l ↦ l | inr g ↦ absurd (e (h.past j (omega arith))) ]
 
--- the first spare pair
-pub spare_pair : (old : List Node) (node : Node) (free : ℕ) (next : ℕ) (name : ℕ → Place) (n : ℕ) (p : List Bool) → (node.low || node.high ≡ true → ⊥) → free ≢ 0 → next ≡ (node_at old free).kids → IsHeld old free name n →
-    GivesPair p old node old next name free
+-- the first spare place
+pub spare_place : (old : List Node) (free next : ℕ) (name : ℕ → Place) (n : ℕ) (r : List Bool) → free ≢ 0 → next ≡ (node_at old free).low → IsHeld old free name n → GivesPlace r old old next name free
 unfolding SpareFrom
-spare_pair old node free next name zero p none z x h = absurd (z h.spare)
-spare_pair old node free next name (suc m) p none z x h =
+spare_place old free next name zero r z x h = absurd (z h.spare)
+spare_place old free next name (suc m) r z x h =
     let s = h.spare in
-    let other : (j : ℕ) (x : Place) → name j ≡ x → (x ≡ Spare m → ⊥) → renamed name free p j ≡ name j =
-    λ j x e k. re_other name free p j (apart name j free x (Spare m) e s.1 k) (apart name j (free + 1) x (Spare m) e s.2 k) in
+    let name2 = renamed name free (At r) in
+    let other : (j : ℕ) (x : Place) → name j ≡ x → (x ≡ Spare m → ⊥) → name2 j ≡ name j =
+    λ j x e k. re_other name free (At r) j (apart name j free x (Spare m) e s.1 k) in
     record {
-      name' = renamed name free p;
+      name' = name2;
       spares = m;
-      pair = record { low = re_low name free p; high = re_high name free p; inside = s.3 };
+      some = z;
+      fresh = λ q e. spare_not m q (sym s.1 ∙ e);
+      mine = re_here name free (At r);
+      inside = s.2;
       held = record {
         past = λ j l. other j Nowhere (h.past j l) (nowhere_spare m) ∙ h.past j l;
-        spare = subst (λ (y : ℕ). SpareFrom m old (renamed name free p) y) (sym x) (spare_kept m old old name (renamed name free p) (node_at old free).kids (omega arith) (λ j k l e. (refl, other j (Spare k) e (λ v. absurd (omega (arith, spare_at k m v))) ∙ e)) s.4);
+        spare = subst (λ (y : ℕ). SpareFrom m old name2 y) (sym x) (spare_kept m old old name name2 (node_at old free).low (omega arith) (λ j k l e. (refl, other j (Spare k) e (λ v. absurd (omega (arith, spare_at k m v))) ∙ e)) s.3);
       };
       long = omega arith;
       same = λ j q e. (refl, other j (At q) e (λ x. spare_not m q (sym x)) ∙ e);
-      had = λ e. absurd (none e);
     }
 
--- a new pair at the end
-pub new_pair : (old new : List Node) (node : Node) (free kids : ℕ) (a b : List Node) (name : ℕ → Place) (n : ℕ) (p : List Bool) → (node.low || node.high ≡ true → ⊥) → kids ≡ length old →
-    new ≡ (old ++ a) ++ b → length a ≡ 1 → length b ≡ 1 → IsHeld old free name n → GivesPair p old node new free name kids
-new_pair old new node free kids a b name n p none at e la lb h =
-    let long : length new ≡ length old + 2 = omega (arith, ap length e, length-append (old ++ a) b, length-append old a) in
-    let same : (j : ℕ) → j < length old → node_at new j ≡ node_at old j =
-    λ j l. ap (λ x. get_or x j blank) e ∙ (get_or_append_left (old ++ a) b blank j (omega (arith, length-append old a)) ∙ get_or_append_left old a blank j l) in
-    let other : (j : ℕ) → j < length old → renamed name kids p j ≡ name j = λ j l. re_other name kids p j (λ x. absurd (omega arith)) (λ x. absurd (omega arith)) in
+-- a new place at the end
+pub new_place : (old new : List Node) (free k : ℕ) (a : List Node) (name : ℕ → Place) (n : ℕ) (r : List Bool) → k ≢ 0 → k ≡ length old → new ≡ old ++ a → length a ≡ 1 → IsHeld old free name n → GivesPlace r old new free name k
+new_place old new free k a name n r z at e la h =
+    let long : length new ≡ length old + 1 = omega (arith, ap length e, length-append old a) in
+    let name2 = renamed name k (At r) in
+    let same : (j : ℕ) → j < length old → node_at new j ≡ node_at old j = λ j l. ap (λ x. get_or x j blank) e ∙ get_or_append_left old a blank j l in
+    let other : (j : ℕ) → j < length old → name2 j ≡ name j = λ j l. re_other name k (At r) j (λ x. absurd (omega arith)) in
     record {
-      name' = renamed name kids p;
+      name' = name2;
       spares = n;
-      pair = record { low = re_low name kids p; high = re_high name kids p; inside = omega arith };
+      some = z;
+      fresh = λ q e. nowhere_not q (sym (h.past k (omega (arith, at))) ∙ e);
+      mine = re_here name k (At r);
+      inside = omega arith;
       held = record {
-        past = λ j l. re_other name kids p j (λ x. absurd (omega arith)) (λ x. absurd (omega arith)) ∙ h.past j (omega arith);
-        spare = spare_kept n old new name (renamed name kids p) free (omega arith) (λ j k l x. let w = inside old free n name j h (λ y. nowhere_spare k (sym y ∙ x)) in (same j w, other j w ∙ x)) h.spare;
+        past = λ j l. re_other name k (At r) j (λ x. absurd (omega arith)) ∙ h.past j (omega arith);
+        spare = spare_kept n old new name name2 free (omega arith) (λ j m l x. let w = inside old free n name j h (λ y. nowhere_spare m (sym y ∙ x)) in (same j w, other j w ∙ x)) h.spare;
       };
       long = omega arith;
       same = λ j q x. let w = inside old free n name j h (λ y. nowhere_not q (sym y ∙ x)) in (same j w, other j w ∙ x);
-      had = λ x. absurd (none x);
     }
 
-pub neither : (a b : Bool) → a ≡ false → b ≡ false → a || b ≡ true → ⊥
-neither a b x y h = let z : false ≡ true = sym (ap (λ t. t || b) x ∙ y) ∙ h in cc
-
 -- ---- a half becomes a node
-
-pub side_name : (cells : List Node) (name : ℕ → Place) (p : List Bool) (kids : ℕ) (b : Bool) → OwnsPair (length cells) name p kids → name (side_at kids b) ≡ At (p ++ (b ∷ []))
-side_name cells name p kids true o = o.high
-side_name cells name p kids false o = o.low
-
-pub side_inside : (long : ℕ) (name : ℕ → Place) (p : List Bool) (kids : ℕ) (b : Bool) → OwnsPair long name p kids → side_at kids b < long
-side_inside long name p kids true o = o.inside
-side_inside long name p kids false o = omega (arith, o.inside)
 
 pub at_same : (p q : List Bool) → At p ≡ At q → p ≡ q
 at_same p q e = cc
@@ -188,9 +172,8 @@ leaf_tree d cells name j p e l b = (
   (
     e,
     l,
-    subst (λ (n : Node). IsNode (walks_at d cells) (λ b j. IsTree d cells name j (p ++ (b ∷ []))) (length cells) name p n) (sym b) (record {
+    subst (λ (n : Node). IsNode (walks_at d cells) (λ b j. IsTree d cells name j (p ++ (b ∷ []))) n) (sym b) (record {
       covers = record { routes = bare_cover bare_cover_is refl refl; entries = bare_cover bare_cover_is refl refl };
-      pair = λ h. cc;
       halves = λ b. elim b as (λ b. IfHalf (λ j. IsTree d cells name j (p ++ (b ∷ []))) (half_place blank b)) [ true ↦ tt | false ↦ tt ];
     }),
   ),
@@ -256,150 +239,118 @@ roomier_low q route entry low low' high high' a e =
     made (false ∷ p) h = elim (a.made p (sym (has_low p route entry low' high) ∙ h)) [ inl x ↦ inl (has_low p route entry low high ∙ x) | inr y ↦ inr y ]
     made (true ∷ p) h = inl (has_high p route entry low high ∙ (sym (has_high p route entry low' high) ∙ h))
 
-half_with : (n : Node) (kids : ℕ) (b : Bool) → half_place (with_half n kids b) b ≡ Some (side_at kids b)
-half_with n kids true = refl
-half_with n kids false = refl
+pub link_some : (j : ℕ) → j ≢ 0 → link j ≡ Some j
+link_some zero z = absurd (z refl)
+link_some (suc j) z = refl
 
-half_none_low : (n : Node) → half_place n false ≡ None → n.low ≡ false
-half_none_low n e = (elim n.low as (λ t. n.low ≡ t → t ≡ false) [ true ↦ λ h. let x : Some n.kids ≡ None = sym (ap (λ t. cond t (Some n.kids) None) h) ∙ e in cc | false ↦ λ h. refl ]) refl
-
-half_none_high : (n : Node) → half_place n true ≡ None → n.high ≡ false
-half_none_high n e = (elim n.high as (λ t. n.high ≡ t → t ≡ false) [ true ↦ λ h. let x : Some (n.kids + 1) ≡ None = sym (ap (λ t. cond t (Some (n.kids + 1)) None) h) ∙ e in cc | false ↦ λ h. refl ]) refl
+half_with : (n : Node) (j : ℕ) (b : Bool) → j ≢ 0 → half_place (with_half n j b) b ≡ Some j
+half_with n j true z = link_some j z
+half_with n j false z = link_some j z
 
 -- the half that was there is where it was
-low_there : (n : Node) (kids : ℕ) → (n.low || n.high ≡ true → kids ≡ n.kids) → half_place (with_half n kids true) false ≡ half_place n false
-low_there n kids h = (elim n.low as (λ t. n.low ≡ t → cond t (Some kids) None ≡ cond t (Some n.kids) None) [ true ↦ λ e. ap Some (h (ap (λ t. t || n.high) e)) | false ↦ λ e. refl ]) refl
+with_other : (n : Node) (j : ℕ) (b c : Bool) → b ≢ c → half_place (with_half n j b) c ≡ half_place n c
+with_other n j true true ne = absurd (ne refl)
+with_other n j true false ne = refl
+with_other n j false true ne = refl
+with_other n j false false ne = absurd (ne refl)
 
-or_true : (t : Bool) → t || true ≡ true
-or_true true = refl
-or_true false = refl
-
-high_there : (n : Node) (kids : ℕ) → (n.low || n.high ≡ true → kids ≡ n.kids) → half_place (with_half n kids false) true ≡ half_place n true
-high_there n kids h = (elim n.high as (λ t. n.high ≡ t → cond t (Some (kids + 1)) None ≡ cond t (Some (n.kids + 1)) None) [ true ↦ λ e. ap (λ k. Some (k + 1)) (h (ap (λ t. n.low || t) e ∙ or_true n.low)) | false ↦ λ e. refl ]) refl
-
-with_other : (n : Node) (kids : ℕ) (b c : Bool) → (n.low || n.high ≡ true → kids ≡ n.kids) → b ≢ c → half_place (with_half n kids b) c ≡ half_place n c
-with_other n kids true true h ne = absurd (ne refl)
-with_other n kids true false h ne = low_there n kids h
-with_other n kids false true h ne = high_there n kids h
-with_other n kids false false h ne = absurd (ne refl)
-
-module _ (e i kids free : ℕ) (old mid : List Node) (n : Node) (name : ℕ → Place) (p : List Bool) (b : Bool) (at : n ≡ node_at old i) (gone : half_place n b ≡ None) (g : GivesPair p old n mid free name kids) where
+module _ (e i j free : ℕ) (old mid : List Node) (n : Node) (name : ℕ → Place) (p : List Bool) (b : Bool) (at : n ≡ node_at old i) (gone : half_place n b ≡ None) (g : GivesPlace (p ++ (b ∷ [])) old mid free name j) where
   -- the array with the new node, before its parent tells of it
   abbrev mid2 : List Node
-  mid2 = slice_set mid (side_at kids b) blank
+  mid2 = slice_set mid j blank
 
   long2 : length mid2 ≡ length mid
-  long2 = length-set mid (side_at kids b) blank
+  long2 = length-set mid j blank
 
-  child : (walks_at (suc e) mid2 (side_at kids b) ≡ walks_of None None no_walks no_walks) × IsTree (suc e) mid2 g.name' (side_at kids b) (p ++ (b ∷ []))
-  child = leaf_tree e mid2 g.name' (side_at kids b) (p ++ (b ∷ [])) (side_name mid g.name' p kids b g.pair) (omega (arith, long2, side_inside (length mid) g.name' p kids b g.pair))
-      (get_or-set_same mid (side_at kids b) blank blank (side_inside (length mid) g.name' p kids b g.pair))
+  child : (walks_at (suc e) mid2 j ≡ walks_of None None no_walks no_walks) × IsTree (suc e) mid2 g.name' j (p ++ (b ∷ []))
+  child = leaf_tree e mid2 g.name' j (p ++ (b ∷ [])) g.mine (omega (arith, long2, g.inside)) (get_or-set_same mid j blank blank g.inside)
 
   other : (c : Bool) → b ≢ c → IfHalf (λ j. IsTree (suc e) old name j (p ++ (c ∷ []))) (half_place n c) →
       (from_half (walks_at (suc e) mid2) (half_place n c) ≡ from_half (walks_at (suc e) old) (half_place n c)) × IfHalf (λ j. IsTree (suc e) mid2 g.name' j (p ++ (c ∷ []))) (half_place n c)
   other c ne t =
       let car : Carries (p ++ (c ∷ [])) old mid2 name g.name' = record {
         long = omega (arith, long2, g.long);
-        same = λ j q f h. (
-          get_or-set_other mid (side_at kids b) j blank blank (apart g.name' j (side_at kids b) (At q) (At (p ++ (b ∷ []))) (g.same j q f).1 (side_name mid g.name' p kids b g.pair)
-              (λ x. both_not p (p ++ (b ∷ [])) b c ne (begins_self (p ++ (b ∷ []))) (ap (begins (p ++ (c ∷ []))) (sym (at_same q (p ++ (b ∷ [])) x)) ∙ h))) ∙ (g.same j q f).0,
-          (g.same j q f).1,
+        same = λ x q f h. (
+          get_or-set_other mid j x blank blank (apart g.name' x j (At q) (At (p ++ (b ∷ []))) (g.same x q f).1 g.mine
+              (λ y. both_not p (p ++ (b ∷ [])) b c ne (begins_self (p ++ (b ∷ []))) (ap (begins (p ++ (c ∷ []))) (sym (at_same q (p ++ (b ∷ [])) y)) ∙ h))) ∙ (g.same x q f).0,
+          (g.same x q f).1,
         );
       } in
-      half_carried (suc e) old mid2 name g.name' (p ++ (c ∷ [])) (half_place n c) (λ j s. carry (suc e) old mid2 name g.name' j (p ++ (c ∷ [])) car s) t
+      half_carried (suc e) old mid2 name g.name' (p ++ (c ∷ [])) (half_place n c) (λ x s. carry (suc e) old mid2 name g.name' x (p ++ (c ∷ [])) car s) t
 
-  spares_kept : (new : List Node) → length new ≡ length mid → ((j : ℕ) (m : ℕ) → g.name' j ≡ Spare m → node_at new j ≡ node_at mid j) → IsHeld new free g.name' g.spares
+  spares_kept : (new : List Node) → length new ≡ length mid → ((x : ℕ) (m : ℕ) → g.name' x ≡ Spare m → node_at new x ≡ node_at mid x) → IsHeld new free g.name' g.spares
   spares_kept new l s = record {
-    past = λ j h. g.held.past j (omega arith);
-    spare = spare_kept g.spares mid new g.name' g.name' free (omega arith) (λ j m k x. (s j m x, x)) g.held.spare;
+    past = λ x h. g.held.past x (omega (arith, l, h));
+    spare = spare_kept g.spares mid new g.name' g.name' free (omega (arith, l)) (λ x m k y. (s x m y, y)) g.held.spare;
   }
 
-  pub split_done : IsTree (suc (suc e)) old name i p → IsSplit (suc (suc e)) b old (slice_set mid2 i (with_half n kids b)) free name i p (side_at kids b)
+  pub split_done : IsTree (suc (suc e)) old name i p → IsSplit (suc (suc e)) b old (slice_set mid2 i (with_half n j b)) free name i p j
   unfolding walks_at IsTree
   split_done t =
-      let m = with_half n kids b in
+      let m = with_half n j b in
       let new = slice_set mid2 i m in
-      let W0 = walks_at (suc e) old in
+      let Old = walks_at (suc e) old in
       let W = walks_at (suc e) mid2 in
-      let S : Bool → ℕ → Type 0 = λ b j. IsTree (suc e) mid2 g.name' j (p ++ (b ∷ [])) in
-      let k : IsNode W0 (λ b j. IsTree (suc e) old name j (p ++ (b ∷ []))) (length old) name p n = subst (λ (x : Node). IsNode W0 (λ b j. IsTree (suc e) old name j (p ++ (b ∷ []))) (length old) name p x) (sym at) t.2 in
+      let S : Bool → ℕ → Type 0 = λ b x. IsTree (suc e) mid2 g.name' x (p ++ (b ∷ [])) in
+      let k : IsNode Old (λ b x. IsTree (suc e) old name x (p ++ (b ∷ []))) n = subst (λ (y : Node). IsNode Old (λ b x. IsTree (suc e) old name x (p ++ (b ∷ []))) y) (sym at) t.2 in
       let here = g.same i p t.0 in
       let within : i < length mid2 = omega (arith, long2, g.long, t.1) in
-      let pair : OwnsPair (length mid2) g.name' p kids = record { low = g.pair.low; high = g.pair.high; inside = omega (arith, long2, g.pair.inside) } in
-      let Q : Bool → Type 0 = λ x. b ≡ x → ((r : List Bool) → IsRoomier (x ∷ r) (walks_by W0 n) (walks_by W (with_half n kids x))) × IsNode W S (length mid2) g.name' p (with_half n kids x) in
+      let is = link_some j g.some in
+      let mine : (r : List Bool) → IsRoomier r no_walks (from_half W (link j)) = λ r. roomier_nothing r (from_half W (link j)) (ap (from_half W) is ∙ child.0) in
+      let tree : IfHalf (S b) (link j) = subst (λ (o : Option ℕ). IfHalf (S b) o) (sym is) child.1 in
+      let Q : Bool → Type 0 = λ x. b ≡ x → ((r : List Bool) → IsRoomier (x ∷ r) (walks_by Old n) (walks_by W (with_half n j x))) × IsNode W S (with_half n j x) in
       let made = (elim b as Q [
         | true ↦ λ q.
-            let mine : (r : List Bool) → IsRoomier r no_walks (W (kids + 1)) = λ r. roomier_nothing r (W (kids + 1)) (subst (λ x. walks_at (suc e) mid2 (side_at kids x) ≡ walks_of None None no_walks no_walks) q child.0) in
-            let tree : S true (kids + 1) = subst (λ x. IsTree (suc e) mid2 g.name' (side_at kids x) (p ++ (x ∷ []))) q child.1 in
             let rest = other false (λ x. let y : true ≡ false = sym q ∙ x in cc) (k.halves false) in
-            let was : from_half W0 (half_place n true) ≡ no_walks = ap (from_half W0) (ap (half_place n) (sym q) ∙ gone) in
-            let there = low_there n kids g.had in
-            let lows : from_half W (half_place (with_half n kids true) false) ≡ from_half W0 (half_place n false) = ap (from_half W) there ∙ rest.0 in
-            let highs : (r : List Bool) → IsRoomier r (from_half W0 (half_place n true)) (W (kids + 1)) = λ r. subst (λ x. IsRoomier r x (W (kids + 1))) (sym was) (mine r) in (
-              λ r. roomier_high r n.route.hop n.entry.hop _ _ _ _ lows (highs r),
+            let was : from_half Old (half_place n true) ≡ no_walks = ap (from_half Old) (ap (half_place n) (sym q) ∙ gone) in
+            let highs : (r : List Bool) → IsRoomier r (from_half Old (half_place n true)) (from_half W (link j)) = λ r. subst (λ x. IsRoomier r x (from_half W (link j))) (sym was) (mine r) in (
+              λ r. roomier_high r n.route.hop n.entry.hop _ _ _ _ rest.0 (highs r),
               record {
-                covers = covers_alike [] [] n _ _ _ _ (roomier_same [] _ _ lows) (highs []) k.covers;
-                pair = λ h. pair;
-                halves = λ c. elim c as (λ c. IfHalf (S c) (half_place (with_half n kids true) c)) [ true ↦ tree | false ↦ subst (λ (o : Option ℕ). IfHalf (S false) o) (sym there) rest.1 ];
+                covers = covers_alike [] [] n _ _ _ _ (roomier_same [] _ _ rest.0) (highs []) k.covers;
+                halves = λ c. elim c as (λ c. IfHalf (S c) (half_place (with_half n j true) c)) [ true ↦ subst (λ x. IfHalf (S x) (link j)) q tree | false ↦ rest.1 ];
               },
             )
         | false ↦ λ q.
-            let mine : (r : List Bool) → IsRoomier r no_walks (W kids) = λ r. roomier_nothing r (W kids) (subst (λ x. walks_at (suc e) mid2 (side_at kids x) ≡ walks_of None None no_walks no_walks) q child.0) in
-            let tree : S false kids = subst (λ x. IsTree (suc e) mid2 g.name' (side_at kids x) (p ++ (x ∷ []))) q child.1 in
             let rest = other true (λ x. let y : false ≡ true = sym q ∙ x in cc) (k.halves true) in
-            let was : from_half W0 (half_place n false) ≡ no_walks = ap (from_half W0) (ap (half_place n) (sym q) ∙ gone) in
-            let there = high_there n kids g.had in
-            let highs : from_half W (half_place (with_half n kids false) true) ≡ from_half W0 (half_place n true) = ap (from_half W) there ∙ rest.0 in
-            let lows : (r : List Bool) → IsRoomier r (from_half W0 (half_place n false)) (W kids) = λ r. subst (λ x. IsRoomier r x (W kids)) (sym was) (mine r) in (
-              λ r. roomier_low r n.route.hop n.entry.hop _ _ _ _ (lows r) highs,
+            let was : from_half Old (half_place n false) ≡ no_walks = ap (from_half Old) (ap (half_place n) (sym q) ∙ gone) in
+            let lows : (r : List Bool) → IsRoomier r (from_half Old (half_place n false)) (from_half W (link j)) = λ r. subst (λ x. IsRoomier r x (from_half W (link j))) (sym was) (mine r) in (
+              λ r. roomier_low r n.route.hop n.entry.hop _ _ _ _ (lows r) rest.0,
               record {
-                covers = covers_alike [] [] n _ _ _ _ (lows []) (roomier_same [] _ _ highs) k.covers;
-                pair = λ h. pair;
-                halves = λ c. elim c as (λ c. IfHalf (S c) (half_place (with_half n kids false) c)) [ true ↦ subst (λ (o : Option ℕ). IfHalf (S true) o) (sym there) rest.1 | false ↦ tree ];
+                covers = covers_alike [] [] n _ _ _ _ (lows []) (roomier_same [] _ _ rest.0) k.covers;
+                halves = λ c. elim c as (λ c. IfHalf (S c) (half_place (with_half n j false) c)) [ true ↦ rest.1 | false ↦ subst (λ x. IfHalf (S x) (link j)) q tree ];
               },
             )
       ]) refl in
       let x = placed (suc e) mid2 i m g.name' p here.1 within made.1 in
-      let side = side_name mid g.name' p kids b g.pair in
-      let same : (j : ℕ) (y : Place) → g.name' j ≡ y → (y ≡ At p → ⊥) → (y ≡ At (p ++ (b ∷ [])) → ⊥) → node_at new j ≡ node_at mid j =
-      λ j y f u v. get_or-set_other mid2 i j m blank (apart g.name' j i y (At p) f here.1 u) ∙ get_or-set_other mid (side_at kids b) j blank blank (apart g.name' j (side_at kids b) y (At (p ++ (b ∷ []))) f side v) in
+      let same : (x : ℕ) (y : Place) → g.name' x ≡ y → (y ≡ At p → ⊥) → (y ≡ At (p ++ (b ∷ [])) → ⊥) → node_at new x ≡ node_at mid x =
+      λ x y f u v. get_or-set_other mid2 i x m blank (apart g.name' x i y (At p) f here.1 u) ∙ get_or-set_other mid j x blank blank (apart g.name' x j y (At (p ++ (b ∷ []))) f g.mine v) in
       record {
         name' = g.name';
         spares = g.spares;
         tree = x.1;
-        held = spares_kept new (length-set mid2 i m ∙ long2) (λ j k f. same j (Spare k) f (spare_not k p) (spare_not k (p ++ (b ∷ []))));
+        held = spares_kept new (length-set mid2 i m ∙ long2) (λ x k f. same x (Spare k) f (spare_not k p) (spare_not k (p ++ (b ∷ []))));
         keeps = record {
           long = omega (arith, length-set mid2 i m, long2, g.long);
-          same = λ j q f h. (
-            same j (At q) (g.same j q f).1
+          same = λ x q f h. (
+            same x (At q) (g.same x q f).1
                 (λ u. let z : true ≡ false = sym (begins_self p) ∙ ap (begins p) (sym (at_same q p u)) ∙ h in cc)
                 (λ u. let z : true ≡ false = sym (begins_front p (b ∷ [])) ∙ ap (begins p) (sym (at_same q (p ++ (b ∷ [])) u)) ∙ h in cc)
-                ∙ (g.same j q f).0,
-            (g.same j q f).1,
+                ∙ (g.same x q f).0,
+            (g.same x q f).1,
           );
         };
-        walks = λ r. roomier_trans _ _ _ _ (roomier_same _ _ _ (ap (walks_by W0) at)) (roomier_trans _ _ _ _ (made.0 r) (roomier_same _ _ _ x.0));
-        half = ap (λ y. half_place y b) (get_or-set_same mid2 i m blank within) ∙ half_with n kids b;
-        blank = get_or-set_other mid2 i (side_at kids b) m blank (apart g.name' (side_at kids b) i (At (p ++ (b ∷ []))) (At p) side here.1 (λ u. let z : true ≡ false = sym (begins_self (p ++ (b ∷ []))) ∙ ap (begins (p ++ (b ∷ []))) (at_same (p ++ (b ∷ [])) p u) ∙ begins_self_not p b in cc))
-            ∙ get_or-set_same mid (side_at kids b) blank blank (side_inside (length mid) g.name' p kids b g.pair);
-        mine = λ q f. at_same q (p ++ (b ∷ [])) (sym (g.same (side_at kids b) q f).1 ∙ side);
-        other = λ c ne. ap (λ y. half_place y c) (get_or-set_same mid2 i m blank within) ∙ (with_other n kids b c g.had ne ∙ ap (λ y. half_place y c) at);
+        walks = λ r. roomier_trans _ _ _ _ (roomier_same _ _ _ (ap (walks_by Old) at)) (roomier_trans _ _ _ _ (made.0 r) (roomier_same _ _ _ x.0));
+        half = ap (λ y. half_place y b) (get_or-set_same mid2 i m blank within) ∙ half_with n j b g.some;
+        blank = get_or-set_other mid2 i j m blank (apart g.name' j i (At (p ++ (b ∷ []))) (At p) g.mine here.1 (λ u. let z : true ≡ false = sym (begins_self (p ++ (b ∷ []))) ∙ ap (begins (p ++ (b ∷ []))) (at_same (p ++ (b ∷ [])) p u) ∙ begins_self_not p b in cc))
+            ∙ get_or-set_same mid j blank blank g.inside;
+        fresh = g.fresh;
+        other = λ c ne. ap (λ y. half_place y c) (get_or-set_same mid2 i m blank within) ∙ (with_other n j b c ne ∙ ap (λ y. half_place y c) at);
         rest = λ x r c ne f h.
             same x (At r) (g.same x r f).1
             (λ u. let z : true ≡ false = sym h ∙ ap (begins (p ++ (c ∷ []))) (at_same r p u) ∙ begins_self_not p c in cc)
             (λ u. both_not p (p ++ (b ∷ [])) b c ne (begins_self (p ++ (b ∷ []))) (ap (begins (p ++ (c ∷ []))) (sym (at_same r (p ++ (b ∷ [])) u)) ∙ h))
             ∙ (g.same x r f).0;
       }
-
-half_some : (n : Node) (b : Bool) (j : ℕ) → half_place n b ≡ Some j → (j ≡ side_at n.kids b) × (n.low || n.high ≡ true)
-half_some n true j e = (elim n.high as (λ t. n.high ≡ t → cond t (Some (n.kids + 1)) None ≡ Some j → (j ≡ n.kids + 1) × (n.low || n.high ≡ true)) [ true ↦ λ h x. (some_is _ _ (sym x), ap (λ t. n.low || t) h ∙ or_true n.low) | false ↦ λ h x. cc ]) refl e
-  where
-    some_is : (a b : ℕ) → Some a ≡ Some b → a ≡ b
-    some_is a b h = cc
-half_some n false j e = (elim n.low as (λ t. n.low ≡ t → cond t (Some n.kids) None ≡ Some j → (j ≡ n.kids) × (n.low || n.high ≡ true)) [ true ↦ λ h x. (some_eq _ _ (sym x), ap (λ t. t || n.high) h) | false ↦ λ h x. cc ]) refl e
-  where
-    some_eq : (a b : ℕ) → Some a ≡ Some b → a ≡ b
-    some_eq a b h = cc
 
 pub tree_name : (d : ℕ) (cells : List Node) (name : ℕ → Place) (i : ℕ) (p : List Bool) → IsTree d cells name i p → name i ≡ At p
 unfolding IsTree
@@ -423,27 +374,19 @@ pub room_below : (old new : List Node) (free i j left q d : ℕ) (name : ℕ →
 unfolding walks_at IsTree
 room_below old new free i j left q d name p b z y some t r =
     let n = node_at old i in
-    let W0 = walks_at d old in
+    let Old = walks_at d old in
     let W = walks_at d new in
     let here = r.keeps.same i p t.0 (begins_self_not p b) in
     let k = t.2 in
-    let which = half_some n b j some in
-    let own = k.pair which.1 in
-    let other : (c : Bool) → b ≢ c → (from_half W (half_place n c) ≡ from_half W0 (half_place n c)) × IfHalf (λ j. IsTree d new r.name' j (p ++ (c ∷ []))) (half_place n c) =
+    let other : (c : Bool) → b ≢ c → (from_half W (half_place n c) ≡ from_half Old (half_place n c)) × IfHalf (λ j. IsTree d new r.name' j (p ++ (c ∷ []))) (half_place n c) =
     λ c ne.
     let car : Carries (p ++ (c ∷ [])) old new name r.name' = record { long = r.keeps.long; same = λ x v f h. r.keeps.same x v f (no (begins (p ++ (b ∷ [])) v) (λ u. both_not p v b c ne u h)) } in
     half_carried d old new name r.name' (p ++ (c ∷ [])) (half_place n c) (λ x s. carry d old new name r.name' x (p ++ (c ∷ [])) car s) (k.halves c)
     in
-    let side : (c : Bool) → r.name' (side_at n.kids c) ≡ At (p ++ (c ∷ [])) =
-    λ c. elim (same_side b c) [
-      | inl e ↦ subst (λ x. r.name' (side_at n.kids x) ≡ At (p ++ (x ∷ []))) e (ap r.name' (sym which.0) ∙ tree_name d new r.name' j (p ++ (b ∷ [])) r.tree)
-      | inr ne ↦ (r.keeps.same (side_at n.kids c) (p ++ (c ∷ [])) (side_name old name p n.kids c own) (no (begins (p ++ (b ∷ [])) (p ++ (c ∷ []))) (λ u. both_not p (p ++ (c ∷ [])) b c ne u (begins_self (p ++ (c ∷ [])))))).1
-    ] in
-    let mine : (o : Option ℕ) → o ≡ Some j → IsRoomier (bits_of (left - 1) q) (from_half W0 o) (from_half W o) × (has_node (bits_of (left - 1) q) (from_half W o).nodes ≡ true) × IfHalf (λ j. IsTree d new r.name' j (p ++ (b ∷ []))) o =
-    λ o e. subst (λ (v : Option ℕ). IsRoomier (bits_of (left - 1) q) (from_half W0 v) (from_half W v) × (has_node (bits_of (left - 1) q) (from_half W v).nodes ≡ true) × IfHalf (λ j. IsTree d new r.name' j (p ++ (b ∷ []))) v) (sym e) (r.walks, r.there, r.tree) in
+    let mine : (o : Option ℕ) → o ≡ Some j → IsRoomier (bits_of (left - 1) q) (from_half Old o) (from_half W o) × (has_node (bits_of (left - 1) q) (from_half W o).nodes ≡ true) × IfHalf (λ j. IsTree d new r.name' j (p ++ (b ∷ []))) o =
+    λ o e. subst (λ (v : Option ℕ). IsRoomier (bits_of (left - 1) q) (from_half Old v) (from_half W v) × (has_node (bits_of (left - 1) q) (from_half W v).nodes ≡ true) × IfHalf (λ j. IsTree d new r.name' j (p ++ (b ∷ []))) v) (sym e) (r.walks, r.there, r.tree) in
     let S : Bool → ℕ → Type 0 = λ c j. IsTree d new r.name' j (p ++ (c ∷ [])) in
-    let Q : Bool → Type 0 = λ x. b ≡ x → IsRoomier (x ∷ bits_of (left - 1) q) (walks_by W0 n) (walks_by W n) × (has_node (bits_of left q) (walks_by W n).nodes ≡ true) × IsNode W S (length new) r.name' p n in
-    let pair : n.low || n.high ≡ true → OwnsPair (length new) r.name' p n.kids = λ h. record { low = side false; high = side true; inside = omega (arith, own.inside, r.keeps.long) } in
+    let Q : Bool → Type 0 = λ x. b ≡ x → IsRoomier (x ∷ bits_of (left - 1) q) (walks_by Old n) (walks_by W n) × (has_node (bits_of left q) (walks_by W n).nodes ≡ true) × IsNode W S n in
     let made = (elim b as Q [
       | true ↦ λ e.
           let m = mine (half_place n true) (ap (half_place n) (sym e) ∙ some) in
@@ -452,7 +395,6 @@ room_below old new free i j left q d name p b z y some t r =
             sym (room_half true n.route.hop n.entry.hop (from_half W (half_place n false)) (from_half W (half_place n true)) left q z (sym e ∙ y)) ∙ m.1,
             record {
               covers = covers_alike [] _ n _ _ _ _ (roomier_same [] _ _ rest.0) m.0 k.covers;
-              pair = pair;
               halves = λ c. elim c as (λ c. IfHalf (S c) (half_place n c)) [ true ↦ subst (λ x. IfHalf (λ j. IsTree d new r.name' j (p ++ (x ∷ []))) (half_place n true)) e m.2 | false ↦ rest.1 ];
             },
           )
@@ -463,7 +405,6 @@ room_below old new free i j left q d name p b z y some t r =
             sym (room_half false n.route.hop n.entry.hop (from_half W (half_place n false)) (from_half W (half_place n true)) left q z (sym e ∙ y)) ∙ m.1,
             record {
               covers = covers_alike _ [] n _ _ _ _ m.0 (roomier_same [] _ _ rest.0) k.covers;
-              pair = pair;
               halves = λ c. elim c as (λ c. IfHalf (S c) (half_place n c)) [ true ↦ rest.1 | false ↦ subst (λ x. IfHalf (λ j. IsTree d new r.name' j (p ++ (x ∷ []))) (half_place n false)) e m.2 ];
             },
           )
@@ -471,18 +412,12 @@ room_below old new free i j left q d name p b z y some t r =
     record {
       name' = r.name';
       spares = r.spares;
-      tree = (here.1, omega (arith, t.1, r.keeps.long), subst (λ (x : Node). IsNode W S (length new) r.name' p x) (sym here.0) made.2);
+      tree = (here.1, omega (arith, t.1, r.keeps.long), subst (λ (x : Node). IsNode W S x) (sym here.0) made.2);
       held = r.held;
       keeps = record { long = r.keeps.long; same = λ x v f h. r.keeps.same x v f (no (begins (p ++ (b ∷ [])) v) (λ u. no_begin p v b u h)) };
-      walks = subst (λ v. IsRoomier v (walks_by W0 n) (walks_by W (node_at new i))) (sym (first_bit left q b z y)) (roomier_trans _ _ _ _ made.0 (roomier_same _ _ _ (ap (walks_by W) here.0)));
+      walks = subst (λ v. IsRoomier v (walks_by Old n) (walks_by W (node_at new i))) (sym (first_bit left q b z y)) (roomier_trans _ _ _ _ made.0 (roomier_same _ _ _ (ap (walks_by W) here.0)));
       there = ap (λ (x : Node). has_node (bits_of left q) (walks_by W x).nodes) here.0 ∙ made.1;
     }
-  where
-    same_side : (a c : Bool) → (a ≡ c) ⊎ (a ≢ c)
-    same_side true true = inl refl
-    same_side true false = inr (λ e. cc)
-    same_side false true = inr (λ e. cc)
-    same_side false false = inl refl
 
 pub some_room : (old new : List Node) (n : Node) (o : Option ℕ) (free i j left q d : ℕ) (name : ℕ → Place) (p : List Bool) (b : Bool) → left ≢ 0 → b ≡ nat_eq (bit_at q (left - 1)) 1 → n ≡ node_at old i → o ≡ half_place n b → o ≡ Some j → left < d →
     IsTree d old name i p → ((e : ℕ) (v : List Bool) → left - 1 < e → IsTree e old name j v → HasRoom e (bits_of (left - 1) q) old new free name j v) → HasRoom d (bits_of left q) old new free name i p
@@ -512,19 +447,13 @@ none_room old mid new free1 free i j left q d name p b z y l s f =
     split_room old mid new free1 free i j left q d name p b z y s
     (some_room mid new (node_at mid i) (half_place (node_at mid i) b) free i j left q d s.name' p b z y refl refl s.half l s.tree (λ e v m t. f e s.name' s.spares v m t s.held))
 
-pub split_is : (old mid new : List Node) (n leaf m : Node) (kids i j free d : ℕ) (name : ℕ → Place) (p : List Bool) (b : Bool) → n ≡ node_at old i → half_place n b ≡ None → 1 < d → IsTree d old name i p → GivesPair p old n mid free name kids →
-    j ≡ side_at kids b → leaf ≡ blank → m ≡ with_half n kids b → new ≡ slice_set (slice_set mid j leaf) i m → IsSplit d b old new free name i p j
-split_is old mid new n leaf m kids i j free zero name p b at gone l t g s x y z = absurd (omega arith)
-split_is old mid new n leaf m kids i j free (suc zero) name p b at gone l t g s x y z = absurd (omega arith)
-split_is old mid new n leaf m kids i j free (suc (suc e)) name p b at gone l t g s x y z =
-    let is : new ≡ slice_set (slice_set mid (side_at kids b) blank) i (with_half n kids b) =
-    z ∙ ap (λ v. slice_set (slice_set mid v leaf) i m) s ∙ ap (λ v. slice_set (slice_set mid (side_at kids b) v) i m) x ∙ ap (λ v. slice_set (slice_set mid (side_at kids b) blank) i v) y in
-    subst (λ (v : List Node). IsSplit (suc (suc e)) b old v free name i p j) (sym is) (subst (λ (v : ℕ). IsSplit (suc (suc e)) b old (slice_set (slice_set mid (side_at kids b) blank) i (with_half n kids b)) free name i p v) (sym s) (split_done e i kids free old mid n name p b at gone g t))
-
-pub own_pair : (old : List Node) (n : Node) (i d : ℕ) (name : ℕ → Place) (p : List Bool) → n ≡ node_at old i → IsTree d old name i p → n.low || n.high ≡ true → OwnsPair (length old) name p n.kids
-unfolding IsTree
-own_pair old n i zero name p at t h = absurd t
-own_pair old n i (suc d) name p at t h = subst (λ (x : Node). x.low || x.high ≡ true → OwnsPair (length old) name p x.kids) (sym at) t.2.pair h
+pub split_is : (old mid new : List Node) (n leaf m : Node) (i j free d : ℕ) (name : ℕ → Place) (p : List Bool) (b : Bool) → n ≡ node_at old i → half_place n b ≡ None → 1 < d → IsTree d old name i p → GivesPlace (p ++ (b ∷ [])) old mid free name j →
+    leaf ≡ blank → m ≡ with_half n j b → new ≡ slice_set (slice_set mid j leaf) i m → IsSplit d b old new free name i p j
+split_is old mid new n leaf m i j free zero name p b at gone l t g x y z = absurd (omega arith)
+split_is old mid new n leaf m i j free (suc zero) name p b at gone l t g x y z = absurd (omega arith)
+split_is old mid new n leaf m i j free (suc (suc e)) name p b at gone l t g x y z =
+    let is : new ≡ slice_set (slice_set mid j blank) i (with_half n j b) = z ∙ ap (λ v. slice_set (slice_set mid j v) i m) x ∙ ap (λ v. slice_set (slice_set mid j blank) i v) y in
+    subst (λ (v : List Node). IsSplit (suc (suc e)) b old v free name i p j) (sym is) (split_done e i j free old mid n name p b at gone g t)
 
 pub room_there : (old : List Node) (free i left q d : ℕ) (name : ℕ → Place) (n : ℕ) (p : List Bool) → true ≡ has_node (bits_of left q) (walks_at d old i).nodes → IsTree d old name i p → IsHeld old free name n → HasRoom d (bits_of left q) old old free name i p
 room_there old free i left q d name n p z t h = record {

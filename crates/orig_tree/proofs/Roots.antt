@@ -19,9 +19,12 @@ use Rattle.orig_tree.specs.Uniform.{IsUniform}
 use Rattle.orig_tree.proofs.Places.{match_is}
 use Rattle.orig_tree.proofs.Above.{above_is}
 use Rattle.orig_tree.proofs.Telling.{told_whole, whole_fits}
+use Rattle.orig_tree.specs.Bests.{KeepsBest}
 use Rattle.orig_tree.specs.Drops.{NodeTrimmed}
+use Rattle.orig_tree.specs.declared.best.Best.{Best}
 use Rattle.orig_tree.specs.Trims.{IsTrimmed}
-use Rattle.orig_tree.proofs.Rooms.{leaf_tree, spare_kept, roomier_same, tree_name}
+use Rattle.orig_tree.proofs.Rooms.{leaf_tree, spare_kept, roomier_same}
+use Rattle.orig_tree.proofs.Standing.{best_alike}
 
 pub width_most : (f : Family) → width f ≤ 128
 width_most V4 = omega arith
@@ -98,8 +101,13 @@ pub uniform_whole : (f : Family) (label : Label) (p : List Bool) (cells : List N
 uniform_whole f label p cells free len result l a fits u = u (suc (width f)) a.name [] (width f) (omega arith) a.tree l fits
 
 pub trim_whole : (f : Family) (p : List Bool) (depth free free' : ℕ) (old new : List Node) (stays : Bool) → depth ≡ width f → IsArena f old free →
-    ((d : ℕ) (name : ℕ → Place) (spares : ℕ) (r : List Bool) → d ≤ depth + 1 → name 0 ≡ At [] → IsTree d old name 0 r → IsHeld old free name spares → NodeTrimmed d p old new free' name 0 r stays) →
-    ((whole f new).routes ≡ (whole f old).routes) × ((whole f new).entries ≡ (whole f old).entries) × IsTrimmed p (whole f old) (whole f new) × IsArena f new free'
+    ((d : ℕ) (name : ℕ → Place) (spares : ℕ) (r : List Bool) → d ≤ depth + 1 → IsTree d old name 0 r → IsHeld old free name spares → NodeTrimmed d p old new free' name 0 r stays) →
+    ((whole f new).routes ≡ (whole f old).routes) × ((whole f new).entries ≡ (whole f old).entries) × IsTrimmed p (whole f old) (whole f new) × IsArena f new free' × ((S : ℕ → Best) → KeepsBest f old S → KeepsBest f new S)
 trim_whole f p depth free free' old new stays e a t =
-    let x = t (suc (width f)) a.name a.spares [] (omega arith) (tree_name (suc (width f)) old a.name 0 [] a.tree) a.tree a.held in
-    (x.routes, x.entries, x.trimmed, record { name = x.name'; spares = x.spares; tree = x.tree; held = x.held })
+    let x = t (suc (width f)) a.name a.spares [] (omega arith) a.tree a.held in (
+      x.routes,
+      x.entries,
+      x.trimmed,
+      record { name = x.name'; spares = x.spares; tree = x.tree; held = x.held },
+      λ S k. best_alike (suc (width f)) new S (λ a. lpm (whole f old).routes a 0) (λ a. lpm (whole f new).routes a 0) 0 (λ a l. ap (λ R. lpm R a 0) (sym x.routes)) (x.best S (λ a. lpm (whole f old).routes a 0) k),
+    )

@@ -1,5 +1,5 @@
 -- What stands for a region, and for the regions below it.
-use Rattle.std.proofs.Common.{◌≡◌, ◌≢◌, ℕ, zero, suc, ◌+◌, ◌≤◌, List, [], ◌∷◌, ◌++◌, length, Bool, true, false, cond, ◌||◌, ◌⊎◌, inl, inr, IsTrue, ◌↔◌, refl, sym, ap, ◌∙◌, subst, arith, Option, Some, None, nat_eq}
+use Rattle.std.proofs.Common.{◌≡◌, ◌≢◌, ℕ, zero, suc, ◌+◌, ◌≤◌, List, [], ◌∷◌, ◌++◌, length, Bool, true, false, cond, ◌||◌, IsTrue, ◌↔◌, refl, sym, ap, ◌∙◌, subst, arith, Option, Some, None, nat_eq}
 use Rattle.std.proofs.lemmas.Bool.{ne_eqb}
 use Rattle.address_model.specs.Bits.{begins, bits_of}
 use Rattle.address_model.proofs.BitLaws.{length-bits_of}
@@ -174,17 +174,14 @@ best_alike (suc d) cells kept f g i e k = (
       (λ j. best_alike d cells kept (side b f) (side b g) j (λ a l. e (b ∷ a) (ap suc l))) (k.1 b),
 )
 
--- the same halves, or fewer
-pub best_fewer : (d : ℕ) (old new : List Node) (kept : ℕ → Best) (f : List Bool → ℕ) (i : ℕ) → ((j : ℕ) (b : Bool) → (half_place (node_at new j) b ≡ half_place (node_at old j) b) ⊎ (half_place (node_at new j) b ≡ None)) → AreBest d old kept f i → AreBest d new kept f i
+-- the same halves
+pub best_stay : (d : ℕ) (old new : List Node) (kept : ℕ → Best) (f : List Bool → ℕ) (i : ℕ) → ((j : ℕ) (b : Bool) → half_place (node_at new j) b ≡ half_place (node_at old j) b) → AreBest d old kept f i → AreBest d new kept f i
 unfolding AreBest
-best_fewer zero old new kept f i h k = tt
-best_fewer (suc d) old new kept f i h k = (
+best_stay zero old new kept f i h k = tt
+best_stay (suc d) old new kept f i h k = (
   k.0,
-  λ b. elim (h i b) [
-    | inl e ↦ subst (λ (o : Option ℕ). IfHalf (λ j. AreBest d new kept (side b f) j) o) (sym e)
-        (if_half (λ j. AreBest d old kept (side b f) j) (λ j. AreBest d new kept (side b f) j) (half_place (node_at old i) b) (λ j. best_fewer d old new kept (side b f) j h) (k.1 b))
-    | inr e ↦ subst (λ (o : Option ℕ). IfHalf (λ j. AreBest d new kept (side b f) j) o) (sym e) tt
-  ],
+  λ b. subst (λ (o : Option ℕ). IfHalf (λ j. AreBest d new kept (side b f) j) o) (sym (h i b))
+      (if_half (λ j. AreBest d old kept (side b f) j) (λ j. AreBest d new kept (side b f) j) (half_place (node_at old i) b) (λ j. best_stay d old new kept (side b f) j h) (k.1 b)),
 )
 
 -- the nodes and what they keep are the same at path p and below it

@@ -26,7 +26,7 @@ use Rattle.orig_tree.specs.declared.best.Change.{Change}
 use Rattle.orig_tree.specs.declared.undo.Undo.{Undo}
 use Rattle.orig_tree.proofs.Lists.{edit_low, edit_high, edit_own}
 use Rattle.orig_tree.proofs.Roots.{set_whole}
-use Rattle.orig_tree.proofs.Standing.{best_alike, best_fewer, best_carry, best_same}
+use Rattle.orig_tree.proofs.Standing.{best_alike, best_stay, best_carry, best_same}
 use Rattle.orig_tree.proofs.Growing.{within_it}
 
 -- ---- a route put back
@@ -121,7 +121,7 @@ put_in f q len set free free' old new S few g a w k assigned stay =
     let F = λ (x : List Bool). lpm (edit (bits_of len q) set (whole f old).routes) x 0 in
     let s = set_whole f Route q len free free' set old new few g a w assigned in (
       s.1,
-      best_alike (suc (width f)) new S F (λ x. lpm (whole f new).routes x 0) 0 (λ x u. ap (λ R. lpm R x 0) (sym (ap (λ (y : Walks). y.routes) s.0))) (best_fewer (suc (width f)) old new S F 0 stay k),
+      best_alike (suc (width f)) new S F (λ x. lpm (whole f new).routes x 0) 0 (λ x u. ap (λ R. lpm R x 0) (sym (ap (λ (y : Walks). y.routes) s.0))) (best_stay (suc (width f)) old new S F 0 stay k),
       s.0,
     )
 
@@ -149,7 +149,7 @@ takes_back f u set n free old new S S2 few own a k l made stay w there =
       routes =
           ap (edit p u.hop) (ap (λ (y : Walks). y.routes) w)
           ∙ (ap (λ o. edit p o (edit p set (whole f old).routes)) own ∙ edit_back (suc (width f)) old 0 p set (omega (arith, few, length-bits_of u.len u.q)));
-      best = best_fewer (suc (width f)) old new (back u.changes.items S2) F 0 stay
+      best = best_stay (suc (width f)) old new (back u.changes.items S2) F 0 stay
           (best_carry (suc (width f)) old old S (back u.changes.items S2) a.name F 0 [] a.tree (λ j r e b. (refl, made j (omega (arith, l, within_it old free a.spares j a.name r a.held e)))) k);
       few = few;
       allowed = if_allowed p u.hop (whole f new).nodes (ap (λ (y : Walks). has_node p y.nodes) w ∙ there);
@@ -174,7 +174,7 @@ can_stay f old new S (Some u) h r m c =
     can_undo f R new S u
     (record {
       routes = same;
-      best = best_fewer (suc (width f)) old new (back u.changes.items S) (λ a. lpm R a 0) 0 h c.0.best;
+      best = best_stay (suc (width f)) old new (back u.changes.items S) (λ a. lpm R a 0) 0 h c.0.best;
       few = c.0.few;
       allowed = subst (λ (x : List (List Bool)). Allowed (bits_of u.len u.q) u.hop x) (sym m) c.0.allowed;
     }) c.1

@@ -1,5 +1,5 @@
 -- What a place in the array of nodes stands for, and which places are whose.
-use Rattle.std.specs.Prelude.{◌≡◌, ◌≢◌, ◌⊎◌, ℕ, zero, suc, ◌+◌, ◌<◌, ◌≤◌, List, [], ◌∷◌, ◌++◌, length, ◌||◌, Bool, true, false, cond, Option, Some, None, slice_index_or}
+use Rattle.std.specs.Prelude.{◌≡◌, ◌≢◌, ℕ, zero, suc, ◌<◌, ◌≤◌, List, [], ◌∷◌, ◌++◌, length, Bool, true, false, Option, Some, None, slice_index_or}
 use Rattle.address_model.specs.Bits.{begins}
 use Rattle.address_model.specs.Width.{width}
 use Rattle.address_model.specs.declared.family.Family.{Family}
@@ -18,22 +18,27 @@ use Rattle.orig_tree.specs.declared.node.Label.TheVariants.{Route, Entry}
 
 -- the nodes by their places
 abbrev pub cells_of : Nodes → List Node
-cells_of n = n.root ∷ n.pairs.items
+cells_of n = n.root ∷ n.halves.items
 
 abbrev pub bare_cover_is : Cover
 bare_cover_is = record { passes = true; hops = Zero }
 
 -- a node with no labels and no halves
 abbrev pub blank : Node
-blank = record { kids = 0; low = false; high = false; route = bare_slot; entry = bare_slot }
+blank = record { low = 0; high = 0; route = bare_slot; entry = bare_slot }
 
 abbrev pub node_at : List Node → ℕ → Node
 node_at cells i = slice_index_or cells i blank
 
+-- the place that a node tells of a half; 0 tells none
+abbrev pub link : ℕ → Option ℕ
+link zero = None
+link (suc j) = Some (suc j)
+
 -- the place of a half that is a node
 abbrev pub half_place : Node → Bool → Option ℕ
-half_place n false = cond n.low (Some n.kids) None
-half_place n true = cond n.high (Some (n.kids + 1)) None
+half_place n false = link n.low
+half_place n true = link n.high
 
 abbrev pub from_half : (ℕ → Walks) → Option ℕ → Walks
 from_half f None = no_walks
@@ -50,7 +55,7 @@ walks_at (suc d) cells i = walks_by (walks_at d cells) (node_at cells i)
 
 -- ---- writing
 
--- whose a place is: the node's at a path, or a spare one, with so many spare pairs behind it
+-- whose a place is: the node's at a path, or a spare one, with so many spare ones behind it
 pub data Place : Type 0 where
   At : List Bool → Place
   Spare : ℕ → Place
@@ -60,23 +65,16 @@ abbrev pub IfHalf : (ℕ → Type 0) → Option ℕ → Type 0
 IfHalf P None = Unit {0}
 IfHalf P (Some j) = P j
 
--- the pair of places at kids is the node's own
-pub record OwnsPair (long : ℕ) (name : ℕ → Place) (p : List Bool) (kids : ℕ) : Type 0 where
-  pub low : name kids ≡ At (p ++ (false ∷ []))
-  pub high : name (kids + 1) ≡ At (p ++ (true ∷ []))
-  pub inside : kids + 1 < long
-
--- a node at path p whose covers are right and whose halves are in order
-pub record IsNode (walks : ℕ → Walks) (InTree : Bool → ℕ → Type 0) (long : ℕ) (name : ℕ → Place) (p : List Bool) (n : Node) : Type 0 where
+-- a node whose covers are right and whose halves are in order
+pub record IsNode (walks : ℕ → Walks) (InTree : Bool → ℕ → Type 0) (n : Node) : Type 0 where
   pub covers : AreCovers n.route n.entry (from_half walks (half_place n false)) (from_half walks (half_place n true))
-  pub pair : n.low || n.high ≡ true → OwnsPair long name p n.kids
   pub halves : (b : Bool) → IfHalf (InTree b) (half_place n b)
 
 -- place i is the node at path p, of at most d levels, and each place below it has its own path
 unfoldable pub IsTree : ℕ → List Node → (ℕ → Place) → ℕ → List Bool → Type 0
 IsTree zero cells name i p = ⊥
 IsTree (suc d) cells name i p =
-    (name i ≡ At p) × (i < length cells) × IsNode (walks_at d cells) (λ b j. IsTree d cells name j (p ++ (b ∷ []))) (length cells) name p (node_at cells i)
+    (name i ≡ At p) × (i < length cells) × IsNode (walks_at d cells) (λ b j. IsTree d cells name j (p ++ (b ∷ []))) (node_at cells i)
 
 abbrev pub is_in : List Bool → Place → Bool
 is_in p (At q) = begins p q
@@ -88,14 +86,14 @@ pub record Keeps (p : List Bool) (old new : List Node) (name : ℕ → Place) : 
   pub long : length new ≡ length old
   pub same : (j : ℕ) → is_in p (name j) ≡ false → node_at new j ≡ node_at old j
 
--- the halves of nodes are where they were, or are none any more
+-- the halves of nodes are where they were
 abbrev pub HalvesStay : List Node → List Node → Type 0
-HalvesStay old new = (j : ℕ) (b : Bool) → (half_place (node_at new j) b ≡ half_place (node_at old j) b) ⊎ (half_place (node_at new j) b ≡ None)
+HalvesStay old new = (j : ℕ) (b : Bool) → half_place (node_at new j) b ≡ half_place (node_at old j) b
 
 -- one label of a node, with the cover that it gets from those of the halves
 abbrev pub retold : Label → Option ℕ → Cover → Cover → Node → Node
-retold Route hop low high n = record { kids = n.kids; low = n.low; high = n.high; route = slot_of hop (covered hop low high); entry = n.entry }
-retold Entry hop low high n = record { kids = n.kids; low = n.low; high = n.high; route = n.route; entry = slot_of hop (covered hop low high) }
+retold Route hop low high n = record { low = n.low; high = n.high; route = slot_of hop (covered hop low high); entry = n.entry }
+retold Entry hop low high n = record { low = n.low; high = n.high; route = n.route; entry = slot_of hop (covered hop low high) }
 
 abbrev pub cover_of : Label → Node → Cover
 cover_of Route n = cover_in n.route
@@ -113,13 +111,13 @@ pub record IsSet (d : ℕ) (label : Label) (q : List Bool) (hop : Option ℕ) (o
 
 -- ---- making room
 
--- the spare pairs from f on, each telling the next by its first node; 0 is none
+-- the spare places from f on, each telling the next in low; 0 is none
 unfoldable pub SpareFrom : ℕ → List Node → (ℕ → Place) → ℕ → Type 0
 SpareFrom zero cells name f = f ≡ 0
 SpareFrom (suc n) cells name f =
-    (f ≢ 0) × (name f ≡ Spare n) × (name (f + 1) ≡ Spare n) × (f + 1 < length cells) × SpareFrom n cells name (node_at cells f).kids
+    (f ≢ 0) × (name f ≡ Spare n) × (f < length cells) × SpareFrom n cells name (node_at cells f).low
 
--- the spare pairs are in order, and nothing past the array is anyone's
+-- the spare places are in order, and nothing past the array is anyone's
 pub record IsHeld (cells : List Node) (free : ℕ) (name : ℕ → Place) (n : ℕ) : Type 0 where
   pub past : (j : ℕ) → length cells ≤ j → name j ≡ Nowhere
   pub spare : SpareFrom n cells name free
@@ -136,25 +134,22 @@ pub record IsRoomier (q : List Bool) (old new : Walks) : Type 0 where
   pub kept : (p : List Bool) → has_node p old.nodes ≡ true → has_node p new.nodes ≡ true
   pub made : AreMadeTo q old.nodes new.nodes
 
--- a node's pair of places, which it had or was given
-pub record GivesPair (p : List Bool) (old : List Node) (n : Node) (new : List Node) (free : ℕ) (name : ℕ → Place) (kids : ℕ) : Type 0 where
+-- place j, which was no node's, was given to path r
+pub record GivesPlace (r : List Bool) (old new : List Node) (free : ℕ) (name : ℕ → Place) (j : ℕ) : Type 0 where
   pub name' : ℕ → Place
   pub spares : ℕ
-  pub pair : OwnsPair (length new) name' p kids
+  pub some : j ≢ 0
+  pub fresh : (q : List Bool) → name j ≡ At q → ⊥
+  pub mine : name' j ≡ At r
+  pub inside : j < length new
   pub held : IsHeld new free name' spares
   pub long : length old ≤ length new
-  pub same : (j : ℕ) (q : List Bool) → name j ≡ At q → (node_at new j ≡ node_at old j) × (name' j ≡ At q)
-  pub had : n.low || n.high ≡ true → kids ≡ n.kids
+  pub same : (x : ℕ) (q : List Bool) → name x ≡ At q → (node_at new x ≡ node_at old x) × (name' x ≡ At q)
 
--- the place of one of a pair
-abbrev pub side_at : ℕ → Bool → ℕ
-side_at kids false = kids
-side_at kids true = kids + 1
-
--- a node with one more half
+-- a node with one more half, at place j
 abbrev pub with_half : Node → ℕ → Bool → Node
-with_half n kids false = record { kids = kids; low = true; high = n.high; route = n.route; entry = n.entry }
-with_half n kids true = record { kids = kids; low = n.low; high = true; route = n.route; entry = n.entry }
+with_half n j false = record { low = j; high = n.high; route = n.route; entry = n.entry }
+with_half n j true = record { low = n.low; high = j; route = n.route; entry = n.entry }
 
 -- the array after a half of a node became a node, at place j
 pub record IsSplit (d : ℕ) (b : Bool) (old new : List Node) (free : ℕ) (name : ℕ → Place) (i : ℕ) (p : List Bool) (j : ℕ) : Type 0 where
@@ -166,7 +161,7 @@ pub record IsSplit (d : ℕ) (b : Bool) (old new : List Node) (free : ℕ) (name
   pub walks : (r : List Bool) → IsRoomier (b ∷ r) (walks_at d old i) (walks_at d new i)
   pub half : half_place (node_at new i) b ≡ Some j
   pub blank : node_at new j ≡ blank
-  pub mine : (q : List Bool) → name j ≡ At q → q ≡ p ++ (b ∷ [])
+  pub fresh : (q : List Bool) → name j ≡ At q → ⊥
   pub other : (c : Bool) → b ≢ c → half_place (node_at new i) c ≡ half_place (node_at old i) c
   pub rest : (x : ℕ) (r : List Bool) (c : Bool) → b ≢ c → name x ≡ At r → begins (p ++ (c ∷ [])) r ≡ true → node_at new x ≡ node_at old x
 

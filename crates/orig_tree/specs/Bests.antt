@@ -26,7 +26,7 @@ best_one h = record { hops = h ∷ []; k = 0 }
 
 -- what is kept, by places
 abbrev pub best_in : Bests → ℕ → Best
-best_in s i = slice_index_or (s.root ∷ s.pairs.items) i (best_one 0)
+best_in s i = slice_index_or (s.root ∷ s.halves.items) i (best_one 0)
 
 -- the node at place i, of at most d levels, and each node below it keep what stands for their regions, where f tells the
 -- answers of the region of place i

@@ -1,66 +1,43 @@
 -- Nodes that are given back.
-use Rattle.std.specs.Prelude.{◌≡◌, ℕ, suc, ◌<◌, List, [], ◌∷◌, ◌++◌, length, ◌||◌, ◌&&◌, not, Bool, true, false, cond, Option, None, is_some}
-use Rattle.orig_tree.specs.Walk.{Walks, no_walks, walks_of}
-use Rattle.orig_tree.specs.Slots.{AreCovers}
+use Rattle.std.specs.Prelude.{◌≡◌, ℕ, ◌<◌, List, [], ◌∷◌, ◌++◌, length, Bool, true, false, cond, Option, None}
+use Rattle.orig_tree.specs.Walk.{Walks, walks_of}
 use Rattle.orig_tree.specs.Trims.{IsTrimmed, IsPruned, KeepsRoot, bare}
-use Rattle.orig_tree.specs.Arena.{Place, At, half_place, from_half, walks_by, walks_at, IfHalf, OwnsPair, IsTree, IsHeld, KeepsOthers}
+use Rattle.orig_tree.specs.Arena.{Place, At, half_place, from_half, walks_by, walks_at, IfHalf, IsNode, IsTree, IsHeld, KeepsOthers}
+use Rattle.orig_tree.specs.Bests.{AreBest}
+use Rattle.least_model.specs.Sets.{side}
 use Rattle.orig_tree.specs.Packed.{bare_slot}
 use Rattle.orig_tree.specs.declared.node.Node.{Node}
+use Rattle.orig_tree.specs.declared.best.Best.{Best}
 
--- a node with these halves of those it had
+-- a node with those of its halves that stay
 abbrev pub with_halves : Node → Bool → Bool → Node
-with_halves n low high = record { kids = n.kids; low = low; high = high; route = n.route; entry = n.entry }
+with_halves n low high = record { low = cond low n.low 0; high = cond high n.high 0; route = n.route; entry = n.entry }
 
--- the first node of a spare pair tells the next pair
+-- a spare place tells the next one
 abbrev pub spare_node : ℕ → Node
-spare_node next = record { kids = next; low = false; high = false; route = bare_slot; entry = bare_slot }
+spare_node next = record { low = next; high = 0; route = bare_slot; entry = bare_slot }
 
--- whether a node that had a half has none any more
-abbrev pub is_given : Node → Bool → Bool → Bool
-is_given n low high = (n.low || n.high) && not (low || high)
+-- a half, where it stays
+abbrev pub what_stays : Bool → Option ℕ → Option ℕ
+what_stays true half = half
+what_stays false half = None
 
--- what is needed to tell a node at path p which of its halves are nodes
-pub record MaySettle (d : ℕ) (cells : List Node) (free : ℕ) (name : ℕ → Place) (spares : ℕ) (i : ℕ) (p : List Bool) (n : Node) (low high : Bool) : Type 0 where
-  pub root : name 0 ≡ At []
-  pub here : name i ≡ At p
-  pub inside : i < length cells
-  pub held : IsHeld cells free name spares
-  pub pair : n.low || n.high ≡ true → OwnsPair (length cells) name p n.kids
-  pub fewer_low : low ≡ true → n.low ≡ true
-  pub fewer_high : high ≡ true → n.high ≡ true
-  pub halves : (b : Bool) → IfHalf (λ j. IsTree d cells name j (p ++ (b ∷ []))) (half_place (with_halves n low high) b)
-  pub covers : AreCovers n.route n.entry (from_half (walks_at d cells) (half_place (with_halves n low high) false)) (from_half (walks_at d cells) (half_place (with_halves n low high) true))
-
--- the array after it
-pub record IsSettled (d : ℕ) (old new : List Node) (free : ℕ) (name : ℕ → Place) (i : ℕ) (p : List Bool) (n : Node) : Type 0 where
-  pub name' : ℕ → Place
-  pub spares : ℕ
-  pub tree : IsTree (suc d) new name' i p
-  pub walks : walks_at (suc d) new i ≡ walks_by (walks_at d old) n
-  pub held : IsHeld new free name' spares
-  pub keeps : KeepsOthers p old new name name'
-
--- what is left of a half: nothing, where it goes
-abbrev pub left_of : Bool → Walks → Walks
-left_of stays w = cond stays w no_walks
-
--- a half in order after nodes below it went; its own node goes where it doesn't stay
+-- a half in order after nodes below it went, and its own where it doesn't stay; what the nodes that stay keep stands as before
 pub record HalfKept (d : ℕ) (old new : List Node) (free : ℕ) (name : ℕ → Place) (half : Option ℕ) (p : List Bool) (stays : Bool) : Type 0 where
   pub name' : ℕ → Place
   pub spares : ℕ
-  pub tree : IfHalf (λ j. IsTree d new name' j p) half
+  pub tree : IfHalf (λ j. IsTree d new name' j p) (what_stays stays half)
   pub held : IsHeld new free name' spares
   pub keeps : KeepsOthers p old new name name'
-  pub some : stays ≡ true → is_some half ≡ true
-  pub idle : half ≡ None → (j : ℕ) → name' j ≡ name j
-  pub routes : (left_of stays (from_half (walks_at d new) half)).routes ≡ (from_half (walks_at d old) half).routes
-  pub entries : (left_of stays (from_half (walks_at d new) half)).entries ≡ (from_half (walks_at d old) half).entries
+  pub routes : (from_half (walks_at d new) (what_stays stays half)).routes ≡ (from_half (walks_at d old) half).routes
+  pub entries : (from_half (walks_at d new) (what_stays stays half)).entries ≡ (from_half (walks_at d old) half).entries
+  pub best : (S : ℕ → Best) (f : List Bool → ℕ) → IfHalf (λ j. AreBest d old S f j) half → IfHalf (λ j. AreBest d new S f j) (what_stays stays half)
 
 -- the half after the nodes of path r in it, and below, went that nothing uses
 pub record HalfTrimmed (d : ℕ) (r : List Bool) (old new : List Node) (free : ℕ) (name : ℕ → Place) (half : Option ℕ) (p : List Bool) (stays : Bool) : Type 0 where
   pub kept : HalfKept d old new free name half p stays
-  pub pruned : IsPruned r (from_half (walks_at d old) half) (left_of stays (from_half (walks_at d new) half))
-  pub keeps : stays ≡ true → KeepsRoot r (from_half (walks_at d old) half) (left_of stays (from_half (walks_at d new) half))
+  pub pruned : IsPruned r (from_half (walks_at d old) half) (from_half (walks_at d new) (what_stays stays half))
+  pub keeps : stays ≡ true → KeepsRoot r (from_half (walks_at d old) half) (from_half (walks_at d new) (what_stays stays half))
 
 -- the same of a node
 pub record NodeTrimmed (d : ℕ) (r : List Bool) (old new : List Node) (free : ℕ) (name : ℕ → Place) (i : ℕ) (p : List Bool) (stays : Bool) : Type 0 where
@@ -71,6 +48,7 @@ pub record NodeTrimmed (d : ℕ) (r : List Bool) (old new : List Node) (free : �
   pub keeps : KeepsOthers p old new name name'
   pub routes : (walks_at d new i).routes ≡ (walks_at d old i).routes
   pub entries : (walks_at d new i).entries ≡ (walks_at d old i).entries
+  pub best : (S : ℕ → Best) (f : List Bool → ℕ) → AreBest d old S f i → AreBest d new S f i
   pub trimmed : IsTrimmed r (walks_at d old i) (walks_at d new i)
   pub stays_by : stays ≡ true → KeepsRoot r (walks_at d old i) (walks_at d new i)
   pub bare : stays ≡ false → walks_at d new i ≡ bare
@@ -79,6 +57,10 @@ pub record NodeTrimmed (d : ℕ) (r : List Bool) (old new : List Node) (free : �
 pub record BothKept (d : ℕ) (old new : List Node) (free : ℕ) (name : ℕ → Place) (i : ℕ) (p : List Bool) (n : Node) (low high : Bool) (lower upper : Walks) : Type 0 where
   pub name' : ℕ → Place
   pub spares : ℕ
-  pub may : MaySettle d new free name' spares i p n low high
+  pub here : name' i ≡ At p
+  pub inside : i < length new
+  pub node : IsNode (walks_at d new) (λ b j. IsTree d new name' j (p ++ (b ∷ []))) (with_halves n low high)
+  pub held : IsHeld new free name' spares
   pub keeps : KeepsOthers p old new name name'
   pub walks : walks_by (walks_at d new) (with_halves n low high) ≡ walks_of n.route.hop n.entry.hop lower upper
+  pub best : (S : ℕ → Best) (f : List Bool → ℕ) (b : Bool) → IfHalf (λ j. AreBest d old S (side b f) j) (half_place n b) → IfHalf (λ j. AreBest d new S (side b f) j) (half_place (with_halves n low high) b)

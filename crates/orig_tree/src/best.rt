@@ -25,7 +25,8 @@ pub struct Best {
 #[derive(Drop)]
 pub(crate) struct Bests {
     pub(crate) root: Best,
-    pub(crate) pairs: Vec<Best>,
+    /// What halves keep: that at place i, from 1 on, is at i - 1 here.
+    pub(crate) halves: Vec<Best>,
 }
 
 /// What a place is to keep.
@@ -130,7 +131,7 @@ pub(crate) fn best_at<'a>(bests: &'a Bests, i: usize, none: &'a Best) -> &'a Bes
     if i == 0 {
         return &bests.root;
     }
-    match bests.pairs.get(i - 1) {
+    match bests.halves.get(i - 1) {
         Some(best) => best,
         None => none,
     }
@@ -147,27 +148,27 @@ pub(crate) fn no_changes(mut spare: Vec<Change>, depth: u8) -> Result<Vec<Change
 
 /// Exchanges what a place keeps.
 pub(crate) fn exchange(bests: &mut Bests, i: usize, best: &mut Best)
-    ensures kept { (j : ℕ) → j ≤ vec_len bests.old.pairs
+    ensures kept { (j : ℕ) → j ≤ vec_len bests.old.halves
         → best_in bests.new j ≡ put_at (best_in bests.old) i best.old j }
-    ensures given { i ≤ vec_len bests.old.pairs → best.new ≡ best_in bests.old i }
-    ensures put { i ≤ vec_len bests.old.pairs → (j : ℕ)
+    ensures given { i ≤ vec_len bests.old.halves → best.new ≡ best_in bests.old i }
+    ensures put { i ≤ vec_len bests.old.halves → (j : ℕ)
         → best_in bests.new j ≡ put_at (best_in bests.old) i best.old j }
-    ensures len { vec_len bests.new.pairs ≡ vec_len bests.old.pairs }
+    ensures len { vec_len bests.new.halves ≡ vec_len bests.old.halves }
 {
     if i == 0 {
         mem::swap(&mut bests.root, best);
-    } else if i <= bests.pairs.len() {
-        mem::swap(&mut bests.pairs[i - 1], best);
+    } else if i <= bests.halves.len() {
+        mem::swap(&mut bests.halves[i - 1], best);
     }
 }
 
 /// Makes the changes, each in its turn. What the places kept is left in their stead.
 pub(crate) fn commit(bests: &mut Bests, changes: &mut Vec<Change>)
-    ensures kept { (j : ℕ) → j ≤ vec_len bests.old.pairs
+    ensures kept { (j : ℕ) → j ≤ vec_len bests.old.halves
         → best_in bests.new j ≡ changed changes.old.items (best_in bests.old) j }
-    ensures back { (j : ℕ) → j ≤ vec_len bests.old.pairs
+    ensures back { (j : ℕ) → j ≤ vec_len bests.old.halves
         → back changes.new.items (best_in bests.new) j ≡ best_in bests.old j }
-    ensures len { vec_len bests.new.pairs ≡ vec_len bests.old.pairs }
+    ensures len { vec_len bests.new.halves ≡ vec_len bests.old.halves }
 {
     for change in changes.iter_mut() {
         exchange(bests, change.place, &mut change.best);
@@ -176,9 +177,9 @@ pub(crate) fn commit(bests: &mut Bests, changes: &mut Vec<Change>)
 
 /// Takes changes back, the last first, and hands back the room that they took. It takes no memory.
 pub(crate) fn revert(bests: &mut Bests, mut changes: Vec<Change>) -> Vec<Change>
-    ensures kept { (j : ℕ) → j ≤ vec_len bests.old.pairs
+    ensures kept { (j : ℕ) → j ≤ vec_len bests.old.halves
         → best_in bests.new j ≡ back changes.items (best_in bests.old) j }
-    ensures len { vec_len bests.new.pairs ≡ vec_len bests.old.pairs }
+    ensures len { vec_len bests.new.halves ≡ vec_len bests.old.halves }
 {
     while let Some(mut last) = changes.pop() {
         exchange(bests, last.place, &mut last.best);
@@ -189,11 +190,11 @@ pub(crate) fn revert(bests: &mut Bests, mut changes: Vec<Change>) -> Vec<Change>
 /// Makes more places, so many in all. None keeps anything else than before.
 pub(crate) fn lengthen(bests: &mut Bests, len: usize) -> Result<(), AllocError>
     ensures kept { (j : ℕ) → best_in bests.new j ≡ best_in bests.old j }
-    ensures len { vec_len bests.old.pairs ≤ vec_len bests.new.pairs }
-    ensures ok { OnOk result (len ≤ vec_len bests.new.pairs) }
+    ensures len { vec_len bests.old.halves ≤ vec_len bests.new.halves }
+    ensures ok { OnOk result (len ≤ vec_len bests.new.halves) }
 {
-    while bests.pairs.len() < len {
-        bests.pairs.push(Best::one(0))?;
+    while bests.halves.len() < len {
+        bests.halves.push(Best::one(0))?;
     }
     Ok(())
 }
@@ -204,6 +205,6 @@ pub(crate) fn root_best(alloc: Global) -> Bests
 {
     Bests {
         root: Best::one(0),
-        pairs: Vec::new(alloc),
+        halves: Vec::new(alloc),
     }
 }

@@ -1,11 +1,10 @@
-//! Nodes that nothing uses are given back, in pairs.
+//! Nodes that nothing uses are given back: each place is a spare one then.
 
-ghost use Rattle.std.specs.Prelude.{◌≡◌, ◌≤◌, ◌+◌, ◌||◌, ℕ, List, Bool, true, false, [], vec_len};
+ghost use Rattle.std.specs.Prelude.{◌≡◌, ◌≤◌, ◌+◌, ◌||◌, ℕ, List, Bool, [], vec_len, slice_set, cond};
 ghost use Rattle.std.specs.Option.{is_some};
 ghost use Rattle.address_model.specs.Bits.{bits_of};
-ghost use Rattle.orig_tree.specs.Arena.{cells_of, node_at, Place, At, IsTree, IsHeld, IfHalf, HalvesStay};
-ghost use Rattle.orig_tree.specs.declared.node.Node.{Node};
-ghost use Rattle.orig_tree.specs.Drops.{with_halves, spare_node, is_given, MaySettle, IsSettled, NodeTrimmed, HalfTrimmed};
+ghost use Rattle.orig_tree.specs.Arena.{cells_of, Place, link, IsTree, IsHeld, IfHalf};
+ghost use Rattle.orig_tree.specs.Drops.{with_halves, spare_node, NodeTrimmed, HalfTrimmed};
 
 use crate::node::{Node, Nodes, leaf, put, read};
 use fib_addr::bit_at;
@@ -17,43 +16,55 @@ fn has_label(node: Node) -> bool
     node.route.hop.is_some() || node.entry.hop.is_some()
 }
 
+/// The place of a half, where it stays.
+fn if_stays(half: u32, stays: bool) -> u32
+    ensures { result ≡ cond stays half 0 }
+{
+    if stays { half } else { 0 }
+}
+
+/// The node with those of its halves that stay.
 fn keep_halves(node: Node, low: bool, high: bool) -> Node
     ensures { result ≡ with_halves node low high }
 {
-    Node { low, high, ..node }
+    Node {
+        low: if_stays(node.low, low),
+        high: if_stays(node.high, high),
+        ..node
+    }
 }
 
+/// A spare place, which tells the next one.
 fn spare(next: u32) -> Node
     ensures { result ≡ spare_node next }
 {
     Node {
-        kids: next,
+        low: next,
         ..leaf()
     }
 }
 
-fn gives(node: Node, low: bool, high: bool) -> bool
-    ensures { result ≡ is_given node low high }
+/// Gives a place back: it is the first spare one then.
+fn give(nodes: &mut Nodes, place: u32)
+    ensures cells { cells_of nodes.new
+        ≡ slice_set (cells_of nodes.old) place (spare_node nodes.old.free) }
+    ensures free { nodes.new.free ≡ place }
+    ensures len { vec_len nodes.new.halves ≡ vec_len nodes.old.halves }
 {
-    (node.low || node.high) && !(low || high)
+    let node = spare(nodes.free);
+    put(nodes, place as usize, node);
+    nodes.free = place;
 }
 
-/// Tells a node which of its halves are still nodes, and gives its pair of places back where none is.
+/// Tells a node which of its halves stay. One that is no node is none whatever is said.
 fn settle(nodes: &mut Nodes, i: usize, node: Node, low: bool, high: bool)
-    ensures settled { (d : ℕ) (name : ℕ → Place) (spares : ℕ) (p : List Bool)
-        → MaySettle d (cells_of nodes.old) nodes.old.free name spares i p node low high
-        → IsSettled d (cells_of nodes.old) (cells_of nodes.new) nodes.new.free name i p (with_halves
-        node low high) }
-    ensures halves { (old : List Node) → node ≡ node_at old i → (low ≡ true → node.low ≡ true)
-        → (high ≡ true → node.high ≡ true) → HalvesStay old (cells_of nodes.old)
-        → HalvesStay old (cells_of nodes.new) }
-    ensures len { vec_len nodes.new.pairs ≡ vec_len nodes.old.pairs }
+    ensures cells { cells_of nodes.new
+        ≡ slice_set (cells_of nodes.old) i (with_halves node low high) }
+    ensures free { nodes.new.free ≡ nodes.old.free }
+    ensures len { vec_len nodes.new.halves ≡ vec_len nodes.old.halves }
 {
-    put(nodes, i, keep_halves(node, low, high));
-    if gives(node, low, high) {
-        put(nodes, node.kids as usize, spare(nodes.free));
-        nodes.free = node.kids;
-    }
+    let new = keep_halves(node, low, high);
+    put(nodes, i, new);
 }
 
 fn any(low: bool, high: bool, own: bool) -> bool
@@ -66,40 +77,40 @@ fn any(low: bool, high: bool, own: bool) -> bool
 /// changes no table.
 #[cycle(prune)]
 fn prune(nodes: &mut Nodes, i: usize, depth: u8) -> bool
-    ensures trimmed { (d : ℕ) (name : ℕ → Place) (spares : ℕ) (p : List Bool) → d ≤ depth + 1 → name 0
-        ≡ At [] → IsTree d (cells_of nodes.old) name i p → IsHeld (cells_of nodes.old)
-        nodes.old.free name spares → NodeTrimmed d [] (cells_of nodes.old) (cells_of nodes.new)
-        nodes.new.free name i p result }
-    ensures halves { HalvesStay (cells_of nodes.old) (cells_of nodes.new) }
-    ensures len { vec_len nodes.new.pairs ≡ vec_len nodes.old.pairs }
+    ensures trimmed { (d : ℕ) (name : ℕ → Place) (spares : ℕ) (p : List Bool) → d ≤ depth + 1
+        → IsTree d (cells_of nodes.old) name i p → IsHeld (cells_of nodes.old) nodes.old.free name
+        spares → NodeTrimmed d [] (cells_of nodes.old) (cells_of nodes.new) nodes.new.free name i p
+        result }
+    ensures len { vec_len nodes.new.halves ≡ vec_len nodes.old.halves }
 {
     let node = read(nodes, i);
-    let low = prune_half(nodes, node.half(false), depth);
-    let high = prune_half(nodes, node.half(true), depth);
+    let low = prune_half(nodes, node.low, depth);
+    let high = prune_half(nodes, node.high, depth);
     settle(nodes, i, node, low, high);
     any(low, high, has_label(node))
 }
 
+/// The same of a half, where it is a node; its own is given back where it has no label at or below itself.
 #[cycle(prune)]
-fn prune_half(nodes: &mut Nodes, half: Option<usize>, depth: u8) -> bool
-    ensures trimmed { (d : ℕ) (name : ℕ → Place) (spares : ℕ) (p : List Bool) → d ≤ depth → name 0
-        ≡ At [] → IfHalf (λ j. IsTree d (cells_of nodes.old) name j p) half
+fn prune_half(nodes: &mut Nodes, half: u32, depth: u8) -> bool
+    ensures trimmed { (d : ℕ) (name : ℕ → Place) (spares : ℕ) (p : List Bool) → d ≤ depth
+        → IfHalf (λ j. IsTree d (cells_of nodes.old) name j p) (link half)
         → IsHeld (cells_of nodes.old) nodes.old.free name spares
-        → HalfTrimmed d [] (cells_of nodes.old) (cells_of nodes.new) nodes.new.free name half p
+        → HalfTrimmed d [] (cells_of nodes.old) (cells_of nodes.new) nodes.new.free name (link half) p
         result }
-    ensures halves { HalvesStay (cells_of nodes.old) (cells_of nodes.new) }
-    ensures len { vec_len nodes.new.pairs ≡ vec_len nodes.old.pairs }
-    ensures some { result ≡ true → is_some half ≡ true }
+    ensures len { vec_len nodes.new.halves ≡ vec_len nodes.old.halves }
 {
-    match half {
-        None => false,
-        Some(j) => {
-            if depth == 0 {
-                return true;
-            }
-            prune(nodes, j, depth - 1)
-        }
+    if half == 0 {
+        return false;
     }
+    if depth == 0 {
+        return true;
+    }
+    if prune(nodes, half as usize, depth - 1) {
+        return true;
+    }
+    give(nodes, half);
+    false
 }
 
 /// Drops the nodes of a path and below it that have no label at or below them, and those on the way to it that then have
@@ -107,12 +118,11 @@ fn prune_half(nodes: &mut Nodes, half: Option<usize>, depth: u8) -> bool
 #[cycle(trim)]
 pub(crate) fn trim(nodes: &mut Nodes, i: usize, q: u128, left: u8, depth: u8) -> bool
     requires { left ≤ 128 }
-    ensures trimmed { (d : ℕ) (name : ℕ → Place) (spares : ℕ) (p : List Bool) → d ≤ depth + 1 → name 0
-        ≡ At [] → IsTree d (cells_of nodes.old) name i p → IsHeld (cells_of nodes.old)
-        nodes.old.free name spares → NodeTrimmed d (bits_of left q) (cells_of nodes.old) (cells_of
-        nodes.new) nodes.new.free name i p result }
-    ensures halves { HalvesStay (cells_of nodes.old) (cells_of nodes.new) }
-    ensures len { vec_len nodes.new.pairs ≡ vec_len nodes.old.pairs }
+    ensures trimmed { (d : ℕ) (name : ℕ → Place) (spares : ℕ) (p : List Bool) → d ≤ depth + 1
+        → IsTree d (cells_of nodes.old) name i p → IsHeld (cells_of nodes.old) nodes.old.free name
+        spares → NodeTrimmed d (bits_of left q) (cells_of nodes.old) (cells_of nodes.new)
+        nodes.new.free name i p result }
+    ensures len { vec_len nodes.new.halves ≡ vec_len nodes.old.halves }
 {
     if left == 0 {
         return prune(nodes, i, depth);
@@ -120,34 +130,35 @@ pub(crate) fn trim(nodes: &mut Nodes, i: usize, q: u128, left: u8, depth: u8) ->
     let at = left - 1;
     let node = read(nodes, i);
     if bit_at(q, at) {
-        let high = trim_half(nodes, node.half(true), q, at, depth);
-        settle(nodes, i, node, node.low, high);
-        return any(node.low, high, has_label(node));
+        let high = trim_half(nodes, node.high, q, at, depth);
+        settle(nodes, i, node, true, high);
+        return any(node.half(false).is_some(), high, has_label(node));
     }
-    let low = trim_half(nodes, node.half(false), q, at, depth);
-    settle(nodes, i, node, low, node.high);
-    any(low, node.high, has_label(node))
+    let low = trim_half(nodes, node.low, q, at, depth);
+    settle(nodes, i, node, low, true);
+    any(low, node.half(true).is_some(), has_label(node))
 }
 
+/// The same of a half, where it is a node; its own is given back where it has nothing left.
 #[cycle(trim)]
-fn trim_half(nodes: &mut Nodes, half: Option<usize>, q: u128, left: u8, depth: u8) -> bool
+fn trim_half(nodes: &mut Nodes, half: u32, q: u128, left: u8, depth: u8) -> bool
     requires { left ≤ 128 }
-    ensures trimmed { (d : ℕ) (name : ℕ → Place) (spares : ℕ) (p : List Bool) → d ≤ depth → name 0
-        ≡ At [] → IfHalf (λ j. IsTree d (cells_of nodes.old) name j p) half
+    ensures trimmed { (d : ℕ) (name : ℕ → Place) (spares : ℕ) (p : List Bool) → d ≤ depth
+        → IfHalf (λ j. IsTree d (cells_of nodes.old) name j p) (link half)
         → IsHeld (cells_of nodes.old) nodes.old.free name spares
         → HalfTrimmed d (bits_of left q) (cells_of nodes.old) (cells_of nodes.new) nodes.new.free
-        name half p result }
-    ensures halves { HalvesStay (cells_of nodes.old) (cells_of nodes.new) }
-    ensures len { vec_len nodes.new.pairs ≡ vec_len nodes.old.pairs }
-    ensures some { result ≡ true → is_some half ≡ true }
+        name (link half) p result }
+    ensures len { vec_len nodes.new.halves ≡ vec_len nodes.old.halves }
 {
-    match half {
-        None => false,
-        Some(j) => {
-            if depth == 0 {
-                return true;
-            }
-            trim(nodes, j, q, left, depth - 1)
-        }
+    if half == 0 {
+        return false;
     }
+    if depth == 0 {
+        return true;
+    }
+    if trim(nodes, half as usize, q, left, depth - 1) {
+        return true;
+    }
+    give(nodes, half);
+    false
 }

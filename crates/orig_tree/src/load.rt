@@ -31,9 +31,9 @@ pub(crate) fn lay_bare(
 ) -> Result<(), AllocError>
     requires few { len ≤ width family }
     requires arena { IsArena family (cells_of nodes.old) nodes.old.free }
-    requires long { vec_len nodes.old.pairs ≤ vec_len bests.old.pairs }
+    requires long { vec_len nodes.old.halves ≤ vec_len bests.old.halves }
     ensures arena { IsArena family (cells_of nodes.new) nodes.new.free }
-    ensures long { vec_len nodes.new.pairs ≤ vec_len bests.new.pairs }
+    ensures long { vec_len nodes.new.halves ≤ vec_len bests.new.halves }
     ensures laid { OnOk result (IsLaid Route (bits_of len q) hop (whole family (cells_of nodes.old)) (whole
         family (cells_of nodes.new))) }
     ensures err { OnErr result (cells_of nodes.new ≡ cells_of nodes.old) }
@@ -61,10 +61,10 @@ fn lay_if(
     route: &Entry,
 ) -> Result<(), AllocError>
     requires arena { IsArena family (cells_of nodes.old) nodes.old.free }
-    requires long { vec_len nodes.old.pairs ≤ vec_len bests.old.pairs }
+    requires long { vec_len nodes.old.halves ≤ vec_len bests.old.halves }
     requires order { InPlace (of_table family (whole family (cells_of nodes.old)).routes) }
     ensures arena { IsArena family (cells_of nodes.new) nodes.new.free }
-    ensures long { vec_len nodes.new.pairs ≤ vec_len bests.new.pairs }
+    ensures long { vec_len nodes.new.halves ≤ vec_len bests.new.halves }
     ensures order { InPlace (of_table family (whole family (cells_of nodes.new)).routes) }
     ensures entries { (whole family (cells_of nodes.new)).entries
         ≡ (whole family (cells_of nodes.old)).entries }
@@ -89,10 +89,10 @@ pub(crate) fn lay_all(
     routes: &[Entry],
 ) -> Result<(), AllocError>
     requires arena { IsArena family (cells_of nodes.old) nodes.old.free }
-    requires long { vec_len nodes.old.pairs ≤ vec_len bests.old.pairs }
+    requires long { vec_len nodes.old.halves ≤ vec_len bests.old.halves }
     requires bare { whole family (cells_of nodes.old) ≡ walks_of None None no_walks no_walks }
     ensures arena { IsArena family (cells_of nodes.new) nodes.new.free }
-    ensures long { vec_len nodes.new.pairs ≤ vec_len bests.new.pairs }
+    ensures long { vec_len nodes.new.halves ≤ vec_len bests.new.halves }
     ensures order { InPlace (of_table family (whole family (cells_of nodes.new)).routes) }
     ensures entries { (whole family (cells_of nodes.new)).entries ≡ [] }
     ensures routes { OnOk result (of_table family (whole family (cells_of nodes.new)).routes
@@ -145,8 +145,8 @@ pub(crate) fn settle(
     inherited: u16,
     depth: u8,
 ) -> Result<(), AllocError>
-    requires long { vec_len nodes.now.pairs ≤ vec_len bests.old.pairs }
-    ensures long { vec_len bests.new.pairs ≡ vec_len bests.old.pairs }
+    requires long { vec_len nodes.now.halves ≤ vec_len bests.old.halves }
+    ensures long { vec_len bests.new.halves ≡ vec_len bests.old.halves }
     ensures best { OnOk result ((name : ℕ → Place) (p : List Bool)
         → IsTree (suc depth) (cells_of nodes.now) name i p → IsMended depth (cells_of nodes.now) name i
         p (λ a. lpm (walks_at (suc depth) (cells_of nodes.now) i).routes a inherited) (best_in
@@ -178,8 +178,8 @@ fn settle_half(
     inherited: u16,
     depth: u8,
 ) -> Result<(), AllocError>
-    requires long { vec_len nodes.now.pairs ≤ vec_len bests.old.pairs }
-    ensures long { vec_len bests.new.pairs ≡ vec_len bests.old.pairs }
+    requires long { vec_len nodes.now.halves ≤ vec_len bests.old.halves }
+    ensures long { vec_len bests.new.halves ≡ vec_len bests.old.halves }
     ensures best { OnOk result ((name : ℕ → Place) (p : List Bool)
         → IfHalf (λ j. IsTree (suc depth) (cells_of nodes.now) name j p) half
         → HalfMended depth (cells_of nodes.now) name half p (λ a. lpm (from_half (walks_at (suc depth)
@@ -200,8 +200,8 @@ pub(crate) fn settle_all(
     bests: &mut Bests,
 ) -> Result<(), AllocError>
     requires arena { IsArena family (cells_of nodes.now) nodes.now.free }
-    requires long { vec_len nodes.now.pairs ≤ vec_len bests.old.pairs }
-    ensures long { vec_len nodes.now.pairs ≤ vec_len bests.new.pairs }
+    requires long { vec_len nodes.now.halves ≤ vec_len bests.old.halves }
+    ensures long { vec_len nodes.now.halves ≤ vec_len bests.new.halves }
     ensures best { OnOk result (KeepsBest family (cells_of nodes.now) (best_in bests.new)) }
 {
     let depth = family.width();

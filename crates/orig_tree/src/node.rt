@@ -1,7 +1,7 @@
-//! The nodes of a tree in one array, where the halves of a node lie side by side. A cover stands beside each label, which each
+//! The nodes of a tree in one array, where a node tells the places of its halves. A cover stands beside each label, which each
 //! change on a path tells again on its way up.
 
-ghost use Rattle.std.specs.Prelude.{◌≡◌, ◌≤◌, ◌<◌, ◌-◌, ℕ, OnOk, OnErr, IsOk, IfOk, ◌∷◌, List, Bool, true, false, [], map, ◌++◌, ◌||◌, slice_set, vec_len, vec_capacity, ◌+◌, ◌*◌, ◌^◌, length, suc, Some, None};
+ghost use Rattle.std.specs.Prelude.{◌≡◌, ◌≤◌, ◌<◌, ◌-◌, ℕ, OnOk, OnErr, IsOk, IfOk, ◌∷◌, List, Bool, true, false, [], map, ◌++◌, slice_set, vec_len, vec_capacity, ◌+◌, ◌^◌, length, suc, Some, None};
 ghost use Rattle.std.specs.Option.{is_some};
 ghost use Rattle.address_model.specs.Bits.{bits_of};
 ghost use Rattle.address_model.specs.Width.{width};
@@ -12,7 +12,7 @@ ghost use Rattle.orig_tree.specs.Walk.{rows_of, edited, Allowed, labelled, has_n
 ghost use Rattle.table_model.specs.Entries.{of_table};
 ghost use Rattle.orig_tree.specs.Views.{Fits};
 ghost use Rattle.orig_tree.specs.Uniform.{IsUniform};
-ghost use Rattle.orig_tree.specs.Arena.{cells_of, Place, blank, node_at, half_place, walks_at, IsTree, IsSet, retold, cover_at, cover_of, from_half, IsHeld, OwnsPair, GivesPair, IsSplit, HasRoom, HalvesStay, with_half, side_at};
+ghost use Rattle.orig_tree.specs.Arena.{cells_of, Place, blank, node_at, half_place, walks_at, IsTree, IsSet, retold, cover_at, cover_of, from_half, IsHeld, link, GivesPlace, IsSplit, HasRoom, HalvesStay, with_half};
 ghost use Rattle.orig_tree.specs.Bests.{best_in, AreBest, IsGrown, laid};
 ghost use Rattle.orig_tree.specs.Steps.{new_nodes};
 ghost use Rattle.orig_tree.specs.Placed.{Climbs, IsPlaced, route_set};
@@ -32,24 +32,23 @@ pub enum Label {
     Entry,
 }
 
-/// A node: its labels, the place of its half of bit 0, with that of bit 1 behind it, and which of the two are nodes. Where
-/// none is, the place says nothing. It takes 24 octets.
+/// A node: its labels, and the places of its halves of bit 0 and of bit 1; 0 where a half is no node. It takes 24 octets.
 #[derive(Clone, Copy)]
 pub(crate) struct Node {
     pub(crate) route: Slot,
     pub(crate) entry: Slot,
-    pub(crate) kids: u32,
-    pub(crate) low: bool,
-    pub(crate) high: bool,
+    pub(crate) low: u32,
+    pub(crate) high: u32,
 }
 
 /// The nodes of a tree by their places. The root's place is 0; it stands apart, so that a tree of the root alone takes no
-/// memory. Behind it are pairs of halves: the node at place i, from 1 on, is that at i - 1 of the pairs.
+/// memory.
 #[derive(Drop)]
 pub(crate) struct Nodes {
-    pub(crate) pairs: Vec<Node>,
+    /// What is at all other places, of halves and spare ones: the node at place i, from 1 on, is at i - 1 here.
+    pub(crate) halves: Vec<Node>,
     pub(crate) root: Node,
-    /// The place of the first spare pair, or 0. The first node of a spare pair has the place of the next in `kids`.
+    /// The first spare place, or 0. The node at a spare place tells the next one in `low`.
     pub(crate) free: u32,
 }
 
@@ -81,14 +80,21 @@ impl Node {
         ensures { result ≡ half_place self bit }
     {
         if bit {
-            if self.high {
-                return Some(self.kids as usize + 1);
-            }
-        } else if self.low {
-            return Some(self.kids as usize);
+            linked(self.high)
+        } else {
+            linked(self.low)
         }
-        None
     }
+}
+
+/// The place of a half that a node tells, if there is one.
+fn linked(half: u32) -> Option<usize>
+    ensures { result ≡ link half }
+{
+    if half == 0 {
+        return None;
+    }
+    Some(half as usize)
 }
 
 /// A node with no labels and no halves.
@@ -98,9 +104,8 @@ pub(crate) fn leaf() -> Node
     Node {
         route: Slot::bare(),
         entry: Slot::bare(),
-        kids: 0,
-        low: false,
-        high: false,
+        low: 0,
+        high: 0,
     }
 }
 
@@ -111,7 +116,7 @@ pub(crate) fn read(nodes: &Nodes, i: usize) -> Node
     if i == 0 {
         return nodes.root;
     }
-    match nodes.pairs.get(i - 1) {
+    match nodes.halves.get(i - 1) {
         Some(node) => *node,
         None => leaf(),
     }
@@ -121,13 +126,13 @@ pub(crate) fn read(nodes: &Nodes, i: usize) -> Node
 pub(crate) fn put(nodes: &mut Nodes, i: usize, node: Node)
     ensures cells { cells_of nodes.new ≡ slice_set (cells_of nodes.old) i node }
     ensures free { nodes.new.free ≡ nodes.old.free }
-    ensures len { vec_len nodes.new.pairs ≡ vec_len nodes.old.pairs }
-    ensures capacity { vec_capacity nodes.new.pairs ≡ vec_capacity nodes.old.pairs }
+    ensures len { vec_len nodes.new.halves ≡ vec_len nodes.old.halves }
+    ensures capacity { vec_capacity nodes.new.halves ≡ vec_capacity nodes.old.halves }
 {
     if i == 0 {
         nodes.root = node;
-    } else if i <= nodes.pairs.len() {
-        nodes.pairs[i - 1] = node;
+    } else if i <= nodes.halves.len() {
+        nodes.halves[i - 1] = node;
     }
 }
 
@@ -224,7 +229,7 @@ fn renew(nodes: &mut Nodes, i: usize, node: Node, label: Label, hop: Option<u16>
         label (half_place node false)) (cover_at (cells_of nodes.old) label (half_place node true))
         node) ≡ cover_of label node }
     ensures free { nodes.new.free ≡ nodes.old.free }
-    ensures len { vec_len nodes.new.pairs ≡ vec_len nodes.old.pairs }
+    ensures len { vec_len nodes.new.halves ≡ vec_len nodes.old.halves }
 {
     let new = retell(nodes, node, label, hop);
     put(nodes, i, new);
@@ -242,7 +247,7 @@ pub(crate) fn assign(
     hop: Option<u16>,
 ) -> bool
     requires few { left ≤ 128 }
-    ensures len { vec_len nodes.new.pairs ≡ vec_len nodes.old.pairs }
+    ensures len { vec_len nodes.new.halves ≡ vec_len nodes.old.halves }
     ensures halves { HalvesStay (cells_of nodes.old) (cells_of nodes.new) }
     ensures free { nodes.new.free ≡ nodes.old.free }
     ensures set { (d : ℕ) (name : ℕ → Place) (p : List Bool) → left < d
@@ -360,77 +365,53 @@ pub(crate) fn is_node(nodes: &Nodes, i: usize, q: u128, left: u8) -> bool
     }
 }
 
-/// The pair of places of a node, a new one where it has none.
-fn pair(nodes: &mut Nodes, node: Node) -> u32
-    requires room { vec_len nodes.old.pairs + 2 ≤ vec_capacity nodes.old.pairs }
-    requires few { vec_len nodes.old.pairs + 2 < 2 ^ 32 }
-    ensures len { vec_len nodes.new.pairs ≤ vec_len nodes.old.pairs + 2 }
-    ensures capacity { vec_capacity nodes.new.pairs ≡ vec_capacity nodes.old.pairs }
-    ensures gives { (name : ℕ → Place) (n : ℕ) (p : List Bool) → ((node.low || node.high) ≡ true
-        → OwnsPair (length (cells_of nodes.old)) name p node.kids)
-        → IsHeld (cells_of nodes.old) nodes.old.free name n → GivesPair p (cells_of nodes.old) node
+/// Takes a place for a node: the first spare one, or a new one behind all others.
+fn take(nodes: &mut Nodes) -> u32
+    requires room { vec_len nodes.old.halves + 1 ≤ vec_capacity nodes.old.halves }
+    requires few { vec_len nodes.old.halves + 1 < 2 ^ 32 }
+    ensures len { vec_len nodes.new.halves ≤ vec_len nodes.old.halves + 1 }
+    ensures capacity { vec_capacity nodes.new.halves ≡ vec_capacity nodes.old.halves }
+    ensures gives { (name : ℕ → Place) (n : ℕ) (r : List Bool)
+        → IsHeld (cells_of nodes.old) nodes.old.free name n → GivesPlace r (cells_of nodes.old)
         (cells_of nodes.new) nodes.new.free name result }
 {
-    if node.low || node.high {
-        return node.kids;
-    }
     let spare = nodes.free;
     if spare != 0 {
-        nodes.free = read(nodes, spare as usize).kids;
+        nodes.free = read(nodes, spare as usize).low;
         return spare;
     }
-    let at = nodes.pairs.len() as u32 + 1;
-    nodes.pairs.push_reserved(leaf());
-    nodes.pairs.push_reserved(leaf());
+    let at = nodes.halves.len() as u32 + 1;
+    nodes.halves.push_reserved(leaf());
     at
 }
 
 /// Makes a half of a node a node, and tells its place.
 fn split(nodes: &mut Nodes, i: usize, node: Node, bit: bool) -> usize
-    requires room { vec_len nodes.old.pairs + 2 ≤ vec_capacity nodes.old.pairs }
-    requires few { vec_len nodes.old.pairs + 2 < 2 ^ 32 }
-    ensures len { vec_len nodes.new.pairs ≤ vec_len nodes.old.pairs + 2 }
-    ensures capacity { vec_capacity nodes.new.pairs ≡ vec_capacity nodes.old.pairs }
+    requires room { vec_len nodes.old.halves + 1 ≤ vec_capacity nodes.old.halves }
+    requires few { vec_len nodes.old.halves + 1 < 2 ^ 32 }
+    ensures len { vec_len nodes.new.halves ≤ vec_len nodes.old.halves + 1 }
+    ensures capacity { vec_capacity nodes.new.halves ≡ vec_capacity nodes.old.halves }
     ensures split { (d : ℕ) (name : ℕ → Place) (n : ℕ) (p : List Bool) → node
         ≡ node_at (cells_of nodes.old) i → half_place node bit ≡ None → 1 < d
         → IsTree d (cells_of nodes.old) name i p → IsHeld (cells_of nodes.old) nodes.old.free name n
         → IsSplit d bit (cells_of nodes.old) (cells_of nodes.new) nodes.new.free name i p result }
 {
-    let kids = pair(nodes, node);
-    let j = side(kids, bit);
+    let at = take(nodes);
+    let j = at as usize;
     put(nodes, j, leaf());
-    let new = join_half(node, kids, bit);
+    let new = join_half(node, at, bit);
     put(nodes, i, new);
     j
 }
 
-/// The place of one of a pair.
-fn side(kids: u32, bit: bool) -> usize
-    ensures { result ≡ side_at kids bit }
+/// The node with a half that is a node, at this place.
+fn join_half(node: Node, half: u32, bit: bool) -> Node
+    ensures { result ≡ with_half node half bit }
 {
     if bit {
-        kids as usize + 1
+        Node { high: half, ..node }
     } else {
-        kids as usize
-    }
-}
-
-/// The node with a half that is a node.
-fn join_half(node: Node, kids: u32, bit: bool) -> Node
-    ensures { result ≡ with_half node kids bit }
-{
-    if bit {
-        Node {
-            kids,
-            high: true,
-            ..node
-        }
-    } else {
-        Node {
-            kids,
-            low: true,
-            ..node
-        }
+        Node { low: half, ..node }
     }
 }
 
@@ -445,10 +426,10 @@ pub(crate) fn grow(
     inherited: u16,
 )
     requires bits { left ≤ 128 }
-    requires room { vec_len nodes.old.pairs + 2 * left ≤ vec_capacity nodes.old.pairs }
-    requires few { vec_len nodes.old.pairs + 2 * left < 2 ^ 32 }
-    requires long { vec_len nodes.old.pairs + 2 * left ≤ vec_len bests.old.pairs }
-    ensures long { vec_len nodes.new.pairs ≤ vec_len bests.new.pairs }
+    requires room { vec_len nodes.old.halves + left ≤ vec_capacity nodes.old.halves }
+    requires few { vec_len nodes.old.halves + left < 2 ^ 32 }
+    requires long { vec_len nodes.old.halves + left ≤ vec_len bests.old.halves }
+    ensures long { vec_len nodes.new.halves ≤ vec_len bests.new.halves }
     ensures nodes { (d : ℕ) (name : ℕ → Place) (n : ℕ) (p : List Bool) → left < d
         → IsTree d (cells_of nodes.old) name i p → IsHeld (cells_of nodes.old) nodes.old.free name n
         → HasRoom d (bits_of left q) (cells_of nodes.old) (cells_of nodes.new) nodes.new.free name i
@@ -480,7 +461,7 @@ pub(crate) fn grow(
 /// Tells the cover of a node again where that of a half has changed, and tells whether it is another than it was.
 fn climb(nodes: &mut Nodes, i: usize, label: Label, changed: bool) -> bool
     ensures free { nodes.new.free ≡ nodes.old.free }
-    ensures len { vec_len nodes.new.pairs ≡ vec_len nodes.old.pairs }
+    ensures len { vec_len nodes.new.halves ≡ vec_len nodes.old.halves }
     ensures climbs { Climbs label changed result (cells_of nodes.old) (cells_of nodes.new) i }
 {
     if !changed {
@@ -505,10 +486,10 @@ pub(crate) fn grow_label<C: Counter>(
     steps: &mut C,
 ) -> bool
     requires bits { left ≤ 128 }
-    requires room { vec_len nodes.old.pairs + 2 * left ≤ vec_capacity nodes.old.pairs }
-    requires few { vec_len nodes.old.pairs + 2 * left < 2 ^ 32 }
-    requires long { vec_len nodes.old.pairs + 2 * left ≤ vec_len bests.old.pairs }
-    ensures long { vec_len nodes.new.pairs ≤ vec_len bests.new.pairs }
+    requires room { vec_len nodes.old.halves + left ≤ vec_capacity nodes.old.halves }
+    requires few { vec_len nodes.old.halves + left < 2 ^ 32 }
+    requires long { vec_len nodes.old.halves + left ≤ vec_len bests.old.halves }
+    ensures long { vec_len nodes.new.halves ≤ vec_len bests.new.halves }
     ensures made { (d : ℕ) (name : ℕ → Place) (n : ℕ) (p : List Bool) → left < d
         → IsTree d (cells_of nodes.old) name i p → IsHeld (cells_of nodes.old) nodes.old.free name n
         → IsPlaced d label (bits_of left q) hop (cells_of nodes.old) (cells_of nodes.new)
@@ -556,8 +537,8 @@ pub(crate) fn set_label(
     hop: u16,
 ) -> Result<bool, AllocError>
     requires bits { left ≤ 128 }
-    requires long { vec_len nodes.old.pairs ≤ vec_len bests.old.pairs }
-    ensures long { vec_len nodes.new.pairs ≤ vec_len bests.new.pairs }
+    requires long { vec_len nodes.old.halves ≤ vec_len bests.old.halves }
+    ensures long { vec_len nodes.new.halves ≤ vec_len bests.new.halves }
     ensures made { IfOk result (λ more. (d : ℕ) (name : ℕ → Place) (n : ℕ) (p : List Bool) → left < d
         → IsTree d (cells_of nodes.old) name i p → IsHeld (cells_of nodes.old) nodes.old.free name n
         → IsPlaced d label (bits_of left q) hop (cells_of nodes.old) (cells_of nodes.new)
@@ -580,7 +561,7 @@ pub(crate) fn set_label(
             Ok(climb(nodes, i, label, changed))
         }
         None => {
-            reserve(nodes, bests, 2 * left as usize)?;
+            reserve(nodes, bests, left as usize)?;
             let mut none = Uncounted;
             Ok(grow_label(nodes, bests, i, q, left, inherited, label, hop, &mut none))
         }
@@ -596,20 +577,20 @@ const MOST: usize = 0x7fff_fffe;
 ///
 /// No memory, which comes too where there would be 2^31 nodes or more.
 pub(crate) fn reserve(nodes: &mut Nodes, bests: &mut Bests, more: usize) -> Result<(), AllocError>
-    requires { more ≤ 256 }
+    requires { more ≤ 128 }
     ensures cells { (cells_of nodes.new ≡ cells_of nodes.old) × (nodes.new.free ≡ nodes.old.free) }
-    ensures len { vec_len nodes.new.pairs ≡ vec_len nodes.old.pairs }
+    ensures len { vec_len nodes.new.halves ≡ vec_len nodes.old.halves }
     ensures kept { (j : ℕ) → best_in bests.new j ≡ best_in bests.old j }
-    ensures longer { vec_len bests.old.pairs ≤ vec_len bests.new.pairs }
-    ensures room { OnOk result ((vec_len nodes.new.pairs + more ≤ vec_capacity nodes.new.pairs)
-        × (vec_len nodes.new.pairs + more < 2 ^ 32)
-        × (vec_len nodes.new.pairs + more ≤ vec_len bests.new.pairs)) }
+    ensures longer { vec_len bests.old.halves ≤ vec_len bests.new.halves }
+    ensures room { OnOk result ((vec_len nodes.new.halves + more ≤ vec_capacity nodes.new.halves)
+        × (vec_len nodes.new.halves + more < 2 ^ 32)
+        × (vec_len nodes.new.halves + more ≤ vec_len bests.new.halves)) }
 {
-    if nodes.pairs.len() > MOST - more {
+    if nodes.halves.len() > MOST - more {
         return Err(AllocError);
     }
-    lengthen(bests, nodes.pairs.len() + more)?;
-    nodes.pairs.reserve(more)?;
+    lengthen(bests, nodes.halves.len() + more)?;
+    nodes.halves.reserve(more)?;
     Ok(())
 }
 
@@ -617,10 +598,10 @@ pub(crate) fn reserve(nodes: &mut Nodes, bests: &mut Bests, more: usize) -> Resu
 pub(crate) fn root_alone(alloc: Global) -> Nodes
     ensures cells { cells_of result ≡ blank ∷ [] }
     ensures free { result.free ≡ 0 }
-    ensures len { vec_len result.pairs ≡ 0 }
+    ensures len { vec_len result.halves ≡ 0 }
 {
     Nodes {
-        pairs: Vec::new(alloc),
+        halves: Vec::new(alloc),
         root: leaf(),
         free: 0,
     }

@@ -61,7 +61,7 @@ impl Model for Tree {
 
     ghost view = { λ t. record { family = t.family; routes = of_table t.family (whole t.family (cells_of t.nodes)).routes; entries = of_table t.family (whole t.family (cells_of t.nodes)).entries; nodes = (whole t.family (cells_of t.nodes)).nodes; before = of_table t.family (routes_before t.undo (whole t.family (cells_of t.nodes)).routes) } };
 
-    ghost invariant = { λ t. IsArena t.family (cells_of t.nodes) t.nodes.free × InPlace (of_table t.family (whole t.family (cells_of t.nodes)).routes) × InPlace (of_table t.family (whole t.family (cells_of t.nodes)).entries) × KeepsBest t.family (cells_of t.nodes) (best_in t.bests) × (vec_len t.nodes.pairs ≤ vec_len t.bests.pairs) × CanUndo t.family (cells_of t.nodes) (best_in t.bests) t.undo };
+    ghost invariant = { λ t. IsArena t.family (cells_of t.nodes) t.nodes.free × InPlace (of_table t.family (whole t.family (cells_of t.nodes)).routes) × InPlace (of_table t.family (whole t.family (cells_of t.nodes)).entries) × KeepsBest t.family (cells_of t.nodes) (best_in t.bests) × (vec_len t.nodes.halves ≤ vec_len t.bests.halves) × CanUndo t.family (cells_of t.nodes) (best_in t.bests) t.undo };
 }
 
 /// The table of one label from the root on, in the order of prefixes.

@@ -9,6 +9,7 @@ ghost use Rattle.orig_tree.specs.Arena.{blank, cells_of, whole, IsArena, IsRoomi
 ghost use Rattle.orig_tree.specs.Bests.{best_in, KeepsBest, IsLaid};
 ghost use Rattle.orig_tree.specs.Undos.{TakesBack, CanUndo};
 ghost use Rattle.orig_tree.specs.Within.{nodes_in};
+ghost use Rattle.orig_tree.specs.declared.best.Best.{Best};
 ghost use Rattle.orig_tree.specs.declared.node.Label.TheVariants.{Route, Entry};
 
 use crate::best::{Bests, Change, commit, no_changes, revert};
@@ -28,7 +29,7 @@ pub(crate) fn empty(alloc: Global, family: Family) -> Nodes
     ensures arena { IsArena family (cells_of result) result.free }
     ensures bare { whole family (cells_of result) ≡ walks_of None None no_walks no_walks }
     ensures alone { cells_of result ≡ blank ∷ [] }
-    ensures len { vec_len result.pairs ≡ 0 }
+    ensures len { vec_len result.halves ≡ 0 }
 {
     let _ = family;
     root_alone(alloc)
@@ -51,11 +52,11 @@ pub(crate) fn make_room(
     requires few { len ≤ width family }
     requires arena { IsArena family (cells_of nodes.old) nodes.old.free }
     requires best { KeepsBest family (cells_of nodes.old) (best_in bests.old) }
-    requires long { vec_len nodes.old.pairs ≤ vec_len bests.old.pairs }
+    requires long { vec_len nodes.old.halves ≤ vec_len bests.old.halves }
     requires undo { CanUndo family (cells_of nodes.old) (best_in bests.old) undo.old }
     ensures arena { IsArena family (cells_of nodes.new) nodes.new.free }
     ensures best { KeepsBest family (cells_of nodes.new) (best_in bests.new) }
-    ensures long { vec_len nodes.new.pairs ≤ vec_len bests.new.pairs }
+    ensures long { vec_len nodes.new.halves ≤ vec_len bests.new.halves }
     ensures undo { CanUndo family (cells_of nodes.new) (best_in bests.new) undo.new }
     ensures walks { IsRoomier (bits_of len q) (whole family (cells_of nodes.old)) (whole family
         (cells_of nodes.new)) }
@@ -71,7 +72,7 @@ pub(crate) fn make_room(
     if is_node(nodes, 0, q, len) {
         return Ok(());
     }
-    reserve(nodes, bests, 2 * len as usize)?;
+    reserve(nodes, bests, len as usize)?;
     grow(nodes, bests, 0, q, len, 0);
     *undo = None;
     Ok(())
@@ -97,10 +98,10 @@ pub(crate) fn lay<C: Counter>(
     requires few { len ≤ width family }
     requires arena { IsArena family (cells_of nodes.old) nodes.old.free }
     requires best { KeepsBest family (cells_of nodes.old) (best_in bests.old) }
-    requires long { vec_len nodes.old.pairs ≤ vec_len bests.old.pairs }
+    requires long { vec_len nodes.old.halves ≤ vec_len bests.old.halves }
     ensures arena { IsArena family (cells_of nodes.new) nodes.new.free }
     ensures best { KeepsBest family (cells_of nodes.new) (best_in bests.new) }
-    ensures long { vec_len nodes.new.pairs ≤ vec_len bests.new.pairs }
+    ensures long { vec_len nodes.new.halves ≤ vec_len bests.new.halves }
     ensures laid { OnOk result (IsLaid Route (bits_of len q) hop (whole family (cells_of nodes.old)) (whole
         family (cells_of nodes.new))) }
     ensures err { OnErr result ((cells_of nodes.new ≡ cells_of nodes.old)
@@ -108,7 +109,7 @@ pub(crate) fn lay<C: Counter>(
     ensures steps { C.count steps.new ≤ C.count steps.old + len + 1 + nodes_in (bits_of len q) (whole
         family (cells_of nodes.old)).nodes }
 {
-    reserve(nodes, bests, 2 * len as usize)?;
+    reserve(nodes, bests, len as usize)?;
     let depth = family.width();
     let mut changes = no_changes(spare, depth)?;
     plan(
@@ -149,11 +150,11 @@ pub(crate) fn alter<C: Counter>(
     requires few { len ≤ width family }
     requires arena { IsArena family (cells_of nodes.old) nodes.old.free }
     requires best { KeepsBest family (cells_of nodes.old) (best_in bests.old) }
-    requires long { vec_len nodes.old.pairs ≤ vec_len bests.old.pairs }
+    requires long { vec_len nodes.old.halves ≤ vec_len bests.old.halves }
     requires allowed { Allowed (bits_of len q) set (whole family (cells_of nodes.old)).nodes }
     ensures arena { IsArena family (cells_of nodes.new) nodes.new.free }
     ensures best { KeepsBest family (cells_of nodes.new) (best_in bests.new) }
-    ensures long { vec_len nodes.new.pairs ≤ vec_len bests.new.pairs }
+    ensures long { vec_len nodes.new.halves ≤ vec_len bests.new.halves }
     ensures walks { OnOk result (whole family (cells_of nodes.new) ≡ edited Route (bits_of len q) set
         (whole family (cells_of nodes.old))) }
     ensures back { IfOk result (λ u. has_node (bits_of len q) (whole family (cells_of
@@ -198,11 +199,11 @@ pub(crate) fn take_back(
     undo: Undo,
 ) -> Vec<Change>
     requires arena { IsArena family (cells_of nodes.old) nodes.old.free }
-    requires long { vec_len nodes.old.pairs ≤ vec_len bests.old.pairs }
+    requires long { vec_len nodes.old.halves ≤ vec_len bests.old.halves }
     requires undo { CanUndo family (cells_of nodes.old) (best_in bests.old) (Some undo) }
     ensures arena { IsArena family (cells_of nodes.new) nodes.new.free }
     ensures best { KeepsBest family (cells_of nodes.new) (best_in bests.new) }
-    ensures long { vec_len nodes.new.pairs ≤ vec_len bests.new.pairs }
+    ensures long { vec_len nodes.new.halves ≤ vec_len bests.new.halves }
     ensures walks { whole family (cells_of nodes.new) ≡ edited Route (bits_of undo.len undo.q)
         undo.hop (whole family (cells_of nodes.old)) }
 {
@@ -221,7 +222,7 @@ pub(crate) fn change(family: Family, nodes: &mut Nodes, q: u128, len: u8, hop: O
     ensures walks { whole family (cells_of nodes.new) ≡ edited Entry (bits_of len q) hop (whole
         family (cells_of nodes.old)) }
     ensures halves { HalvesStay (cells_of nodes.old) (cells_of nodes.new) }
-    ensures len { vec_len nodes.new.pairs ≡ vec_len nodes.old.pairs }
+    ensures len { vec_len nodes.new.halves ≡ vec_len nodes.old.halves }
 {
     let _ = family;
     assign(nodes, 0, Label::Entry, q, len, hop);
@@ -244,11 +245,11 @@ pub(crate) fn enter(
     requires few { len ≤ width family }
     requires arena { IsArena family (cells_of nodes.old) nodes.old.free }
     requires best { KeepsBest family (cells_of nodes.old) (best_in bests.old) }
-    requires long { vec_len nodes.old.pairs ≤ vec_len bests.old.pairs }
+    requires long { vec_len nodes.old.halves ≤ vec_len bests.old.halves }
     requires undo { CanUndo family (cells_of nodes.old) (best_in bests.old) undo.old }
     ensures arena { IsArena family (cells_of nodes.new) nodes.new.free }
     ensures best { KeepsBest family (cells_of nodes.new) (best_in bests.new) }
-    ensures long { vec_len nodes.new.pairs ≤ vec_len bests.new.pairs }
+    ensures long { vec_len nodes.new.halves ≤ vec_len bests.new.halves }
     ensures undo { CanUndo family (cells_of nodes.new) (best_in bests.new) undo.new }
     ensures laid { OnOk result (IsLaid Entry (bits_of len q) hop (whole family (cells_of nodes.old)) (whole
         family (cells_of nodes.new))) }
@@ -277,8 +278,9 @@ pub(crate) fn drop_unused(family: Family, nodes: &mut Nodes, q: u128, len: u8)
         ≡ (whole family (cells_of nodes.old)).entries }
     ensures trimmed { IsTrimmed (bits_of len q) (whole family (cells_of nodes.old)) (whole family
         (cells_of nodes.new)) }
-    ensures halves { HalvesStay (cells_of nodes.old) (cells_of nodes.new) }
-    ensures len { vec_len nodes.new.pairs ≡ vec_len nodes.old.pairs }
+    ensures best { (kept : ℕ → Best) → KeepsBest family (cells_of nodes.old) kept
+        → KeepsBest family (cells_of nodes.new) kept }
+    ensures len { vec_len nodes.new.halves ≡ vec_len nodes.old.halves }
 {
     trim(nodes, 0, q, len, family.width());
 }

@@ -16,9 +16,9 @@ pub loop-change-preserved : goal.loop-change-preserved
 loop-change-preserved c =
     let v = c.loop-change.invariant in
     record {
-      rest = λ j l. commit_step c.loop-change.change-items c.loop-change.change-index (vec_len c.args.bests.now.pairs) c.change-item.result _ (best_in c.loop-change.bests) (best_in c.exchange.new.bests) (λ j. changed c.args.changes.now.items (best_in c.args.bests.now) j)
+      rest = λ j l. commit_step c.loop-change.change-items c.loop-change.change-index (vec_len c.args.bests.now.halves) c.change-item.result _ (best_in c.loop-change.bests) (best_in c.exchange.new.bests) (λ j. changed c.args.changes.now.items (best_in c.args.bests.now) j)
           (omega (arith, c.loop-change-test.true, c.loop-change.auto.change-items)) (λ k m. c.exchange.ensures.kept k (omega (arith, m, v.len))) v.rest j l;
-      back = λ j l. back_step c.loop-change.change-items c.loop-change.change-index (vec_len c.args.bests.now.pairs) c.change-item.result _ (best_in c.loop-change.bests) (best_in c.exchange.new.bests) (best_in c.args.bests.now)
+      back = λ j l. back_step c.loop-change.change-items c.loop-change.change-index (vec_len c.args.bests.now.halves) c.change-item.result _ (best_in c.loop-change.bests) (best_in c.exchange.new.bests) (best_in c.args.bests.now)
           (omega (arith, c.loop-change-test.true, c.loop-change.auto.change-items)) (λ k m. c.exchange.ensures.kept k (omega (arith, m, v.len))) refl (λ m. c.exchange.ensures.given (omega (arith, m, v.len))) v.back j l;
       len = c.exchange.ensures.len ∙ v.len;
     }

@@ -11,7 +11,7 @@ loop-last-preserved-in-Some c =
     let v = c.loop-last.invariant in
     let S = best_in c.loop-last.bests in
     record {
-      rest = λ j m. back_alike c.pop.new.self.items (best_in c.exchange.new.bests) (put_at S c.in-Some.last.place c.in-Some.last.best) (vec_len c.args.bests.now.pairs) (λ k w. c.exchange.ensures.kept k (omega (arith, w, v.len))) j m
+      rest = λ j m. back_alike c.pop.new.self.items (best_in c.exchange.new.bests) (put_at S c.in-Some.last.place c.in-Some.last.best) (vec_len c.args.bests.now.halves) (λ k w. c.exchange.ensures.kept k (omega (arith, w, v.len))) j m
           ∙ (ap (λ K. K j) (sym (back_push c.pop.new.self.items c.in-Some.last S)) ∙ (ap (λ cs. back cs S j) (sym c.in-Some.ensures.items) ∙ v.rest j m));
       len = c.exchange.ensures.len ∙ v.len;
     }
@@ -21,7 +21,7 @@ loop-last-preserved c =
     let v = c.loop-last.invariant in
     let S = best_in c.loop-last.bests in
     record {
-      rest = λ j m. back_alike c.pop.new.self.items (best_in c.exchange.new.bests) (put_at S c.in-Some.last.place c.in-Some.last.best) (vec_len c.args.bests.now.pairs) (λ k w. c.exchange.ensures.kept k (omega (arith, w, v.len))) j m
+      rest = λ j m. back_alike c.pop.new.self.items (best_in c.exchange.new.bests) (put_at S c.in-Some.last.place c.in-Some.last.best) (vec_len c.args.bests.now.halves) (λ k w. c.exchange.ensures.kept k (omega (arith, w, v.len))) j m
           ∙ (ap (λ K. K j) (sym (back_push c.pop.new.self.items c.in-Some.last S)) ∙ (ap (λ cs. back cs S j) (sym c.in-Some.ensures.items) ∙ v.rest j m));
       len = c.exchange.ensures.len ∙ v.len;
     }

@@ -4,8 +4,8 @@ use Rattle.orig_tree.proofs.best.revert.Given as goal
 
 abbrev pub invariant-loop-last : goal.invariant-loop-last
 invariant-loop-last l = record {
-  rest : (j : ℕ) → j ≤ vec_len l.fn.bests.pairs → back l.changes.items (best_in l.bests) j ≡ back l.fn.changes.items (best_in l.fn.bests) j;
-  len : vec_len l.bests.pairs ≡ vec_len l.fn.bests.pairs;
+  rest : (j : ℕ) → j ≤ vec_len l.fn.bests.halves → back l.changes.items (best_in l.bests) j ≡ back l.fn.changes.items (best_in l.fn.bests) j;
+  len : vec_len l.bests.halves ≡ vec_len l.fn.bests.halves;
 }
 
 abbrev pub decreases-loop-last : goal.decreases-loop-last

@@ -1,33 +1,32 @@
-use Rattle.std.proofs.Common.{arith, subst, ℕ, Option, refl}
-use Rattle.orig_tree.specs.Arena.{cells_of, IfHalf, IsTree}
-use Rattle.orig_tree.proofs.Dropping.{no_level, half_trimmed, trim_end, trim_node_high, trim_node_low}
-use Rattle.orig_tree.proofs.Halving.{low_some, high_some}
+use Rattle.std.proofs.Common.{arith, ap, ◌∙◌}
+use Rattle.std.specs.Option.{is_some}
+use Rattle.orig_tree.specs.Arena.{cells_of}
+use Rattle.orig_tree.proofs.Dropping.{no_level, half_tree, half_none, half_stays, half_goes, trim_end, trim_node_high, trim_node_low}
 use Rattle.orig_tree.proofs.drops.+trim.Goals as goal
 
 pub trim-returns-then-left-eq0-clause-trimmed : goal.trim-returns-then-left-eq0-clause-trimmed
-trim-returns-then-left-eq0-clause-trimmed t c = λ d name spares p l r s h. trim_end d (cells_of c.args.nodes.now) (cells_of c.prune.new.nodes) c.prune.new.nodes.free name c.args.i p c.args.left c.args.q c.prune.result c.if-left-eq0.true (c.prune.ensures.trimmed d name spares p l r s h)
+trim-returns-then-left-eq0-clause-trimmed t c = λ d name spares p l s h. trim_end d (cells_of c.args.nodes.now) (cells_of c.prune.new.nodes) c.prune.new.nodes.free name c.args.i p c.args.left c.args.q c.prune.result c.if-left-eq0.true (c.prune.ensures.trimmed d name spares p l s h)
 
 pub trim-returns-then-bit_at-clause-trimmed : goal.trim-returns-then-bit_at-clause-trimmed
-trim-returns-then-bit_at-clause-trimmed t c = trim_node_high (cells_of c.args.nodes.now) c.args.nodes.now.free c.args.i c.args.depth c.read-node.result c.has_label.result c.any.result c.read-node.result.low c.trim_half-high.result
-    (c.read-node.ensures) c.has_label.ensures c.any.ensures c.args.q c.args.left (cells_of c.trim_half-high.new.nodes) (cells_of c.settle.new.nodes)
-    c.half.result c.trim_half-high.new.nodes.free c.settle.new.nodes.free c.if-left-eq0.false c.if-bit_at.ensures c.half.ensures refl c.trim_half-high.ensures.trimmed c.settle.ensures.settled
+trim-returns-then-bit_at-clause-trimmed t c = trim_node_high (cells_of c.args.nodes.now) c.args.nodes.now.free c.args.i c.args.depth c.read-node.result c.has_label.result c.any.result c.is_some.result c.trim_half-high.result
+    c.read-node.ensures c.has_label.ensures c.any.ensures c.args.q c.args.left (cells_of c.trim_half-high.new.nodes) (cells_of c.settle.new.nodes)
+    c.trim_half-high.new.nodes.free c.settle.new.nodes.free c.if-left-eq0.false c.if-bit_at.ensures (c.is_some.ensures ∙ ap is_some c.half.ensures) c.trim_half-high.ensures.trimmed c.settle.ensures.cells c.settle.ensures.free
 
 pub trim-returns-clause-trimmed : goal.trim-returns-clause-trimmed
-trim-returns-clause-trimmed t c = trim_node_low (cells_of c.args.nodes.now) c.args.nodes.now.free c.args.i c.args.depth c.read-node.result c.has_label-2.result c.any-2.result c.trim_half-low.result c.read-node.result.high
-    (c.read-node.ensures) c.has_label-2.ensures c.any-2.ensures c.args.q c.args.left (cells_of c.trim_half-low.new.nodes) (cells_of c.settle-2.new.nodes)
-    c.half-2.result c.trim_half-low.new.nodes.free c.settle-2.new.nodes.free c.if-left-eq0.false c.if-bit_at.ensures c.half-2.ensures refl c.trim_half-low.ensures.trimmed c.settle-2.ensures.settled
+trim-returns-clause-trimmed t c = trim_node_low (cells_of c.args.nodes.now) c.args.nodes.now.free c.args.i c.args.depth c.read-node.result c.has_label-2.result c.any-2.result c.trim_half-low.result c.is_some-2.result
+    c.read-node.ensures c.has_label-2.ensures c.any-2.ensures c.args.q c.args.left (cells_of c.trim_half-low.new.nodes) (cells_of c.settle-2.new.nodes)
+    c.trim_half-low.new.nodes.free c.settle-2.new.nodes.free c.if-left-eq0.false c.if-bit_at.ensures (c.is_some-2.ensures ∙ ap is_some c.half-2.ensures) c.trim_half-low.ensures.trimmed c.settle-2.ensures.cells c.settle-2.ensures.free
+
+pub trim_half-returns-then-half-eq0-clause-trimmed : goal.trim_half-returns-then-half-eq0-clause-trimmed
+trim_half-returns-then-half-eq0-clause-trimmed t c = λ d name spares p l s h. half_none d _ (cells_of c.args.nodes.now) c.args.nodes.now.free name spares c.args.half p c.if-half-eq0.true h
 
 pub trim_half-returns-then-depth-eq0-clause-trimmed : goal.trim_half-returns-then-depth-eq0-clause-trimmed
-trim_half-returns-then-depth-eq0-clause-trimmed t c = λ d name spares p l r s h. absurd (no_level d c.args.depth (cells_of c.args.nodes.now) name c.args.half c.in-Some.j p l c.if-depth-eq0.true c.in-Some.is s)
+trim_half-returns-then-depth-eq0-clause-trimmed t c = λ d name spares p l s h. absurd (no_level d c.args.depth (cells_of c.args.nodes.now) name c.args.half p l c.if-depth-eq0.true c.if-half-eq0.false s)
 
-pub trim_half-returns-else-depth-eq0-clause-trimmed : goal.trim_half-returns-else-depth-eq0-clause-trimmed
-trim_half-returns-else-depth-eq0-clause-trimmed t c = λ d name spares p l r s h. half_trimmed d _ (cells_of c.args.nodes.now) (cells_of c.trim.new.nodes) c.trim.new.nodes.free name c.args.half c.in-Some.j p c.trim.result c.in-Some.is
-    (c.trim.ensures.trimmed d name spares p (omega (arith, l, c.if-depth-eq0.false)) r (subst (λ (o : Option ℕ). IfHalf (λ j. IsTree d (cells_of c.args.nodes.now) name j p) o) c.in-Some.is s) h)
+pub trim_half-returns-then-trim-clause-trimmed : goal.trim_half-returns-then-trim-clause-trimmed
+trim_half-returns-then-trim-clause-trimmed t c = λ d name spares p l s h. half_stays d _ (cells_of c.args.nodes.now) (cells_of c.trim.new.nodes) c.trim.new.nodes.free name c.args.half p c.trim.result c.if-half-eq0.false c.if-trim.true
+    (c.trim.ensures.trimmed d name spares p (omega (arith, l, c.if-depth-eq0.false)) (half_tree d (cells_of c.args.nodes.now) name c.args.half p c.if-half-eq0.false s) h)
 
-pub trim-returns-then-bit_at-clause-halves : goal.trim-returns-then-bit_at-clause-halves
-trim-returns-then-bit_at-clause-halves t c = c.settle.ensures.halves (cells_of c.args.nodes.now) c.read-node.ensures (λ e. e)
-    (high_some c.read-node.result c.half.result c.trim_half-high.result c.half.ensures c.trim_half-high.ensures.some) c.trim_half-high.ensures.halves
-
-pub trim-returns-clause-halves : goal.trim-returns-clause-halves
-trim-returns-clause-halves t c = c.settle-2.ensures.halves (cells_of c.args.nodes.now) c.read-node.ensures
-    (low_some c.read-node.result c.half-2.result c.trim_half-low.result c.half-2.ensures c.trim_half-low.ensures.some) (λ e. e) c.trim_half-low.ensures.halves
+pub trim_half-returns-clause-trimmed : goal.trim_half-returns-clause-trimmed
+trim_half-returns-clause-trimmed t c = λ d name spares p l s h. half_goes d _ (cells_of c.args.nodes.now) (cells_of c.trim.new.nodes) (cells_of c.give.new.nodes) c.trim.new.nodes.free c.give.new.nodes.free name c.args.half p c.trim.result c.if-half-eq0.false c.if-trim.false
+    (c.trim.ensures.trimmed d name spares p (omega (arith, l, c.if-depth-eq0.false)) (half_tree d (cells_of c.args.nodes.now) name c.args.half p c.if-half-eq0.false s) h) c.give.ensures.cells c.give.ensures.free

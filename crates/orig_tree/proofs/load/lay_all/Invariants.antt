@@ -8,7 +8,7 @@ use Rattle.orig_tree.proofs.load.lay_all.Given as goal
 abbrev pub invariant-loop-route : goal.invariant-loop-route
 invariant-loop-route l = record {
   arena : IsArena l.family (cells_of l.nodes) l.nodes.free;
-  long : vec_len l.nodes.pairs ≤ vec_len l.bests.pairs;
+  long : vec_len l.nodes.halves ≤ vec_len l.bests.halves;
   order : InPlace (of_table l.family (whole l.family (cells_of l.nodes)).routes);
   entries : (whole l.family (cells_of l.nodes)).entries ≡ [];
   routes : of_table l.family (whole l.family (cells_of l.nodes)).routes ≡ routes_of l.family (take l.route-index l.routes);

@@ -23,7 +23,7 @@ returns-then-changed-clause-set t c = λ d name p l s a. set_below c.args.label 
 
 pub returns-then-changed-clause-same : goal.returns-then-changed-clause-same
 returns-then-changed-clause-same t c = λ d name p l s a e. renewed c.args.label (cells_of c.args.nodes.now) (cells_of c.assign-changed.new.nodes) (cells_of c.renew-then-changed.new.nodes) c.args.i c.read-node.result _ c.read-node.ensures
-    (omega (arith, tree_long d (cells_of c.args.nodes.now) name c.args.i p s, c.assign-changed.ensures.len, c.args.nodes.now.pairs.ok.0, c.assign-changed.new.nodes.pairs.ok.0)) c.renew-then-changed.ensures.cells (c.renew-then-changed.ensures.same e)
+    (omega (arith, tree_long d (cells_of c.args.nodes.now) name c.args.i p s, c.assign-changed.ensures.len, c.args.nodes.now.halves.ok.0, c.assign-changed.new.nodes.halves.ok.0)) c.renew-then-changed.ensures.cells (c.renew-then-changed.ensures.same e)
 
 pub returns-else-changed-clause-set : goal.returns-else-changed-clause-set
 returns-else-changed-clause-set t c = λ d name p l s a. (set_stop c.args.label c.args.q c.args.left c.args.hop (cells_of c.args.nodes.now) c.args.i c.read-node.result c.read-node.ensures (cells_of c.assign-changed.new.nodes) c.bit_at.result c.in-Some.j d name p c.if-left-eq0.false c.bit_at.ensures (sym c.half.ensures ∙ c.in-Some.is)

@@ -37,8 +37,8 @@ returns-in-None-clause-made g t c = λ d name n p l s h.
     placed_none c.args.label c.args.left c.args.q c.args.inherited c.unwrap_or-below.result c.args.hop c.bit_at-bit.result c.grow_label-changed-in-None.result c.climb-in-None.result (route_set c.args.label c.args.hop) c.read-node.result
     old (cells_of c.split-j.new.nodes) (cells_of c.grow_label-changed-in-None.new.nodes) (cells_of c.climb-in-None.new.nodes) c.split-j.new.nodes.free c.grow_label-changed-in-None.new.nodes.free c.args.i c.split-j.result d name p S (best_in c.exchange.new.bests) (best_in c.grow_label-changed-in-None.new.bests) x
     c.read-node.ensures c.if-left-eq0.false c.bit_at-bit.ensures c.unwrap_or-below.ensures gone l s split
-    (λ y r e ne. c.exchange.ensures.kept y (omega (arith, within_it old c.args.nodes.now.free n y name r h e, c.args.nodes.now.pairs.ok.0, c.requires.long)) ∙ put_other S c.split-j.result y x ne)
-    (c.exchange.ensures.kept c.split-j.result (omega (arith, inside, c.split-j.new.nodes.pairs.ok.0, c.split-j.ensures.len, c.requires.long, c.if-left-eq0.false)) ∙ put_here S c.split-j.result x)
+    (λ y r e ne. c.exchange.ensures.kept y (omega (arith, within_it old c.args.nodes.now.free n y name r h e, c.args.nodes.now.halves.ok.0, c.requires.long)) ∙ put_other S c.split-j.result y x ne)
+    (c.exchange.ensures.kept c.split-j.result (omega (arith, inside, c.split-j.new.nodes.halves.ok.0, c.split-j.ensures.len, c.requires.long, c.if-left-eq0.false)) ∙ put_here S c.split-j.result x)
     (λ e q m. (subst (λ (o : Option ℕ). Stands e (λ a. lpm (edit (bits_of (c.args.left - 1) q) o []) a c.unwrap_or-below.result) x) c.route.ensures (c.fresh-best.ensures e q m)))
     (λ e n1 m v u w a. c.grow_label-changed-in-None.ensures.made e n1 m v u w a) c.climb-in-None.ensures.climbs)
 

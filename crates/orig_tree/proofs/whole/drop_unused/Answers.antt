@@ -14,3 +14,6 @@ returns-clause-trimmed c = (trim_whole c.args.family (bits_of c.args.len c.args.
 
 pub returns-clause-arena : goal.returns-clause-arena
 returns-clause-arena c = (trim_whole c.args.family (bits_of c.args.len c.args.q) c.width.result c.args.nodes.now.free c.trim.new.nodes.free (cells_of c.args.nodes.now) (cells_of c.trim.new.nodes) c.trim.result c.width.ensures c.requires.arena c.trim.ensures.trimmed).3
+
+pub returns-clause-best : goal.returns-clause-best
+returns-clause-best c = (trim_whole c.args.family (bits_of c.args.len c.args.q) c.width.result c.args.nodes.now.free c.trim.new.nodes.free (cells_of c.args.nodes.now) (cells_of c.trim.new.nodes) c.trim.result c.width.ensures c.requires.arena c.trim.ensures.trimmed).4

@@ -10,22 +10,22 @@ pub returns-clause-arena : goal.returns-clause-arena
 returns-clause-arena g c =
     let v = c.in_ok-reserve.ensures in
     (is_laid c.args.family c.args.q c.args.len c.requires.few (cells_of c.args.nodes.now) (cells_of c.reserve.new.nodes) c.args.nodes.now.free c.reserve.new.nodes.free (best_in c.args.bests.now) (best_in c.reserve.new.bests) c.requires.arena v.cells.0 v.cells.1 v.kept c.requires.best
-    c.args.hop c.width-depth.result (vec_len c.reserve.new.bests.pairs) c.in_ok-changes.changes.items c.plan.new.out.items (kept_or c.in_ok-plan.field-0 (best_in c.reserve.new.bests 0)) (best_in c.commit.new.bests) (best_in c.grow_label.new.bests) (cells_of c.grow_label.new.nodes) c.grow_label.new.nodes.free c.grow_label.result
-    c.width-depth.ensures c.in_ok-changes.ensures (omega (arith, v.room.2, c.reserve.new.nodes.pairs.ok.0)) c.in_ok-plan.ensures.best c.commit.ensures.kept c.grow_label.ensures.made).0
+    c.args.hop c.width-depth.result (vec_len c.reserve.new.bests.halves) c.in_ok-changes.changes.items c.plan.new.out.items (kept_or c.in_ok-plan.field-0 (best_in c.reserve.new.bests 0)) (best_in c.commit.new.bests) (best_in c.grow_label.new.bests) (cells_of c.grow_label.new.nodes) c.grow_label.new.nodes.free c.grow_label.result
+    c.width-depth.ensures c.in_ok-changes.ensures (omega (arith, v.room.2, c.reserve.new.nodes.halves.ok.0)) c.in_ok-plan.ensures.best c.commit.ensures.kept c.grow_label.ensures.made).0
 
 pub returns-clause-best : goal.returns-clause-best
 returns-clause-best g c =
     let v = c.in_ok-reserve.ensures in
     (is_laid c.args.family c.args.q c.args.len c.requires.few (cells_of c.args.nodes.now) (cells_of c.reserve.new.nodes) c.args.nodes.now.free c.reserve.new.nodes.free (best_in c.args.bests.now) (best_in c.reserve.new.bests) c.requires.arena v.cells.0 v.cells.1 v.kept c.requires.best
-    c.args.hop c.width-depth.result (vec_len c.reserve.new.bests.pairs) c.in_ok-changes.changes.items c.plan.new.out.items (kept_or c.in_ok-plan.field-0 (best_in c.reserve.new.bests 0)) (best_in c.commit.new.bests) (best_in c.grow_label.new.bests) (cells_of c.grow_label.new.nodes) c.grow_label.new.nodes.free c.grow_label.result
-    c.width-depth.ensures c.in_ok-changes.ensures (omega (arith, v.room.2, c.reserve.new.nodes.pairs.ok.0)) c.in_ok-plan.ensures.best c.commit.ensures.kept c.grow_label.ensures.made).1
+    c.args.hop c.width-depth.result (vec_len c.reserve.new.bests.halves) c.in_ok-changes.changes.items c.plan.new.out.items (kept_or c.in_ok-plan.field-0 (best_in c.reserve.new.bests 0)) (best_in c.commit.new.bests) (best_in c.grow_label.new.bests) (cells_of c.grow_label.new.nodes) c.grow_label.new.nodes.free c.grow_label.result
+    c.width-depth.ensures c.in_ok-changes.ensures (omega (arith, v.room.2, c.reserve.new.nodes.halves.ok.0)) c.in_ok-plan.ensures.best c.commit.ensures.kept c.grow_label.ensures.made).1
 
 pub returns-clause-laid : goal.returns-clause-laid
 returns-clause-laid g c =
     let v = c.in_ok-reserve.ensures in
     (is_laid c.args.family c.args.q c.args.len c.requires.few (cells_of c.args.nodes.now) (cells_of c.reserve.new.nodes) c.args.nodes.now.free c.reserve.new.nodes.free (best_in c.args.bests.now) (best_in c.reserve.new.bests) c.requires.arena v.cells.0 v.cells.1 v.kept c.requires.best
-    c.args.hop c.width-depth.result (vec_len c.reserve.new.bests.pairs) c.in_ok-changes.changes.items c.plan.new.out.items (kept_or c.in_ok-plan.field-0 (best_in c.reserve.new.bests 0)) (best_in c.commit.new.bests) (best_in c.grow_label.new.bests) (cells_of c.grow_label.new.nodes) c.grow_label.new.nodes.free c.grow_label.result
-    c.width-depth.ensures c.in_ok-changes.ensures (omega (arith, v.room.2, c.reserve.new.nodes.pairs.ok.0)) c.in_ok-plan.ensures.best c.commit.ensures.kept c.grow_label.ensures.made).2
+    c.args.hop c.width-depth.result (vec_len c.reserve.new.bests.halves) c.in_ok-changes.changes.items c.plan.new.out.items (kept_or c.in_ok-plan.field-0 (best_in c.reserve.new.bests 0)) (best_in c.commit.new.bests) (best_in c.grow_label.new.bests) (cells_of c.grow_label.new.nodes) c.grow_label.new.nodes.free c.grow_label.result
+    c.width-depth.ensures c.in_ok-changes.ensures (omega (arith, v.room.2, c.reserve.new.nodes.halves.ok.0)) c.in_ok-plan.ensures.best c.commit.ensures.kept c.grow_label.ensures.made).2
 
 pub returns-in_err-plan-clause-steps : goal.returns-in_err-plan-clause-steps
 returns-in_err-plan-clause-steps g c =

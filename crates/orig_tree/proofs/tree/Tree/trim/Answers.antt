@@ -5,7 +5,6 @@ use Rattle.orig_tree.specs.Arena.{cells_of, whole}
 use Rattle.orig_tree.proofs.Trimming.{trimmed_tree}
 use Rattle.orig_tree.specs.Bests.{best_in}
 use Rattle.orig_tree.proofs.Places.{same_rows}
-use Rattle.orig_tree.proofs.Laying.{stays_by}
 use Rattle.orig_tree.proofs.tree.Tree.trim.Goals as goal
 
 pub returns-clause-nodes : goal.returns-clause-nodes
@@ -24,7 +23,7 @@ invariant_of-self c =
       c.drop_unused.ensures.arena,
       same_rows f old.routes new.routes c.drop_unused.ensures.routes c.self.invariant.1,
       same_rows f old.entries new.entries c.drop_unused.ensures.entries c.self.invariant.2,
-      stays_by f (cells_of c.self.inside.nodes) (cells_of c.drop_unused.new.nodes) (best_in c.self.inside.bests) c.drop_unused.ensures.halves c.drop_unused.ensures.routes c.self.invariant.3,
+      c.drop_unused.ensures.best (best_in c.self.inside.bests) c.self.invariant.3,
       omega (arith, c.drop_unused.ensures.len, c.self.invariant.4),
       tt,
     )
