@@ -1,7 +1,7 @@
 //! Texts and the first bad line of each, one text read whole, and the most hops.
 
 use crate::{BadRow, PrintedError, Row, read_printed};
-use fib_addr::{Addr, Entry, Family, Hop, MOST_TEXT, Prefix, write_addr};
+use fib_addr::{Addr, Entry, Family, Hop, MOST_TEXT, Prefix, addr_text};
 use std::test::Fail;
 
 /// Texts, and the first line of each that is no row, with its why.
@@ -138,10 +138,10 @@ report,events,3";
 fn most_hops(rt: HostRuntime) -> Result<(), Fail> {
     let mut text = Vec::new(rt.alloc());
     for n in 0..65_534 {
-        let mut addr = [0; MOST_TEXT];
-        let end = write_addr(&Addr::v4(0x0b00_0000 + n), &mut addr);
+        let mut buffer = [0; MOST_TEXT];
+        let addr = addr_text(&mut buffer, &Addr::v4(0x0b00_0000 + n));
         text.extend_from_slice(b"route,0.0.0.0/0,")?;
-        text.extend_from_slice(&addr[..end])?;
+        text.extend_from_slice(addr)?;
         text.push(b'\n')?;
     }
     let printed = read_printed(rt.alloc(), &text)?;

@@ -15,3 +15,4 @@ pub mod PrefixLaws
 pub mod Ordering
 pub mod Fronts
 pub mod UniformLemmas
+pub mod Backs

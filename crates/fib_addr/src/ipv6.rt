@@ -1,6 +1,6 @@
 //! The text of IPv6 addresses: eight groups of 16 bits (RFC 4291, section 2.2), written as RFC 5952, section 4, has it.
 
-ghost use Rattle.std.specs.Prelude.{◌≡◌, ◌+◌, ◌-◌, ◌*◌, ◌<◌, ◌≤◌, ◌++◌, false, length, take, option_map};
+ghost use Rattle.std.specs.Prelude.{◌≡◌, ◌+◌, ◌-◌, ◌*◌, ◌<◌, ◌≤◌, ◌++◌, drop, false, length, option_map};
 ghost use Rattle.std.specs.Char.{digit_char};
 ghost use Rattle.std.specs.List.{list_any};
 ghost use Rattle.std.specs.Net.Text as Text;
@@ -52,11 +52,13 @@ fn leading_zeros(group: u16) -> usize
     }
 }
 
-/// Puts a group without leading zeros at a place of the text, and gives the place after it.
-fn put_group(out: &mut [u8; MOST_TEXT], at: usize, group: u16) -> usize
-    requires { at + 4 ≤ MOST_TEXT }
-    ensures text { take result out.new ≡ take at out.old ++ Text.hex group }
-    ensures end { result ≤ at + 4 }
+/// Puts a group without leading zeros so that it ends at a place of the text, and gives where it starts.
+fn put_group(out: &mut [u8; MOST_TEXT], end: usize, group: u16) -> usize
+    requires fits { 4 ≤ end }
+    requires within { end ≤ MOST_TEXT }
+    ensures text { drop result out.new ≡ Text.hex group ++ drop end out.old }
+    ensures start { end ≤ result + 4 }
+    ensures before { result ≤ end }
 {
     let digits = [
         hex_char(group / 0x1000),
@@ -64,24 +66,26 @@ fn put_group(out: &mut [u8; MOST_TEXT], at: usize, group: u16) -> usize
         hex_char(group / 0x10 % 16),
         hex_char(group % 16),
     ];
-    put(out, at, &digits[leading_zeros(group)..])
+    put(out, end, &digits[leading_zeros(group)..])
 }
 
-/// Puts groups with colons between them.
-fn put_groups(out: &mut [u8; MOST_TEXT], at: usize, groups: &[u16]) -> usize
-    requires { at + (5 * length groups.now - 1) ≤ MOST_TEXT }
-    ensures text { take result out.new ≡ take at out.old ++ Text.groups_text groups.now }
-    ensures end { result ≤ at + (5 * length groups.now - 1) }
+/// Puts groups with colons between them so that they end at a place of the text, and gives where they start.
+fn put_groups(out: &mut [u8; MOST_TEXT], end: usize, groups: &[u16]) -> usize
+    requires fits { 5 * length groups.now - 1 ≤ end }
+    requires within { end ≤ MOST_TEXT }
+    ensures text { drop result out.new ≡ Text.groups_text groups.now ++ drop end out.old }
+    ensures start { end ≤ result + (5 * length groups.now - 1) }
+    ensures before { result ≤ end }
 {
-    let [first, rest @ ..] = groups else {
-        return at;
-    };
-    let mut end = put_group(out, at, *first);
-    for group in rest {
-        let after_colon = put(out, end, b":");
-        end = put_group(out, after_colon, *group);
+    match groups {
+        [] => end,
+        [last] => put_group(out, end, *last),
+        [first, rest @ ..] => {
+            let after_colon = put_groups(out, end, rest);
+            let after_first = put(out, after_colon, b":");
+            put_group(out, after_first, *first)
+        }
     }
-    end
 }
 
 /// The place and the length of the longest run of zeros, and of equal ones the first.
@@ -102,18 +106,20 @@ fn longest_zero_run(groups: &[u16]) -> (usize, usize)
     (place, longest)
 }
 
-/// Writes the address of these bits at the front of the buffer, and gives the text's length. A run of at least two zero
+/// Puts the address of these bits so that it ends at a place of the text, and gives where it starts. A run of at least two zero
 /// groups, the longest, is written `::`.
-pub(crate) fn put_ipv6(out: &mut [u8; MOST_TEXT], bits: u128) -> usize
-    ensures text { take result out.new ≡ ipv6_text (groups_of (bits_of 128 bits)) }
-    ensures end { result ≤ 39 }
+pub(crate) fn put_ipv6(out: &mut [u8; MOST_TEXT], end: usize, bits: u128) -> usize
+    requires fits { 39 ≤ end }
+    requires within { end ≤ MOST_TEXT }
+    ensures text { drop result out.new ≡ ipv6_text (groups_of (bits_of 128 bits)) ++ drop end out.old }
+    ensures before { result ≤ end }
 {
     let groups = Ipv6Addr::from_bits(bits).segments();
     let (place, run) = longest_zero_run(&groups);
     if run < LEAST_RUN {
-        return put_groups(out, 0, &groups);
+        return put_groups(out, end, &groups);
     }
-    let after_head = put_groups(out, 0, &groups[..place]);
-    let after_gap = put(out, after_head, b"::");
-    put_groups(out, after_gap, &groups[place + run..])
+    let after_gap = put_groups(out, end, &groups[place + run..]);
+    let after_head = put(out, after_gap, b"::");
+    put_groups(out, after_head, &groups[..place])
 }

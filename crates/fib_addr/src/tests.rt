@@ -148,9 +148,8 @@ const PREFIXES: [(&str, Option<&str>); 33] = [
 
 /// Whether this text is written of the prefix.
 fn is_written_as(prefix: &Prefix, text: &str) -> bool {
-    let mut out = [0; MOST_TEXT];
-    let end = write_prefix(prefix, &mut out);
-    &out[..end] == text.as_bytes()
+    let mut buffer = [0; MOST_TEXT];
+    prefix_text(&mut buffer, prefix) == text.as_bytes()
 }
 
 #[test]

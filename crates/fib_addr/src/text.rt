@@ -1,10 +1,10 @@
 //! The text of addresses and prefixes, read and written.
 //!
 //! An IPv4 address is four decimal numbers with dots between them, an IPv6 address eight hexadecimal groups with colons
-//! between them, of which one run of zeros may be `::`. IPv6 addresses are read by std's parser. Both are written digit by
-//! digit into the caller's buffer. No call takes memory; each costs the length of the text.
+//! between them, of which one run of zeros may be `::`. IPv6 addresses are read by std's parser. Both are written into
+//! the caller's buffer from its end on, the last digit first. No call takes memory; each costs the length of the text.
 
-ghost use Rattle.std.specs.Prelude.{◌≡◌, ℕ, List, ◌∷◌, ◌+◌, ◌*◌, ◌^◌, ◌<◌, ◌≤◌, ◌++◌, codes, decimal, length, take, option_map, position, IfNone, IfSome};
+ghost use Rattle.std.specs.Prelude.{◌≡◌, ℕ, List, ◌∷◌, ◌+◌, ◌*◌, ◌^◌, ◌<◌, ◌≤◌, ◌++◌, codes, decimal, drop, length, option_map, position, IfNone, IfSome};
 ghost use Rattle.std.specs.Char.{digit_value};
 ghost use Rattle.std.specs.Str.Parse.{AllDigits, digits_value};
 ghost use Rattle.std.specs.Net.Text.{ipv4_text};
@@ -15,7 +15,7 @@ use crate::addr::Addr;
 use crate::ipv6::{put_ipv6, read_ipv6};
 use crate::prefix::Prefix;
 use address_model::Family;
-use itoa::Buffer;
+use itoa::write_digits;
 
 /// The octets of a buffer that holds the text of any address or prefix: the longest takes 39 of an IPv6 address and `/128`.
 pub const MOST_TEXT: usize = 43;
@@ -126,84 +126,84 @@ pub fn read_prefix(text: &[u8]) -> Option<Prefix>
     (prefix.first_addr() == addr).then_some(prefix)
 }
 
-/// Puts a piece at a place of the text, and gives the place after it.
-pub(crate) fn put(out: &mut [u8; MOST_TEXT], at: usize, piece: &[u8]) -> usize
-    requires { at + length piece.now ≤ MOST_TEXT }
-    ensures text { take result out.new ≡ take at out.old ++ piece.now }
-    ensures end { result ≡ at + length piece.now }
+/// Puts a piece so that it ends at a place of the text, and gives where it starts.
+pub(crate) fn put(out: &mut [u8; MOST_TEXT], end: usize, piece: &[u8]) -> usize
+    requires fits { length piece.now ≤ end }
+    requires within { end ≤ MOST_TEXT }
+    ensures text { drop result out.new ≡ piece.now ++ drop end out.old }
+    ensures start { result + length piece.now ≡ end }
 {
-    let end = at + piece.len();
-    out[at..end].copy_from_slice(piece);
-    end
+    let start = end - piece.len();
+    out[start..end].copy_from_slice(piece);
+    start
 }
 
-/// Puts a number of at most three digits at a place of the text, and gives the place after it.
-fn put_octet(out: &mut [u8; MOST_TEXT], at: usize, octet: u8) -> usize
-    requires { at + 3 ≤ MOST_TEXT }
-    ensures text { take result out.new ≡ take at out.old ++ decimal octet }
-    ensures end { result ≤ at + 3 }
+/// Puts a number of at most three digits so that it ends at a place of the text, and gives where it starts.
+fn put_octet(out: &mut [u8; MOST_TEXT], end: usize, octet: u8) -> usize
+    requires fits { 3 ≤ end }
+    requires within { end ≤ MOST_TEXT }
+    ensures text { drop result out.new ≡ decimal octet ++ drop end out.old }
+    ensures start { end ≤ result + 3 }
+    ensures before { result ≤ end }
 {
-    let mut digits = Buffer::new();
-    put(out, at, digits.format(octet).as_bytes())
+    write_digits(u64::from(octet), out, end)
 }
 
-/// Puts a dot and such a number.
-fn put_dot_octet(out: &mut [u8; MOST_TEXT], at: usize, octet: u8) -> usize
-    requires { at + 4 ≤ MOST_TEXT }
-    ensures text { take result out.new ≡ take at out.old ++ codes "." ++ decimal octet }
-    ensures end { result ≤ at + 4 }
+/// Puts such a number with a dot behind it.
+fn put_octet_dot(out: &mut [u8; MOST_TEXT], end: usize, octet: u8) -> usize
+    requires fits { 4 ≤ end }
+    requires within { end ≤ MOST_TEXT }
+    ensures text { drop result out.new ≡ (decimal octet ++ codes ".") ++ drop end out.old }
+    ensures start { end ≤ result + 4 }
+    ensures before { result ≤ end }
 {
-    let after_dot = put(out, at, b".");
-    put_octet(out, after_dot, octet)
+    let dot = put(out, end, b".");
+    put_octet(out, dot, octet)
 }
 
-/// Writes four octets as decimal numbers, with dots between them.
-fn put_ipv4(out: &mut [u8; MOST_TEXT], octets: [u8; 4]) -> usize
-    ensures text { take result out.new ≡ ipv4_text octets }
-    ensures end { result ≤ 15 }
+/// Puts four octets as decimal numbers, with dots between them, so that they end at a place of the text, and gives where they
+/// start.
+fn put_ipv4(out: &mut [u8; MOST_TEXT], end: usize, octets: [u8; 4]) -> usize
+    requires fits { 15 ≤ end }
+    requires within { end ≤ MOST_TEXT }
+    ensures text { drop result out.new ≡ ipv4_text octets ++ drop end out.old }
+    ensures before { result ≤ end }
 {
     let [a, b, c, d] = octets;
-    let at = put_octet(out, 0, a);
-    let at = put_dot_octet(out, at, b);
-    let at = put_dot_octet(out, at, c);
-    put_dot_octet(out, at, d)
+    let at = put_octet(out, end, d);
+    let at = put_octet_dot(out, at, c);
+    let at = put_octet_dot(out, at, b);
+    put_octet_dot(out, at, a)
 }
 
-/// Writes the address at the front of the buffer, IPv4 as `IPv4address` of RFC 3986, section 3.2.2, and IPv6 as RFC 5952,
-/// section 4, has it, without a dotted part, and gives the text's length.
-pub fn write_addr(addr: &Addr, out: &mut [u8; MOST_TEXT]) -> usize
-    ensures text { take result out.new ≡ address_text (addr_as addr.now) }
-    ensures fits { result ≤ 39 }
+/// Puts an address so that it ends at a place of the text, and gives where it starts.
+fn put_addr(out: &mut [u8; MOST_TEXT], end: usize, addr: &Addr) -> usize
+    requires fits { 39 ≤ end }
+    requires within { end ≤ MOST_TEXT }
+    ensures text { drop result out.new ≡ address_text (addr_as addr.now) ++ drop end out.old }
+    ensures before { result ≤ end }
 {
     match addr.family {
-        Family::V4 => put_ipv4(out, (addr.bits as u32).to_be_bytes()),
-        Family::V6 => put_ipv6(out, addr.bits),
+        Family::V4 => put_ipv4(out, end, (addr.bits as u32).to_be_bytes()),
+        Family::V6 => put_ipv6(out, end, addr.bits),
     }
 }
 
-/// Writes the prefix at the front of the buffer: its first address, a slash and its length (RFC 4632, section 3.1), and
-/// gives the text's length.
-pub fn write_prefix(prefix: &Prefix, out: &mut [u8; MOST_TEXT]) -> usize
-    ensures text { take result out.new ≡ prefix_text (prefix_as prefix.now) }
-    ensures fits { result ≤ MOST_TEXT }
-{
-    let after_addr = write_addr(&prefix.first_addr(), out);
-    let after_slash = put(out, after_addr, b"/");
-    put_octet(out, after_slash, prefix.len)
-}
-
-/// The address's text, in the buffer.
+/// The address's text, in the buffer: IPv4 as `IPv4address` of RFC 3986, section 3.2.2, and IPv6 as RFC 5952, section 4, has it,
+/// without a dotted part.
 pub fn addr_text<'a>(buffer: &'a mut [u8; MOST_TEXT], addr: &Addr) -> &'a [u8]
     ensures { result.now ≡ address_text (addr_as addr.now) }
 {
-    let len = write_addr(addr, buffer);
-    &buffer[..len]
+    let start = put_addr(buffer, MOST_TEXT, addr);
+    &buffer[start..]
 }
 
-/// The prefix's text, in the buffer.
+/// The prefix's text, in the buffer: its first address, a slash and its length (RFC 4632, section 3.1).
 pub fn prefix_text<'a>(buffer: &'a mut [u8; MOST_TEXT], prefix: &Prefix) -> &'a [u8]
     ensures { result.now ≡ prefix_text (prefix_as prefix.now) }
 {
-    let len = write_prefix(prefix, buffer);
-    &buffer[..len]
+    let len = put_octet(buffer, MOST_TEXT, prefix.len);
+    let slash = put(buffer, len, b"/");
+    let start = put_addr(buffer, slash, &prefix.first_addr());
+    &buffer[start..]
 }

@@ -1,9 +1,0 @@
-use Rattle.std.proofs.Common.{◌≡◌, ◌+◌, ◌*◌, ◌≤◌, ◌∷◌, ◌++◌, get_or, take}
-use Rattle.std.specs.Net.Text.{groups_text}
-use Rattle.fib_addr.proofs.ipv6.put_groups.Given as goal
-
-abbrev pub invariant-loop-group : goal.invariant-loop-group
-invariant-loop-group l = record {
-  text : take l.end l.out ≡ take l.at l.fn.out ++ groups_text (get_or l.groups 0 0 ∷ take l.group-index l.rest);
-  end : l.end ≤ l.at + 4 + 5 * l.group-index;
-}
