@@ -389,6 +389,12 @@ no_row_best b over p but apart none c best = by_best c best
 pub best_none : (b : Flat) (p : code.Prefix) (but : Option Via) (other : Option Candidate) → HasNoRow b.rows.items p → (over : Seats) → AreApart (flat_seats b) over → IsBest over but p other → IsBest (both b over) but p other
 best_none b p but other none over apart best = no_row_best b over p but apart none (option_map (candidate_as (prefix_as p)) other) best
 
+-- the best beside a way, by a prefix and a way that are the same
+pub best_as : (b : Flat) (p q : code.Prefix) (but out : Option Via) (other best : Option Candidate) → p ≡ q → but ≡ out → ((over : Seats) → AreApart (flat_seats b) over → IsBest over but p other → IsBest (both b over) but p best) → (over : Seats) → AreApart (flat_seats b) over → IsBest over out q other → IsBest (both b over) out q best
+best_as b p q but out other best e f h =
+    let Best : code.Prefix → Option Via → Type 0 = λ r w. (over : Seats) → AreApart (flat_seats b) over → IsBest over w r other → IsBest (both b over) w r best in
+    subst (λ (w : Option Via). Best q w) f (subst (λ (r : code.Prefix). Best r but) e h)
+
 -- ---- what the loop keeps
 
 abbrev pub Walks : Flat → code.Prefix → ℕ → Option Via → Option Candidate → ℕ → Option Candidate → Type 0

@@ -38,7 +38,7 @@ use Rattle.flat_base.proofs.Equals.{peer_eq}
 use Rattle.flat_base.proofs.Chains.{chain_pushed, chain_kept, chain_longer, chain_dropped, end_there}
 use Rattle.flat_base.proofs.Views.{lookup_by_test}
 use Rattle.flat_base.proofs.Places.{apart_key, position_found, position_none, got_old, got_new, got_pushed, got_set, got_set_at, set_got, grown_key}
-use Rattle.flat_base.proofs.Orders.{is_equal, peer_same, prefix_total, peer_total, seat_total}
+use Rattle.flat_base.proofs.Orders.{is_equal, peer_same, prefix_total, peer_total, seat_total, tied_prefix}
 use Rattle.route_model.proofs.Places.{both_equal}
 use Rattle.std.specs.Ordering.{nat_cmp}
 use Rattle.std.proofs.lemmas.Cmp.{ranked, nat_cmp_total}
@@ -206,6 +206,14 @@ slot_seat b q r n i row number slot = record {
 -- an element of the slice that a list lends
 pub read : {X : Type 0} (xs ys : List X) (i : ℕ) (x : X) → xs ≡ ys → i < length xs → x ≡ get_or xs i x → slice_get ys i ≡ Some x
 read xs ys i x d l e = ap (λ zs. slice_get zs i) (sym d) ∙ slice_get_read xs (length xs) i x refl l e
+
+-- the row of a seat's slot is that of the seat's prefix
+pub slot_row : (b : Flat) (q : Seat) (i : ℕ) → IsSlotOf b q i → (xs : List Slot) → xs ≡ b.slots.items → (s : Slot) → i < length xs → s ≡ get_or xs i s → IsRow b.rows.items q.prefix s.row
+slot_row b q i x xs d s l r =
+    let parts = seat_parts b.rows.items b.peers.keys x.slot x.seat x.is in
+    let same : is_eq (code_cmp q.prefix x.seat.prefix) ≡ true = ap is_eq (tied_prefix q x.seat (is_equal _ x.same)) in
+    let row : IsRow b.rows.items q.prefix x.slot.row = (parts.row, parts.row_there, ap (λ (t : Seat). is_eq (code_cmp q.prefix t.prefix)) parts.is ∙ same) in
+    subst (λ (u : Slot). IsRow b.rows.items q.prefix u.row) (same_Some x.slot s (sym x.there ∙ read xs b.slots.items i s d l r)) row
 
 pub offer_read : (b : Flat) (q : Seat) (i : ℕ) → IsFlat b → IsSlotOf b q i → (xs : List Slot) → xs ≡ b.slots.items → (s : Slot) → i < length xs → s ≡ get_or xs i s → (o : Option Offer) → o ≡ offer_on b.hops.keys s → lookup (is_at (seat_cmp q)) (flat_seats b) ≡ Some o
 offer_read b q i f x xs d s l r o e = offer_found b q i f x ∙ (ap (λ y. Some (offer_on b.hops.keys y)) (same_Some x.slot s (sym x.there ∙ read xs b.slots.items i s d l r)) ∙ sym (ap Some e))

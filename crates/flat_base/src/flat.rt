@@ -574,6 +574,22 @@ impl Flat {
         best
     }
 
+    /// The best candidate of the prefix of a seat, by the place of its slot, that of the seat's way left out: of all slots of the
+    /// prefix, and of the others, of which the best is given.
+    pub fn best_beside(&self, at: usize, seat: &Seat, other: Option<Candidate>) -> Option<Candidate>
+        requires flat { IsFlat self.now }
+        requires slot { IsSlotOf self.now seat.now at }
+        ensures { (over : Seats) → AreApart (flat_seats self.now) over → IsBest over (Some seat.now.via) seat.now.prefix other → IsBest (both self.now over) (Some seat.now.via) seat.now.prefix result }
+    {
+        match self.slots.get(at) {
+            Some(slot) => {
+                let row = slot.row as usize;
+                self.best_in(row, &seat.prefix(), Some(seat.via()), other)
+            }
+            None => other,
+        }
+    }
+
     /// The better of what the slot at a place offers, if it is the row's, and another candidate.
     fn best_at(
         &self,

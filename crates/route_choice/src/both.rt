@@ -1,15 +1,18 @@
 //! Steps over the base and the ordered maps together. A seat where the maps have an offer has no slot in the base.
 
 ghost use Rattle.std.specs.Prelude.{◌≡◌, true, false, Some, None, MatchOption, IfOk, OnOk, OnErr};
-ghost use Rattle.flat_base.specs.Seats.{offer_at as offered};
+ghost use Rattle.flat_base.specs.Seats.{held_in, offer_at as offered};
 ghost use Rattle.flat_base.specs.Flat.{IsFlat, AreApart, Offers, SameOffers, HasNoSeat, IsSlotOf, Grows, flat_seats, both};
 ghost use Rattle.flat_base.specs.Bests.{IsBest};
 ghost use Rattle.route_choice.specs.Seats.{IsIndexed, seat_in, offer_in};
 ghost use Rattle.route_choice.specs.Kept.{IsKept, StaysKept, KeepsBeside};
-ghost use Rattle.route_choice.specs.Space.{HasPlace, HasNumber, HasSpace, over_of as over};
+ghost use Rattle.route_choice.specs.Held.{IsChoice};
+ghost use Rattle.route_choice.specs.Space.{HasPlace, HasNumber, HasSpace, over_of as over, planned_elem};
 
+use crate::choice::Choice;
 use crate::over::{
-    best_but, carry_out, cut_offer, make_room_for, offer_at, offer_of, put_offer, seat_of,
+    best_but, better_hop, carry_out, cut_offer, make_room_for, offer_at, offer_of, put_offer,
+    seat_of,
 };
 use crate::plan::Plan;
 use fib_prefix::{Elem, Prefix, Via};
@@ -29,12 +32,18 @@ pub fn plan_of(flat: &Flat, elem: &Elem) -> Plan
     }
 }
 
-/// What is offered at a seat.
-pub fn offered_at(flat: &Flat, seats: &BTreeMap<Seat, Option<Offer>>, seat: &Seat) -> Option<Offer>
-    requires { IsFlat flat.now }
+/// What is offered at a seat, whose slot has this place, if it has one.
+fn offered_by(
+    flat: &Flat,
+    seats: &BTreeMap<Seat, Option<Offer>>,
+    at: Option<usize>,
+    seat: &Seat,
+) -> Option<Offer>
+    requires flat { IsFlat flat.now }
+    requires place { MatchOption at (HasNoSeat flat.now seat.now) (IsSlotOf flat.now seat.now) }
     ensures { result ≡ offered (both flat.now seats.now.entries) seat.now }
 {
-    match flat.find(seat) {
+    match at {
         Some(at) => flat.offer_at(at, seat),
         None => offer_at(seats, seat),
     }
@@ -55,6 +64,53 @@ pub fn best_of(
 {
     let other = best_but(seats, ranks, prefix, but);
     flat.best(prefix, but, other)
+}
+
+/// The preferred route for the prefix of a seat, that of the seat's way left out; the seat's slot has this place, if it has one.
+fn best_beside(
+    flat: &Flat,
+    seats: &BTreeMap<Seat, Option<Offer>>,
+    ranks: &BTreeSet<Rank>,
+    at: Option<usize>,
+    seat: &Seat,
+) -> Option<Candidate>
+    requires flat { IsFlat flat.now }
+    requires apart { AreApart (flat_seats flat.now) seats.now.entries }
+    requires indexed { IsIndexed seats.now.entries ranks.now.keys }
+    requires place { MatchOption at (HasNoSeat flat.now seat.now) (IsSlotOf flat.now seat.now) }
+    ensures { IsBest (both flat.now seats.now.entries) (Some seat.now.via) seat.now.prefix result }
+{
+    let prefix = seat.prefix();
+    let but = Some(seat.via());
+    let other = best_but(seats, ranks, &prefix, but);
+    match at {
+        Some(at) => flat.best_beside(at, seat, other),
+        None => flat.best(&prefix, but, other),
+    }
+}
+
+/// The choice that a planned event would make.
+pub fn choice_of(
+    flat: &Flat,
+    seats: &BTreeMap<Seat, Option<Offer>>,
+    ranks: &BTreeSet<Rank>,
+    plan: &Plan,
+) -> Choice
+    requires flat { IsFlat flat.now }
+    requires apart { AreApart (flat_seats flat.now) seats.now.entries }
+    requires indexed { IsIndexed seats.now.entries ranks.now.keys }
+    requires space { HasSpace flat.now (Some plan.now) }
+    ensures { IsChoice (held_in (both flat.now seats.now.entries)) (planned_elem plan.now) result }
+{
+    let seat = seat_of(&plan.elem);
+    let via = seat.via();
+    let own = offered_by(flat, seats, plan.at, &seat);
+    let others = best_beside(flat, seats, ranks, plan.at, &seat);
+    Choice {
+        prefix: seat.prefix(),
+        before: better_hop(via, own, &others),
+        after: better_hop(via, offer_of(&plan.elem), &others),
+    }
 }
 
 /// Makes room for a plan, beside that of the plan before it. An `Err` leaves all as it was.

@@ -10,10 +10,10 @@ ghost use Rattle.route_choice.specs.Held.{Held, IsChoice, IsPlanned, pick_elem};
 ghost use Rattle.route_choice.specs.Kept.{IsKept};
 ghost use Rattle.route_choice.specs.Space.{HasSpace, planned_elem, over_of as over};
 
-use crate::both::{best_of, carry_one, load_elem, make_space, offered_at, plan_of};
+use crate::both::{best_of, carry_one, choice_of, load_elem, make_space, plan_of};
 use crate::choice::{Choice, Pick};
 use crate::down::cuts_of;
-use crate::over::{better_hop, give_back, offer_of, seat_of};
+use crate::over::give_back;
 use crate::plan::{Plan, over_of};
 use crate::routes::routes_of as all_routes;
 use fib_prefix::{Addr, Elem, Event, Peer, Prefix};
@@ -78,21 +78,6 @@ impl Candidates {
         }
     }
 
-    /// The choice that an elementary event would make.
-    fn choice_of(&self, elem: &Elem) -> Choice
-        ensures { IsChoice self.now.candidates (elem_as elem.now) result }
-    {
-        let seat = seat_of(elem);
-        let via = seat.via();
-        let prefix = seat.prefix();
-        let others = best_of(&self.flat, &self.seats, &self.ranks, &prefix, Some(via));
-        Choice {
-            prefix,
-            before: better_hop(via, offered_at(&self.flat, &self.seats, &seat), &others),
-            after: better_hop(via, offer_of(elem), &others),
-        }
-    }
-
     /// Makes the room that an elementary event takes, and gives back that of the plan before it.
     fn take_room(&mut self, elem: &Elem) -> Result<(), AllocError>
         ensures candidates { self.new.candidates ≡ self.old.candidates }
@@ -125,9 +110,12 @@ impl Candidates {
         ensures err { OnErr result (self.new ≡ self.old) }
     {
         self.take_room(elem)?;
+        let Some(plan) = &self.room else {
+            unreachable!();
+        };
         Ok(Pick {
             elem: *elem,
-            choice: self.choice_of(elem),
+            choice: choice_of(&self.flat, &self.seats, &self.ranks, plan),
         })
     }
 
