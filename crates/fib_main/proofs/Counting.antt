@@ -1,6 +1,7 @@
 -- The counts of an input stay within 64 bits, since an input has few octets.
-use Rattle.std.proofs.Common.{◌≡◌, ℕ, ◌+◌, ◌*◌, ◌^◌, ◌≤◌, ◌<◌, List, [], ◌∷◌, ◌++◌, length, Result, Ok, Err, refl, sym, ap, ◌∙◌, arith, subst, length-append, append-nil}
+use Rattle.std.proofs.Common.{◌≡◌, ℕ, ◌+◌, ◌*◌, ◌^◌, ◌≤◌, ◌<◌, List, [], ◌∷◌, ◌++◌, length, map, Result, Ok, Err, refl, sym, ap, ◌∙◌, arith, subst, length-append, append-nil}
 use Rattle.std.specs.Prelude.{MatchResult}
+use Rattle.std.proofs.lemmas.List.{length-map}
 use Rattle.std.proofs.lemmas.List.Sums.{fold-append}
 use Rattle.route_model.specs.Events.{Elem, Event}
 use Rattle.route_model.specs.Choice.{Candidates, after_elem, after_elems, elems_of, elems_after}
@@ -83,10 +84,14 @@ counts_one held now event elems before after is count candidates =
 pub counted_push : (before count : ℕ) (front : List Elem) (elem : Elem) (all : List Elem) → count ≡ before + length front → all ≡ front ++ elem ∷ [] → count + 1 ≡ before + length all
 counted_push before count front elem all counted next = omega (arith, counted, ap length next, length-append front (elem ∷ []))
 
--- one elementary event more of those that fit
-pub fits_one_more : (held : Candidates) (event : Event) (front rest : List Elem) (elem : Elem) (before count : ℕ) → CountsFit held (event ∷ []) before → (front ++ elem ∷ []) ++ rest ≡ elems_of held event → count ≡ before + length front → count + 1 < 2 ^ 64
-fits_one_more held event front rest elem before count fits same counted =
-    omega (arith, fits, counted, ap length same, ap length (one_event held event), length-append (front ++ elem ∷ []) rest, length-append front (elem ∷ []))
+-- one elementary event more of those of a list that fits
+pub fits_in_all : {A : Type 0} (view : A → Elem) (items : List A) (front rest : List Elem) (elem : Elem) (before count : ℕ) → before + length items < 2 ^ 64 → (front ++ elem ∷ []) ++ rest ≡ map view items → count ≡ before + length front → count + 1 < 2 ^ 64
+fits_in_all view items front rest elem before count fits same counted =
+    omega (arith, fits, counted, ap length same, length-map items view, length-append (front ++ elem ∷ []) rest, length-append front (elem ∷ []))
+
+-- the elementary events of an event fit where it does
+pub fits_elems : {A : Type 0} (view : A → Elem) (items : List A) (held : Candidates) (event : Event) (before : ℕ) → CountsFit held (event ∷ []) before → map view items ≡ elems_of held event → before + length items < 2 ^ 64
+fits_elems view items held event before fits are = omega (arith, fits, ap length are, ap length (one_event held event), length-map items view)
 
 -- ---- the input
 

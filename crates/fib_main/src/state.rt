@@ -1,10 +1,10 @@
 //! What the inputs bring: candidates, the numbers of next hops, and the kept table with its changes.
 
-ghost use Rattle.std.specs.Prelude.{◌≡◌, ◌≤◌, ◌-◌, ◌++◌, ◌∷◌, [], ℕ, List, map, IfErr, IfOk, OnOk};
+ghost use Rattle.std.specs.Prelude.{◌≡◌, ◌≤◌, ◌<◌, ◌+◌, ◌-◌, ◌^◌, ◌++◌, ◌∷◌, [], ℕ, List, length, map, IfErr, IfOk, IfSome, OnOk};
 ghost use Rattle.fib_delta.specs.Views.{change_as};
 ghost use Rattle.fib_prefix.specs.Views.{elem_as, event_as};
-ghost use Rattle.route_model.specs.Events.{Elem as model_elem};
-ghost use Rattle.route_model.specs.Choice.{after_elem};
+ghost use Rattle.route_model.specs.Events.{Elem as model_elem, Event as model_event};
+ghost use Rattle.route_model.specs.Choice.{Candidates, after_elem, elems_of};
 ghost use Rattle.feed_model.specs.Feed.{at_event};
 ghost use Rattle.fib_main.specs.Counts.{CountsFit, CountsOn};
 ghost use Rattle.fib_main.specs.Refusals.{Limits as ends};
@@ -19,6 +19,7 @@ use fib_io::ReadError;
 use fib_prefix::{Elem, Event};
 use mrt_read::{EventsError, Malformed};
 use std::alloc::{AllocError, AllocFailed, Global};
+use std::slice;
 use thiserror::Error;
 
 /// The event of the load.
@@ -190,7 +191,44 @@ fn step(state: &mut State, which: MrtInput, event: u64, elem: &Elem) -> Result<(
     }
 }
 
-/// Takes an event after so many elementary events, and gives how many there are then.
+/// The one elementary event that an event is whatever is held. A lost session is none: it is one for each route of the peer.
+fn elem_of(event: &Event) -> Option<Elem>
+    ensures { IfSome result (λ elem. (held : Candidates)
+        → elem_as elem ∷ [] ≡ elems_of held (event_as event.now)) }
+{
+    match *event {
+        Event::Announce(via, prefix, path, hop) => Some(Elem::Put(via, prefix, path, hop)),
+        Event::Withdraw(via, prefix) => Some(Elem::Cut(via, prefix)),
+        Event::Down(_) => None,
+    }
+}
+
+/// Takes the elementary events of an event after so many others, and gives how many there are then.
+fn take_elems(
+    state: &mut State,
+    which: MrtInput,
+    before: u64,
+    elems: &[Elem],
+) -> Result<u64, FeedError>
+    requires ready { IsReady which before state.old.engine }
+    requires few { before + length elems.now < 2 ^ 64 }
+    ensures takes { (event : model_event) → map elem_as elems.now
+        ≡ elems_of state.old.engine.candidates event
+        → StateTakesAll which before (event ∷ []) state.old result state.new }
+    ensures ready { IfOk result (λ after. IsReady which after state.new.engine) }
+    ensures counts { IfOk result (λ after. (event : model_event) → map elem_as elems.now
+        ≡ elems_of state.old.engine.candidates event
+        → CountsOn state.old.engine.candidates (event ∷ []) before after state.new.engine.candidates) }
+{
+    let mut count = before;
+    for elem in elems {
+        count += 1;
+        step(state, which, count, elem)?;
+    }
+    Ok(count)
+}
+
+/// Takes an event after so many elementary events, and gives how many there are then. Only a lost session takes a list.
 fn take_event(
     state: &mut State,
     which: MrtInput,
@@ -205,13 +243,13 @@ fn take_event(
     ensures counts { IfOk result (λ after. CountsOn state.old.engine.candidates
         (event_as event.now ∷ []) before after state.new.engine.candidates) }
 {
-    let elems = state.engine.elementary(event)?;
-    let mut count = before;
-    for elem in &elems {
-        count += 1;
-        step(state, which, count, elem)?;
+    match elem_of(event) {
+        Some(elem) => take_elems(state, which, before, slice::from_ref(&elem)),
+        None => {
+            let elems = state.engine.elementary(event)?;
+            take_elems(state, which, before, &elems)
+        }
     }
-    Ok(count)
 }
 
 /// Takes events after so many elementary events, and gives how many there are then.

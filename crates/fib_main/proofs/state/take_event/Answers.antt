@@ -1,55 +1,13 @@
-use Rattle.std.proofs.Common.{◌≡◌, ◌+◌, ◌^◌, ◌<◌, ◌++◌, List, [], ◌∷◌, suc, take, drop, map, length, refl, sym, ap, ◌∙◌, arith, subst}
-use Rattle.std.proofs.lemmas.Result.{err_from_is_err_and}
-use Rattle.route_model.specs.Events.{Elem}
-use Rattle.route_model.specs.Choice.{after_elem, after_elems, elems_of}
+use Rattle.std.proofs.Common.{map, ap, ◌∙◌}
 use Rattle.fib_prefix.specs.Views.{elem_as, event_as}
-use Rattle.fib_main.specs.Standing.{StateStands, next_elems}
-use Rattle.fib_main.proofs.Counting.{counts_one, fits_one_more, counted_push}
-use Rattle.fib_main.proofs.Steps.{refused_step, after_push, taken_push, take_next, next_counted, next_one, one_of_more, all_taken}
+use Rattle.fib_main.proofs.Counting.{fits_elems}
 use Rattle.fib_main.proofs.state.take_event.Goals as goal
 
-pub returns-in_err-step-clause-takes : goal.returns-in_err-step-clause-takes
-returns-in_err-step-clause-takes c =
-    let p = err_from_is_err_and c.from_residual-in_err-step.result c.from_residual-in_err-step.ensures.1 in
-    rw (p.1, p.2) (refused_step _ _ (c.loop-elem.count + 1) _ (elem_as c.elem-item.result) c.args.state.now c.loop-elem.state c.step.new.state _ _ c.in_err-step.ensures.takes (λ limits before done counted s.
-    let so_far = c.loop-elem.invariant.taken limits before done counted s in
-    let items = c.deref-elem-items.result.now in
-    record {
-      front = done ++ map elem_as (take c.loop-elem.elem-index items);
-      rest = map elem_as (drop (suc c.loop-elem.elem-index) items);
-      counted = next_counted _ _ (c.loop-elem.count + 1) _ so_far.0 refl;
-      stands = so_far.1;
-      same = one_of_more elem_as items c.loop-elem.elem-index _ done c.loop-elem-test.true c.elem-item.is ∙ ap (λ es. done ++ es) (ap (map elem_as) c.deref-elem-items.ensures.value ∙ (c.in_ok-elems.ensures ∙ sym (next_one _ limits before done _ _ s)));
-    }))
+pub take_elems-requires-clause-few : goal.take_elems-requires-clause-few
+take_elems-requires-clause-few c =
+    let held = c.args.state.now.engine.candidates in
+    fits_elems elem_as c.from_ref.result.now held (event_as c.args.event.now) _ c.requires.few (ap (map elem_as) c.from_ref.ensures.value ∙ c.in-Some.ensures held)
 
-pub returns-clause-takes : goal.returns-clause-takes
-returns-clause-takes c = λ limits before done counted s.
-    let so_far = c.loop-elem.invariant.taken limits before done counted s in
-    let items = c.deref-elem-items.result.now in
-    let all : map elem_as (take c.loop-elem.elem-index items) ≡ next_elems before done (event_as c.args.event.now ∷ []) = all_taken elem_as items c.loop-elem.elem-index (omega (arith, c.loop-elem-test.false)) ∙ (ap (map elem_as) c.deref-elem-items.ensures.value ∙ (c.in_ok-elems.ensures ∙ sym (next_one _ limits before done _ _ s))) in
-    let P : List Elem → Type 0 = λ es. (c.loop-elem.count ≡ length (done ++ es)) × StateStands c.args.which limits before (done ++ es) c.loop-elem.state in
-    subst P all so_far
-
-pub returns-clause-counts : goal.returns-clause-counts
-returns-clause-counts c =
-    let items = c.deref-elem-items.result.now in
-    let elems : map elem_as items ≡ elems_of c.args.state.now.engine.candidates (event_as c.args.event.now) = ap (map elem_as) c.deref-elem-items.ensures.value ∙ c.in_ok-elems.ensures in
-    let all : map elem_as (take c.loop-elem.elem-index items) ≡ elems_of c.args.state.now.engine.candidates (event_as c.args.event.now) = all_taken elem_as items c.loop-elem.elem-index (omega (arith, c.loop-elem-test.false)) ∙ elems in
-    counts_one _ _ (event_as c.args.event.now) _ _ _ all c.loop-elem.invariant.counted c.loop-elem.invariant.candidates
-
-pub loop-elem-preserved : goal.loop-elem-preserved
-loop-elem-preserved c =
-    let items = c.deref-elem-items.result.now in
-    let next = take_next elem_as items c.loop-elem.elem-index _ c.loop-elem-test.true c.elem-item.is in record {
-      counted = counted_push _ _ _ (elem_as c.elem-item.result) _ c.loop-elem.invariant.counted next;
-      candidates = c.in_ok-step.ensures.candidates ∙ (ap (λ h. after_elem h (elem_as c.elem-item.result)) c.loop-elem.invariant.candidates ∙ (sym (after_push c.args.state.now.engine.candidates (map elem_as (take c.loop-elem.elem-index items)) (elem_as c.elem-item.result)) ∙ ap (after_elems c.args.state.now.engine.candidates) (sym next)));
-      ready = c.in_ok-step.ensures.ready;
-      taken = λ limits before done counted s. taken_push _ limits before done _ _ _ _ _ _ (c.loop-elem.invariant.taken limits before done counted s) c.in_ok-step.ensures.takes next;
-    }
-
-pub overflow_add-count : goal.overflow_add-count
-overflow_add-count c =
-    let items = c.deref-elem-items.result.now in
-    let elems : map elem_as items ≡ elems_of c.args.state.now.engine.candidates (event_as c.args.event.now) = ap (map elem_as) c.deref-elem-items.ensures.value ∙ c.in_ok-elems.ensures in
-    let fits : c.loop-elem.count + 1 < 2 ^ 64 = fits_one_more _ (event_as c.args.event.now) _ _ _ _ _ c.requires.few (one_of_more elem_as items c.loop-elem.elem-index _ [] c.loop-elem-test.true c.elem-item.is ∙ elems) c.loop-elem.invariant.counted in
-    omega (arith, fits)
+pub take_elems-requires-in-None-clause-few : goal.take_elems-requires-in-None-clause-few
+take_elems-requires-in-None-clause-few c =
+    fits_elems elem_as c.deref.result.now c.args.state.now.engine.candidates (event_as c.args.event.now) _ c.requires.few (ap (map elem_as) c.deref.ensures.value ∙ c.in_ok-elems-in-None.ensures)
