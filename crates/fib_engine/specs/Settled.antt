@@ -1,6 +1,5 @@
 -- What is seen of an engine once no more events come.
-use Rattle.std.specs.Prelude.{List, true}
-use Rattle.address_model.specs.Address.{Address}
+use Rattle.std.specs.Prelude.{true}
 use Rattle.address_model.specs.declared.family.Family.TheVariants.{V4, V6}
 use Rattle.table_model.specs.Entries.{Entries}
 use Rattle.route_tries.specs.Sizes.{Sizes}
@@ -8,10 +7,9 @@ use Rattle.route_tries.specs.declared.needs.FamilyNeeds.{FamilyNeeds}
 use Rattle.fib_engine.specs.Held.{IsKept, AreKeptNeeds}
 use Rattle.fib_engine.specs.Tables.{Both, both_routes}
 
--- How large tries are, the hops with numbers, the routes, and the kept table of both families.
+-- How large tries are, the routes, and the kept table of both families.
 pub record Rests : Type 0 where
   pub sizes : Sizes
-  pub hops : List Address
   pub routes : Entries
   pub table : Entries
 

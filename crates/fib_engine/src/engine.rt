@@ -386,21 +386,21 @@ impl Engine {
         }
     }
 
-    /// What is left to be told once no more events come: the candidates are let go.
-    pub fn settle(self) -> Settled
+    /// What is left to be told once no more events come, and the hops with their numbers: the candidates are let go.
+    pub fn settle(self) -> (Settled, HopTable)
         requires { self.loaded ≡ true }
-        ensures sizes { result.sizes ≡ self.sizes }
-        ensures hops { result.hops ≡ self.hops }
-        ensures routes { result.routes ≡ routes_in self }
-        ensures table { result.table ≡ self.table }
+        ensures sizes { result.0.sizes ≡ self.sizes }
+        ensures routes { result.0.routes ≡ routes_in self }
+        ensures table { result.0.table ≡ self.table }
+        ensures hops { result.1.list ≡ self.hops }
     {
-        Settled {
+        let settled = Settled {
             alloc: self.alloc,
-            hops: self.hops,
             tables: self.tables,
             needs: self.needs,
             sizes: self.limits.sizes,
-        }
+        };
+        (settled, self.hops)
     }
 
     /// What each elementary event from now on does to the routes, computed in advance: the tables are let go.

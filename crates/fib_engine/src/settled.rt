@@ -9,17 +9,16 @@ ghost use Rattle.route_tries.specs.Tries.{AreTriesOf};
 
 use crate::tables::Tables;
 use cert_rows::RowSink;
-use fib_prefix::{Entry, Family, HopTable};
+use fib_prefix::{Entry, Family};
 use route_tries::{FamilyNeeds, Sizes, Tries, TriesError};
 use std::alloc::{AllocError, Global};
 use std::marker::Model;
 
-/// The numbers of next hops and the kept tables of both families, without the candidates that the routes were chosen from: what
-/// is left to be told of an engine. Contracts see what `Rests` lists; the routes are those of the trees.
+/// The kept tables of both families, without the candidates that the routes were chosen from: what is left to be told of an
+/// engine, beside the numbers of next hops. Contracts see what `Rests` lists; the routes are those of the trees.
 #[derive(Drop)]
 pub struct Settled {
     pub(crate) alloc: Global,
-    pub(crate) hops: HopTable,
     pub(crate) tables: Tables,
     pub(crate) needs: FamilyNeeds,
     pub(crate) sizes: Sizes,
@@ -32,19 +31,12 @@ impl Model for Settled {
 
     ghost Value = { Rests };
 
-    ghost view = { λ s. record { sizes = sizes_as s.sizes; hops = s.hops.list; routes = both_routes s.tables; table = table_of s.tables } };
+    ghost view = { λ s. record { sizes = sizes_as s.sizes; routes = both_routes s.tables; table = table_of s.tables } };
 
     ghost invariant = { λ s. AreSettled (sizes_as s.sizes) s.tables s.needs };
 }
 
 impl Settled {
-    /// The hops with their numbers.
-    pub fn hops(&self) -> &HopTable
-        ensures { result.now.list ≡ self.now.hops }
-    {
-        &self.hops
-    }
-
     /// The routes, in the order of prefixes. They are read from the trees.
     ///
     /// # Errors
@@ -79,15 +71,16 @@ impl Settled {
         self.tables.least_table()
     }
 
-    /// Hands on the rows that prove the least table least, one by one; IPv4 first.
+    /// Hands on the rows that prove the least table least, one by one; IPv4 first. Each family's table is let go once its rows
+    /// are told.
     ///
     /// # Errors
     ///
     /// No memory; then a front of the rows was taken.
-    pub fn certify<S: RowSink>(&self, out: &mut S) -> Result<(), AllocError>
+    pub fn certify<S: RowSink>(self, out: &mut S) -> Result<(), AllocError>
         requires { S.ready out.old }
         ensures ready { OnOk result (S.ready out.new) }
-        ensures takes { OnOk result (S.takes out.old (certificate_of self.now.routes) out.new) }
+        ensures takes { OnOk result (S.takes out.old (certificate_of self.routes) out.new) }
     {
         self.tables.certify(out)
     }

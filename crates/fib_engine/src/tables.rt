@@ -228,15 +228,16 @@ impl Tables {
         Ok(table)
     }
 
-    /// Hands on the rows that prove tables of the routes least; IPv4 first.
-    pub fn certify<S: RowSink>(&self, out: &mut S) -> Result<(), AllocError>
-        requires both { AreBoth self.now }
+    /// Hands on the rows that prove tables of the routes least; IPv4 first. Each is let go once its rows are told.
+    pub fn certify<S: RowSink>(self, out: &mut S) -> Result<(), AllocError>
+        requires both { AreBoth self }
         requires ready { S.ready out.old }
         ensures ready { OnOk result (S.ready out.new) }
-        ensures takes { OnOk result (S.takes out.old (family_rows V4 self.now.v4.routes
-            ++ family_rows V6 self.now.v6.routes) out.new) }
+        ensures takes { OnOk result (S.takes out.old (family_rows V4 self.v4.routes
+            ++ family_rows V6 self.v6.routes) out.new) }
     {
         self.v4.certify(out)?;
+        drop(self.v4);
         self.v6.certify(out)?;
         Ok(())
     }

@@ -75,7 +75,7 @@ fn least_is(least: Result<Fresh, AllocError>, due: &[Entry]) -> bool {
 }
 
 /// Whether the rows that are handed on are these.
-fn rows_are(alloc: Global, settled: &Settled, due: &[Row]) -> bool {
+fn rows_are(alloc: Global, settled: Settled, due: &[Row]) -> bool {
     let mut rows = Vec::new(alloc);
     match settled.certify(&mut rows) {
         Ok(()) => rows.as_slice() == due,
@@ -137,11 +137,12 @@ fn what_is_left_is_told(rt: HostRuntime) -> Result<(), EngineError> {
         Row::Leaf(Prefix::new(&Addr::v6(0), 0), Hop::NONE),
         Row::Bound(Family::V6, 0),
     ];
-    let settled = loaded(rt.alloc(), 0, lower)?.settle();
+    let (settled, hops) = loaded(rt.alloc(), 0, lower)?.settle();
+    assert_eq!(rt; hops.find(&hop(1)), Some(Hop(1)));
     assert!(rt; entries_are(settled.routes(), &held));
     assert!(rt; entries_are(settled.table(), &held));
     assert!(rt; entries_are(settled.least_table(), &held));
-    assert!(rt; rows_are(rt.alloc(), &settled, &due));
+    assert!(rt; rows_are(rt.alloc(), settled, &due));
     Ok(())
 }
 

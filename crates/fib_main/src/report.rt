@@ -3,7 +3,7 @@
 //!
 //! The printed table is the kept one, which is the least table's old table too. The text is made section by section, from what
 //! the engine leaves once its candidates are let go; each list is let go once its rows are written, and the rows of the
-//! certificate are written as they are found.
+//! certificate are written as they are found, after which a family's tree is let go.
 
 ghost use Rattle.std.specs.Prelude.{◌≡◌, ℕ, [], true, IfOk, OnOk, flat_map, length, map};
 ghost use Rattle.table_model.specs.Entries.{Entries};
@@ -170,15 +170,16 @@ pub fn write_text(
 {
     let State { engine, changes } = state;
     // from here on no candidate is held
-    let settled = engine.settle();
-    let mut text = RunText::new(alloc, settled.hops());
+    let (settled, hops) = engine.settle();
+    let needs = settled.needs();
+    let mut text = RunText::new(alloc, &hops);
     let routes = write_routes(&settled, &mut text)?;
     write_changes(changes, &mut text)?;
     write_answers(alloc, &settled, asks, &mut text)?;
     let entries = write_table(&settled, &mut text)?;
     write_least(&settled, &mut text)?;
     settled.certify(&mut text)?;
-    text.report(&totals(fed, routes, entries, &settled.needs()))?;
+    text.report(&totals(fed, routes, entries, &needs))?;
     text.finish()
 }
 

@@ -14,22 +14,24 @@ use Rattle.fib_main.proofs.report.write_text.Goals as goal
 
 pub returns-clause-text : goal.returns-clause-text
 returns-clause-text c = λ limits load updates f.
-    let s = c.settle-settled.result in
+    let s = c.settle-settled.result.0 in
+    let hops = c.settle-settled.result.1.list in
     let asks = map addr_as c.args.asks.now in
     let run : Told = told_by s.sizes.direct s.routes s.table (changes_as c.args.state.changes.items) asks c.totals.result in
-    let is = told_is limits load updates c.args.fed.now c.args.state asks s.sizes.direct s.routes s.table c.totals.result _ _ _ (ap (λ z. z.direct) c.settle-settled.ensures.sizes) c.settle-settled.ensures.routes c.settle-settled.ensures.table c.totals.ensures c.needs.ensures.needs c.in_ok-routes.ensures.count c.in_ok-entries.ensures.count f in
-    let all : text_in c.report.new.self ≡ run_text s.hops run = text_written s.hops run c.new-text.result c.write_routes.new.text c.write_changes.new.text c.write_answers.new.text c.write_table.new.text c.write_least.new.text c.certify.new.out c.report.new.self (c.new-text.ensures.hops ∙ c.hops.ensures)
+    let is = told_is limits load updates c.args.fed.now c.args.state asks s.sizes.direct s.routes s.table c.totals.result _ _ _ (ap (λ z. z.direct) c.settle-settled.ensures.sizes) c.settle-settled.ensures.routes c.settle-settled.ensures.table c.totals.ensures c.needs-needs.ensures.needs c.in_ok-routes.ensures.count c.in_ok-entries.ensures.count f in
+    let all : text_in c.report.new.self ≡ run_text hops run = text_written hops run c.new-text.result c.write_routes.new.text c.write_changes.new.text c.write_answers.new.text c.write_table.new.text c.write_least.new.text c.certify.new.out c.report.new.self c.new-text.ensures.hops
     c.in_ok-routes.ensures.writes c.in_ok-write_changes.ensures c.in_ok-write_answers.ensures c.in_ok-entries.ensures.writes c.in_ok-write_least.ensures c.in_ok-certify.ensures.takes c.in_ok-report.ensures c.new-text.ensures.empty
     in
-    IfOk-weaker c.finish.result (λ text. text.items ≡ text_in c.report.new.self) (λ text. text.items ≡ printed_text (printed limits load updates asks)) (λ text e. text_is limits load updates c.args.fed.now c.args.state asks s.hops run text.items f is c.settle-settled.ensures.hops (e ∙ all)) c.finish.ensures
+    IfOk-weaker c.finish.result (λ text. text.items ≡ text_in c.report.new.self) (λ text. text.items ≡ printed_text (printed limits load updates asks)) (λ text e. text_is limits load updates c.args.fed.now c.args.state asks hops run text.items f is c.settle-settled.ensures.hops (e ∙ all)) c.finish.ensures
 
 pub returns-clause-yes : goal.returns-clause-yes
 returns-clause-yes c = λ limits load updates f.
-    let s = c.settle-settled.result in
+    let s = c.settle-settled.result.0 in
+    let hops = c.settle-settled.result.1.list in
     let asks = map addr_as c.args.asks.now in
     let run : Told = told_by s.sizes.direct s.routes s.table (changes_as c.args.state.changes.items) asks c.totals.result in
-    let is = told_is limits load updates c.args.fed.now c.args.state asks s.sizes.direct s.routes s.table c.totals.result _ _ _ (ap (λ z. z.direct) c.settle-settled.ensures.sizes) c.settle-settled.ensures.routes c.settle-settled.ensures.table c.totals.ensures c.needs.ensures.needs c.in_ok-routes.ensures.count c.in_ok-entries.ensures.count f in
-    let rows = all_written s.hops run c.new-text.result c.write_routes.new.text c.write_changes.new.text c.write_answers.new.text c.write_table.new.text c.write_least.new.text c.certify.new.out c.report.new.self (c.new-text.ensures.hops ∙ c.hops.ensures)
+    let is = told_is limits load updates c.args.fed.now c.args.state asks s.sizes.direct s.routes s.table c.totals.result _ _ _ (ap (λ z. z.direct) c.settle-settled.ensures.sizes) c.settle-settled.ensures.routes c.settle-settled.ensures.table c.totals.ensures c.needs-needs.ensures.needs c.in_ok-routes.ensures.count c.in_ok-entries.ensures.count f in
+    let rows = all_written hops run c.new-text.result c.write_routes.new.text c.write_changes.new.text c.write_answers.new.text c.write_table.new.text c.write_least.new.text c.certify.new.out c.report.new.self c.new-text.ensures.hops
     c.in_ok-routes.ensures.writes c.in_ok-write_changes.ensures c.in_ok-write_answers.ensures c.in_ok-entries.ensures.writes c.in_ok-write_least.ensures c.in_ok-certify.ensures.takes c.in_ok-report.ensures
     in
-    IfOk-weaker c.finish.result (λ text. text.items ≡ printed_text (printed limits load updates asks)) (λ text. ChecksYes text.items) (λ text e. checks_yes limits load updates c.args.fed.now c.args.state asks s.hops run text.items f is c.settle-settled.ensures.hops rows.proper e) (returns-clause-text c limits load updates f)
+    IfOk-weaker c.finish.result (λ text. text.items ≡ printed_text (printed limits load updates asks)) (λ text. ChecksYes text.items) (λ text e. checks_yes limits load updates c.args.fed.now c.args.state asks hops run text.items f is c.settle-settled.ensures.hops rows.proper e) (returns-clause-text c limits load updates f)
