@@ -5,6 +5,7 @@ use Rattle.address_model.specs.declared.family.Family.{Family}
 use Rattle.address_model.specs.declared.family.Family.TheVariants.{V4, V6}
 use Rattle.table_model.specs.Entries.{Entries}
 use Rattle.kept_model.specs.Patched.{with_route}
+use Rattle.kept_model.proofs.Outside.{routes_outside}
 use Rattle.fib_addr.specs.Views.{prefix_as}
 use Rattle.fib_addr.specs.declared.prefix.Prefix as code_prefix
 use Rattle.fib_addr.specs.declared.entry.Hop as code_hop
@@ -20,7 +21,6 @@ use Rattle.route_tries.proofs.Short.{few_told, fit_few, told_short}
 use Rattle.fib_engine.specs.Held.{AreKeptNeeds}
 use Rattle.fib_engine.specs.Tables.{Both, Route, ArePut, IsReplaced, labels_of, needs_in, needs_put, only, route_in}
 use Rattle.fib_engine.proofs.Holding.{of_only}
-use Rattle.fib_engine.proofs.Outside.{routes_outside}
 
 -- each family's routes need what the table of both needs there
 pub needs_only : (s : ℕ) (E : Entries) → needs_of_both s (only V4 E) (only V6 E) ≡ needs_of s E
@@ -42,7 +42,7 @@ put_needs s route old new put = ap (λ (T : Entries). needs_of_both s T new.v6.r
 one_after : (f : Family) (s : ℕ) (p : code_prefix.Prefix) (h : ℕ) (L M : Entries) (whole before after moved : Needs) → p.family ≡ f → InPlace L → M ≡ with_route (prefix_as p) h L → whole ≡ need_of f s L → before ≡ told_need (need_at s L (prefix_as p)) → after ≡ told_need (need_at s M (prefix_as p)) → IsNeedAfter whole before after moved → moved ≡ told_need (need_of f s M)
 one_after f s p h L M whole before after moved e placed m w b a r =
     let q = prefix_as p in
-    let out = subst (λ (T : Entries). AreAlikeOutside q L T) (sym m) (routes_outside q h L (is_prefix p) placed.0) in
+    let out = subst (λ (T : Entries). AreAlikeOutside q L T) (sym m) (λ a o. sym (routes_outside q h L a (is_prefix p) placed.0 o)) in
     r s L M q out (w ∙ ap (λ (g : Family). need_of g s L) (sym e)) b a ∙ ap (λ (g : Family). told_need (need_of g s M)) e
 
 routed : (p : code_prefix.Prefix) (h : code_hop.Hop) (g f : Family) (R : Entries) → p.family ≡ g → with_planned (route_in f (Some (p, h))) R ≡ with_planned (cond (same_family g f) (Some (p, h)) None) R

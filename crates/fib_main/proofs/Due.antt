@@ -43,18 +43,27 @@ is_then (Err Untold) f x y i j = tt
 is_then (Err (Refused o)) f x y i j = absurd (refused_not_ok o x i)
 is_then {Y = Y} (Ok z) f x y i j = subst (λ w. IsDueIfTold (f w) (fine y)) (sym (same_ok z x i)) j
 
+-- the refusal that is due, of whatever else was due
+pub retyped : (A B : Type 0) (stop : Stop) (o : Outcome) → IsDueIfTold {Y = A} (Err stop) (Err (Refused o)) → IsDueIfTold {Y = B} (Err stop) (Err (Refused o))
+retyped A B Untold o i = tt
+retyped A B (Refused p) o i = let same : p ≡ o = cc in ap (λ (q : Outcome). Err (Refused q)) same
+
+-- an error that is due of one result is due of another where each refusal is
+pub fails_by : {A B : Type 0} (d : Result A Stop) (e : Result B Stop) → ((o : Outcome) → IsDueIfTold d (Err (Refused o)) → IsDueIfTold e (Err (Refused o))) → (o : Outcome) → FailsDue o d → FailsDue o e
+fails_by d e g Done f = absurd f
+fails_by d e g (CheckNo x) f = absurd f
+fails_by d e g WriteFault f = absurd f
+fails_by d e g NoMemory f = tt
+fails_by d e g ReadFault f = tt
+fails_by d e g Usage f = g Usage f
+fails_by d e g (TooLarge input) f = g (TooLarge input) f
+fails_by d e g (Malformed input number rule) f = g (Malformed input number rule) f
+fails_by d e g (HopsFull event) f = g (HopsFull event) f
+fails_by d e g (TrieFull event need have arena) f = g (TrieFull event need have arena) f
+fails_by d e g (BadLine input line why) f = g (BadLine input line why) f
+
 fails_untold : {X : Type 0} (Y : Type 0) (o : Outcome) (d : Result X Stop) → FailsDue o d → FailsDue {Y = Y} o (Err Untold)
-fails_untold Y Done d f = f
-fails_untold Y (CheckNo x) d f = f
-fails_untold Y WriteFault d f = f
-fails_untold Y NoMemory d f = tt
-fails_untold Y ReadFault d f = tt
-fails_untold Y Usage d f = tt
-fails_untold Y (TooLarge input) d f = tt
-fails_untold Y (Malformed input number rule) d f = tt
-fails_untold Y (HopsFull event) d f = tt
-fails_untold Y (TrieFull event need have arena) d f = tt
-fails_untold Y (BadLine input line why) d f = tt
+fails_untold Y o d f = fails_by d (Err Untold) (λ p i. tt) o f
 
 fails_then : {X Y : Type 0} (o : Outcome) (d : Result X Stop) (f : X → Result Y Stop) (x : X) → IsDueIfTold d (Ok x) → FailsDue o (f x) → FailsDue o (d >>= f)
 fails_then {Y = Y} o (Err Untold) f x i j = fails_untold Y o (f x) j
@@ -65,24 +74,11 @@ abbrev stopped : {X : Type 0} → Outcome → Result X Stop
 stopped o = Err (Refused o)
 
 is_first : {X Y : Type 0} (o : Outcome) (d : Result X Stop) (f : X → Result Y Stop) → IsDueIfTold d (Err (Refused o)) → IsDueIfTold (d >>= f) (Err (Refused o))
-is_first o (Err Untold) f i = tt
-is_first {Y = Y} o (Err (Refused p)) f i = let same : p ≡ o = refused_same p o i in ap (λ (q : Outcome). Err (Refused q)) same where
-  refused_same : {X : Type 0} (p o : Outcome) → stopped {X = X} p ≡ stopped o → p ≡ o
-  refused_same p o e = cc
+is_first {X = X} {Y = Y} o (Err stop) f i = retyped X Y stop o i
 is_first o (Ok z) f i = absurd (ok_not_refused z o i)
 
 fails_first : {X Y : Type 0} (o : Outcome) (d : Result X Stop) (f : X → Result Y Stop) → FailsDue o d → FailsDue o (d >>= f)
-fails_first Done d f j = j
-fails_first (CheckNo x) d f j = j
-fails_first WriteFault d f j = j
-fails_first NoMemory d f j = tt
-fails_first ReadFault d f j = tt
-fails_first Usage d f j = is_first Usage d f j
-fails_first (TooLarge input) d f j = is_first (TooLarge input) d f j
-fails_first (Malformed input number rule) d f j = is_first (Malformed input number rule) d f j
-fails_first (HopsFull event) d f j = is_first (HopsFull event) d f j
-fails_first (TrieFull event need have arena) d f j = is_first (TrieFull event need have arena) d f j
-fails_first (BadLine input line why) d f j = is_first (BadLine input line why) d f j
+fails_first o d f j = fails_by d (d >>= f) (λ p i. is_first p d f i) o j
 
 -- ---- the dump, and then the updates
 

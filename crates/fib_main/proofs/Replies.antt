@@ -10,12 +10,12 @@ use Rattle.printed_model.specs.Used.{Used, printed_in}
 use Rattle.fib_words.specs.Commands.{Named, Asked, Run, Check, Make, Steps, command_of}
 use Rattle.fib_main.specs.declared.outcome.Which.TheVariants as which
 use Rattle.fib_main.specs.declared.outcome.Outcome.{Outcome}
-use Rattle.fib_main.specs.declared.outcome.Outcome.TheVariants.{Done, CheckNo, Usage, ReadFault, WriteFault, NoMemory, TooLarge, Malformed, HopsFull, TrieFull, BadLine}
 use Rattle.fib_main.specs.Stops.{Stop, Untold, Refused, rowed, FailsDue, IsDueIfTold}
 use Rattle.step_run.specs.Stepping.{Stepping}
 use Rattle.fib_main.specs.Due.{Printed, Reply, stepped, stepping_at, ran, checked, due, made, made_at, with_counts, input_at, output_at, run_at, usage, used_at, printed_text, with_text, with_reply}
 use Rattle.fib_report.specs.Rows.{report_text}
 use Rattle.fib_main.specs.Proves.{IfChecked, Decides, YesProves}
+use Rattle.fib_main.proofs.Due.{fails_by, retyped}
 use Rattle.fib_main.proofs.Fitting.{read_fits}
 
 -- ---- what a run replies
@@ -39,27 +39,21 @@ ran_replied content named asked text reply a r i = rw (a, r) (by_run (run_at con
     by_run (Err Untold) i = tt
     by_run (Err (Refused o)) i = absurd cc
 
+-- a view of what is printed
+abbrev viewed : {A : Type 0} → (Printed → A) → Result Printed Stop → Result A Stop
+viewed view d = d >>= λ p. Ok (view p)
+
+-- a refusal of a view is one of whatever keeps the stops of what is viewed
+refused_alike : {A B : Type 0} (view : Printed → A) (h : Result Printed Stop → Result B Stop) → ((stop : Stop) → h (Err stop) ≡ Err stop) → (d : Result Printed Stop) (o : Outcome) → FailsDue o (viewed view d) → FailsDue o (h d)
+refused_alike {A = A} {B = B} view h s d o f = fails_by (viewed view d) (h d) (is_first d) o f
+  where
+    is_first : (d : Result Printed Stop) (o : Outcome) → IsDueIfTold (viewed view d) (Err (Refused o)) → IsDueIfTold (h d) (Err (Refused o))
+    is_first (Ok p) o i = absurd cc
+    is_first (Err stop) o i = rw (s stop) (retyped A B stop o i)
+
 -- a refusal of its text is one of what is to be replied
 pub ran_refused : (d : Result Printed Stop) (o : Outcome) → FailsDue o (with_text d) → FailsDue o (with_reply (ran d))
-ran_refused d o f = passed o d f
-  where
-    is_first : (d : Result Printed Stop) (o : Outcome) → IsDueIfTold (with_text d) (Err (Refused o)) → IsDueIfTold (with_reply (ran d)) (Err (Refused o))
-    is_first (Ok p) o i = absurd cc
-    is_first (Err Untold) o i = tt
-    is_first (Err (Refused p)) o i = let same : p ≡ o = cc in ap (λ (q : Outcome). Err (Refused q)) same
-
-    passed : (o : Outcome) (d : Result Printed Stop) → FailsDue o (with_text d) → FailsDue o (with_reply (ran d))
-    passed Done d f = f
-    passed (CheckNo x) d f = f
-    passed WriteFault d f = f
-    passed NoMemory d f = tt
-    passed ReadFault d f = tt
-    passed Usage d f = is_first d Usage f
-    passed (TooLarge input) d f = is_first d (TooLarge input) f
-    passed (Malformed input number rule) d f = is_first d (Malformed input number rule) f
-    passed (HopsFull event) d f = is_first d (HopsFull event) f
-    passed (TrieFull event need have arena) d f = is_first d (TrieFull event need have arena) f
-    passed (BadLine input line why) d f = is_first d (BadLine input line why) f
+ran_refused d o f = refused_alike printed_text (λ d. with_reply (ran d)) (λ stop. refl) d o f
 
 -- so of a run on inputs that are made
 pub made_replied : (routes seed : ℕ) (content : List ℕ → Option (List ℕ)) (asked : Asked) (text : List ℕ) (reply : Reply) → asked ≡ Make routes seed → reply ≡ record { text = text; wrong = None } → IsDueIfTold (with_counts (made_at routes seed)) (Ok text) → IsDueIfTold (with_reply (output_at content asked)) (Ok reply)
@@ -74,25 +68,7 @@ made_replied routes seed content asked text reply a r i = rw (a, r) (by_run (mad
 -- a refusal of it is one of what is to be replied
 pub made_refused : (routes seed : ℕ) (content : List ℕ → Option (List ℕ)) (asked : Asked) (o : Outcome) → asked ≡ Make routes seed → FailsDue o (with_counts (made_at routes seed)) → FailsDue o (with_reply (output_at content asked))
 unfolding output_at
-made_refused routes seed content asked o a f = rw a (passed o (made_at routes seed) f)
-  where
-    is_first : (d : Result Printed Stop) (o : Outcome) → IsDueIfTold (with_counts d) (Err (Refused o)) → IsDueIfTold (with_reply (made d)) (Err (Refused o))
-    is_first (Ok p) o i = absurd cc
-    is_first (Err Untold) o i = tt
-    is_first (Err (Refused p)) o i = let same : p ≡ o = cc in ap (λ (q : Outcome). Err (Refused q)) same
-
-    passed : (o : Outcome) (d : Result Printed Stop) → FailsDue o (with_counts d) → FailsDue o (with_reply (made d))
-    passed Done d f = f
-    passed (CheckNo x) d f = f
-    passed WriteFault d f = f
-    passed NoMemory d f = tt
-    passed ReadFault d f = tt
-    passed Usage d f = is_first d Usage f
-    passed (TooLarge input) d f = is_first d (TooLarge input) f
-    passed (Malformed input number rule) d f = is_first d (Malformed input number rule) f
-    passed (HopsFull event) d f = is_first d (HopsFull event) f
-    passed (TrieFull event need have arena) d f = is_first d (TrieFull event need have arena) f
-    passed (BadLine input line why) d f = is_first d (BadLine input line why) f
+made_refused routes seed content asked o a f = rw a (refused_alike (λ p. report_text p.told.report) (λ d. with_reply (made d)) (λ stop. refl) (made_at routes seed) o f)
 
 -- ---- what holds of each text that is checked
 

@@ -27,30 +27,12 @@ use Rattle.fib_main.specs.Loaded.{of_step}
 use Rattle.fib_main.specs.Owned.{StopsIn}
 use Rattle.fib_main.specs.Stepped.{EndsEarly, GivesSteps, IfStepping}
 use Rattle.fib_main.specs.Untold.{GivesSome, GivesStepping, GivesText, StepsOfSome, untold_text}
-use Rattle.fib_main.proofs.Due.{after_is, reads_more}
+use Rattle.fib_main.proofs.Due.{after_is, fails_by, reads_more, retyped}
 
 abbrev Content : Type 0
 Content = List ℕ → Option (List ℕ)
 
 -- ---- refusals that come first
-
--- the one that is due, of whatever else was due
-retyped : (A B : Type 0) (stop : Stop) (o : Outcome) → IsDueIfTold {Y = A} (Err stop) (Err (Refused o)) → IsDueIfTold {Y = B} (Err stop) (Err (Refused o))
-retyped A B Untold o i = tt
-retyped A B (Refused p) o i = let same : p ≡ o = cc in ap (λ (q : Outcome). Err (Refused q)) same
-
-fails_by : {A B : Type 0} (d : Result A Stop) (e : Result B Stop) → ((o : Outcome) → IsDueIfTold d (Err (Refused o)) → IsDueIfTold e (Err (Refused o))) → (o : Outcome) → FailsDue o d → FailsDue o e
-fails_by d e g Done f = absurd f
-fails_by d e g (CheckNo x) f = absurd f
-fails_by d e g WriteFault f = absurd f
-fails_by d e g NoMemory f = tt
-fails_by d e g ReadFault f = tt
-fails_by d e g Usage f = g Usage f
-fails_by d e g (TooLarge input) f = g (TooLarge input) f
-fails_by d e g (Malformed input number rule) f = g (Malformed input number rule) f
-fails_by d e g (HopsFull event) f = g (HopsFull event) f
-fails_by d e g (TrieFull event need have arena) f = g (TrieFull event need have arena) f
-fails_by d e g (BadLine input line why) f = g (BadLine input line why) f
 
 -- where something is due, want of memory and a fault of reading alone may come in its place
 spared : {A : Type 0} (x : A) (o : Outcome) → FailsDue o (Ok x) → (o ≡ NoMemory) ⊎ (o ≡ ReadFault)

@@ -104,7 +104,7 @@ pub const READ_FAULT: Expected<'static> = Expected {
 };
 
 /// The words, in memory.
-pub fn words_of(alloc: Global, texts: &[&str]) -> Result<Vec<String>, Fail> {
+pub(crate) fn words_of(alloc: Global, texts: &[&str]) -> Result<Vec<String>, Fail> {
     let mut words = Vec::new(alloc);
     for text in texts {
         words.push(String::from_str(alloc, text)?)?;
@@ -113,7 +113,7 @@ pub fn words_of(alloc: Global, texts: &[&str]) -> Result<Vec<String>, Fail> {
 }
 
 /// Adds the octets of hexadecimal digits, two of each; all else is passed over.
-pub fn push_hex(octets: &mut Vec<u8>, text: &str) -> Result<(), Fail> {
+pub(crate) fn push_hex(octets: &mut Vec<u8>, text: &str) -> Result<(), Fail> {
     let mut high = None;
     for digit in text.chars().filter_map(|c| c.to_digit(16)) {
         let digit = digit as u8;
@@ -126,7 +126,7 @@ pub fn push_hex(octets: &mut Vec<u8>, text: &str) -> Result<(), Fail> {
 }
 
 /// The octets of records, one after another.
-pub fn octets_of(alloc: Global, records: &[Record]) -> Result<Vec<u8>, Fail> {
+pub(crate) fn octets_of(alloc: Global, records: &[Record]) -> Result<Vec<u8>, Fail> {
     let mut octets = Vec::new(alloc);
     for record in records {
         for field in *record {
@@ -137,7 +137,7 @@ pub fn octets_of(alloc: Global, records: &[Record]) -> Result<Vec<u8>, Fail> {
 }
 
 /// The text of rows, a line feed after each.
-pub fn text_of(alloc: Global, rows: Rows) -> Result<Vec<u8>, Fail> {
+pub(crate) fn text_of(alloc: Global, rows: Rows) -> Result<Vec<u8>, Fail> {
     let mut text = Vec::new(alloc);
     for list in rows {
         for row in *list {
@@ -149,7 +149,7 @@ pub fn text_of(alloc: Global, rows: Rows) -> Result<Vec<u8>, Fail> {
 }
 
 /// The inputs `dump`, `updates`, `asks`, `script` and `printed`; the dump isn't held where it has no records.
-pub fn inputs_of(alloc: Global, given: &Given) -> Result<MemInputs, Fail> {
+pub(crate) fn inputs_of(alloc: Global, given: &Given) -> Result<MemInputs, Fail> {
     let mut names = Vec::new(alloc);
     let asks = Vec::from_slice(alloc, given.asks)?;
     names.push((String::from_str(alloc, "asks")?, asks))?;
@@ -180,7 +180,7 @@ pub struct Came {
 }
 
 /// Runs on these inputs.
-pub fn run_on(alloc: Global, given: &Given, mut inputs: MemInputs) -> Result<Came, Fail> {
+pub(crate) fn run_on(alloc: Global, given: &Given, mut inputs: MemInputs) -> Result<Came, Fail> {
     let words = words_of(alloc, given.words)?;
     let failing = Vec::from_slice(alloc, &[given.failing_write])?;
     let mut out = MemSink::new(alloc, given.room, failing)?;
@@ -191,7 +191,7 @@ pub fn run_on(alloc: Global, given: &Given, mut inputs: MemInputs) -> Result<Cam
 }
 
 /// Runs and compares all that comes out.
-pub fn compare<R: Abort + Alloc<A = Global>>(
+pub(crate) fn compare<R: Abort + Alloc<A = Global>>(
     rt: &R,
     name: &str,
     given: &Given,
@@ -209,7 +209,7 @@ pub fn compare<R: Abort + Alloc<A = Global>>(
 }
 
 /// A record of this input is refused by this rule.
-pub const fn malformed(input: Which, number: u64, rule: u8) -> Outcome {
+pub(crate) const fn malformed(input: Which, number: u64, rule: u8) -> Outcome {
     Outcome::Malformed {
         input,
         number,

@@ -13,6 +13,58 @@ const READS: u64 = 101;
 /// The octets of its rows.
 const TEXT: usize = 792;
 
+/// A text that isn't a printed one: the number of its first bad line, why it is bad, and the line of the refusal.
+type BadLine = (&'static [u8], u64, u8, &'static [u8]);
+
+/// A line of each kind that isn't printed.
+const BAD_LINES: [BadLine; 10] = [
+    (b"foo", 1, 2, b"fib: bad line printed 1 why 2\n"),
+    (
+        b"route,10.0.0.0/8",
+        1,
+        3,
+        b"fib: bad line printed 1 why 3\n",
+    ),
+    (
+        b"route,10.0.0.0/33,192.0.2.1",
+        1,
+        4,
+        b"fib: bad line printed 1 why 4\n",
+    ),
+    (
+        b"route,10.0.0.1/8,192.0.2.1",
+        1,
+        4,
+        b"fib: bad line printed 1 why 4\n",
+    ),
+    (
+        b"route,10.0.0.0/8,drop",
+        1,
+        1,
+        b"fib: bad line printed 1 why 1\n",
+    ),
+    (
+        b"cert,join,10.0.0.0/7,01",
+        1,
+        5,
+        b"fib: bad line printed 1 why 5\n",
+    ),
+    (b"cert,bound,5,1", 1, 2, b"fib: bad line printed 1 why 2\n"),
+    (
+        b"\nroute,10.0.0.0/8,drop\n",
+        2,
+        1,
+        b"fib: bad line printed 2 why 1\n",
+    ),
+    (
+        b"cert,leaf,10.0.0.0/8\n",
+        1,
+        3,
+        b"fib: bad line printed 1 why 3\n",
+    ),
+    (b"cert,bound,4,01", 1, 5, b"fib: bad line printed 1 why 5\n"),
+];
+
 /// The peer table and a route, cut after each of their octets: 33 octets are the peer table, 81 both.
 #[test]
 fn cut_dumps(rt: HostRuntime) -> Result<(), Fail> {
@@ -91,54 +143,7 @@ fn each_write_fails(rt: HostRuntime) -> Result<(), Fail> {
 
 #[test]
 fn lines_that_are_not_printed(rt: HostRuntime) -> Result<(), Fail> {
-    let cases: [(&[u8], u64, u8, &[u8]); 10] = [
-        (b"foo", 1, 2, b"fib: bad line printed 1 why 2\n"),
-        (
-            b"route,10.0.0.0/8",
-            1,
-            3,
-            b"fib: bad line printed 1 why 3\n",
-        ),
-        (
-            b"route,10.0.0.0/33,192.0.2.1",
-            1,
-            4,
-            b"fib: bad line printed 1 why 4\n",
-        ),
-        (
-            b"route,10.0.0.1/8,192.0.2.1",
-            1,
-            4,
-            b"fib: bad line printed 1 why 4\n",
-        ),
-        (
-            b"route,10.0.0.0/8,drop",
-            1,
-            1,
-            b"fib: bad line printed 1 why 1\n",
-        ),
-        (
-            b"cert,join,10.0.0.0/7,01",
-            1,
-            5,
-            b"fib: bad line printed 1 why 5\n",
-        ),
-        (b"cert,bound,5,1", 1, 2, b"fib: bad line printed 1 why 2\n"),
-        (
-            b"\nroute,10.0.0.0/8,drop\n",
-            2,
-            1,
-            b"fib: bad line printed 2 why 1\n",
-        ),
-        (
-            b"cert,leaf,10.0.0.0/8\n",
-            1,
-            3,
-            b"fib: bad line printed 1 why 3\n",
-        ),
-        (b"cert,bound,4,01", 1, 5, b"fib: bad line printed 1 why 5\n"),
-    ];
-    for (printed_end, line, why, err) in cases {
+    for (printed_end, line, why, err) in BAD_LINES {
         let expected = Expected {
             outcome: Outcome::BadLine {
                 input: Which::Printed,

@@ -15,6 +15,11 @@ const LARGER: &[&str] = &[
     "fib", "steps", "dump", "updates", "script", "--direct", "0", "--nodes", "2", "--leaves", "4",
 ];
 
+/// Tries of 1 node, and of as many leaves as are usual.
+const ONE_NODE: &[&str] = &[
+    "fib", "steps", "dump", "updates", "script", "--direct", "0", "--nodes", "0",
+];
+
 /// Tries of as many nodes and leaves as are usual.
 const USUAL: &[&str] = &["fib", "steps", "dump", "updates", "script", "--direct", "0"];
 
@@ -109,6 +114,62 @@ const PAUSED_SIX_ROWS: &[&str] = &[
     "step,18,nothing",
 ];
 
+/// A run in steps that is refused: its name, the dump, the updates, the script, and the outcome with its status and line.
+type RefusedRun = (
+    &'static str,
+    &'static [Record<'static>],
+    &'static [Record<'static>],
+    &'static [u8],
+    Outcome,
+    u8,
+    &'static [u8],
+);
+
+/// A line of the script that breaks a rule, and routes that need more than one node, of an update and of the load.
+const REFUSED: [RefusedRun; 3] = [
+    (
+        "look-up 128",
+        &[PEERS, TEN],
+        &[TEN_TO_B],
+        b"go 128\n",
+        Outcome::BadLine {
+            input: Which::Script,
+            line: 1,
+            why: 5,
+        },
+        8,
+        b"fib: bad line script 1 why 5\n",
+    ),
+    (
+        "an event whose routes need more",
+        &[PEERS],
+        &[TEN_TO_A],
+        b"open 10.0.0.0\ngo 0\nprepare\nend\n",
+        Outcome::TrieFull {
+            event: 1,
+            need: 2,
+            have: 1,
+            arena: 0,
+        },
+        6,
+        b"fib: trie full at event 1: arena 0 needs 2 of 1\n",
+    ),
+    (
+        "a load whose routes need more",
+        &[PEERS, TEN],
+        &[TEN_TO_A],
+        b"open 10.0.0.0\n",
+        Outcome::TrieFull {
+            event: 0,
+            need: 2,
+            have: 1,
+            arena: 0,
+        },
+        6,
+        b"fib: trie full at event 0: arena 0 needs 2 of 1\n",
+    ),
+];
+
 #[test]
 fn steps_and_their_rows(rt: HostRuntime) -> Result<(), Fail> {
     let cases: [(&str, &[&str], &[u8], &[&str]); 4] = [
@@ -158,55 +219,9 @@ fn steps_in_ipv6(rt: HostRuntime) -> Result<(), Fail> {
 
 #[test]
 fn runs_in_steps_that_are_refused(rt: HostRuntime) -> Result<(), Fail> {
-    // The words' sizes, the dump, the updates, the script, and the outcome with its status and line.
-    let cases: [(&str, &[Record], &[Record], &[u8], Outcome, u8, &[u8]); 3] = [
-        (
-            "look-up 128",
-            &[PEERS, TEN],
-            &[TEN_TO_B],
-            b"go 128\n",
-            Outcome::BadLine {
-                input: Which::Script,
-                line: 1,
-                why: 5,
-            },
-            8,
-            b"fib: bad line script 1 why 5\n",
-        ),
-        (
-            "an event whose routes need more",
-            &[PEERS],
-            &[TEN_TO_A],
-            b"open 10.0.0.0\ngo 0\nprepare\nend\n",
-            Outcome::TrieFull {
-                event: 1,
-                need: 2,
-                have: 1,
-                arena: 0,
-            },
-            6,
-            b"fib: trie full at event 1: arena 0 needs 2 of 1\n",
-        ),
-        (
-            "a load whose routes need more",
-            &[PEERS, TEN],
-            &[TEN_TO_A],
-            b"open 10.0.0.0\n",
-            Outcome::TrieFull {
-                event: 0,
-                need: 2,
-                have: 1,
-                arena: 0,
-            },
-            6,
-            b"fib: trie full at event 0: arena 0 needs 2 of 1\n",
-        ),
-    ];
-    for (name, dump, updates, script, outcome, status, err) in cases {
+    for (name, dump, updates, script, outcome, status, err) in REFUSED {
         let given = Given {
-            words: &[
-                "fib", "steps", "dump", "updates", "script", "--direct", "0", "--nodes", "0",
-            ],
+            words: ONE_NODE,
             dump,
             updates,
             script,

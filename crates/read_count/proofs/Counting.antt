@@ -1,10 +1,10 @@
 -- An input that is counted piece by piece.
-use Rattle.std.proofs.Common.{◌≡◌, ℕ, ◌+◌, ◌-◌, ◌^◌, List, [], ◌++◌, length, take, Option, Some, None, Ok, Err, refl, sym, ap, subst, ◌∙◌, arith, append_assoc, append-nil, length-append, take_all}
+use Rattle.std.proofs.Common.{◌≡◌, ℕ, ◌+◌, ◌-◌, ◌^◌, List, [], ◌++◌, length, take, Option, Some, None, Ok, Err, refl, sym, ap, subst, ◌∙◌, arith, length-append, take_all}
 use Rattle.std.specs.Prelude.{IfSome, IsErrOf, min}
 use Rattle.route_model.specs.Events.{Event}
 use Rattle.wire_model.specs.Record.{record_at}
 use Rattle.reading_model.specs.Input.{Progress, start, input}
-use Rattle.fib_io.specs.Pieces.{octets_read, octets_from, ComeNext, IsEnd, IsLarge}
+use Rattle.fib_io.specs.Pieces.{octets_from, ComeNext, IsEnd, IsLarge}
 use Rattle.fib_io.specs.declared.pieces.ReadError.{ReadError}
 use Rattle.fib_io.specs.declared.pieces.ReadError.TheVariants as pieces
 use Rattle.mrt_frame.specs.Records.{fault_of}
@@ -13,12 +13,10 @@ use Rattle.mrt_read.specs.Standing as reading
 use Rattle.mrt_read.specs.declared.reader.Reader.{Reader}
 use Rattle.mrt_read.specs.declared.reader.EventsError.{EventsError}
 use Rattle.mrt_read.specs.declared.reader.EventsError.TheVariants as read
-use Rattle.read_count.specs.declared.count.CountError.TheVariants.{Malformed}
-use Rattle.read_count.specs.Counted.{IsCounted, IsRefused, of_input, of_read}
-
--- the octets that were fed, and those that come
-abbrev Comes : List ℕ → ℕ → List ℕ → Type 0
-Comes fed at c = octets_read c ≡ fed ++ octets_from at c
+use Rattle.whole_input.specs.Whole.{of_input, of_read}
+use Rattle.whole_input.specs.declared.whole.WholeError.TheVariants.{Malformed}
+use Rattle.whole_input.proofs.Arriving.{Comes, all_fed, comes_first, comes_next}
+use Rattle.read_count.specs.Counted.{IsCounted, IsRefused}
 
 -- So many octets of the input were fed, and so many events were counted.
 pub record Counting (content : Option (List ℕ)) (reader : Reader) (at events : ℕ) : Type 0 where
@@ -28,20 +26,12 @@ pub record Counting (content : Option (List ℕ)) (reader : Reader) (at events :
   pub stands : reading.ReaderStands fed told reader
   pub counted : events ≡ min (length told.events) (2 ^ 64 - 1)
 
-comes_first : (o : Option (List ℕ)) → IfSome o (Comes [] 0)
-comes_first None = tt
-comes_first (Some c) = refl
-
 pub counting_start : (content : Option (List ℕ)) (reader : Reader) → reading.ReaderStands [] start reader → Counting content reader 0 0
 counting_start content reader s = record { fed = []; told = start; comes = comes_first content; stands = s; counted = refl }
 
 pub used_at_start : (reader : Reader) → reading.reader_left reader ≡ [] → reading.reader_refusal reader ≡ None → reading.ReaderIsUsedUp reader
 unfolding record_at
 used_at_start reader empty none = rw (none, empty) refl
-
-comes_next : (o : Option (List ℕ)) (fed room : List ℕ) (at n : ℕ) → IfSome o (Comes fed at) → IfSome o (λ c. ComeNext c at room n) → IfSome o (Comes (fed ++ take n room) (at + n))
-comes_next None fed room at n s t = tt
-comes_next (Some c) fed room at n s t = s ∙ ap (λ z. fed ++ z) t ∙ sym (append_assoc fed (take n room) (octets_from (at + n) c))
 
 pub counting_feeds : (content : Option (List ℕ)) (old new : Reader) (room : List ℕ) (at n events : ℕ) → IfSome content (λ c. ComeNext c at room n) → Counting content old at events → reading.ReaderFeeds old (take n room) new → Counting content new (at + n) events
 counting_feeds content old new room at n events next s feeds = record {
@@ -62,9 +52,6 @@ counting_takes content old new at events n more e s t = record {
 }
 
 -- ---- refusals
-
-all_fed : (c fed : List ℕ) (at : ℕ) → octets_from at c ≡ [] → Comes fed at c → octets_read c ≡ fed
-all_fed c fed at nothing comes = comes ∙ ap (λ z. fed ++ z) nothing ∙ append-nil fed
 
 pub refused_piece : (content : Option (List ℕ)) (at : ℕ) (error : ReadError) → (IsErrOf {T = ℕ} (Err error) pieces.TooLarge → IfSome content (λ c. IsLarge c at)) → IfSome content (IsRefused (of_input error))
 refused_piece None at pieces.Fault large = tt
@@ -107,7 +94,3 @@ counted_in c reader at events records skipped treated end s tells r k t = record
 pub counted_all : (content : Option (List ℕ)) (reader : Reader) (at events records skipped treated : ℕ) → IfSome content (λ c. IsEnd c at) → Counting content reader at events → reading.ReaderTells reader (Ok tt) → records ≡ reader.records → skipped ≡ reader.skipped → treated ≡ reader.treated → IfSome content (IsCounted (record { records = records; skipped = skipped; events = events; treated = treated }))
 counted_all None reader at events records skipped treated end s tells r k t = tt
 counted_all (Some c) reader at events records skipped treated end s tells r k t = counted_in c reader at events records skipped treated end s tells r k t
-
--- an input as it was before
-pub told_before : (old now : List ℕ → Option (List ℕ)) (name : List ℕ) (P : List ℕ → Type 0) → now ≡ old → IfSome (now name) P → IfSome (old name) P
-told_before old now name P e h = let Q : (List ℕ → Option (List ℕ)) → Type 0 = λ k. IfSome (k name) P in subst Q e h

@@ -1,13 +1,13 @@
 //! The counts of an input.
 
 ghost use Rattle.std.specs.Prelude.{◌≡◌, ◌<◌, length, IfErr, IfOk, IfSome};
-ghost use Rattle.read_count.specs.Counted.{FaultRose, IsCounted, IsRefused, of_input, of_read};
-ghost use Rattle.read_count.specs.declared.count.CountError.TheVariants.{Malformed as IsMalformed, NoMemory as IsNoMemory};
+ghost use Rattle.whole_input.specs.Whole.{FaultRose};
+ghost use Rattle.read_count.specs.Counted.{IsCounted, IsRefused};
 
-use fib_io::{Inputs, ReadError, piece_room, read_piece};
-use mrt_read::{EventsError, Malformed, Reader};
-use std::alloc::{AllocError, AllocFailed, Global};
-use thiserror::Error;
+use fib_io::{Inputs, piece_room, read_piece};
+use mrt_read::Reader;
+use std::alloc::Global;
+use whole_input::WholeError;
 
 /// What was counted of an input.
 #[derive(Clone, Copy, Debug, PartialEq, Eq)]
@@ -22,77 +22,13 @@ pub struct Counts {
     pub treated: u64,
 }
 
-/// Why an input wasn't counted.
-#[derive(Clone, Copy, Debug, PartialEq, Eq, Error)]
-pub enum CountError {
-    /// A record breaks a rule.
-    #[error("{0}")]
-    Malformed(Malformed),
-    /// Memory ran out.
-    #[error("no memory")]
-    NoMemory,
-    /// A read failed.
-    #[error("a read failed")]
-    Fault,
-    /// The input has more than 2^36 octets.
-    #[error("too large")]
-    TooLarge,
-}
-
-impl From<ReadError> for CountError {
-    ghost from_gives = { λ error e. e ≡ of_input error };
-
-    fn from(error: ReadError) -> CountError {
-        match error {
-            ReadError::Fault => CountError::Fault,
-            ReadError::TooLarge => CountError::TooLarge,
-            ReadError::NoMemory => CountError::NoMemory,
-        }
-    }
-}
-
-impl From<Malformed> for CountError {
-    ghost from_gives = { λ malformed e. e ≡ IsMalformed malformed };
-
-    fn from(malformed: Malformed) -> CountError {
-        CountError::Malformed(malformed)
-    }
-}
-
-impl From<EventsError> for CountError {
-    ghost from_gives = { λ error e. e ≡ of_read error };
-
-    fn from(error: EventsError) -> CountError {
-        match error {
-            EventsError::Malformed(malformed) => CountError::Malformed(malformed),
-            EventsError::NoMemory => CountError::NoMemory,
-        }
-    }
-}
-
-impl From<AllocError> for CountError {
-    ghost from_gives = { λ _ e. e ≡ IsNoMemory };
-
-    fn from(_e: AllocError) -> CountError {
-        CountError::NoMemory
-    }
-}
-
-impl<T: Drop> From<AllocFailed<T>> for CountError {
-    ghost from_gives = { λ _ e. e ≡ IsNoMemory };
-
-    fn from(_e: AllocFailed<T>) -> CountError {
-        CountError::NoMemory
-    }
-}
-
 /// Counts through this room.
 fn count_through<I: Inputs>(
     alloc: Global,
     inputs: &mut I,
     name: &str,
     room: &mut [u8],
-) -> Result<Counts, CountError>
+) -> Result<Counts, WholeError>
     requires { 0 < length room.old }
     ensures counts { IfOk result (λ counts. IfSome (I.content inputs.old name.now)
         (IsCounted counts)) }
@@ -126,7 +62,7 @@ fn count_through<I: Inputs>(
 
 /// Counts what an input's records say. It is read in pieces, each record before the next read; in memory are one record, its
 /// events and the peer table.
-pub fn count<I: Inputs>(alloc: Global, inputs: &mut I, name: &str) -> Result<Counts, CountError>
+pub fn count<I: Inputs>(alloc: Global, inputs: &mut I, name: &str) -> Result<Counts, WholeError>
     ensures counts { IfOk result (λ counts. IfSome (I.content inputs.old name.now)
         (IsCounted counts)) }
     ensures refused { IfErr result (λ error. IfSome (I.content inputs.old name.now)

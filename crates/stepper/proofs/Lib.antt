@@ -1,4 +1,3 @@
-pub mod Outside
 pub mod Worlds
 pub mod Halves
 pub mod Looking

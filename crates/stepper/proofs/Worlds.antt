@@ -11,6 +11,7 @@ use Rattle.table_model.specs.Table.{Table, lpm}
 use Rattle.table_model.specs.Entries.{Entries, match_in, of_family}
 use Rattle.route_model.proofs.Keyed.{all_put, all_cut}
 use Rattle.kept_model.specs.Patched.{with_route}
+use Rattle.kept_model.proofs.Outside.{routes_outside}
 use Rattle.fib_regions.specs.Answers.{all_answers}
 use Rattle.fib_regions.proofs.Prefixes.{is_prefix}
 use Rattle.fib_addr.specs.Views.{prefix_as}
@@ -21,7 +22,6 @@ use Rattle.step_model.specs.Machine.{World, is_in}
 use Rattle.step_model.specs.Turns.{Turn, AreTurns, turn_at, turned, entries_in}
 use Rattle.paused_routes.specs.Paused.{IsWorld}
 use Rattle.stepper.specs.Runs.{turn_as}
-use Rattle.stepper.proofs.Outside.{routes_outside}
 
 -- ---- answers are told by the family's entries
 

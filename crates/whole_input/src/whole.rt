@@ -11,7 +11,7 @@ use mrt_read::{EventsError, Malformed, Reader};
 use std::alloc::{AllocError, AllocFailed, Global};
 use thiserror::Error;
 
-/// Why the events of an input aren't given.
+/// Why an input isn't read to its end.
 #[derive(Clone, Copy, Debug, PartialEq, Eq, Error)]
 pub enum WholeError {
     /// A record breaks a rule.
