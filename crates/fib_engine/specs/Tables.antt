@@ -117,7 +117,7 @@ needs_in s both = needs_of_both s both.v4.routes both.v6.routes
 abbrev pub needs_put : ℕ → Route → Both → FamilyNeeds
 needs_put s route both = needs_of_both s (with_planned (route_in V4 route) both.v4.routes) (with_planned (route_in V6 route) both.v6.routes)
 
--- the need of the family is what it is after a change within a prefix, whose direct slots needed the first and need the second; the
+-- the need of the family is what it is after a change within a prefix, at which the first was needed and the second is now; the
 -- other family's stays
 abbrev pub IsReplaced : Family → FamilyNeeds → Needs → Needs → FamilyNeeds → Type 0
 IsReplaced V4 old before after new = IsNeedAfter old.v4 before after new.v4 × (new.v6 ≡ old.v6)

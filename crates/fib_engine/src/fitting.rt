@@ -21,7 +21,7 @@ pub struct FittingPlan {
     pub(crate) needs: FamilyNeeds,
 }
 
-/// What both tries need where the direct slots at a prefix of this family needed one thing and need another now.
+/// What both tries need where one thing was needed at a prefix of this family and another is now.
 fn replace_need(needs: FamilyNeeds, family: Family, before: Needs, after: Needs) -> FamilyNeeds
     ensures { IsReplaced family needs before after result }
 {

@@ -1,153 +1,178 @@
--- Needs that a change within a prefix changes are those of the direct slots at the prefix.
-use Rattle.std.proofs.Common.{◌≡◌, ℕ, zero, suc, ◌+◌, ◌-◌, ◌*◌, ◌≤◌, ◌<◌, List, [], ◌∷◌, ◌++◌, Bool, true, false, length, take, refl, sym, ap, ◌∙◌, arith}
+-- A change within a prefix changes only what is needed on the way to it and within it.
+use Rattle.std.proofs.Common.{◌≡◌, ℕ, zero, suc, ◌+◌, ◌-◌, ◌*◌, ◌≤◌, ◌<◌, List, [], ◌∷◌, Bool, true, false, length, take, drop, refl, sym, ap, ◌∙◌, arith}
 use Rattle.std.specs.Prelude.{◌&&◌, min}
-use Rattle.std.proofs.lemmas.List.{length-take, take_min}
-use Rattle.address_model.specs.Bits.{begins}
+use Rattle.std.proofs.Math.Seq.{take-length}
+use Rattle.address_model.specs.Bits.{bits_of, begins}
 use Rattle.address_model.specs.Width.{width}
-use Rattle.address_model.specs.Address.{Address, Prefix, same_family}
+use Rattle.address_model.specs.Address.{Prefix, same_family}
 use Rattle.address_model.specs.declared.family.Family.{Family}
 use Rattle.address_model.specs.declared.family.Family.TheVariants.{V4, V6}
 use Rattle.table_model.specs.Entries.{Entries}
-use Rattle.fib_regions.specs.Answers.{side, part, all_answers}
-use Rattle.poptrie_build.specs.Strides.{strides}
+use Rattle.fib_regions.specs.Answers.{side, part, all_answers, one_answer}
+use Rattle.poptrie_build.specs.Strides.{strides, mixed}
 use Rattle.poptrie_build.specs.Need.{told, trie_nodes, trie_leaves}
 use Rattle.poptrie_build.specs.Tries.{rest, node_need, leaf_need}
 use Rattle.poptrie_build.specs.declared.counts.Needs.{Needs}
 use Rattle.poptrie_build.proofs.Filled.{strides_do, wide_enough}
 use Rattle.route_tries.specs.Sizes.{told_need}
-use Rattle.route_tries.specs.Parts.{AreAlikeOutside, AreMoved, slot_start, nodes_under, leaves_under, need_at}
+use Rattle.route_tries.specs.Parts.{AreAlikeOutside, AreMoved, way_nodes, way_leaves, trie_way_nodes, trie_way_leaves, nodes_on_way, leaves_on_way, need_at}
+use Rattle.route_tries.proofs.Meeting.{bits_drop}
+use Rattle.route_tries.proofs.Ways.{same_function, AlikeElse, whole_nodes, whole_leaves, nodes_moved_below, leaves_moved_below}
 
-same_function : (f g : List Bool → ℕ) → ((a : List Bool) → f a ≡ g a) → f ≡ g
-same_function f g h = λ i a. h a i
+-- A need T of so many more direct bits, and the need V on the way to a path: the sum of both halves', or of those that meet the path.
+module _ (T : ℕ → (List Bool → ℕ) → ℕ) (V : ℕ → (List Bool → ℕ) → List Bool → ℕ) (sum : (s : ℕ) (f : List Bool → ℕ) → T (suc s) f ≡ T s (side false f) + T s (side true f)) (both : (s : ℕ) (f : List Bool → ℕ) → V (suc s) f [] ≡ V s (side false f) [] + V s (side true f) []) (one : (s : ℕ) (f : List Bool → ℕ) (b : Bool) (p : List Bool) → V (suc s) f (b ∷ p) ≡ V s (side b f) p) where
+  pub moved : ((f g : List Bool → ℕ) (p : List Bool) → AlikeElse p f g → AreMoved (T 0 f) (T 0 g) (V 0 f p) (V 0 g p)) → (s : ℕ) (f g : List Bool → ℕ) (p : List Bool) → AlikeElse p f g → AreMoved (T s f) (T s g) (V s f p) (V s g p)
+  moved at zero f g p h = at f g p h
+  moved at (suc s) f g [] h =
+      let low = moved at s (side false f) (side false g) [] (λ a e. h (false ∷ a) e) in
+      let high = moved at s (side true f) (side true g) [] (λ a e. h (true ∷ a) e) in
+      record { few = omega (arith, low.few, high.few, sum s f, both s f); same = omega (arith, low.same, high.same, sum s f, sum s g, both s f, both s g) }
+  moved at (suc s) f g (true ∷ p) h =
+      let high = moved at s (side true f) (side true g) p (λ a e. h (true ∷ a) e) in
+      let low = ap (T s) (same_function (side false f) (side false g) (λ a. h (false ∷ a) refl)) in
+      record { few = omega (arith, high.few, sum s f, one s f true p); same = omega (arith, high.same, low, sum s f, sum s g, one s f true p, one s g true p) }
+  moved at (suc s) f g (false ∷ p) h =
+      let low = moved at s (side false f) (side false g) p (λ a e. h (false ∷ a) e) in
+      let high = ap (T s) (same_function (side true f) (side true g) (λ a. h (true ∷ a) refl)) in
+      record { few = omega (arith, low.few, sum s f, one s f false p); same = omega (arith, low.same, high, sum s f, sum s g, one s f false p, one s g false p) }
 
--- both answer alike where an address doesn't begin with q
-abbrev pub AlikeElse : List Bool → (List Bool → ℕ) → (List Bool → ℕ) → Type 0
-AlikeElse q f g = (a : List Bool) → begins q a ≡ false → f a ≡ g a
+  -- a path that ends within the direct bits: all slots under it
+  pub at_short : ((f : List Bool → ℕ) → V 0 f [] ≡ T 0 f) → (s j : ℕ) (f : List Bool → ℕ) (p : List Bool) → j + length p ≡ s → V s f p ≡ T j (part p f)
+  at_short at zero zero f [] e = at f
+  at_short at zero (suc j) f [] e = absurd (omega arith)
+  at_short at zero j f (b ∷ p) e = absurd (omega arith)
+  at_short at (suc s) zero f [] e = absurd (omega arith)
+  at_short at (suc s) (suc j) f [] e =
+      let n : j + length {A = Bool} [] ≡ s = omega arith in
+      omega (arith, both s f, sum j f, at_short at s j (side false f) [] n, at_short at s j (side true f) [] n)
+  at_short at (suc s) j f (b ∷ p) e = one s f b p ∙ at_short at s j (side b f) p (omega arith)
 
--- a need T that of s more bits is the sum of both halves'
-module _ (T : ℕ → (List Bool → ℕ) → ℕ) (sum : (s : ℕ) (f : List Bool → ℕ) → T (suc s) f ≡ T s (side false f) + T s (side true f)) where
-  pub swapped : (q : List Bool) (s : ℕ) (f g : List Bool → ℕ) → length q ≤ s → AlikeElse q f g → T s g + T (s - length q) (part q f) ≡ T s f + T (s - length q) (part q g)
-  swapped [] s f g l h =
-      let none : s - length {A = Bool} [] ≡ s = omega arith in
-      omega (arith, ap (λ n. T n f) none, ap (λ n. T n g) none)
-  swapped (b ∷ q) zero f g l h = absurd (omega arith)
-  swapped (true ∷ q) (suc s) f g l h =
-      let ih = swapped q s (side true f) (side true g) (omega arith) (λ a e. h (true ∷ a) e) in
-      let same = ap (T s) (same_function (side false f) (side false g) (λ a. h (false ∷ a) refl)) in
-      let n : suc s - length (true ∷ q) ≡ s - length q = omega arith in
-      let x : T (suc s - length (true ∷ q)) (part (true ∷ q) f) ≡ T (s - length q) (part q (side true f)) = ap (λ m. T m (part (true ∷ q) f)) n in
-      let y : T (suc s - length (true ∷ q)) (part (true ∷ q) g) ≡ T (s - length q) (part q (side true g)) = ap (λ m. T m (part (true ∷ q) g)) n in
-      omega (arith, ih, same, sum s f, sum s g, x, y)
-  swapped (false ∷ q) (suc s) f g l h =
-      let ih = swapped q s (side false f) (side false g) (omega arith) (λ a e. h (false ∷ a) e) in
-      let same = ap (T s) (same_function (side true f) (side true g) (λ a. h (true ∷ a) refl)) in
-      let n : suc s - length (false ∷ q) ≡ s - length q = omega arith in
-      let x : T (suc s - length (false ∷ q)) (part (false ∷ q) f) ≡ T (s - length q) (part q (side false f)) = ap (λ m. T m (part (false ∷ q) f)) n in
-      let y : T (suc s - length (false ∷ q)) (part (false ∷ q) g) ≡ T (s - length q) (part q (side false g)) = ap (λ m. T m (part (false ∷ q) g)) n in
-      omega (arith, ih, same, sum s f, sum s g, x, y)
+  -- a longer one: the way below one slot
+  pub at_long : (s : ℕ) (f : List Bool → ℕ) (p : List Bool) → s ≤ length p → V s f p ≡ V 0 (part (take s p) f) (drop s p)
+  at_long zero f p l = refl
+  at_long (suc s) f [] l = absurd (omega arith)
+  at_long (suc s) f (b ∷ p) l = one s f b p ∙ at_long s (side b f) p (omega arith)
 
-  pub part_least : (q : List Bool) (s : ℕ) (f : List Bool → ℕ) → length q ≤ s → T (s - length q) (part q f) ≤ T s f
-  part_least [] s f l = let none : s - length {A = Bool} [] ≡ s = omega arith in omega (arith, ap (λ n. T n f) none)
-  part_least (b ∷ q) zero f l = absurd (omega arith)
-  part_least (true ∷ q) (suc s) f l =
-      let ih = part_least q s (side true f) (omega arith) in
-      let n : suc s - length (true ∷ q) ≡ s - length q = omega arith in
-      let x : T (suc s - length (true ∷ q)) (part (true ∷ q) f) ≡ T (s - length q) (part q (side true f)) = ap (λ m. T m (part (true ∷ q) f)) n in
-      omega (arith, ih, sum s f, x)
-  part_least (false ∷ q) (suc s) f l =
-      let ih = part_least q s (side false f) (omega arith) in
-      let n : suc s - length (false ∷ q) ≡ s - length q = omega arith in
-      let x : T (suc s - length (false ∷ q)) (part (false ∷ q) f) ≡ T (s - length q) (part q (side false f)) = ap (λ m. T m (part (false ∷ q) f)) n in
-      omega (arith, ih, sum s f, x)
+module _ (k d : ℕ) where
+  nodes_sum : (s : ℕ) (f : List Bool → ℕ) → trie_nodes (suc s) k d f ≡ trie_nodes s k d (side false f) + trie_nodes s k d (side true f)
+  unfolding trie_nodes
+  nodes_sum s f = refl
 
-nodes_sum : (k d s : ℕ) (f : List Bool → ℕ) → trie_nodes (suc s) k d f ≡ trie_nodes s k d (side false f) + trie_nodes s k d (side true f)
-unfolding trie_nodes
-nodes_sum k d s f = refl
+  leaves_sum : (s : ℕ) (f : List Bool → ℕ) → trie_leaves (suc s) k d f ≡ trie_leaves s k d (side false f) + trie_leaves s k d (side true f)
+  unfolding trie_leaves
+  leaves_sum s f = refl
 
-leaves_sum : (k d s : ℕ) (f : List Bool → ℕ) → trie_leaves (suc s) k d f ≡ trie_leaves s k d (side false f) + trie_leaves s k d (side true f)
-unfolding trie_leaves
-leaves_sum k d s f = refl
+  nodes_both : (s : ℕ) (f : List Bool → ℕ) → trie_way_nodes (suc s) k d f [] ≡ trie_way_nodes s k d (side false f) [] + trie_way_nodes s k d (side true f) []
+  unfolding trie_way_nodes
+  nodes_both s f = refl
 
--- ---- addresses outside a prefix, and outside its first bits
+  leaves_both : (s : ℕ) (f : List Bool → ℕ) → trie_way_leaves (suc s) k d f [] ≡ trie_way_leaves s k d (side false f) [] + trie_way_leaves s k d (side true f) []
+  unfolding trie_way_leaves
+  leaves_both s f = refl
 
-begins_more : (s : ℕ) (p a : List Bool) → begins (take s p) a ≡ false → begins p a ≡ false
-begins_more zero p a e = cc
-begins_more (suc s) [] a e = cc
-begins_more (suc s) (true ∷ p) [] e = refl
-begins_more (suc s) (false ∷ p) [] e = refl
-begins_more (suc s) (true ∷ p) (true ∷ a) e = begins_more s p a e
-begins_more (suc s) (false ∷ p) (false ∷ a) e = begins_more s p a e
-begins_more (suc s) (true ∷ p) (false ∷ a) e = refl
-begins_more (suc s) (false ∷ p) (true ∷ a) e = refl
+  nodes_one : (s : ℕ) (f : List Bool → ℕ) (b : Bool) (p : List Bool) → trie_way_nodes (suc s) k d f (b ∷ p) ≡ trie_way_nodes s k d (side b f) p
+  unfolding trie_way_nodes
+  nodes_one s f b p = refl
 
+  leaves_one : (s : ℕ) (f : List Bool → ℕ) (b : Bool) (p : List Bool) → trie_way_leaves (suc s) k d f (b ∷ p) ≡ trie_way_leaves s k d (side b f) p
+  unfolding trie_way_leaves
+  leaves_one s f b p = refl
+
+  slot_nodes_moved : (f g : List Bool → ℕ) (p : List Bool) → AlikeElse p f g → AreMoved (trie_nodes 0 k d f) (trie_nodes 0 k d g) (trie_way_nodes 0 k d f p) (trie_way_nodes 0 k d g p)
+  unfolding trie_nodes trie_way_nodes
+  slot_nodes_moved f g p h = let t = nodes_moved_below k d f g p h in record { few = omega (arith, t.few); same = omega (arith, t.same) }
+
+  slot_leaves_moved : (f g : List Bool → ℕ) (p : List Bool) → AlikeElse p f g → AreMoved (trie_leaves 0 k d f) (trie_leaves 0 k d g) (trie_way_leaves 0 k d f p) (trie_way_leaves 0 k d g p)
+  unfolding trie_leaves trie_way_leaves
+  slot_leaves_moved f g p h = leaves_moved_below k d f g p h
+
+  slot_nodes_whole : (f : List Bool → ℕ) → trie_way_nodes 0 k d f [] ≡ trie_nodes 0 k d f
+  unfolding trie_nodes trie_way_nodes
+  slot_nodes_whole f = ap (λ n. mixed (one_answer d f) + n) (whole_nodes k d f)
+
+  slot_leaves_whole : (f : List Bool → ℕ) → trie_way_leaves 0 k d f [] ≡ trie_leaves 0 k d f
+  unfolding trie_leaves trie_way_leaves
+  slot_leaves_whole f = whole_leaves k d f
+
+  slot_nodes_is : (f : List Bool → ℕ) (p : List Bool) → trie_way_nodes 0 k d f p ≡ mixed (one_answer d f) + way_nodes k d f p
+  unfolding trie_way_nodes
+  slot_nodes_is f p = refl
+
+  slot_leaves_is : (f : List Bool → ℕ) (p : List Bool) → trie_way_leaves 0 k d f p ≡ way_leaves k d f p
+  unfolding trie_way_leaves
+  slot_leaves_is f p = refl
+
+  trie_nodes_moved : (s : ℕ) (f g : List Bool → ℕ) (p : List Bool) → AlikeElse p f g → AreMoved (trie_nodes s k d f) (trie_nodes s k d g) (trie_way_nodes s k d f p) (trie_way_nodes s k d g p)
+  trie_nodes_moved = moved (λ s f. trie_nodes s k d f) (λ s f p. trie_way_nodes s k d f p) nodes_sum nodes_both nodes_one slot_nodes_moved
+
+  trie_leaves_moved : (s : ℕ) (f g : List Bool → ℕ) (p : List Bool) → AlikeElse p f g → AreMoved (trie_leaves s k d f) (trie_leaves s k d g) (trie_way_leaves s k d f p) (trie_way_leaves s k d g p)
+  trie_leaves_moved = moved (λ s f. trie_leaves s k d f) (λ s f p. trie_way_leaves s k d f p) leaves_sum leaves_both leaves_one slot_leaves_moved
+
+  nodes_short : (s j : ℕ) (f : List Bool → ℕ) (p : List Bool) → j + length p ≡ s → trie_way_nodes s k d f p ≡ trie_nodes j k d (part p f)
+  nodes_short = at_short (λ s f. trie_nodes s k d f) (λ s f p. trie_way_nodes s k d f p) nodes_sum nodes_both nodes_one slot_nodes_whole
+
+  leaves_short : (s j : ℕ) (f : List Bool → ℕ) (p : List Bool) → j + length p ≡ s → trie_way_leaves s k d f p ≡ trie_leaves j k d (part p f)
+  leaves_short = at_short (λ s f. trie_leaves s k d f) (λ s f p. trie_way_leaves s k d f p) leaves_sum leaves_both leaves_one slot_leaves_whole
+
+  nodes_long : (s : ℕ) (f : List Bool → ℕ) (p : List Bool) → s ≤ length p → trie_way_nodes s k d f p ≡ mixed (one_answer d (part (take s p) f)) + way_nodes k d (part (take s p) f) (drop s p)
+  nodes_long s f p l = at_long (λ s f. trie_nodes s k d f) (λ s f p. trie_way_nodes s k d f p) nodes_sum nodes_both nodes_one s f p l ∙ slot_nodes_is (part (take s p) f) (drop s p)
+
+  leaves_long : (s : ℕ) (f : List Bool → ℕ) (p : List Bool) → s ≤ length p → trie_way_leaves s k d f p ≡ way_leaves k d (part (take s p) f) (drop s p)
+  leaves_long s f p l = at_long (λ s f. trie_leaves s k d f) (λ s f p. trie_way_leaves s k d f p) leaves_sum leaves_both leaves_one s f p l ∙ slot_leaves_is (part (take s p) f) (drop s p)
+
+-- ---- the need after a change
 same_itself : (f : Family) (b : Bool) → (same_family f f && b) ≡ b
 same_itself V4 b = refl
 same_itself V6 b = refl
 
-alike_else : (s : ℕ) (L M : Entries) (p : Prefix) → AreAlikeOutside p L M → AlikeElse (slot_start s p) (all_answers p.family L) (all_answers p.family M)
-alike_else s L M p h a e = h (record { family = p.family; bits = a }) (same_itself p.family (begins p.bits a) ∙ begins_more s p.bits a e)
-
-start_short : (s : ℕ) (p : Prefix) → length (slot_start s p) ≤ s
-start_short s p = let m = length-take s p.bits in omega (arith, m)
-
--- ---- the need after a change
+alike_else : (L M : Entries) (p : Prefix) → AreAlikeOutside p L M → AlikeElse p.bits (all_answers p.family L) (all_answers p.family M)
+alike_else L M p h a e = h (record { family = p.family; bits = a }) (same_itself p.family (begins p.bits a) ∙ e)
 
 pub moved_number : (whole before after n m pn pm : ℕ) → whole < 18446744073709551616 → whole ≡ n → before ≡ told pn → after ≡ told pm → pn ≤ n → m + pn ≡ n + pm → min ((whole - before) + after) 18446744073709551615 ≡ told m
 moved_number whole before after n m pn pm l w b a few e = omega (arith, w, b, a, few, e, l)
 
 module _ (s : ℕ) (L M : Entries) (p : Prefix) (h : AreAlikeOutside p L M) where
-  pub nodes_moved : AreMoved (node_need p.family s L) (node_need p.family s M) (nodes_under p.family s L (slot_start s p)) (nodes_under p.family s M (slot_start s p))
-  nodes_moved =
-      let k = strides (rest p.family s) in
-      let d = rest p.family s in
-      record {
-        few = part_least (λ j f. trie_nodes j k d f) (nodes_sum k d) (slot_start s p) s (all_answers p.family L) (start_short s p);
-        same = swapped (λ j f. trie_nodes j k d f) (nodes_sum k d) (slot_start s p) s (all_answers p.family L) (all_answers p.family M) (start_short s p) (alike_else s L M p h);
-      }
+  pub nodes_moved : AreMoved (node_need p.family s L) (node_need p.family s M) (nodes_on_way p.family s L p.bits) (nodes_on_way p.family s M p.bits)
+  nodes_moved = trie_nodes_moved (strides (rest p.family s)) (rest p.family s) s (all_answers p.family L) (all_answers p.family M) p.bits (alike_else L M p h)
 
-  pub leaves_moved : AreMoved (leaf_need p.family s L) (leaf_need p.family s M) (leaves_under p.family s L (slot_start s p)) (leaves_under p.family s M (slot_start s p))
-  leaves_moved =
-      let k = strides (rest p.family s) in
-      let d = rest p.family s in
-      record {
-        few = part_least (λ j f. trie_leaves j k d f) (leaves_sum k d) (slot_start s p) s (all_answers p.family L) (start_short s p);
-        same = swapped (λ j f. trie_leaves j k d f) (leaves_sum k d) (slot_start s p) s (all_answers p.family L) (all_answers p.family M) (start_short s p) (alike_else s L M p h);
-      }
+  pub leaves_moved : AreMoved (leaf_need p.family s L) (leaf_need p.family s M) (leaves_on_way p.family s L p.bits) (leaves_on_way p.family s M p.bits)
+  leaves_moved = trie_leaves_moved (strides (rest p.family s)) (rest p.family s) s (all_answers p.family L) (all_answers p.family M) p.bits (alike_else L M p h)
 
 -- ---- what is counted at a prefix
-
--- a prefix's first bits, no more than s and than it has
-pub start_is : (s c n : ℕ) (xs : List Bool) → length xs ≡ n → c ≡ min n s → (take c xs ≡ take s xs) × (length (take s xs) ≡ c)
-start_is s c n xs l e = (ap (λ m. take m xs) (let z : c ≡ min s (length xs) = omega (arith, l, e) in z) ∙ take_min s xs, length-take s xs ∙ omega (arith, l, e))
-
+-- b bits are left behind the first c of the prefix's n, of which the region at hand has the answers g
 module _ (f : Family) (s c n b : ℕ) (R : Entries) (p : Prefix) (g : List Bool → ℕ) (r : Needs) (of : p.family ≡ f) (len : length p.bits ≡ n) (le : n ≤ width f) (least : c ≡ min n s) (few : s ≤ 18) (left : b + c ≡ width f) (is : g ≡ part (take c p.bits) (all_answers f R)) where
-  slots_left : s - c ≡ s - length (slot_start s p)
-  slots_left = ap (λ m. s - m) (sym (start_is s c n p.bits len least).1)
+  both_told : r.nodes ≡ told (nodes_on_way f s R p.bits) → r.leaves ≡ told (leaves_on_way f s R p.bits) → r ≡ told_need (need_at s R p)
+  both_told x y =
+      ap (λ m. let t : Needs = record { nodes = m; leaves = r.leaves } in t) x
+      ∙ (ap (λ m. let t : Needs = record { nodes = told (nodes_on_way f s R p.bits); leaves = m } in t) y
+      ∙ ap (λ (h : Family). let t : Needs = record { nodes = told (nodes_on_way h s R p.bits); leaves = told (leaves_on_way h s R p.bits) } in t) (sym of))
 
   bits_left : b - (s - c) ≡ rest f s
   bits_left = omega (arith, least, left, le, wide_enough f s few)
 
-  start_answers : g ≡ part (slot_start s p) (all_answers f R)
-  start_answers = is ∙ ap (λ (q : List Bool). part q (all_answers f R)) (start_is s c n p.bits len least).0
-
   enough : b - (s - c) ≤ 6 * strides (rest f s)
   enough = omega (arith, bits_left, strides_do (rest f s))
 
-  nodes_at : r.nodes ≡ told (trie_nodes (s - c) (strides (rest f s)) (b - (s - c)) g) → r.nodes ≡ told (nodes_under f s R (slot_start s p))
-  nodes_at e =
-      e
-      ∙ (ap (λ m. told (trie_nodes m (strides (rest f s)) (b - (s - c)) g)) slots_left
-      ∙ (ap (λ d. told (trie_nodes (s - length (slot_start s p)) (strides (rest f s)) d g)) bits_left ∙ ap (λ (h : List Bool → ℕ). told (trie_nodes (s - length (slot_start s p)) (strides (rest f s)) (rest f s) h)) start_answers))
-
-  leaves_at : r.leaves ≡ told (trie_leaves (s - c) (strides (rest f s)) (b - (s - c)) g) → r.leaves ≡ told (leaves_under f s R (slot_start s p))
-  leaves_at e =
-      e
-      ∙ (ap (λ m. told (trie_leaves m (strides (rest f s)) (b - (s - c)) g)) slots_left
-      ∙ (ap (λ d. told (trie_leaves (s - length (slot_start s p)) (strides (rest f s)) d g)) bits_left ∙ ap (λ (h : List Bool → ℕ). told (trie_leaves (s - length (slot_start s p)) (strides (rest f s)) (rest f s) h)) start_answers))
-
-  pub counted_at : ((k : ℕ) → b - (s - c) ≤ 6 * k → r.nodes ≡ told (trie_nodes (s - c) k (b - (s - c)) g)) → ((k : ℕ) → b - (s - c) ≤ 6 * k → r.leaves ≡ told (trie_leaves (s - c) k (b - (s - c)) g)) → r ≡ told_need (need_at s R p)
-  counted_at x y =
+  -- a prefix of no more than the direct bits
+  pub counted_slots : n ≤ s → ((k : ℕ) → b - (s - c) ≤ 6 * k → r.nodes ≡ told (trie_nodes (s - c) k (b - (s - c)) g)) → ((k : ℕ) → b - (s - c) ≤ 6 * k → r.leaves ≡ told (trie_leaves (s - c) k (b - (s - c)) g)) → r ≡ told_need (need_at s R p)
+  counted_slots l x y =
       let k = strides (rest f s) in
-      ap (λ m. let t : Needs = record { nodes = m; leaves = r.leaves } in t) (nodes_at (x k enough))
-      ∙ (ap (λ m. let t : Needs = record { nodes = told (nodes_under f s R (slot_start s p)); leaves = m } in t) (leaves_at (y k enough))
-      ∙ ap (λ (h : Family). let t : Needs = record { nodes = told (nodes_under h s R (slot_start s p)); leaves = told (leaves_under h s R (slot_start s p)) } in t) (sym of))
+      let all : take c p.bits ≡ p.bits = ap (λ m. take m p.bits) (let z : c ≡ length p.bits = omega (arith, least, len) in z) ∙ take-length p.bits in
+      let here : g ≡ part p.bits (all_answers f R) = is ∙ ap (λ (q : List Bool). part q (all_answers f R)) all in
+      let bits : (s - c) + length p.bits ≡ s = omega (arith, least, len) in
+      both_told
+      (x k enough ∙ (ap (λ d. told (trie_nodes (s - c) k d g)) bits_left ∙ (ap (λ (h : List Bool → ℕ). told (trie_nodes (s - c) k (rest f s) h)) here ∙ ap told (sym (nodes_short k (rest f s) s (s - c) (all_answers f R) p.bits bits)))))
+      (y k enough ∙ (ap (λ d. told (trie_leaves (s - c) k d g)) bits_left ∙ (ap (λ (h : List Bool → ℕ). told (trie_leaves (s - c) k (rest f s) h)) here ∙ ap told (sym (leaves_short k (rest f s) s (s - c) (all_answers f R) p.bits bits)))))
+
+  -- a longer one, of which j bits are left
+  pub counted_way : (q j : ℕ) → bits_of n q ≡ p.bits → s < n → j ≡ n - s → ((k : ℕ) → b ≤ 6 * k → r.nodes ≡ told (mixed (one_answer b g) + way_nodes k b g (bits_of j q))) → ((k : ℕ) → b ≤ 6 * k → r.leaves ≡ told (way_leaves k b g (bits_of j q))) → r ≡ told_need (need_at s R p)
+  counted_way q j path l e x y =
+      let k = strides (rest f s) in
+      let first : c ≡ s = omega (arith, least) in
+      let here : g ≡ part (take s p.bits) (all_answers f R) = is ∙ ap (λ m. part (take m p.bits) (all_answers f R)) first in
+      let bits : b ≡ rest f s = omega (arith, bits_left, first) in
+      let behind : bits_of j q ≡ drop s p.bits = ap (λ m. bits_of m q) e ∙ (sym (bits_drop s n q) ∙ ap (drop s) path) in
+      let long : s ≤ length p.bits = omega (arith, len) in
+      both_told
+      (x k (omega (arith, bits, strides_do (rest f s))) ∙ (ap (λ d. told (mixed (one_answer d g) + way_nodes k d g (bits_of j q))) bits ∙ (ap (λ (h : List Bool → ℕ). told (mixed (one_answer (rest f s) h) + way_nodes k (rest f s) h (bits_of j q))) here ∙ (ap (λ (t : List Bool). told (mixed (one_answer (rest f s) (part (take s p.bits) (all_answers f R))) + way_nodes k (rest f s) (part (take s p.bits) (all_answers f R)) t)) behind ∙ ap told (sym (nodes_long k (rest f s) s (all_answers f R) p.bits long))))))
+      (y k (omega (arith, bits, strides_do (rest f s))) ∙ (ap (λ d. told (way_leaves k d g (bits_of j q))) bits ∙ (ap (λ (h : List Bool → ℕ). told (way_leaves k (rest f s) h (bits_of j q))) here ∙ (ap (λ (t : List Bool). told (way_leaves k (rest f s) (part (take s p.bits) (all_answers f R)) t)) behind ∙ ap told (sym (leaves_long k (rest f s) s (all_answers f R) p.bits long))))))

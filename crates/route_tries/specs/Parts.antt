@@ -1,30 +1,53 @@
--- What the direct slots at a prefix need.
-use Rattle.std.specs.Prelude.{◌≡◌, ◌≤◌, ℕ, ◌+◌, ◌-◌, List, Bool, false, length, take}
+-- What a trie needs at a prefix.
+use Rattle.std.specs.Prelude.{◌≡◌, ◌≤◌, ℕ, zero, suc, ◌+◌, ◌-◌, List, [], ◌∷◌, Bool, true, false, ◌||◌, if◌then◌else◌, drop}
+use Rattle.address_model.specs.Bits.{bits_of, begins}
 use Rattle.address_model.specs.Address.{Address, Prefix, contains}
 use Rattle.address_model.specs.declared.family.Family.{Family}
 use Rattle.table_model.specs.Entries.{Entries, match_in}
-use Rattle.fib_regions.specs.Answers.{all_answers, part}
-use Rattle.poptrie_build.specs.Strides.{strides}
-use Rattle.poptrie_build.specs.Need.{told, trie_nodes, trie_leaves}
+use Rattle.block_pool.specs.Powers.{up}
+use Rattle.fib_regions.specs.Answers.{all_answers, side, one_answer}
+use Rattle.poptrie_build.specs.Strides.{strides, slots, slot, mixed, total}
+use Rattle.poptrie_build.specs.Need.{children, runs, if_mixed}
 use Rattle.poptrie_build.specs.Tries.{rest}
 use Rattle.poptrie_build.specs.declared.counts.Needs.{Needs}
 use Rattle.route_tries.specs.Sizes.{need_of, told_need}
 
--- the bits that the direct slots at a prefix have in common: its own, of which no more than s are looked at
-abbrev pub slot_start : ℕ → Prefix → List Bool
-slot_start s p = take s p.bits
+-- paths meet where one begins with the other: only then do some addresses begin with both
+abbrev pub meet : List Bool → List Bool → Bool
+meet p q = begins p q || begins q p
 
--- The need of the direct slots whose bits begin with q. There is one such slot where q has s bits, and there are two for each
--- bit less.
-abbrev pub nodes_under : Family → ℕ → Entries → List Bool → ℕ
-nodes_under f s L q = trie_nodes (s - length q) (strides (rest f s)) (rest f s) (part q (all_answers f L))
+-- Below a chunk region, over k strides, what is needed on the way to a path and within it: each node's own places, and what the slots
+-- that meet the path need in turn. With nothing left of the path it is the whole need.
+unfoldable pub way_nodes : ℕ → ℕ → (List Bool → ℕ) → List Bool → ℕ
+way_nodes zero d f p = 0
+way_nodes (suc k) d f p = if_mixed (one_answer d f) (up (children (slots d f)) + total (λ v. if meet (bits_of 6 v) p then way_nodes k (d - 6) (slot d f v) (drop 6 p) else 0) 64)
 
-abbrev pub leaves_under : Family → ℕ → Entries → List Bool → ℕ
-leaves_under f s L q = trie_leaves (s - length q) (strides (rest f s)) (rest f s) (part q (all_answers f L))
+unfoldable pub way_leaves : ℕ → ℕ → (List Bool → ℕ) → List Bool → ℕ
+way_leaves zero d f p = 0
+way_leaves (suc k) d f p = if_mixed (one_answer d f) (up (runs (slots d f)) + total (λ v. if meet (bits_of 6 v) p then way_leaves k (d - 6) (slot d f v) (drop 6 p) else 0) 64)
 
--- the need of the direct slots at a prefix, those under it or the one that it lies in
+-- Of a whole trie of s direct bits, over k strides of the d bits behind them: by halves down to the direct slots that meet the path,
+-- each of which that has a node has that node's place too.
+unfoldable pub trie_way_nodes : ℕ → ℕ → ℕ → (List Bool → ℕ) → List Bool → ℕ
+trie_way_nodes zero k d f p = mixed (one_answer d f) + way_nodes k d f p
+trie_way_nodes (suc s) k d f [] = trie_way_nodes s k d (side false f) [] + trie_way_nodes s k d (side true f) []
+trie_way_nodes (suc s) k d f (b ∷ p) = trie_way_nodes s k d (side b f) p
+
+unfoldable pub trie_way_leaves : ℕ → ℕ → ℕ → (List Bool → ℕ) → List Bool → ℕ
+trie_way_leaves zero k d f p = way_leaves k d f p
+trie_way_leaves (suc s) k d f [] = trie_way_leaves s k d (side false f) [] + trie_way_leaves s k d (side true f) []
+trie_way_leaves (suc s) k d f (b ∷ p) = trie_way_leaves s k d (side b f) p
+
+-- the need of a family's trie on the way to the bits p and within them
+abbrev pub nodes_on_way : Family → ℕ → Entries → List Bool → ℕ
+nodes_on_way f s L p = trie_way_nodes s (strides (rest f s)) (rest f s) (all_answers f L) p
+
+abbrev pub leaves_on_way : Family → ℕ → Entries → List Bool → ℕ
+leaves_on_way f s L p = trie_way_leaves s (strides (rest f s)) (rest f s) (all_answers f L) p
+
+-- the need at a prefix: the own places of the nodes on the way to it, and the whole need of what is at and within it
 abbrev pub need_at : ℕ → Entries → Prefix → Needs
-need_at s L p = record { nodes = nodes_under p.family s L (slot_start s p); leaves = leaves_under p.family s L (slot_start s p) }
+need_at s L p = record { nodes = nodes_on_way p.family s L p.bits; leaves = leaves_on_way p.family s L p.bits }
 
 -- both tables answer alike at every address that isn't in the prefix
 abbrev pub AreAlikeOutside : Prefix → Entries → Entries → Type 0
@@ -35,8 +58,8 @@ pub record AreMoved (n m part_n part_m : ℕ) : Type 0 where
   pub few : part_n ≤ n
   pub same : m + part_n ≡ n + part_m
 
--- The needs before, those of the slots at a prefix before, and those of them after: where the table changed within the prefix
--- alone, the last of them is the need after, as a u64 tells it.
+-- The needs before, those at a prefix before, and those at it after: where the table changed within the prefix alone, the last of
+-- them is the need after, as a u64 tells it.
 abbrev pub IsNeedAfter : (whole before after moved : Needs) → Type 0
 IsNeedAfter whole before after moved =
     (s : ℕ) (L M : Entries) (p : Prefix) → AreAlikeOutside p L M → whole ≡ need_of p.family s L → before ≡ told_need (need_at s L p) → after ≡ told_need (need_at s M p) → moved ≡ told_need (need_of p.family s M)

@@ -5,12 +5,13 @@ ghost use Rattle.address_model.specs.declared.family.Family.TheVariants.{V4, V6}
 ghost use Rattle.fib_addr.specs.Views.{prefix_as};
 ghost use Rattle.poptrie_build.specs.Need.{told};
 ghost use Rattle.route_tries.specs.Sizes.{need_of as need_in, told_need, told_needs, needs_of_both, first_short, short_or as short_in, sizes_as, shortage_as};
-ghost use Rattle.route_tries.specs.Parts.{AreMoved, IsNeedAfter, need_at as need_in_slots};
+ghost use Rattle.route_tries.specs.Parts.{AreMoved, IsNeedAfter, need_at as need_at_prefix};
 
 use crate::region::RouteRegion;
 use crate::sizes::{Sizes, TrieFull};
+use crate::way::count_slot;
 use fib_addr::Prefix;
-use orig_tree::Tree;
+use orig_tree::{Tree, path_bits};
 use poptrie_build::{Needs, count_words};
 
 /// What the trie of each family needs.
@@ -30,18 +31,19 @@ pub fn need_of(tree: &Tree, direct: u8) -> Needs
     count_words(&RouteRegion::whole(tree), direct)
 }
 
-/// What the direct slots at a prefix need for a tree's routes: the slots under it, or the one that it lies in. It costs what the
-/// tree has there.
+/// What a trie of a tree's routes needs at a prefix: each node on the way to it needs its own places, and what is within the
+/// prefix needs all of its own. It costs 64 slots for each node on the way, and what the tree has within the prefix.
 pub fn need_at(tree: &Tree, direct: u8, prefix: &Prefix) -> Needs
     requires family { prefix.now.family ≡ tree.now.family }
     requires few { direct ≤ 18 }
-    ensures { result ≡ told_need (need_in_slots direct tree.now.routes (prefix_as prefix.now)) }
+    ensures { result ≡ told_need (need_at_prefix direct tree.now.routes (prefix_as prefix.now)) }
 {
     let common = prefix.len.min(direct);
-    count_words(
-        &RouteRegion::of_first(tree, prefix, common),
-        direct - common,
-    )
+    let region = RouteRegion::of_first(tree, prefix, common);
+    if prefix.len > direct {
+        return count_slot(&region, path_bits(prefix), prefix.len - direct);
+    }
+    count_words(&region, direct - common)
 }
 
 /// A need as a whole, without what a part needed, and with what the part needs now.
@@ -52,8 +54,8 @@ fn moved(whole: u64, before: u64, after: u64) -> u64
     whole.saturating_sub(before).saturating_add(after)
 }
 
-/// What a trie needs once the routes changed within a prefix: what it needed as a whole, without what the direct slots at the prefix
-/// needed, and with what they need now.
+/// What a trie needs once the routes changed within a prefix: what it needed as a whole, without what was needed at the prefix,
+/// and with what is needed there now.
 pub fn need_after(whole: Needs, before: Needs, after: Needs) -> Needs
     ensures { IsNeedAfter whole before after result }
 {

@@ -13,6 +13,8 @@ use step_count::Steps;
 
 const TEN: u32 = 0x0a00_0000;
 
+const OTHER: u32 = 0xc000_0000;
+
 /// An IPv4 tree of one route.
 fn tree_of(alloc: Global, bits: u32, len: u8) -> Result<Tree, AllocError>
     requires { len ≤ 32 }
@@ -34,11 +36,53 @@ fn needs_are_counted(rt: HostRuntime) -> Result<(), AllocError> {
     assert_eq!(rt; need_of(&net, 0), needs(2, 5));
     assert_eq!(rt; need_of(&net, 16), needs(0, 0));
     assert_eq!(rt; need_of(&host, 16), needs(3, 6));
-    let whole = Prefix::whole(Family::V4);
-    assert_eq!(rt; need_at(&host, 16, &whole), needs(3, 6));
-    let slot = need_at(&host, 16, &Prefix::new(&Addr::v4(TEN + 7), 30));
-    assert_eq!(rt; slot, needs(3, 6));
-    assert_eq!(rt; need_after(needs(5, 9), slot, needs(1, 2)), needs(3, 5));
+    assert_eq!(rt;
+        need_after(needs(5, 9), needs(3, 6), needs(1, 2)),
+        needs(3, 5)
+    );
+    Ok(())
+}
+
+/// What is needed at a prefix of an IPv4 address.
+fn at(tree: &Tree, direct: u8, bits: u32, len: u8) -> Needs
+    requires family { tree.now.family ≡ V4 }
+    requires few { (direct ≤ 18) × (len ≤ 32) }
+{
+    need_at(tree, direct, &Prefix::new(&Addr::v4(bits), len))
+}
+
+#[test]
+fn needs_on_the_way_are_counted(rt: HostRuntime) -> Result<(), AllocError> {
+    let host = tree_of(rt.alloc(), TEN + 1, 32)?;
+    assert_eq!(rt; at(&host, 16, TEN, 0), needs(3, 6));
+    assert_eq!(rt; at(&host, 16, TEN + 7, 30), needs(3, 6));
+    assert_eq!(rt; at(&host, 16, TEN + 64, 26), needs(3, 2));
+    assert_eq!(rt; at(&host, 16, TEN + 32768, 17), needs(2, 1));
+    assert_eq!(rt; at(&host, 16, OTHER, 20), needs(0, 0));
+    Ok(())
+}
+
+/// A tree of one route, and one with the other beside it.
+fn one_and_both(alloc: Global) -> Result<(Tree, Tree), AllocError>
+    ensures { IfOk result (λ t. (t.0.family ≡ V4) × (t.1.family ≡ V4)) }
+{
+    let one = tree_of(alloc, TEN, 8)?;
+    let mut both = tree_of(alloc, TEN, 8)?;
+    both.set_route(&Prefix::new(&Addr::v4(OTHER), 8), Hop(1))?;
+    Ok((one, both))
+}
+
+#[test]
+fn a_change_moves_the_need(rt: HostRuntime) -> Result<(), AllocError> {
+    let (one, both) = one_and_both(rt.alloc())?;
+    assert_eq!(rt; at(&one, 0, 0, 5), needs(2, 1));
+    assert_eq!(rt; at(&one, 0, TEN, 5), needs(2, 5));
+    let before = at(&one, 0, OTHER, 8);
+    let after = at(&both, 0, OTHER, 8);
+    assert_eq!(rt; before, needs(2, 1));
+    assert_eq!(rt; after, needs(3, 3));
+    assert_eq!(rt; need_after(needs(2, 5), before, after), needs(3, 7));
+    assert_eq!(rt; need_of(&both, 0), needs(3, 7));
     Ok(())
 }
 

@@ -1,4 +1,4 @@
-use Rattle.std.proofs.Common.{◌≡◌, sym, ap, ◌∙◌}
+use Rattle.std.proofs.Common.{sym, ap, ◌∙◌}
 use Rattle.std.specs.Prelude.{option_map}
 use Rattle.route_tries.specs.Sizes.{sizes_as, shortage_as}
 use Rattle.route_tries.proofs.Short.{first_is}

@@ -1,8 +1,7 @@
-use Rattle.std.proofs.Common.{◌≡◌, Some, None, Result, Err, ap, sym, ◌∙◌}
+use Rattle.std.proofs.Common.{◌≡◌, Result, Err, ap, sym, ◌∙◌}
 use Rattle.std.proofs.lemmas.Result.{err_from_is_err_and}
 use Rattle.route_tries.specs.Sizes.{sizes_as, shortage_as}
 use Rattle.route_tries.specs.declared.tries.TriesError.{TriesError}
-use Rattle.route_tries.specs.declared.tries.TriesError.TheVariants.{Full}
 use Rattle.route_tries.proofs.Short.{both_fit, first_full, second_full}
 use Rattle.route_tries.proofs.tries.Tries.build.Goals as goal
 
