@@ -1,6 +1,6 @@
 -- The numbers of hops while an elementary event is planned.
-use Rattle.std.proofs.Common.{◌≡◌, ℕ, ◌<◌, ◌≤◌, List, [], ◌∷◌, ◌++◌, Bool, true, false, cond, Option, Some, None, length, refl, sym, ap, ◌∙◌, arith, length-append}
-use Rattle.std.specs.Prelude.{option_map, unwrap_or, ◌||◌, not}
+use Rattle.std.proofs.Common.{◌≡◌, ℕ, ◌+◌, ◌<◌, ◌≤◌, List, [], ◌∷◌, ◌++◌, Bool, true, false, cond, Option, Some, None, length, refl, sym, ap, ◌∙◌, arith, length-append}
+use Rattle.std.specs.Prelude.{option_map, unwrap_or, ◌||◌, not, IfSome, IsSome}
 use Rattle.std.specs.List.{list_any, AllByRecursion}
 use Rattle.address_model.specs.Address.{Address, Prefix, same_address}
 use Rattle.address_model.proofs.Same.{same_address_is}
@@ -10,13 +10,14 @@ use Rattle.fib_addr.specs.Views.{addr_as}
 use Rattle.fib_addr.specs.declared.addr.Addr.{Addr}
 use Rattle.fib_addr.specs.declared.entry.Hop.{Hop}
 use Rattle.fib_addr.specs.declared.prefix.Prefix as code_prefix
-use Rattle.fib_addr.proofs.HopLemmas.{new_is_not, held_is_there, held_stays}
+use Rattle.std.proofs.lemmas.Option.{same_Some}
+use Rattle.fib_addr.proofs.HopLemmas.{new_is_not, new_number, held_is_there, held_stays}
 use Rattle.fib_prefix.specs.Views.{elem_as}
 use Rattle.fib_prefix.specs.declared.event.Via as code_via
 use Rattle.fib_prefix.specs.declared.event.Elem as code_elem
 use Rattle.fib_prefix.specs.declared.event.Elem.TheVariants as code_variant
 use Rattle.kept_feed.specs.Kept.{is_other}
-use Rattle.fib_engine.specs.Numbers.{IsNewNumber, numbered}
+use Rattle.fib_engine.specs.Numbers.{IsNewNumber, IsOwnNumber, numbered}
 
 -- ---- one hop too many
 
@@ -68,6 +69,18 @@ new_one hops h a n e (m, has, l, k) none = by_hop (number_of hops h) refl
 pub new_put : (hops : List Address) (elem : code_elem.Elem) (v : code_via.Via) (p : code_prefix.Prefix) (path : ℕ) (hop : Addr) (n : Hop) → elem ≡ code_variant.Put v p path hop → number_of (with_hop hops (addr_as hop)) (addr_as hop) ≡ Some n.0
     → IsNewNumber hops (hops_after hops (elem_as elem ∷ [])) (Some n)
 new_put hops elem v p path hop n is e = rw is (λ a i none. new_one hops (addr_as hop) a n.0 e i none)
+
+-- a hop that has a number already changes nothing
+pub held_already : (hops : List Address) (a : Address) (own : Option Hop) → option_map (λ h. h.0) own ≡ number_of (with_hop hops a) a → IfSome own (λ n. n.0 ≤ length hops) × IsSome own → hops ≡ with_hop hops a
+held_already hops a None e held = let none : false ≡ true = held.1 in absurd cc
+held_already hops a (Some n) e held = by_number (number_of hops a) refl
+  where
+    by_number : (o : Option ℕ) → number_of hops a ≡ o → hops ≡ with_hop hops a
+    by_number (Some j) w = held_stays hops a j (sym w)
+    by_number None w = let same : n.0 ≡ length hops + 1 = same_Some _ _ (e ∙ new_number hops a (sym w)) in absurd (omega (arith, same, held.0))
+
+pub held_put : (hops : List Address) (elem : code_elem.Elem) (v : code_via.Via) (p : code_prefix.Prefix) (path : ℕ) (hop : Addr) (own : Option Hop) → elem ≡ code_variant.Put v p path hop → IsOwnNumber hops elem own → IfSome own (λ n. n.0 ≤ length hops) × IsSome own → hops ≡ hops_after hops (elem_as elem ∷ [])
+held_put hops elem v p path hop own is owns held = rw is (held_already hops (addr_as hop) own (rw is at owns) held)
 
 -- ---- whether hops are one
 

@@ -2,10 +2,12 @@
 use Rattle.std.specs.Prelude.{◌≡◌, ℕ, List, Option, Some, None, option_map, map, true, false}
 use Rattle.address_model.specs.Address.{Address, Prefix}
 use Rattle.table_model.specs.Entries.{Entries}
-use Rattle.fib_addr.specs.Hops.{number_of}
+use Rattle.fib_addr.specs.Hops.{number_of, with_hop}
 use Rattle.fib_addr.specs.Views.{addr_as}
 use Rattle.fib_addr.specs.declared.prefix.Prefix as code_prefix
 use Rattle.fib_addr.specs.declared.entry.Hop as code_hop
+use Rattle.fib_prefix.specs.declared.event.Elem as code_elem
+use Rattle.fib_prefix.specs.declared.event.Elem.TheVariants as code_variant
 use Rattle.feed_model.specs.Feed.{IsNumbered, number_in}
 use Rattle.kept_feed.specs.Kept.{is_other}
 use Rattle.route_choice.specs.declared.choice.Choice.{Choice}
@@ -13,6 +15,11 @@ use Rattle.route_choice.specs.declared.choice.Choice.{Choice}
 -- the number that a hop gets which had none of the first numbers and has one of the second
 abbrev pub IsNewNumber : List Address → List Address → Option code_hop.Hop → Type 0
 IsNewNumber before after own = (a : Address) → IsNumbered after a → number_of before a ≡ None → option_map (λ h. h.0) own ≡ number_of after a
+
+-- the number that an elementary event's hop has or gets, if it puts a route
+abbrev pub IsOwnNumber : List Address → code_elem.Elem → Option code_hop.Hop → Type 0
+IsOwnNumber hops (code_variant.Put via prefix path hop) own = option_map (λ h. h.0) own ≡ number_of (with_hop hops (addr_as hop)) (addr_as hop)
+IsOwnNumber hops (code_variant.Cut via prefix) own = Unit {0}
 
 -- the number of a hop, if there is one; none's is 0
 abbrev pub number_or_none : List Address → Option Address → ℕ

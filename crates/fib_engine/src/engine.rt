@@ -1,6 +1,6 @@
 //! The engine.
 
-ghost use Rattle.std.specs.Prelude.{◌≡◌, ◌≤◌, ◌<◌, ◌+◌, ◌^◌, ◌↔◌, [], ◌∷◌, ◌++◌, ℕ, List, length, map, not, option_map, true, false, None, IfOk, OnOk, OnErr, IsErr, IsErrOf};
+ghost use Rattle.std.specs.Prelude.{◌≡◌, ◌≤◌, ◌<◌, ◌+◌, ◌^◌, ◌↔◌, [], ◌∷◌, ◌++◌, ℕ, List, length, map, not, option_map, true, false, None, IfOk, IfSome, IsSome, OnOk, OnErr, IsErr, IsErrOf};
 ghost use Rattle.address_model.specs.Address.{Address};
 ghost use Rattle.least_model.specs.Both.{aggregate_in_both};
 ghost use Rattle.cert_model.specs.Rows.{certificate_of};
@@ -18,7 +18,7 @@ ghost use Rattle.route_tries.specs.Sizes.{AreFew, needs_of, shortage, sizes_as};
 ghost use Rattle.route_tries.specs.Tries.{AreTriesOf};
 ghost use Rattle.route_tries.specs.declared.sizes.TrieFull.{TrieFull};
 ghost use Rattle.fib_engine.specs.Held.{routes_in, routes_told};
-ghost use Rattle.fib_engine.specs.Numbers.{HasNumber, IsNewNumber, IsRouteOf, numbered};
+ghost use Rattle.fib_engine.specs.Numbers.{HasNumber, IsNewNumber, IsOwnNumber, IsRouteOf, numbered};
 ghost use Rattle.fib_engine.specs.Tables.{AreOfRoutes};
 ghost use Rattle.fib_engine.specs.Turns.{AreTurnsOf};
 ghost use Rattle.fib_engine.specs.Stands.{EndsLoad, IsLoading, IsShortFor, IsTooMany, Loads, Stands, Takes, changes_of, routes_after};
@@ -89,6 +89,7 @@ pub(crate) fn number_put(hops: &HopTable, elem: &Elem) -> Result<Option<Hop>, Ho
         < length (hops_after hops.now.list (elem_as elem.now ∷ []))) }
     ensures number { IfOk result (IsNewNumber hops.now.list
         (hops_after hops.now.list (elem_as elem.now ∷ []))) }
+    ensures own { IfOk result (IsOwnNumber hops.now.list elem.now) }
 {
     match elem {
         Elem::Put(_, _, _, hop) => Ok(Some(hops.next(hop)?)),
@@ -96,14 +97,28 @@ pub(crate) fn number_put(hops: &HopTable, elem: &Elem) -> Result<Option<Hop>, Ho
     }
 }
 
-/// Numbers the hop of an elementary event, if it puts a route. There is room for it, so it takes no memory.
-pub(crate) fn number_hop(hops: &mut HopTable, elem: &Elem)
+/// Whether this is the number of none of the hops.
+fn is_new(hops: &HopTable, own: Option<Hop>) -> bool
+    ensures { result ≡ false → IfSome own (λ n. n.0 ≤ length hops.now.list) × IsSome own }
+{
+    match own {
+        Some(number) => hops.addr(number).is_none(),
+        None => true,
+    }
+}
+
+/// Numbers the hop of an elementary event, if it puts a route and the hop has no number yet; `own` is the number that it has or
+/// gets. There is room for it, so it takes no memory.
+pub(crate) fn number_hop(hops: &mut HopTable, own: Option<Hop>, elem: &Elem)
     requires room { 1 ≤ hops.old.spare }
     requires few { length (hops_after hops.old.list (elem_as elem.now ∷ [])) ≤ most_hops }
+    requires own { IsOwnNumber hops.old.list elem.now own }
     ensures { hops.new.list ≡ hops_after hops.old.list (elem_as elem.now ∷ []) }
 {
     if let Elem::Put(_, _, _, hop) = elem {
-        let _number = hops.number(hop);
+        if is_new(hops, own) {
+            let _number = hops.number(hop);
+        }
     }
 }
 
@@ -241,10 +256,10 @@ impl Engine {
         ensures fits { (t : TrieFull) → ¬ (IsErrOf result (EngineError.TrieFull t)) }
         ensures err { OnErr result (self.new ≡ self.old) }
     {
-        number_put(&self.hops, elem)?;
+        let own = number_put(&self.hops, elem)?;
         self.hops.room()?;
         self.candidates.load(elem)?;
-        number_hop(&mut self.hops, elem);
+        number_hop(&mut self.hops, own, elem);
         Ok(())
     }
 
@@ -280,7 +295,7 @@ impl Engine {
         let fitting = plan_fitting(&mut self.tables, self.alloc, route, due, self.needs, sizes)?;
         // from here on nothing takes memory
         self.candidates.commit(pick);
-        number_hop(&mut self.hops, elem);
+        number_hop(&mut self.hops, own, elem);
         self.events = event;
         self.needs = fitting.needs;
         Ok(self.tables.commit(fitting.plan))

@@ -6,7 +6,7 @@ ghost use Rattle.route_model.specs.Choice.{after_elems, elems_of};
 ghost use Rattle.feed_model.specs.Feed.{hops_after};
 ghost use Rattle.fib_addr.specs.Hops.{most_hops};
 ghost use Rattle.fib_prefix.specs.Views.{elem_as, event_as};
-ghost use Rattle.fib_engine.specs.Numbers.{IsNewNumber};
+ghost use Rattle.fib_engine.specs.Numbers.{IsNewNumber, IsOwnNumber};
 ghost use Rattle.fib_engine.specs.Turns.{AreTurnsOf, TakesTurn, turn_as};
 
 use crate::engine::{changed_route, number_hop, number_put};
@@ -98,6 +98,7 @@ impl Turns {
         requires few { length (hops_after self.old.hops (elem_as elem.now ∷ [])) ≤ most_hops }
         requires number { IsNewNumber self.old.hops
             (hops_after self.old.hops (elem_as elem.now ∷ [])) own }
+        requires own { IsOwnNumber self.old.hops elem.now own }
         ensures { OnOk result (TakesTurn (elem_as elem.now) self.old self.new) }
     {
         self.hops.room()?;
@@ -105,7 +106,7 @@ impl Turns {
         let turn = changed_route(&self.hops, own, pick.choice());
         self.turns.push(turn)?;
         self.candidates.commit(pick);
-        number_hop(&mut self.hops, elem);
+        number_hop(&mut self.hops, own, elem);
         Ok(())
     }
 

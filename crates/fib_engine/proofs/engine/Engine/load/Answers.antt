@@ -18,7 +18,7 @@ invariant_of-self-2 c =
     let elem = elem_as c.args.elem.now in
     let hops : c.number_hop.new.hops.list ≡ hops_after t.hops.list (elem ∷ []) = c.number_hop.ensures ∙ ap (λ (hs : List Address). hops_after hs (elem ∷ [])) c.room.ensures.list in (
       sound_load t.candidates.candidates c.load.new.self.candidates t.hops.list c.number_hop.new.hops.list elem t.is_loaded t.tables unloaded c.self.invariant.0 (is_elem c.args.elem.now) c.in_ok-load.ensures.candidates hops
-          (subst (λ (hs : List Address). length hs ≤ most_hops) (sym hops) (not_over (length (hops_after t.hops.list (elem ∷ []))) c.in_ok-number_put.ensures.full.1)),
+          (subst (λ (hs : List Address). length hs ≤ most_hops) (sym hops) (not_over (length (hops_after t.hops.list (elem ∷ []))) c.in_ok-own.ensures.full.1)),
       subst (λ (E : Entries). AreKeptNeeds (sizes_as t.limits.sizes) E t.needs) (ap (λ l. if_loaded l (entries_of t.hops.list t.candidates.candidates)) unloaded ∙ sym (ap (λ l. if_loaded l (entries_of c.number_hop.new.hops.list c.load.new.self.candidates)) unloaded)) c.self.invariant.1,
     )
 
