@@ -6,7 +6,8 @@ Usage:  measure.py PROGRAM [--table]
 Runs `PROGRAM run DUMP --updates UPDATES --ask ASKS` with its output to a file on inputs of
 make_inputs.py, and prints the best time of three; then once more for its peak of memory. The
 first line of each size is the dump alone. With --table it runs `PROGRAM run DUMP` on whole
-tables of make_table.py, and `PROGRAM check` on what that printed. A run that doesn't end with 0
+tables of make_table.py, and `PROGRAM check` on what that printed. All runs have Poptries with
+room for whole tables (--nodes 22 --leaves 24). A run that doesn't end with 0
 or hasn't the routes that are due, or a check that doesn't say yes, ends it with status 1. No
 time and no memory is judged.
 """
@@ -26,6 +27,7 @@ TABLES = ((250_000, 50_000), (500_000, 100_000), (1_000_000, 200_000))
 ASKS = 1000
 SEED = 1
 RUNS = 3
+ROOM = ["--nodes", "22", "--leaves", "24"]      # for the Poptries of a whole table
 MIB = 1024                          # KiB
 
 
@@ -107,14 +109,15 @@ def peers(program, folder, out):
     print("%8s %8s %11s %9s %9s %9s %9s" % ("prefixes", "updates", "octets", "seconds", "MB/s", "peak MiB", "rows"))
 
     def row(updates, words, octets):
-        columns, rows = measured(words, out, octets, {"route": n, "table": n})
+        columns, rows = measured(words, out, octets, {"route": n})
         print("%8d %8d %11d %9.2f %9.1f %9.0f %9d" % (n, updates, *columns, sum(rows.values())), flush=True)
 
     for n in SIZES:
         dump, updates, asks = make_inputs(n, folder)
         octets = os.path.getsize(dump)
-        row(0, [program, "run", dump, "--ask", asks], octets)
-        row(n, [program, "run", dump, "--updates", updates, "--ask", asks], octets + os.path.getsize(updates))
+        row(0, [program, "run", dump, "--ask", asks, *ROOM], octets)
+        words = [program, "run", dump, "--updates", updates, "--ask", asks, *ROOM]
+        row(n, words, octets + os.path.getsize(updates))
 
 
 def tables(program, folder, out):
@@ -122,7 +125,7 @@ def tables(program, folder, out):
     print("%8s %8s %11s %9s %9s %9s %9s %9s" % ("IPv4", "IPv6", "octets", "seconds", "MB/s", "peak MiB", "least", "cert"))
     for counts in TABLES:
         dump, n = make_table(counts, folder), sum(counts)
-        columns, rows = measured([program, "run", dump], out, os.path.getsize(dump), {"route": n, "table": n})
+        columns, rows = measured([program, "run", dump, *ROOM], out, os.path.getsize(dump), {"route": n})
         print("%8d %8d %11d %9.2f %9.1f %9.0f %9d %9d" % (*counts, *columns, rows["least"], rows["cert"]), flush=True)
         columns, _ = measured([program, "check", out], out + ".check", os.path.getsize(out), {"yes": 1})
         print("%17s %11d %9.2f %9.1f %9.0f" % ("check", *columns), flush=True)
