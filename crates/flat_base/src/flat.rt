@@ -579,7 +579,9 @@ impl Flat {
     pub fn best_beside(&self, at: usize, seat: &Seat, other: Option<Candidate>) -> Option<Candidate>
         requires flat { IsFlat self.now }
         requires slot { IsSlotOf self.now seat.now at }
-        ensures { (over : Seats) → AreApart (flat_seats self.now) over → IsBest over (Some seat.now.via) seat.now.prefix other → IsBest (both self.now over) (Some seat.now.via) seat.now.prefix result }
+        ensures { (over : Seats) → AreApart (flat_seats self.now) over
+            → IsBest over (Some seat.now.via) seat.now.prefix other
+            → IsBest (both self.now over) (Some seat.now.via) seat.now.prefix result }
     {
         match self.slots.get(at) {
             Some(slot) => {

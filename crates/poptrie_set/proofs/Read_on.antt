@@ -49,7 +49,7 @@ unfolding ReadsOn
 last nodes N leaves L i key h n l b s o t =
     (n, l, subst (λ (x : ℕ). ByBit x ((0 < rank_of (node_at nodes i).vector (key / 2 ^ 122 + 1)) × ReadsOn 0 nodes N leaves L ((node_at nodes i).base1 + rank_of (node_at nodes i).vector (key / 2 ^ 122 + 1) - 1) (key * 64 % 2 ^ 128) h) ((let z : ℕ = 0 in z ≡ 0) × (0 < rank_of (node_at nodes i).leafvec (key / 2 ^ 122 + 1)) × (L ((node_at nodes i).base0 + rank_of (node_at nodes i).leafvec (key / 2 ^ 122 + 1) - 1) ≡ true) × IsLeaf leaves ((node_at nodes i).base0 + rank_of (node_at nodes i).leafvec (key / 2 ^ 122 + 1) - 1) h)) (sym b) (refl, s, o, t))
 
--- a node that stands by these places is read on from, to its region's answer after D15's visits
+-- a node that stands by these places is read on from, to the answer of its region, after the visits that are due there
 pub reads_on : (k : ℕ) (nodes : List Node) (N : ℕ → Bool) (leaves : List ℕ) (L : ℕ → Bool) (i d : ℕ) (f : List Bool → ℕ) (key : ℕ) → d ≤ 128 → key < 2 ^ 128 → N i ≡ true → i < length nodes → StandsIn k nodes N leaves L (node_at nodes i) d f → ReadsOn (visits k d f (address d key)) nodes N leaves L i key (f (address d key))
 unfolding StandsIn ReadsOn
 reads_on zero nodes N leaves L i d f key hd hk n l s = absurd s
