@@ -6,4 +6,4 @@
 
 mod sink;
 
-pub use sink::EntrySink;
+pub use sink::{EntrySink, hand_entry};

@@ -1,11 +1,12 @@
 //! Who takes entries.
 
 ghost use Rattle.std.specs.Prelude.{◌≡◌, ◌++◌, List, [], ◌∷◌, map, OnOk};
+ghost use Rattle.std.specs.Option.{option_to_list};
 ghost use Rattle.table_model.specs.Entries.{Entries};
-ghost use Rattle.fib_addr.specs.Views.{entry_as};
+ghost use Rattle.fib_addr.specs.Views.{entry_as, prefix_as};
 ghost use Rattle.entry_rows.specs.Taken.{taken_more, taken_none};
 
-use fib_addr::Entry;
+use fib_addr::{Entry, Hop, Prefix};
 use std::alloc::AllocError;
 
 /// Takes the entries of a table one by one, as a list or a text does.
@@ -46,4 +47,28 @@ impl EntrySink for Vec<Entry> {
         self.push(entry)?;
         Ok(())
     }
+}
+
+/// Hands on the entry of a prefix with this hop, if it has one.
+///
+/// # Errors
+///
+/// No memory.
+pub fn hand_entry<S: EntrySink>(
+    prefix: Prefix,
+    hop: Option<u16>,
+    out: &mut S,
+) -> Result<(), AllocError>
+    requires { S.ready out.old }
+    ensures ready { OnOk result (S.ready out.new) }
+    ensures takes { OnOk result (S.takes out.old (map (λ h. (prefix_as prefix, h))
+        (option_to_list hop)) out.new) }
+{
+    if let Some(hop) = hop {
+        out.put(Entry {
+            prefix,
+            hop: Hop(hop),
+        })?;
+    }
+    Ok(())
 }

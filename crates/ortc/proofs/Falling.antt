@@ -1,5 +1,5 @@
 -- The downward pass.
-use Rattle.std.proofs.Common.{◌≡◌, ◌≢◌, ◌+◌, ℕ, zero, suc, ◌-◌, List, [], ◌∷◌, ◌++◌, Bool, true, false, cond, Option, Some, None, length, nat_eq, refl, sym, ap, ◌∙◌, arith, subst, append_assoc, inl, inr, ◌||◌, map}
+use Rattle.std.proofs.Common.{◌≡◌, ◌≢◌, ◌+◌, ℕ, zero, suc, ◌-◌, List, [], ◌∷◌, ◌++◌, Bool, true, false, cond, Option, Some, None, length, nat_eq, refl, sym, ap, ◌∙◌, arith, subst, inl, inr, ◌||◌, map}
 use Rattle.std.proofs.lemmas.Bool.{ne_eqb, eqb-true, eq-eqb, cases_Bool}
 use Rattle.std.specs.List.Sorted.{IsStrictlySortedBy}
 use Rattle.std.specs.Map.{keys_of}
@@ -74,9 +74,10 @@ leaf_agg d f L x h u =
       | inr e ↦ ap (λ (b : Bool). here (cond b None (Some x))) e ∙ sym (agg_other d f L x h u (λ q. let z : nat_eq x h ≡ true = eq-eqb x h q in cc))
     ]
 
-pub told_leaf : (p : code.Prefix) (d : ℕ) (f : List Bool → ℕ) (L : Table) (x h : ℕ) (o : Option ℕ) (X Y : Entries) → ((a : List Bool) → length a ≡ d → f a ≡ x) → o ≡ cond (nat_eq x h) None (Some x)
-    → Y ≡ X ++ map (λ k. (prefix_as p, k)) (option_to_list o) → Y ≡ X ++ of_table p.family (lift (prefix_as p).bits (agg d f L h))
-told_leaf p d f L x h o X Y u e y = y ∙ ap (λ z. X ++ z) (telling.told_own (prefix_as p) o) ∙ ap (λ z. X ++ of_table p.family (lift (prefix_as p).bits z)) (ap here e ∙ leaf_agg d f L x h u)
+-- the entries of a region with one answer
+leaf_told : (p : code.Prefix) (d : ℕ) (f : List Bool → ℕ) (L : Table) (x h : ℕ) (o : Option ℕ) → ((a : List Bool) → length a ≡ d → f a ≡ x) → o ≡ cond (nat_eq x h) None (Some x)
+    → map (λ k. (prefix_as p, k)) (option_to_list o) ≡ of_table p.family (lift (prefix_as p).bits (agg d f L h))
+leaf_told p d f L x h o u e = telling.told_own (prefix_as p) o ∙ ap (λ z. of_table p.family (lift (prefix_as p).bits z)) (ap here e ∙ leaf_agg d f L x h u)
 
 -- ---- a region of two halves
 
@@ -93,55 +94,71 @@ agg_suc d e f L h hop o n k i =
     one_level e f L h hop o k i = agg_level e f L h ∙ sym (ap (λ x. join o (agg e (side false f) (half false L) x) (agg e (side true f) (half true L) x)) i ∙ ap (λ y. join y (agg e (side false f) (half false L) (inherit y h)) (agg e (side true f) (half true L) (inherit y h))) k)
 
 -- what a half's entries are told as
-told_half : (p q : code.Prefix) (s t : Spot) (b : Bool) (e hop : ℕ) (Y Z : Entries) → suc t.bits ≡ s.bits → suc e ≡ s.bits → t.routes ≡ half b s.routes → t.entries ≡ half b s.entries → t.hop ≡ inherit (root s.routes) s.hop → prefix_as q ≡ half_at b (prefix_as p)
-    → Z ≡ Y ++ of_table q.family (lift (prefix_as q).bits (agg t.bits (answers_in t) t.entries hop))
-    → Z ≡ Y ++ of_table p.family (lift ((prefix_as p).bits ++ (b ∷ [])) (agg e (side b (answers_in s)) (half b s.entries) hop))
-told_half p q s t b e hop Y Z n m r l h k z =
+half_told : (p q : code.Prefix) (s t : Spot) (b : Bool) (e hop : ℕ) → suc t.bits ≡ s.bits → suc e ≡ s.bits → t.routes ≡ half b s.routes → t.entries ≡ half b s.entries → t.hop ≡ inherit (root s.routes) s.hop → prefix_as q ≡ half_at b (prefix_as p)
+    → of_table q.family (lift (prefix_as q).bits (agg t.bits (answers_in t) t.entries hop)) ≡ of_table p.family (lift ((prefix_as p).bits ++ (b ∷ [])) (agg e (side b (answers_in s)) (half b s.entries) hop))
+half_told p q s t b e hop n m r l h k =
     let is : t.bits ≡ e = omega (arith, n, m) in
-    z ∙ (ap (λ (x : Prefix). Y ++ of_table x.family (lift x.bits (agg t.bits (answers_in t) t.entries hop))) k
-    ∙ ap (λ T. Y ++ of_table p.family (lift ((prefix_as p).bits ++ (b ∷ [])) T))
-    (agg_alike t.bits (answers_in t) (side b (answers_in s)) t.entries hop (λ a u. half_answers s t b r h a) ∙ (ap (λ d. agg d (side b (answers_in s)) t.entries hop) is ∙ ap (λ E. agg e (side b (answers_in s)) E hop) l)))
+    ap (λ (x : Prefix). of_table x.family (lift x.bits (agg t.bits (answers_in t) t.entries hop))) k
+    ∙ ap (λ T. of_table p.family (lift ((prefix_as p).bits ++ (b ∷ [])) T))
+    (agg_alike t.bits (answers_in t) (side b (answers_in s)) t.entries hop (λ a u. half_answers s t b r h a) ∙ (ap (λ d. agg d (side b (answers_in s)) t.entries hop) is ∙ ap (λ E. agg e (side b (answers_in s)) E hop) l))
 
-pub told_join : (p q r : code.Prefix) (s low high : Spot) (h hop : ℕ) (o : Option ℕ) (X Y Z W : Entries) → s.bits ≢ 0
-    → o ≡ own (set_of s.bits (answers_in s)) (root s.entries) h → hop ≡ inherit o h
-    → suc low.bits ≡ s.bits → low.routes ≡ half false s.routes → low.entries ≡ half false s.entries → low.hop ≡ inherit (root s.routes) s.hop
-    → suc high.bits ≡ s.bits → high.routes ≡ half true s.routes → high.entries ≡ half true s.entries → high.hop ≡ inherit (root s.routes) s.hop
-    → prefix_as q ≡ half_at false (prefix_as p) → prefix_as r ≡ half_at true (prefix_as p)
-    → Y ≡ X ++ map (λ k. (prefix_as p, k)) (option_to_list o)
-    → Z ≡ Y ++ of_table q.family (lift (prefix_as q).bits (agg low.bits (answers_in low) low.entries hop))
-    → W ≡ Z ++ of_table r.family (lift (prefix_as r).bits (agg high.bits (answers_in high) high.entries hop))
-    → W ≡ X ++ of_table p.family (lift (prefix_as p).bits (agg s.bits (answers_in s) s.entries h))
-told_join p q r s low high h hop o X Y Z W some ow i ln lr le lh hn hr he hh eq er y z w =
-    let e = s.bits - 1 in
-    let n : suc e ≡ s.bits = omega (arith, some) in
-    let P = (prefix_as p).bits in
-    let m = p.family in
-    let A = agg e (side false (answers_in s)) (half false s.entries) hop in
-    let B = agg e (side true (answers_in s)) (half true s.entries) hop in
-    let O = of_table m (lift P (here o)) in
-    let C = of_table m (lift (P ++ (false ∷ [])) A) in
-    let D = of_table m (lift (P ++ (true ∷ [])) B) in
-    let z' : Z ≡ Y ++ C = told_half p q s low false e hop Y Z ln n lr le lh eq z in
-    let w' : W ≡ Z ++ D = told_half p r s high true e hop Z W hn n hr he hh er w in
-    let whole : of_table m (lift P (agg s.bits (answers_in s) s.entries h)) ≡ O ++ (C ++ D) =
-    ap (λ x. of_table m (lift P x)) (agg_suc s.bits e (answers_in s) s.entries h hop o n ow i)
-    ∙ (ap (of_table m) (telling.lift_join P o A B) ∙ (telling.seen_append m (lift P (here o)) (lift (P ++ (false ∷ [])) A ++ lift (P ++ (true ∷ [])) B)
-    ∙ ap (λ x. O ++ x) (telling.seen_append m (lift (P ++ (false ∷ [])) A) (lift (P ++ (true ∷ [])) B))))
-    in
-    w' ∙ (ap (λ x. x ++ D) (z' ∙ ap (λ x. x ++ C) (y ∙ ap (λ x. X ++ x) (telling.told_own (prefix_as p) o))) ∙ (append_assoc (X ++ O) C D ∙ (append_assoc X O (C ++ D) ∙ ap (λ x. X ++ x) (sym whole))))
+-- ---- who takes the entries
+
+module _ {S : Type 0} (Takes : S → Entries → S → Type 0) where
+  -- of a region with one answer
+  pub handed_leaf : (p : code.Prefix) (d : ℕ) (f : List Bool → ℕ) (L : Table) (x h : ℕ) (o : Option ℕ) (X Y : S) → ((a : List Bool) → length a ≡ d → f a ≡ x) → o ≡ cond (nat_eq x h) None (Some x)
+      → Takes X (map (λ k. (prefix_as p, k)) (option_to_list o)) Y → Takes X (of_table p.family (lift (prefix_as p).bits (agg d f L h))) Y
+  handed_leaf p d f L x h o X Y u e y = subst (λ entries. Takes X entries Y) (leaf_told p d f L x h o u e) y
+
+  module _ (joins : (a b c : S) (entries more : Entries) → Takes a entries b → Takes b more c → Takes a (entries ++ more) c) where
+    -- of any other region: its own, and those of its halves
+    pub handed_join : (p q r : code.Prefix) (s low high : Spot) (h hop : ℕ) (o : Option ℕ) (X Y Z W : S) → s.bits ≢ 0
+        → o ≡ own (set_of s.bits (answers_in s)) (root s.entries) h → hop ≡ inherit o h
+        → suc low.bits ≡ s.bits → low.routes ≡ half false s.routes → low.entries ≡ half false s.entries → low.hop ≡ inherit (root s.routes) s.hop
+        → suc high.bits ≡ s.bits → high.routes ≡ half true s.routes → high.entries ≡ half true s.entries → high.hop ≡ inherit (root s.routes) s.hop
+        → prefix_as q ≡ half_at false (prefix_as p) → prefix_as r ≡ half_at true (prefix_as p)
+        → Takes X (map (λ k. (prefix_as p, k)) (option_to_list o)) Y
+        → Takes Y (of_table q.family (lift (prefix_as q).bits (agg low.bits (answers_in low) low.entries hop))) Z
+        → Takes Z (of_table r.family (lift (prefix_as r).bits (agg high.bits (answers_in high) high.entries hop))) W
+        → Takes X (of_table p.family (lift (prefix_as p).bits (agg s.bits (answers_in s) s.entries h))) W
+    handed_join p q r s low high h hop o X Y Z W some ow i ln lr le lh hn hr he hh eq er y z w =
+        let e = s.bits - 1 in
+        let n : suc e ≡ s.bits = omega (arith, some) in
+        let P = (prefix_as p).bits in
+        let m = p.family in
+        let A = agg e (side false (answers_in s)) (half false s.entries) hop in
+        let B = agg e (side true (answers_in s)) (half true s.entries) hop in
+        let O = of_table m (lift P (here o)) in
+        let C = of_table m (lift (P ++ (false ∷ [])) A) in
+        let D = of_table m (lift (P ++ (true ∷ [])) B) in
+        let whole : of_table m (lift P (agg s.bits (answers_in s) s.entries h)) ≡ O ++ (C ++ D) =
+        ap (λ x. of_table m (lift P x)) (agg_suc s.bits e (answers_in s) s.entries h hop o n ow i)
+        ∙ (ap (of_table m) (telling.lift_join P o A B) ∙ (telling.seen_append m (lift P (here o)) (lift (P ++ (false ∷ [])) A ++ lift (P ++ (true ∷ [])) B)
+        ∙ ap (λ x. O ++ x) (telling.seen_append m (lift (P ++ (false ∷ [])) A) (lift (P ++ (true ∷ [])) B))))
+        in
+        let first = subst (λ entries. Takes X entries Y) (telling.told_own (prefix_as p) o) y in
+        let second = subst (λ entries. Takes Y entries Z) (half_told p q s low false e hop ln n lr le lh eq) z in
+        let last = subst (λ entries. Takes Z entries W) (half_told p r s high true e hop hn n hr he hh er) w in
+        subst (λ entries. Takes X entries W) (sym whole) (joins X Y W O (C ++ D) first (joins Y Z W C D second last))
 
 -- ---- the region of a prefix
 
+within_is : (p : code.Prefix) (f : Family) (h : ℕ) (R E : Table) (s : Spot) → p.family ≡ f → s.bits + p.len ≡ width f
+    → ((a : List Bool) → answers_in s a ≡ answers R (prefix_as p).bits a) → s.entries ≡ cut (prefix_as p).bits E
+    → of_table p.family (lift (prefix_as p).bits (agg s.bits (answers_in s) s.entries h)) ≡ of_table f (aggregate (width f) R (prefix_as p).bits h E)
+within_is p f h R E s m n g k =
+    let P = (prefix_as p).bits in
+    let l : s.bits ≡ width f - length P = omega (arith, n, ap width m, length_prefix (width p.family) p.len p.bits p.fits) in
+    ap (λ z. of_table z (lift P (agg s.bits (answers_in s) s.entries h))) m
+    ∙ ap (λ T. of_table f (lift P T)) (agg_alike s.bits (answers_in s) (answers R P) s.entries h (λ a u. g a) ∙ (ap (λ T. agg s.bits (answers R P) T h) k ∙ ap (λ z. agg z (answers R P) (cut P E) h) l))
+
+-- behind no entries
 pub within_told : (p : code.Prefix) (f : Family) (h : ℕ) (R E : Table) (X W : Entries) (s : Spot) → p.family ≡ f → X ≡ [] → s.bits + p.len ≡ width f
     → ((a : List Bool) → answers_in s a ≡ answers R (prefix_as p).bits a) → s.entries ≡ cut (prefix_as p).bits E
     → W ≡ X ++ of_table p.family (lift (prefix_as p).bits (agg s.bits (answers_in s) s.entries h))
     → W ≡ of_table f (aggregate (width f) R (prefix_as p).bits h E)
 within_told p f h R E X W s m x n g k t =
-    let P = (prefix_as p).bits in
-    let l : s.bits ≡ width f - length P = omega (arith, n, ap width m, length_prefix (width p.family) p.len p.bits p.fits) in
-    t ∙ (ap (λ z. z ++ of_table p.family (lift P (agg s.bits (answers_in s) s.entries h))) x
-    ∙ (ap (λ z. of_table z (lift P (agg s.bits (answers_in s) s.entries h))) m
-    ∙ ap (λ T. of_table f (lift P T)) (agg_alike s.bits (answers_in s) (answers R P) s.entries h (λ a u. g a) ∙ (ap (λ T. agg s.bits (answers R P) T h) k ∙ ap (λ z. agg z (answers R P) (cut P E) h) l))))
+    t ∙ (ap (λ z. z ++ of_table p.family (lift (prefix_as p).bits (agg s.bits (answers_in s) s.entries h))) x ∙ within_is p f h R E s m n g k)
 
 -- and a least table of the region
 pub within_least : (p : code.Prefix) (f : Family) (h : ℕ) (R E : Table) (W : Entries) → p.family ≡ f
@@ -168,8 +185,15 @@ within_sorted p f h R E W m e =
 
 -- ---- the whole space
 
-pub fresh_told : (f : Family) (p : code.Prefix) (h : ℕ) (R E : Table) (W : Entries) → prefix_as p ≡ record { family = f; bits = [] } → h ≡ 0 → W ≡ of_table f (aggregate (width f) R (prefix_as p).bits h E) → W ≡ of_table f (aggregate (width f) R [] 0 E)
-fresh_told f p h R E W e n w = w ∙ (ap (λ (x : Prefix). of_table f (aggregate (width f) R x.bits h E)) e ∙ ap (λ z. of_table f (aggregate (width f) R [] z E)) n)
+-- who takes the entries of its region takes the least table
+pub handed_all : {S : Type 0} (Takes : S → Entries → S → Type 0) (f : Family) (p : code.Prefix) (h : ℕ) (R E : Table) (s : Spot) (X Y : S) → prefix_as p ≡ record { family = f; bits = [] } → h ≡ 0 → s.bits + p.len ≡ width f
+    → ((a : List Bool) → answers_in s a ≡ answers R (prefix_as p).bits a) → s.entries ≡ cut (prefix_as p).bits E
+    → Takes X (of_table p.family (lift (prefix_as p).bits (agg s.bits (answers_in s) s.entries h))) Y
+    → Takes X (of_table f (aggregate (width f) R [] 0 E)) Y
+handed_all Takes f p h R E s X Y e z n g k t =
+    let m : p.family ≡ f = ap (λ (x : Prefix). x.family) e in
+    subst (λ entries. Takes X entries Y)
+    (within_is p f h R E s m n g k ∙ (ap (λ (x : Prefix). of_table f (aggregate (width f) R x.bits h E)) e ∙ ap (λ z. of_table f (aggregate (width f) R [] z E)) z)) t
 
 pub fresh_least : (f : Family) (R old : Table) (W : Entries) → W ≡ of_table f (aggregate (width f) R [] 0 old) → Least (width f) R (of_family f W)
 fresh_least f R old W e =

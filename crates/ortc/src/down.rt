@@ -3,7 +3,7 @@
 //! A region gets an entry where what it inherits isn't in its set: of the old entry's hop where the set has it, else of the
 //! least hop. Entries are met in the order of prefixes.
 
-ghost use Rattle.std.specs.Prelude.{◌≡◌, ◌≤◌, ◌+◌, ◌*◌, ℕ, ◌++◌, List, length, [], Bool, map, cond, nat_eq, Some, None, IfOk, OnOk};
+ghost use Rattle.std.specs.Prelude.{◌≡◌, ◌≤◌, ◌+◌, ◌*◌, length, [], map, cond, nat_eq, Some, None, IfOk, OnOk};
 ghost use Rattle.std.specs.List.Sorted.{IsStrictlySortedBy};
 ghost use Rattle.std.specs.Map.{keys_of};
 ghost use Rattle.address_model.specs.Order.{prefix_cmp};
@@ -24,7 +24,8 @@ ghost use Rattle.ortc.specs.Tables.{IsAggregateOf};
 
 use crate::rows::certify;
 use crate::table::Fresh;
-use fib_addr::{Entry, Hop, Prefix, push_entry};
+use entry_rows::{EntrySink, hand_entry};
+use fib_addr::{Entry, Hop, Prefix};
 use orig_tree::{Counter, Region, Tree, Uncounted};
 use std::alloc::{AllocError, Global};
 
@@ -57,23 +58,25 @@ fn below(label: Option<u16>, inherited: u16) -> u16
     label.unwrap_or(inherited)
 }
 
-/// The entries of the region of a prefix that inherits a hop, behind those that there are.
-fn descend<C: Counter>(
+/// Hands on the entries of the region of a prefix that inherits a hop.
+fn descend<S: EntrySink, C: Counter>(
     region: &Region<'_>,
     inherited: u16,
     prefix: Prefix,
-    out: &mut Vec<Entry>,
+    out: &mut S,
     steps: &mut C,
 ) -> Result<(), AllocError>
-    requires { region.now.bits + prefix.len ≡ width prefix.family }
-    ensures entries { OnOk result (map entry_as out.new.items ≡ map entry_as out.old.items ++ of_table
-        prefix.family (lift (prefix_as prefix).bits (agg region.now.bits (answers_in region.now)
-        region.now.entries inherited))) }
+    requires bits { region.now.bits + prefix.len ≡ width prefix.family }
+    requires ready { S.ready out.old }
+    ensures ready { OnOk result (S.ready out.new) }
+    ensures takes { OnOk result (S.takes out.old (of_table prefix.family
+        (lift (prefix_as prefix).bits (agg region.now.bits (answers_in region.now)
+        region.now.entries inherited))) out.new) }
     ensures steps { C.count steps.new ≤ C.count steps.old + 1 + 2 * length region.now.nodes }
 {
     steps.tick();
     if let Some(hop) = region.leaf() {
-        push_entry(prefix, leaf_hop(hop, inherited), out)?;
+        hand_entry(prefix, leaf_hop(hop, inherited), out)?;
         return Ok(());
     }
     if prefix.len == prefix.family.width() {
@@ -81,7 +84,7 @@ fn descend<C: Counter>(
     }
     let own = own_hop(region, inherited);
     let hop = below(own, inherited);
-    push_entry(prefix, own, out)?;
+    hand_entry(prefix, own, out)?;
     descend(&region.half(false), hop, prefix.half(false), out, steps)?;
     descend(&region.half(true), hop, prefix.half(true), out, steps)?;
     Ok(())
@@ -151,8 +154,27 @@ pub fn within_counted<C: Counter>(
     Ok(table)
 }
 
-/// The least table with the answers of the tree's routes: of all such tables the one that the best hops fix, with the
-/// tree's entries as the old table, in the order of prefixes. It costs the tree's nodes: what is best for them they keep.
+/// Hands on the entries of the least table with the answers of the tree's routes: of all such tables the one that the best hops
+/// fix, with the tree's entries as the old table, in the order of prefixes. It costs the tree's nodes, and takes no memory of its
+/// own: what is best for the nodes they keep.
+///
+/// # Errors
+///
+/// No memory; then a front of the entries was taken.
+pub fn hand_least<S: EntrySink>(tree: &Tree, out: &mut S) -> Result<(), AllocError>
+    requires { S.ready out.old }
+    ensures ready { OnOk result (S.ready out.new) }
+    ensures takes { OnOk result (S.takes out.old (aggregate_in tree.now.family tree.now.routes
+        tree.now.entries) out.new) }
+{
+    let whole = Prefix::whole(tree.family());
+    let region = tree.region(&whole);
+    descend(&region, Hop::NONE.0, whole, out, &mut Uncounted)?;
+    Ok(())
+}
+
+/// The least table with the answers of the tree's routes, as a list: of all such tables the one that the best hops fix, with
+/// the tree's entries as the old table, in the order of prefixes. It costs the tree's nodes: what is best for them they keep.
 ///
 /// # Errors
 ///
@@ -167,10 +189,8 @@ pub fn least_table(alloc: Global, tree: &Tree) -> Result<Vec<Entry>, AllocError>
         (of_family tree.now.family tree.now.routes) (of_family tree.now.family
         (map entry_as v.items))) }
 {
-    let whole = Prefix::whole(tree.family());
     let mut table = Vec::new(alloc);
-    let region = tree.region(&whole);
-    descend(&region, Hop::NONE.0, whole, &mut table, &mut Uncounted)?;
+    hand_least(tree, &mut table)?;
     Ok(table)
 }
 

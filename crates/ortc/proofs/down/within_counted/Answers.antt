@@ -8,7 +8,7 @@ pub returns-clause-aggregate : goal.returns-clause-aggregate
 returns-clause-aggregate g c =
     let tree = c.args.tree.now in
     within_told c.args.prefix.now tree.family c.args.inherited.0 (of_family tree.family tree.routes) (of_family tree.family tree.entries) (map entry_as c.new-table.result.items) (map entry_as c.descend.new.out.items) c.region_counted-region.result
-    c.requires (ap (map entry_as) c.new-table.ensures.items) c.region_counted-region.ensures.bits c.region_counted-region.ensures.answers c.region_counted-region.ensures.entries c.in_ok-descend.ensures.entries
+    c.requires (ap (map entry_as) c.new-table.ensures.items) c.region_counted-region.ensures.bits c.region_counted-region.ensures.answers c.region_counted-region.ensures.entries c.in_ok-descend.ensures.takes
 
 pub returns-clause-least : goal.returns-clause-least
 returns-clause-least g c =
