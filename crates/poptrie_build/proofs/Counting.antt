@@ -1,12 +1,12 @@
 -- The places that are left while the slots of a node are gone through.
-use Rattle.std.proofs.Common.{◌≡◌, ℕ, zero, suc, ◌+◌, ◌-◌, ◌*◌, ◌^◌, ◌<◌, ◌≤◌, List, [], ◌∷◌, Bool, take, length, min, Option, Some, None, refl, sym, ap, ◌∙◌, arith, subst, inl, inr}
+use Rattle.std.proofs.Common.{◌≡◌, ℕ, zero, suc, ◌+◌, ◌-◌, ◌*◌, ◌^◌, ◌<◌, ◌≤◌, List, [], ◌∷◌, Bool, take, length, Option, Some, None, refl, sym, ap, ◌∙◌, arith, subst, inl, inr}
 use Rattle.std.proofs.lemmas.Bool.{cases_lt}
 use Rattle.buddy_arena.specs.Space.{Space, IsSized, OneEach, blocks}
 use Rattle.buddy_arena.specs.Space as arena
 use Rattle.fib_regions.specs.Answers.{one_answer, part}
 use Rattle.poptrie_build.specs.Strides.{slots, slot, mixed, starts, or_earlier, leaf_before, run_start, total}
 use Rattle.block_pool.specs.Powers.{up}
-use Rattle.poptrie_build.specs.Need.{told, children, runs, if_mixed, need_nodes, need_leaves}
+use Rattle.poptrie_build.specs.Need.{children, runs, if_mixed, need_nodes, need_leaves}
 use Rattle.poptrie_build.specs.Stands.{IsCanonical}
 use Rattle.poptrie_build.specs.Slots.{AreSlots}
 use Rattle.poptrie_build.specs.Making.{kind_in}
@@ -195,29 +195,3 @@ descended_slot d v b f g e h = (omega arith, h ∙ ap (λ p. part p f) (sym (tak
 
 pub six_bits : (d v : ℕ) (f : List Bool → ℕ) → None ≡ slots d f v → 6 ≤ d
 six_bits d v f e = let m = mixed_bits (d - 6) (slot d f v) (sym e) in omega arith
-
--- ---- needs as they are told
-pub told_start : (c x : ℕ) (g : ℕ → ℕ) → x ≡ up c → x < 18446744073709551616 → x ≡ told (up c + total g 0)
-unfolding total
-told_start c x g e l = omega (arith, e, l)
-
-module _ (d : ℕ) (f : List Bool → ℕ) (c k v : ℕ) where
-  pub told_leaf : (h x : ℕ) → slots d f v ≡ Some h → x ≡ told (c + total (nodes_at k d f) v) → x ≡ told (c + total (nodes_at k d f) (v + 1))
-  told_leaf h x e i = i ∙ ap (λ n. told (c + n)) (let m = total_more (nodes_at k d f) v in let z = no_nodes k (d - 6) h (slot d f v) e in omega arith)
-
-  pub told_leaf_leaves : (h x : ℕ) → slots d f v ≡ Some h → x ≡ told (c + total (leaves_at k d f) v) → x ≡ told (c + total (leaves_at k d f) (v + 1))
-  told_leaf_leaves h x e i = i ∙ ap (λ n. told (c + n)) (let m = total_more (leaves_at k d f) v in let z = no_leaves k (d - 6) h (slot d f v) e in omega arith)
-
-  pub told_child : (b : ℕ) (g : List Bool → ℕ) (x y : ℕ) → b ≡ d - 6 → g ≡ slot d f v → x ≡ told (c + total (nodes_at k d f) v) → y ≡ told (need_nodes k b g) → min (x + y) 18446744073709551615 ≡ told (c + total (nodes_at k d f) (v + 1))
-  told_child b g x y eb eg i j = omega (arith, i, j, total_more (nodes_at k d f) v, ap (λ n. need_nodes k n g) eb, ap (need_nodes k (d - 6)) eg)
-
-  pub told_child_leaves : (b : ℕ) (g : List Bool → ℕ) (x y : ℕ) → b ≡ d - 6 → g ≡ slot d f v → x ≡ told (c + total (leaves_at k d f) v) → y ≡ told (need_leaves k b g) → min (x + y) 18446744073709551615 ≡ told (c + total (leaves_at k d f) (v + 1))
-  told_child_leaves b g x y eb eg i j = omega (arith, i, j, total_more (leaves_at k d f) v, ap (λ n. need_leaves k n g) eb, ap (need_leaves k (d - 6)) eg)
-
-pub told_end : (d : ℕ) (f : List Bool → ℕ) (k v x : ℕ) → v ≤ 64 → 64 ≤ v → one_answer d f ≡ None → d ≤ 6 * k → ((j : ℕ) → d - 6 ≤ 6 * j → x ≡ told (up (children (slots d f)) + total (nodes_at j d f) v)) → x ≡ told (need_nodes k d f)
-told_end d f zero v x a b none h i = absurd (let m = mixed_bits d f none in omega arith)
-told_end d f (suc k) v x a b none h i = let e : v ≡ 64 = omega arith in i k (omega arith) ∙ (ap (λ n. told (up (children (slots d f)) + total (nodes_at k d f) n)) e ∙ ap told (sym (need_nodes_is k d f none)))
-
-pub told_end_leaves : (d : ℕ) (f : List Bool → ℕ) (k v x : ℕ) → v ≤ 64 → 64 ≤ v → one_answer d f ≡ None → d ≤ 6 * k → ((j : ℕ) → d - 6 ≤ 6 * j → x ≡ told (up (runs (slots d f)) + total (leaves_at j d f) v)) → x ≡ told (need_leaves k d f)
-told_end_leaves d f zero v x a b none h i = absurd (let m = mixed_bits d f none in omega arith)
-told_end_leaves d f (suc k) v x a b none h i = let e : v ≡ 64 = omega arith in i k (omega arith) ∙ (ap (λ n. told (up (runs (slots d f)) + total (leaves_at k d f) n)) e ∙ ap told (sym (need_leaves_is k d f none)))

@@ -11,6 +11,7 @@ pub mod Parted
 pub mod Parting
 pub mod Slotting
 pub mod So_far
+pub mod Tallying
 pub mod Visits
 pub mod Walk
 pub mod OneRoute

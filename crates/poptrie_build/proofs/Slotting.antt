@@ -14,7 +14,11 @@ use Rattle.fib_regions.proofs.OneAnswer.{one_answer_part}
 pub double : (j : ℕ) → 2 ^ suc j ≡ 2 ^ j + 2 ^ j
 double j = let e : suc j ≡ 1 + j = omega arith in ap (λ k. 2 ^ k) e ∙ pow-add 2 1 j ∙ omega arith
 
-take_nil : {A : Type 0} (a : ℕ) → take {A = A} a [] ≡ []
+-- the places of a half, by what the code has
+pub halved : (j : ℕ) → j ≢ 0 → 2 ^ j ≡ 2 ^ (j - 1) + 2 ^ (j - 1)
+halved j z = let e : j ≡ suc (j - 1) = omega arith in ap (λ k. 2 ^ k) e ∙ double (j - 1)
+
+pub take_nil : {A : Type 0} (a : ℕ) → take {A = A} a [] ≡ []
 take_nil zero = refl
 take_nil (suc a) = refl
 

@@ -31,7 +31,7 @@ bits_kept n v h z e b u m =
 none_set : (n v : ℕ) → v < 64 → ((u : ℕ) → v ≤ u → bit_at n u ≡ 0) → (u : ℕ) → v + 1 ≤ u → bit_at (bit_or n (1 * 2 ^ v % 2 ^ 64)) u ≡ 0
 none_set n v l b u m = let ne : u ≢ v = omega arith in bit_at_set_other w64 n v l u ne ∙ b u (omega arith)
 
-last_more : (g : ℕ → Option ℕ) (v : ℕ) → leaf_before g (v + 1) ≡ or_earlier (g v) (leaf_before g v)
+pub last_more : (g : ℕ → Option ℕ) (v : ℕ) → leaf_before g (v + 1) ≡ or_earlier (g v) (leaf_before g v)
 unfolding leaf_before
 last_more g v = let e : v + 1 ≡ suc v = omega arith in ap (leaf_before g) e
 

@@ -4,6 +4,7 @@ pub mod Slots
 pub mod Need
 pub mod Stands
 pub mod Making
+pub mod Tally
 pub mod Build
 pub mod Tries
 pub mod Arrays

@@ -1,13 +1,11 @@
 //! How many places a trie's nodes and leaves need, counted without building it.
 
-ghost use Rattle.std.specs.Prelude.{◌≡◌, ℕ, ◌-◌, ◌*◌, ◌≤◌, None};
+ghost use Rattle.std.specs.Prelude.{◌≡◌, ℕ, ◌+◌, ◌-◌, ◌*◌, ◌^◌, ◌≤◌, List, Bool, None};
 ghost use Rattle.fib_regions.specs.Answers.{one_answer};
-ghost use Rattle.block_pool.specs.Powers.{up};
 ghost use Rattle.poptrie_build.specs.Need.{told, need_nodes, need_leaves, trie_nodes, trie_leaves};
+ghost use Rattle.poptrie_build.specs.Tally.{AreParts, IsTally};
 
-use crate::making::make_vectors;
-use crate::slots::{ask, descend};
-use block_pool::block_size;
+use crate::tally::{Tally, needs_of, no_slots, with_leaves, with_node};
 use fib_regions::Region;
 
 /// Places of nodes and of leaves; more than a u64 holds is its greatest number.
@@ -20,6 +18,7 @@ pub struct Needs {
 }
 
 /// What the arrays below a node need that stands for the region.
+#[cycle(count_node)]
 pub(crate) fn count_node<R: Region>(region: &R) -> Needs
     requires { one_answer (R.bits region.now) (R.answers region.now) ≡ None }
     ensures nodes { (k : ℕ) → R.bits region.now ≤ 6 * k
@@ -27,23 +26,33 @@ pub(crate) fn count_node<R: Region>(region: &R) -> Needs
     ensures leaves { (k : ℕ) → R.bits region.now ≤ 6 * k
         → result.leaves ≡ told (need_leaves k (R.bits region.now) (R.answers region.now)) }
 {
-    let mut kinds = [None; 64];
-    ask(region, 6, &mut kinds);
-    let made = make_vectors(&kinds);
-    let mut nodes = block_size(made.nodes);
-    let mut leaves = block_size(made.leaves);
-    for slot in 0..64u8 {
-        match kinds[usize::from(slot)] {
-            Some(_hop) => {}
-            None => {
-                let child = descend(region, slot, 6);
-                let below = count_node(&child);
-                nodes = nodes.saturating_add(below.nodes);
-                leaves = leaves.saturating_add(below.leaves);
+    let low = tally_slots(&region.half(false), 5, no_slots());
+    let all = tally_slots(&region.half(true), 5, low);
+    needs_of(all)
+}
+
+/// The tally with the slots of one more part of a node's region, which `depth` more bits tell apart. A part with one answer is as
+/// many leaves at once, and of one slot that has a node the need is counted right there.
+#[cycle(count_node)]
+fn tally_slots<R: Region>(region: &R, depth: u8, so_far: Tally) -> Tally
+    requires nodes { so_far.nodes + 2 ^ depth ≤ 64 }
+    requires leaves { so_far.leaves + 2 ^ depth ≤ 64 }
+    ensures tally { (e v : ℕ) (r : ℕ → List Bool → ℕ)
+        → AreParts depth (R.bits region.now) (R.answers region.now) e r v → IsTally so_far e r v
+        → IsTally result e r (v + 2 ^ depth) }
+    ensures nodes { result.nodes ≤ so_far.nodes + 2 ^ depth }
+    ensures leaves { result.leaves ≤ so_far.leaves + 2 ^ depth }
+{
+    match region.only() {
+        Some(hop) => with_leaves(so_far, hop.0),
+        None => {
+            if depth == 0 {
+                return with_node(so_far, count_node(region));
             }
+            let low = tally_slots(&region.half(false), depth - 1, so_far);
+            tally_slots(&region.half(true), depth - 1, low)
         }
     }
-    Needs { nodes, leaves }
 }
 
 /// What the direct slots of a region need, of `depth` more bits each. It costs the regions with two answers, and asks about the

@@ -18,6 +18,7 @@ mod lookup;
 mod making;
 mod node;
 mod slots;
+mod tally;
 mod trie;
 
 pub use counts::{Needs, count_words};

@@ -1,0 +1,6 @@
+use Rattle.std.proofs.Common.{refl}
+use Rattle.poptrie_build.proofs.Tallying.{tally_start}
+use Rattle.poptrie_build.proofs.tally.no_slots.Goals as goal
+
+pub returns-clause-tally : goal.returns-clause-tally
+returns-clause-tally c = λ e r. tally_start _ e r refl refl refl refl refl
