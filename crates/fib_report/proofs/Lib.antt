@@ -1,3 +1,4 @@
+pub mod Entries
 mod Joined
 pub mod Loops
 mod Proper

@@ -2,3 +2,4 @@ pub mod Views
 pub mod Rows
 pub mod Writing
 pub mod Sections
+pub mod SectionRows

@@ -1,12 +1,15 @@
 -- The text of a run: its printed rows, one a line.
 use Rattle.std.specs.Prelude.{ℕ, List, [], ◌∷◌, ◌++◌, map, flat_map}
 use Rattle.address_model.specs.Address.{Address, Prefix}
-use Rattle.table_model.specs.Changes.{Change, Add, Replace, Remove}
+use Rattle.table_model.specs.Changes.{Change, Add, Replace, Remove, additions}
+use Rattle.table_model.specs.Entries as table
 use Rattle.fib_addr.specs.Hops.{hop_at}
 use Rattle.printed_model.specs.Rows.{Records, Skipped, Events, Routes, Entries, Nodes, Leaves, Treated, PrintedRow, add_row, replace_row, remove_row, answer_row, visits_row, table_row, report_row, text_of}
 use Rattle.printed_model.specs.Numbered.{of_route, of_least, of_cert}
 use Rattle.fib_report.specs.Views.{Answer, Told}
 use Rattle.fib_report.specs.declared.run.Report.{Report}
+use Rattle.fib_report.specs.declared.section.Section.{Section}
+use Rattle.fib_report.specs.declared.section.Section.TheVariants as section
 
 -- ---- the row of an item, with the address of its hop; a number that no hop has is no hop
 
@@ -24,6 +27,13 @@ of_answer hops a = answer_row a.addr (hop_at hops a.hop) ∷ visits_row a.addr a
 
 abbrev pub table_entry_row : List Address → Prefix × ℕ → PrintedRow
 table_entry_row hops e = table_row e.0 (hop_at hops e.1)
+
+-- the rows of a section of entries; what the load adds are changes of event 0
+abbrev pub section_rows : Section → List Address → table.Entries → List PrintedRow
+section_rows section.Routes hops entries = flat_map (of_route hops) entries
+section_rows section.Added hops entries = map (of_change hops) (map (λ c. (0, c)) (additions entries))
+section_rows section.Table hops entries = map (table_entry_row hops) entries
+section_rows section.Least hops entries = map (of_least hops) entries
 
 abbrev pub report_rows : Report → List PrintedRow
 report_rows r = report_row Records r.records ∷ report_row Skipped r.skipped ∷ report_row Events r.events ∷ report_row Routes r.routes ∷ report_row Entries r.entries ∷ report_row Nodes r.nodes ∷ report_row Leaves r.leaves ∷ report_row Treated r.treated ∷ []

@@ -1,7 +1,7 @@
 -- The text of a run so far, and what a section adds to it.
 use Rattle.std.specs.Prelude.{◌≡◌, ℕ, List, ◌++◌, map}
 use Rattle.std.specs.List.{AllByRecursion}
-use Rattle.std.proofs.Common.{[], ◌∷◌, sym, ap, subst, ◌∙◌, append_assoc}
+use Rattle.std.proofs.Common.{[], ◌∷◌, refl, sym, ap, subst, ◌∙◌, append-nil, append_assoc}
 use Rattle.std.proofs.lemmas.Grind.{flat_map-append}
 use Rattle.std.proofs.lemmas.List.{map-append}
 use Rattle.address_model.specs.Address.{Address}
@@ -40,6 +40,9 @@ Takes old rows new = Writes old new (map (of_cert (hops_in old)) rows)
 both : (a b : List PrintedRow) → AllByRecursion IsRow a → AllByRecursion IsRow b → AllByRecursion IsRow (a ++ b)
 both [] b p q = q
 both (x ∷ a) b p q = (p.0, both a b p.1 q)
+
+pub writes_none : (a : RunText) → IsReady a → Writes a a []
+writes_none a ready = record { ready = ready; hops = refl; text = sym (append-nil (text_in a)); proper = tt }
 
 pub writes_more : (a b c : RunText) (rows more : List PrintedRow) → Writes a b rows → Writes b c more → Writes a c (rows ++ more)
 writes_more a b c rows more first next = record {

@@ -14,6 +14,8 @@ mod printed_row;
 mod rows;
 mod run;
 mod run_text;
+mod section;
+mod section_text;
 #[cfg(test)]
 mod tests;
 mod whole_run;
@@ -23,4 +25,6 @@ pub use printed_row::put_fields;
 pub use rows::{report_text, row_text, row_writer};
 pub use run::{Answer, Report, Run};
 pub use run_text::RunText;
+pub use section::Section;
+pub use section_text::SectionText;
 pub use whole_run::write_run;

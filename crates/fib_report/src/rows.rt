@@ -15,14 +15,15 @@
 //! HOP is the hop's address. Where no hop has the number it is `none` in an answer and a leaf, and `drop` in a change and a
 //! table; a route without a hop has no row.
 
-ghost use Rattle.std.specs.Prelude.{◌≡◌, ◌≤◌, [], ◌++◌, flat_map, length, map, IfOk, OnOk, OnErr, Some};
+ghost use Rattle.std.specs.Prelude.{◌≡◌, ◌≤◌, [], ◌∷◌, flat_map, length, map, IfOk, OnOk, Some};
+ghost use Rattle.std.specs.Option.{option_to_list};
 ghost use Rattle.std.specs.List.{AllByRecursion};
 ghost use Rattle.fib_addr.specs.Views.{entry_as};
 ghost use Rattle.cost_cert.specs.Printed.{printed_row_as};
 ghost use Rattle.cert_rows.specs.Views.{row_as};
 ghost use Rattle.printed_model.specs.Rows.{IsRow, text_of, line};
-ghost use Rattle.fib_report.specs.Rows.{of_answer, of_change, table_entry_row, printed_rows, report_rows, report_text, run_text};
-ghost use Rattle.printed_model.specs.Numbered.{of_cert, of_least, of_route};
+ghost use Rattle.fib_report.specs.Rows.{of_answer, of_change, report_rows, report_text, section_rows};
+ghost use Rattle.printed_model.specs.Numbered.{of_cert};
 ghost use Rattle.fib_delta.specs.Views.{change_as};
 ghost use Rattle.fib_report.specs.Views.{answer_as, run_as};
 ghost use Rattle.csv.specs.Writing.{text_written};
@@ -30,6 +31,7 @@ ghost use Rattle.fib_report.specs.Writing.{AddsRows, IsAtRow};
 
 use crate::printed_row::{put_fields, put_row};
 use crate::run::{Answer, Report, Run};
+use crate::section::Section;
 use cost_cert::{Count, PrintedRow, Row};
 use csv::{QuoteStyle, Writer, WriterBuilder};
 use fib_addr::{Entry, HopTable};
@@ -37,21 +39,18 @@ use fib_delta::Change;
 use std::alloc::{AllocError, Global};
 use std::io::Write;
 
-/// Writes a route, where it has a hop.
-fn put_route<W: Write + Drop>(
-    out: &mut Writer<W>,
-    route: &Entry,
-    hops: &HopTable,
-) -> Result<(), AllocError>
-    requires { IsAtRow out.old }
-    ensures added { OnOk result (AddsRows W.contents out.old out.new
-        (text_of (of_route hops.now.list (entry_as route.now)))) }
-    ensures proper { OnOk result (AllByRecursion IsRow (of_route hops.now.list
-        (entry_as route.now))) }
+/// The row of an entry in its section, if it has one.
+pub(crate) fn entry_row(section: Section, entry: &Entry, hops: &HopTable) -> Option<PrintedRow>
+    ensures { map printed_row_as (option_to_list result) ≡ section_rows section hops.now.list
+        (entry_as entry.now ∷ []) }
 {
-    match hops.addr(route.hop) {
-        Some(addr) => put_row(out, PrintedRow::Route(route.prefix, addr)),
-        None => Ok(()),
+    let prefix = entry.prefix;
+    let hop = hops.addr(entry.hop);
+    match section {
+        Section::Routes => hop.map(|addr| PrintedRow::Route(prefix, addr)),
+        Section::Added => Some(PrintedRow::Add(0, prefix, hop)),
+        Section::Table => Some(PrintedRow::Table(prefix, hop)),
+        Section::Least => Some(PrintedRow::Least(prefix, hop)),
     }
 }
 
@@ -75,24 +74,6 @@ pub(crate) fn cert_row(row: &Row, hops: &HopTable) -> PrintedRow
         Row::Join(prefix, k) => PrintedRow::Join(prefix, k),
         Row::Bound(family, count) => PrintedRow::Bound(family, count),
     }
-}
-
-/// Writes routes.
-pub(crate) fn put_routes<W: Write + Drop>(
-    out: &mut Writer<W>,
-    routes: &[Entry],
-    hops: &HopTable,
-) -> Result<(), AllocError>
-    requires { IsAtRow out.old }
-    ensures added { OnOk result (AddsRows W.contents out.old out.new
-        (text_of (flat_map (of_route hops.now.list) (map entry_as routes.now)))) }
-    ensures proper { OnOk result (AllByRecursion IsRow (flat_map (of_route hops.now.list)
-        (map entry_as routes.now))) }
-{
-    for route in routes {
-        put_route(out, route, hops)?;
-    }
-    Ok(())
 }
 
 /// Writes changes.
@@ -145,42 +126,6 @@ pub(crate) fn put_answers<W: Write + Drop>(
 {
     for answer in answers {
         put_lookup(out, answer, hops)?;
-    }
-    Ok(())
-}
-
-/// Writes the table.
-pub(crate) fn put_table<W: Write + Drop>(
-    out: &mut Writer<W>,
-    table: &[Entry],
-    hops: &HopTable,
-) -> Result<(), AllocError>
-    requires { IsAtRow out.old }
-    ensures added { OnOk result (AddsRows W.contents out.old out.new
-        (text_of (map (table_entry_row hops.now.list) (map entry_as table.now)))) }
-    ensures proper { OnOk result (AllByRecursion IsRow (map (table_entry_row hops.now.list)
-        (map entry_as table.now))) }
-{
-    for entry in table {
-        put_row(out, PrintedRow::Table(entry.prefix, hops.addr(entry.hop)))?;
-    }
-    Ok(())
-}
-
-/// Writes the least table.
-pub(crate) fn put_least<W: Write + Drop>(
-    out: &mut Writer<W>,
-    least: &[Entry],
-    hops: &HopTable,
-) -> Result<(), AllocError>
-    requires { IsAtRow out.old }
-    ensures added { OnOk result (AddsRows W.contents out.old out.new
-        (text_of (map (of_least hops.now.list) (map entry_as least.now)))) }
-    ensures proper { OnOk result (AllByRecursion IsRow (map (of_least hops.now.list)
-        (map entry_as least.now))) }
-{
-    for entry in least {
-        put_row(out, PrintedRow::Least(entry.prefix, hops.addr(entry.hop)))?;
     }
     Ok(())
 }

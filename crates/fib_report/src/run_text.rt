@@ -1,22 +1,23 @@
 //! The text of a run, written section by section.
 //!
-//! A section's rows are written from a list that can be dropped then, those of the certificate one by one as they come. The
-//! text is made in the memory in which it is handed out, behind csv's buffer; it costs its rows' length.
+//! A section's rows are written from a list that can be dropped then, or one by one as its entries or the certificate's rows come.
+//! The text is made in the memory in which it is handed out, behind csv's buffer; it costs its rows' length.
 
 ghost use Rattle.std.specs.Prelude.{◌≡◌, [], ◌++◌, ◌∷◌, flat_map, map, IfOk, OnOk};
 ghost use Rattle.fib_addr.specs.Views.{entry_as};
 ghost use Rattle.fib_delta.specs.Views.{change_as};
 ghost use Rattle.cert_rows.specs.Views.{row_as};
-ghost use Rattle.printed_model.specs.Numbered.{of_cert, of_least, of_route};
-ghost use Rattle.fib_report.specs.Rows.{of_answer, of_change, table_entry_row, report_rows};
+ghost use Rattle.printed_model.specs.Numbered.{of_cert};
+ghost use Rattle.fib_report.specs.Rows.{of_answer, of_change, report_rows, section_rows};
 ghost use Rattle.fib_report.specs.Views.{answer_as};
 
 use crate::printed_row::put_row;
 use crate::rows::{
-    cert_row, put_answers, put_cert, put_changes, put_least, put_report, put_routes, put_table,
-    row_writer,
+    cert_row, entry_row, put_answers, put_cert, put_changes, put_report, row_writer,
 };
 use crate::run::{Answer, Report};
+use crate::section::Section;
+use crate::section_text::SectionText;
 use cert_rows::{Row, RowSink};
 use csv::Writer;
 use fib_addr::{Entry, HopTable};
@@ -32,6 +33,7 @@ pub struct RunText<'a> {
 
 impl<'a> RunText<'a> {
     ghost use Rattle.fib_report.specs.Sections.{IsReady, Writes, hops_in, text_in};
+    ghost use Rattle.fib_report.specs.SectionRows.{run_in, section_in, taken_in};
 
     /// No row yet. The numbers of hops are those of this table.
     pub fn new(alloc: Global, hops: &'a HopTable) -> RunText<'a>
@@ -45,14 +47,37 @@ impl<'a> RunText<'a> {
         }
     }
 
-    /// Writes routes. One without a hop has no row.
-    pub fn routes(&mut self, routes: &[Entry]) -> Result<(), AllocError>
+    /// Writes the row of an entry in its section, if it has one.
+    pub(crate) fn entry(&mut self, section: Section, entry: &Entry) -> Result<(), AllocError>
         requires { IsReady self.old }
-        ensures { OnOk result (Writes self.old self.new (flat_map (of_route (hops_in self.old))
-            (map entry_as routes.now))) }
+        ensures { OnOk result (Writes self.old self.new (section_rows section (hops_in self.old)
+            (entry_as entry.now ∷ []))) }
     {
-        put_routes(&mut self.out, routes, self.hops)?;
+        match entry_row(section, entry, self.hops) {
+            Some(row) => put_row(&mut self.out, row),
+            None => Ok(()),
+        }
+    }
+
+    /// Writes the rows of a section from a list of its entries. `section` takes them one by one.
+    pub fn entries(&mut self, section: Section, entries: &[Entry]) -> Result<(), AllocError>
+        requires { IsReady self.old }
+        ensures { OnOk result (Writes self.old self.new (section_rows section (hops_in self.old)
+            (map entry_as entries.now))) }
+    {
+        for entry in entries {
+            self.entry(section, entry)?;
+        }
         Ok(())
+    }
+
+    /// Begins a section, which takes its entries one by one; it has the text until it ends.
+    pub fn section(self, section: Section) -> SectionText<'a>
+        ensures text { run_in result ≡ self.entry }
+        ensures section { section_in result ≡ section }
+        ensures count { taken_in result ≡ 0 }
+    {
+        SectionText::new(self, section)
     }
 
     /// Writes changes, each with its event's number.
@@ -72,26 +97,6 @@ impl<'a> RunText<'a> {
             (map answer_as answers.now))) }
     {
         put_answers(&mut self.out, answers, self.hops)?;
-        Ok(())
-    }
-
-    /// Writes the table.
-    pub fn table(&mut self, table: &[Entry]) -> Result<(), AllocError>
-        requires { IsReady self.old }
-        ensures { OnOk result (Writes self.old self.new (map (table_entry_row (hops_in self.old))
-            (map entry_as table.now))) }
-    {
-        put_table(&mut self.out, table, self.hops)?;
-        Ok(())
-    }
-
-    /// Writes the least table.
-    pub fn least(&mut self, least: &[Entry]) -> Result<(), AllocError>
-        requires { IsReady self.old }
-        ensures { OnOk result (Writes self.old self.new (map (of_least (hops_in self.old))
-            (map entry_as least.now))) }
-    {
-        put_least(&mut self.out, least, self.hops)?;
         Ok(())
     }
 

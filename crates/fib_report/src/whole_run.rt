@@ -8,6 +8,7 @@ ghost use Rattle.fib_report.specs.Views.{run_as};
 
 use crate::run::Run;
 use crate::run_text::RunText;
+use crate::section::Section;
 use fib_addr::HopTable;
 use std::alloc::{AllocError, Global};
 
@@ -18,11 +19,11 @@ fn text_of_run(alloc: Global, run: &Run, hops: &HopTable) -> Result<Vec<u8>, All
         (run_as run.now))) }
 {
     let mut text = RunText::new(alloc, hops);
-    text.routes(&run.routes)?;
+    text.entries(Section::Routes, &run.routes)?;
     text.changes(&run.changes)?;
     text.answers(&run.answers)?;
-    text.table(&run.table)?;
-    text.least(&run.least)?;
+    text.entries(Section::Table, &run.table)?;
+    text.entries(Section::Least, &run.least)?;
     text.certificate(&run.cert)?;
     text.report(&run.report)?;
     text.finish()

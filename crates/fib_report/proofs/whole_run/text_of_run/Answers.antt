@@ -22,8 +22,8 @@ returns-clause-text c =
       report = c.args.run.now.report;
     } in
     let hops = c.args.hops.now.list in
-    let all : text_in c.report.new.self ≡ run_text hops run = text_written hops run c.new-text.result c.routes.new.self c.changes.new.self c.answers.new.self c.table.new.self c.least.new.self c.certificate.new.self c.report.new.self c.new-text.ensures.hops
-    c.in_ok-routes.ensures c.in_ok-changes.ensures c.in_ok-answers.ensures c.in_ok-table.ensures c.in_ok-least.ensures c.in_ok-certificate.ensures c.in_ok-report.ensures c.new-text.ensures.empty
+    let all : text_in c.report.new.self ≡ run_text hops run = text_written hops run c.new-text.result c.entries.new.self c.changes.new.self c.answers.new.self c.entries-2.new.self c.entries-3.new.self c.certificate.new.self c.report.new.self c.new-text.ensures.hops
+    c.in_ok-entries.ensures c.in_ok-changes.ensures c.in_ok-answers.ensures c.in_ok-entries-2.ensures c.in_ok-entries-3.ensures c.in_ok-certificate.ensures c.in_ok-report.ensures c.new-text.ensures.empty
     in
     rw (c.deref.ensures.value, c.deref-2.ensures.value, c.deref-3.ensures.value, c.deref-4.ensures.value, c.deref-5.ensures.value, c.deref-6.ensures.value) at (IfOk-weaker c.finish.result (λ text. text.items ≡ text_in c.report.new.self) (λ text. text.items ≡ run_text hops run) (λ text e. e ∙ all) c.finish.ensures)
 
@@ -39,7 +39,7 @@ returns-clause-proper c =
       report = c.args.run.now.report;
     } in
     let hops = c.args.hops.now.list in
-    let all = all_written hops run c.new-text.result c.routes.new.self c.changes.new.self c.answers.new.self c.table.new.self c.least.new.self c.certificate.new.self c.report.new.self c.new-text.ensures.hops
-    c.in_ok-routes.ensures c.in_ok-changes.ensures c.in_ok-answers.ensures c.in_ok-table.ensures c.in_ok-least.ensures c.in_ok-certificate.ensures c.in_ok-report.ensures
+    let all = all_written hops run c.new-text.result c.entries.new.self c.changes.new.self c.answers.new.self c.entries-2.new.self c.entries-3.new.self c.certificate.new.self c.report.new.self c.new-text.ensures.hops
+    c.in_ok-entries.ensures c.in_ok-changes.ensures c.in_ok-answers.ensures c.in_ok-entries-2.ensures c.in_ok-entries-3.ensures c.in_ok-certificate.ensures c.in_ok-report.ensures
     in
     on_ok c.finish.result _ (rw (c.deref.ensures.value, c.deref-2.ensures.value, c.deref-3.ensures.value, c.deref-4.ensures.value, c.deref-5.ensures.value, c.deref-6.ensures.value) at all.proper)
