@@ -17,7 +17,6 @@ use crate::rows::{
 };
 use crate::run::{Answer, Report};
 use crate::section::Section;
-use crate::section_text::SectionText;
 use cert_rows::{Row, RowSink};
 use csv::Writer;
 use fib_addr::{Entry, HopTable};
@@ -33,7 +32,6 @@ pub struct RunText<'a> {
 
 impl<'a> RunText<'a> {
     ghost use Rattle.fib_report.specs.Sections.{IsReady, Writes, hops_in, text_in};
-    ghost use Rattle.fib_report.specs.SectionRows.{run_in, section_in, taken_in};
 
     /// No row yet. The numbers of hops are those of this table.
     pub fn new(alloc: Global, hops: &'a HopTable) -> RunText<'a>
@@ -59,7 +57,7 @@ impl<'a> RunText<'a> {
         }
     }
 
-    /// Writes the rows of a section from a list of its entries. `section` takes them one by one.
+    /// Writes the rows of a section from a list of its entries. What `section` gives takes them one by one.
     pub fn entries(&mut self, section: Section, entries: &[Entry]) -> Result<(), AllocError>
         requires { IsReady self.old }
         ensures { OnOk result (Writes self.old self.new (section_rows section (hops_in self.old)
@@ -69,15 +67,6 @@ impl<'a> RunText<'a> {
             self.entry(section, entry)?;
         }
         Ok(())
-    }
-
-    /// Begins a section, which takes its entries one by one; it has the text until it ends.
-    pub fn section(self, section: Section) -> SectionText<'a>
-        ensures text { run_in result ≡ self.entry }
-        ensures section { section_in result ≡ section }
-        ensures count { taken_in result ≡ 0 }
-    {
-        SectionText::new(self, section)
     }
 
     /// Writes changes, each with its event's number.

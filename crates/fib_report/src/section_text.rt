@@ -17,21 +17,25 @@ pub struct SectionText<'a> {
     count: u64,
 }
 
-impl<'a> SectionText<'a> {
+impl<'a> RunText<'a> {
     ghost use Rattle.fib_report.specs.SectionRows.{run_in, section_in, taken_in};
 
-    /// The section of a text, no entry taken.
-    pub(crate) fn new(text: RunText<'a>, section: Section) -> SectionText<'a>
-        ensures text { run_in result ≡ text.entry }
+    /// Begins a section, which takes its entries one by one, and has the text until it ends.
+    pub fn section(self, section: Section) -> SectionText<'a>
+        ensures text { run_in result ≡ self.entry }
         ensures section { section_in result ≡ section }
         ensures count { taken_in result ≡ 0 }
     {
         SectionText {
-            text,
+            text: self,
             section,
             count: 0,
         }
     }
+}
+
+impl<'a> SectionText<'a> {
+    ghost use Rattle.fib_report.specs.SectionRows.{run_in, taken_in};
 
     /// The text behind the section, and how many entries the section took.
     pub fn end(self) -> (RunText<'a>, u64)
