@@ -249,7 +249,7 @@ opened_packed c Zero e = ap (λ (h : Hops). let x : Cover = record { passes = c.
 opened_packed c (One g) e = ap (λ (h : Hops). let x : Cover = record { passes = c.passes; hops = h } in x) (sym e)
 opened_packed c Many e = ap (λ (h : Hops). let x : Cover = record { passes = c.passes; hops = h } in x) (sym e)
 
-cover_packed : (L : Table) (c : Cover) → IsCover L c → IsCover L (opened (packed c c.hops))
+pub cover_packed : (L : Table) (c : Cover) → IsCover L c → IsCover L (opened (packed c c.hops))
 cover_packed L c k = subst (λ (x : Cover). IsCover L x) (sym (opened_packed c c.hops refl)) k
 
 retold_is : (label : Label) (hop : Option ℕ) (cl ch : Cover) (n : Node) (low high : Walks) → IsCover (rows_of label low) cl → IsCover (rows_of label high) ch →
@@ -257,7 +257,7 @@ retold_is : (label : Label) (hop : Option ℕ) (cl ch : Cover) (n : Node) (low h
 retold_is Route hop cl ch n low high a b = (refl, cover_packed (join hop low.routes high.routes) (covered hop cl ch) (cover_level hop low.routes high.routes cl ch a b), refl)
 retold_is Entry hop cl ch n low high a b = (refl, cover_packed (join hop low.entries high.entries) (covered hop cl ch) (cover_level hop low.entries high.entries cl ch a b), refl)
 
-renode : (label : Label) (hop : Option ℕ) (cl ch : Cover) (n : Node) (walks : ℕ → Walks) (S : Bool → ℕ → Type 0) →
+pub renode : (label : Label) (hop : Option ℕ) (cl ch : Cover) (n : Node) (walks : ℕ → Walks) (S : Bool → ℕ → Type 0) →
     AreCovers (retold label hop cl ch n).route (retold label hop cl ch n).entry (from_half walks (half_place n false)) (from_half walks (half_place n true)) →
     ((b : Bool) → IfHalf (S b) (half_place n b)) →
     (walks_by walks (retold label hop cl ch n) ≡ walks_of (retold label hop cl ch n).route.hop (retold label hop cl ch n).entry.hop (from_half walks (half_place n false)) (from_half walks (half_place n true)))

@@ -9,7 +9,7 @@ use Rattle.table_model.proofs.Cut.{lpm_cut}
 use Rattle.least_model.specs.Sets.{side}
 use Rattle.orig_tree.specs.Edits.{edit}
 use Rattle.orig_tree.specs.Walk.{Walks}
-use Rattle.orig_tree.specs.Arena.{Place, At, blank, node_at, half_place, from_half, IfHalf, IsTree, IsHeld, IsSplit, HasRoom, walks_at, walks_by}
+use Rattle.orig_tree.specs.Arena.{Place, At, blank, node_at, half_place, from_half, IfHalf, IsTree, IsHeld, IsSplit, HasRoom, KeepsOthers, walks_at, walks_by}
 use Rattle.orig_tree.specs.Bests.{Stands, AreBest, laid, IsGrown}
 use Rattle.orig_tree.specs.declared.node.Node.{Node}
 use Rattle.orig_tree.specs.declared.best.Best.{Best}
@@ -98,16 +98,16 @@ split_best e old mid free i j name p b f S S1 x t s same here stands k =
 
 -- ---- room below a half is room below the node
 
-grown_below : (d : ℕ) (old new : List Node) (free i j : ℕ) (name : ℕ → Place) (p P : List Bool) (b : Bool) (f : List Bool → ℕ) (S S' : ℕ → Best) → half_place (node_at old i) b ≡ Some j →
-    IsTree (suc d) old name i p → HasRoom d P old new free name j (p ++ (b ∷ [])) → AreBest (suc d) old S f i → IsGrown d new name j (p ++ (b ∷ [])) (side b f) S S' → IsGrown (suc d) new name i p f S S'
+pub grown_below : (d : ℕ) (old new : List Node) (i j : ℕ) (name name' : ℕ → Place) (p : List Bool) (b : Bool) (f : List Bool → ℕ) (S S' : ℕ → Best) → half_place (node_at old i) b ≡ Some j →
+    IsTree (suc d) old name i p → KeepsOthers (p ++ (b ∷ [])) old new name name' → AreBest (suc d) old S f i → IsGrown d new name j (p ++ (b ∷ [])) (side b f) S S' → IsGrown (suc d) new name i p f S S'
 unfolding AreBest IsTree
-grown_below d old new free i j name p P b f S S' some t r k g =
-    let here = r.keeps.same i p t.0 (begins_self_not p b) in
+grown_below d old new i j name name' p b f S S' some t r k g =
+    let here = r.same i p t.0 (begins_self_not p b) in
     let R : Bool → ℕ → Type 0 = λ c y. AreBest d new S' (side c f) y in
     let rest : (c : Bool) → b ≢ c → IfHalf (R c) (half_place (node_at old i) c) =
     λ c ne. both_half (λ y. IsTree d old name y (p ++ (c ∷ []))) (λ y. AreBest d old S (side c f) y) (R c) (half_place (node_at old i) c)
     (λ y u v. best_carry d old new S S' name (side c f) y (p ++ (c ∷ [])) u
-    (λ z q e h. let out : begins (p ++ (b ∷ [])) q ≡ false = no (begins (p ++ (b ∷ [])) q) (λ w. both_not p q b c ne w h) in ((r.keeps.same z q e out).0, g.keeps z q e out)) v) (t.2.halves c) (k.1 c)
+    (λ z q e h. let out : begins (p ++ (b ∷ [])) q ≡ false = no (begins (p ++ (b ∷ [])) q) (λ w. both_not p q b c ne w h) in ((r.same z q e out).0, g.keeps z q e out)) v) (t.2.halves c) (k.1 c)
     in
     record {
       best = (
@@ -123,7 +123,7 @@ grown_below d old new free i j name p P b f S S' some t r k g =
 pub grown_end : (d : ℕ) (cells : List Node) (name : ℕ → Place) (i : ℕ) (p : List Bool) (f : List Bool → ℕ) (S : ℕ → Best) → AreBest d cells S f i → IsGrown d cells name i p f S S
 grown_end d cells name i p f S k = record { best = k; keeps = λ j r e h. refl }
 
-grown_alike : (d : ℕ) (new : List Node) (name : ℕ → Place) (i : ℕ) (p : List Bool) (f g : List Bool → ℕ) (S S' : ℕ → Best) → ((a : List Bool) → f a ≡ g a) → IsGrown d new name i p f S S' → IsGrown d new name i p g S S'
+pub grown_alike : (d : ℕ) (new : List Node) (name : ℕ → Place) (i : ℕ) (p : List Bool) (f g : List Bool → ℕ) (S S' : ℕ → Best) → ((a : List Bool) → f a ≡ g a) → IsGrown d new name i p f S S' → IsGrown d new name i p g S S'
 grown_alike d new name i p f g S S' e k = record { best = best_alike d new S' f g i (λ a l. e a) k.best; keeps = k.keeps }
 
 pub tree_side : (d : ℕ) (cells : List Node) (name : ℕ → Place) (i j : ℕ) (p : List Bool) (b : Bool) → half_place (node_at cells i) b ≡ Some j → IsTree (suc d) cells name i p → IsTree d cells name j (p ++ (b ∷ []))
@@ -151,7 +151,7 @@ module _ (left q h hop : ℕ) (b : Bool) (set : Option ℕ) (n : Node) (old : Li
   grown_at new free' j d name p S S' is t r g k =
       let f = laid_answers set (bits_of left q) h (walks_at (suc d) old i) in
       let c = child_of d j name p S f is t k in
-      grown_below d old new free' i j name p (bits_of (left - 1) q) b f S S' is t r k
+      grown_below d old new i j name r.name' p b f S S' is t r.keeps k
       (grown_alike d new name j (p ++ (b ∷ [])) (laid_answers set (bits_of (left - 1) q) hop (walks_at d old j)) (side b f) S S' (λ a. sym (from_node d j is a))
       (g (best_alike d old S (side b f) (laid_answers set (bits_of (left - 1) q) hop (walks_at d old j)) j (λ a u. from_node d j is a) c.1)))
 

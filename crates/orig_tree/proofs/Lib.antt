@@ -30,3 +30,4 @@ pub mod Undoing
 pub mod Loading
 pub mod Placing
 pub mod Costing
+pub mod Weaving

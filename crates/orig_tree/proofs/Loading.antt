@@ -1,31 +1,41 @@
 -- What nodes keep, told from the least regions on.
 use Rattle.std.proofs.Common.{◌≡◌, ℕ, suc, List, [], Bool, Option, Some, None, refl, sym, ap, ◌∙◌, subst}
-use Rattle.table_model.specs.Table.{lpm}
+use Rattle.table_model.specs.Table.{Table, lpm}
 use Rattle.orig_tree.specs.Arena.{Place, IfHalf, IsTree, walks_at, from_half}
 use Rattle.orig_tree.specs.Bests.{best_one, best_behind, IsMended, HalfMended}
 use Rattle.orig_tree.specs.declared.node.Node.{Node}
 use Rattle.orig_tree.specs.declared.best.Best.{Best}
 use Rattle.orig_tree.proofs.Standing.{stands_one}
-use Rattle.std.specs.Prelude.{◌<◌, ◌≤◌, ◌+◌, ◌++◌, ◌∷◌, true, false, cond, map, filter, length, get_or, take}
+use Rattle.std.specs.Prelude.{◌≤◌, ◌-◌, ◌++◌, ◌∷◌, true, false, cond, fold, map, length}
+use Rattle.std.specs.List.{AllByRecursion}
+use Rattle.std.specs.Map.{keys_of}
 use Rattle.std.proofs.Common.{arith}
-use Rattle.std.proofs.lemmas.List.{take_more, map-append}
 use Rattle.std.proofs.lemmas.List.Sums.{fold-append}
 use Rattle.std.proofs.lemmas.List.Elements.{filter-append}
 use Rattle.address_model.specs.Bits.{bits_of}
 use Rattle.address_model.specs.Width.{width}
-use Rattle.address_model.specs.Address.{Prefix, same_family}
+use Rattle.address_model.specs.Address.{Prefix, IsPrefix, same_family}
 use Rattle.address_model.specs.declared.family.Family.{Family}
 use Rattle.address_model.proofs.BitLaws.{length-bits_of}
-use Rattle.address_model.proofs.Same.{same_family_is}
-use Rattle.table_model.specs.Entries.{Entries, of_table, with_entry, in_order}
+use Rattle.address_model.proofs.Same.{same_family_is, same_family_itself}
+use Rattle.table_model.specs.Entries.{Entries, of_table, with_entry}
 use Rattle.fib_addr.specs.Views.{prefix_as, entry_as}
 use Rattle.fib_addr.specs.declared.entry.Entry as code_entry
-use Rattle.orig_tree.specs.Views.{InPlace, with_own}
-use Rattle.orig_tree.specs.Walk.{Walks}
-use Rattle.orig_tree.specs.Arena.{IsArena}
-use Rattle.orig_tree.specs.Bests.{IsLaid, KeepsBest}
+use Rattle.fib_addr.specs.declared.prefix.Prefix as code
+use Rattle.fib_addr.proofs.Parts.{length_prefix}
+use Rattle.orig_tree.specs.Views.{InPlace, Fits}
+use Rattle.orig_tree.specs.Edits.{put}
+use Rattle.orig_tree.specs.Walk.{rows_of}
+use Rattle.orig_tree.specs.Arena.{IsArena, whole}
+use Rattle.orig_tree.specs.Bests.{KeepsBest}
+use Rattle.orig_tree.specs.Woven.{beside, own_of, with_rows, Weaves, Lays}
 use Rattle.orig_tree.proofs.Places.{in_place_put, same_rows, entries_put}
-use Rattle.orig_tree.specs.declared.node.Label.TheVariants.{Route}
+use Rattle.orig_tree.specs.declared.node.Label.{Label}
+use Rattle.orig_tree.specs.declared.node.Label.TheVariants.{Entry}
+use Rattle.orig_tree.proofs.Telling.{fits_in_place, told_whole}
+use Rattle.orig_tree.proofs.Standing.{best_alike}
+use Rattle.orig_tree.proofs.Placing.{Places, placed_whole, is_entered}
+use Rattle.orig_tree.proofs.Weaving.{rows_alike, rows_edited, beside_edited, routes_by}
 
 pub settled_none : (cells : List Node) (depth hop : ℕ) (o : Option ℕ) (S : ℕ → Best) → o ≡ None → (name : ℕ → Place) (p : List Bool) →
     HalfMended depth cells name o p (λ a. lpm (from_half (walks_at (suc depth) cells) o).routes a hop) S S (best_behind S o (best_one hop))
@@ -40,52 +50,104 @@ settled_some cells depth hop j o S S' e f name p =
     subst (λ (o : Option ℕ). IfHalf (λ j. IsTree (suc depth) cells name j p) o → HalfMended depth cells name o p (λ a. lpm (from_half (walks_at (suc depth) cells) o).routes a hop) S S' (best_behind S' o (best_one hop))) (sym e)
     (λ t. let m = f name p t in record { stands = m.stands; best = m.best; keeps = m.keeps })
 
--- ---- routes are laid
+-- ---- entries are laid
 
--- the family's routes, one by one
-abbrev pub routes_of : Family → List code_entry.Entry → Entries
-routes_of f rs = in_order (filter (λ e. same_family f e.0.family) (map entry_as rs))
+-- the first entry is of the family, or not
+own_first : (f : Family) (e : Prefix × ℕ) (E : Entries) (b : Bool) → same_family f e.0.family ≡ b → own_of f (e ∷ E) ≡ cond b (e ∷ own_of f E) (own_of f E)
+own_first f e E b h = ap (λ (t : Bool). cond t (e ∷ own_of f E) (own_of f E)) h
 
-one_more : (f : Family) (rs : List code_entry.Entry) (k : ℕ) (r : code_entry.Entry) → k < length rs → r ≡ get_or rs k r →
-    routes_of f (take (k + 1) rs) ≡ in_order (filter (λ e. same_family f e.0.family) (map entry_as (take k rs)) ++ filter (λ e. same_family f e.0.family) (entry_as r ∷ []))
-one_more f rs k r l e =
-    ap (λ L. in_order (filter (λ e. same_family f e.0.family) L)) (ap (map entry_as) (take_more rs k r l ∙ ap (λ z. take k rs ++ (z ∷ [])) (sym e)) ∙ map-append entry_as (take k rs) (r ∷ []))
-    ∙ ap in_order (filter-append (λ e. same_family f e.0.family) (map entry_as (take k rs)) (entry_as r ∷ []))
+own_all : (f : Family) (T : Table) → own_of f (of_table f T) ≡ of_table f T
+own_all f [] = refl
+own_all f (e ∷ T) = own_first f ((let x : Prefix = record { family = f; bits = e.prefix } in x), e.hop) (of_table f T) true (same_family_itself f) ∙ ap (λ E. ((let x : Prefix = record { family = f; bits = e.prefix } in x), e.hop) ∷ E) (own_all f T)
 
-pub one_other : (f : Family) (rs : List code_entry.Entry) (k : ℕ) (r : code_entry.Entry) → k < length rs → r ≡ get_or rs k r → same_family f (entry_as r).0.family ≡ false → routes_of f (take (k + 1) rs) ≡ routes_of f (take k rs)
-one_other f rs k r l e h =
-    one_more f rs k r l e
-    ∙ (ap (λ (b : Bool). in_order (filter (λ e. same_family f e.0.family) (map entry_as (take k rs)) ++ cond b (entry_as r ∷ []) [])) h
-    ∙ fold-append with_entry [] (filter (λ e. same_family f e.0.family) (map entry_as (take k rs))) [])
+-- nothing is laid
+pub lays_none : (f : Family) (label : Label) (cells : List Node) (free : ℕ) (S : ℕ → Best) (E : Entries) → IsArena f cells free → InPlace (of_table f (rows_of label (whole f cells))) → Lays f label cells cells free S S E E
+lays_none f label cells free S E a i = record { arena = a; order = i; other = refl; best = λ e k. k; rows = refl }
 
-pub one_of : (f : Family) (rs : List code_entry.Entry) (k : ℕ) (r : code_entry.Entry) → k < length rs → r ≡ get_or rs k r → same_family f (entry_as r).0.family ≡ true → routes_of f (take (k + 1) rs) ≡ with_entry (routes_of f (take k rs)) (entry_as r)
-one_of f rs k r l e h =
-    one_more f rs k r l e
-    ∙ (ap (λ (b : Bool). in_order (filter (λ e. same_family f e.0.family) (map entry_as (take k rs)) ++ cond b (entry_as r ∷ []) [])) h
-    ∙ fold-append with_entry [] (filter (λ e. same_family f e.0.family) (map entry_as (take k rs))) (entry_as r ∷ []))
+pub lays_after : (f : Family) (label : Label) (old mid new : List Node) (free free' : ℕ) (S S1 S' : ℕ → Best) (E D F : Entries) → Lays f label old mid free S S1 E D → Lays f label mid new free' S1 S' D F → Lays f label old new free' S S' E F
+lays_after f label old mid new free free' S S1 S' E D F x y = record {
+  arena = y.arena;
+  order = y.order;
+  other = y.other ∙ x.other;
+  best = λ e k. y.best e (x.best e k);
+  rows = y.rows ∙ x.rows;
+}
 
-pub one_own : (f : Family) (rs : List code_entry.Entry) (k : ℕ) (r : code_entry.Entry) → k < length rs → r ≡ get_or rs k r → with_own f (routes_of f (take k rs)) (entry_as r) ≡ routes_of f (take (k + 1) rs)
-one_own f rs k r l e = by_test (same_family f (entry_as r).0.family) refl
-  where
-    by_test : (b : Bool) → same_family f (entry_as r).0.family ≡ b → cond b (with_entry (routes_of f (take k rs)) (entry_as r)) (routes_of f (take k rs)) ≡ routes_of f (take (k + 1) rs)
-    by_test true h = sym (one_of f rs k r l e h)
-    by_test false h = sym (one_other f rs k r l e h)
+-- an entry of another family is none of ours
+pub lays_other : (f : Family) (label : Label) (cells : List Node) (free : ℕ) (S : ℕ → Best) (e : Prefix × ℕ) (E : Entries) → same_family f e.0.family ≡ false → IsArena f cells free → InPlace (of_table f (rows_of label (whole f cells))) → Lays f label cells cells free S S (e ∷ E) E
+lays_other f label cells free S e E h a i = record {
+  arena = a;
+  order = i;
+  other = refl;
+  best = λ u k. k;
+  rows = ap (fold with_entry (of_table f (rows_of label (whole f cells)))) (sym (own_first f e E false h));
+}
 
--- one more route of the family is set
-pub laid_routes : (f : Family) (q : ℕ) (r : code_entry.Entry) (old new : Walks) (E : Entries) → same_family f (entry_as r).0.family ≡ true → bits_of r.prefix.len q ≡ (prefix_as r.prefix).bits → IsLaid Route (bits_of r.prefix.len q) r.hop.0 old new → InPlace (of_table f old.routes) → of_table f old.routes ≡ E →
-    (of_table f new.routes ≡ with_entry E (entry_as r)) × InPlace (of_table f new.routes) × (new.entries ≡ old.entries)
-laid_routes f q r old new E h path laid i e =
+-- one entry of the family is set
+pub lays_one : (f : Family) (label : Label) (q : ℕ) (r : code_entry.Entry) (old new : List Node) (free free' : ℕ) (S S' : ℕ → Best) (more : Bool) (E : Entries) → same_family f (entry_as r).0.family ≡ true → bits_of r.prefix.len q ≡ (prefix_as r.prefix).bits →
+    IsArena f old free → InPlace (of_table f (rows_of label (whole f old))) → Places label r.hop.0 q r.prefix.len old free new free' S S' more → Lays f label old new free' S S' (entry_as r ∷ E) E
+lays_one f label q r old new free free' S S' more E h path a i made =
     let p = r.prefix in
     let fam : p.family ≡ f = sym (same_family_is f p.family h) in
-    let few : length (bits_of p.len q) ≤ width f = omega (arith, length-bits_of p.len q, p.fits, ap width fam) in (
-      entries_put f p.family (bits_of p.len q) r.hop.0 old.routes new.routes laid.middle.routes E few fam laid.room.routes (ap (λ (n : Walks). n.routes) laid.set) e i
-          ∙ ap (λ b. with_entry E ((let x : Prefix = record { family = p.family; bits = b } in x), r.hop.0)) path,
-      in_place_put f (bits_of p.len q) r.hop.0 laid.middle.routes new.routes few (ap (λ (n : Walks). n.routes) laid.set) (same_rows f old.routes laid.middle.routes laid.room.routes i),
-      ap (λ (n : Walks). n.entries) laid.set ∙ laid.room.entries,
-    )
+    let short : p.len ≤ width f = omega (arith, p.fits, ap width fam) in
+    let few : length (bits_of p.len q) ≤ width f = omega (arith, length-bits_of p.len q, short) in
+    let y = placed_whole f label q p.len r.hop.0 free free' old new S S' more short a made in
+    let Old = whole f old in
+    let Mid = y.1.middle in
+    let New = whole f new in
+    let mid : rows_of label Mid ≡ rows_of label Old = rows_alike label Mid Old y.1.room.routes y.1.room.entries in
+    let set : rows_of label New ≡ put (bits_of p.len q) r.hop.0 (rows_of label Mid) = ap (rows_of label) y.1.set ∙ rows_edited label (bits_of p.len q) r.hop.0 Mid in
+    record {
+      arena = y.0;
+      order = in_place_put f (bits_of p.len q) r.hop.0 (rows_of label Mid) (rows_of label New) few set (same_rows f (rows_of label Old) (rows_of label Mid) mid i);
+      other = ap (rows_of (beside label)) y.1.set ∙ (beside_edited label (bits_of p.len q) (Some r.hop.0) Mid ∙ rows_alike (beside label) Mid Old y.1.room.routes y.1.room.entries);
+      best = λ e k. kept_by e k made;
+      rows = ap (λ R. fold with_entry R (own_of f E)) (entries_put f p.family (bits_of p.len q) r.hop.0 (rows_of label Old) (rows_of label New) (rows_of label Mid) (of_table f (rows_of label Old)) few fam mid set refl i
+          ∙ ap (λ b. with_entry (of_table f (rows_of label Old)) ((let x : Prefix = record { family = p.family; bits = b } in x), r.hop.0)) path)
+          ∙ ap (fold with_entry (of_table f (rows_of label Old))) (sym (own_first f (entry_as r) E true h));
+    }
+  where
+    kept_by : label ≡ Entry → KeepsBest f old S → Places label r.hop.0 q r.prefix.len old free new free' S S' more → KeepsBest f new S'
+    kept_by e k made = (is_entered f q r.prefix.len r.hop.0 free free' old new S S' more (omega (arith, r.prefix.fits, ap width (sym (same_family_is f r.prefix.family h)))) a k (subst (λ (l : Label). Places l r.hop.0 q r.prefix.len old free new free' S S' more) e made)).1
 
-pub few_of : (f : Family) (r : code_entry.Entry) → same_family f (entry_as r).0.family ≡ true → r.prefix.len ≤ width f
-few_of f r h = omega (arith, r.prefix.fits, ap width (sym (same_family_is f r.prefix.family h)))
+-- prefixes of the code are prefixes
+all_prefixes : (es : List code_entry.Entry) → AllByRecursion IsPrefix (keys_of (map entry_as es))
+all_prefixes [] = tt
+all_prefixes (e ∷ es) = (omega (arith, length_prefix (width e.prefix.family) e.prefix.len e.prefix.bits e.prefix.fits, e.prefix.fits), all_prefixes es)
+
+front_prefixes : (E D : Entries) → AllByRecursion IsPrefix (keys_of (E ++ D)) → AllByRecursion IsPrefix (keys_of E)
+front_prefixes [] D a = tt
+front_prefixes (e ∷ E) D a = (a.0, front_prefixes E D a.1)
+
+-- entries of a family's table that are set in it, each in its turn
+rows_set : (f : Family) (T R : Table) → Fits (width f) T → InPlace (of_table f R) → InPlace (of_table f (with_rows T R)) × (of_table f (with_rows T R) ≡ fold with_entry (of_table f R) (of_table f T))
+rows_set f [] R l i = (i, refl)
+rows_set f (e ∷ T) R l i =
+    let x = rows_set f T (put e.prefix e.hop R) l.1 (in_place_put f e.prefix e.hop R (put e.prefix e.hop R) l.0 refl i) in
+    (x.0, x.1 ∙ ap (λ E. fold with_entry E (of_table f T)) (entries_put f f e.prefix e.hop R (put e.prefix e.hop R) R (of_table f R) l.0 refl refl refl refl i))
+
+-- what one walk from the root sets
+pub lays_front : (f : Family) (p : code.Prefix) (label : Label) (old new : List Node) (free free' : ℕ) (S S' : ℕ → Best) (es rs : List code_entry.Entry) → prefix_as p ≡ record { family = f; bits = [] } → IsArena f old free → InPlace (of_table f (rows_of label (whole f old))) →
+    Weaves label 0 (width p.family - p.len) (prefix_as p) old new free free' S S' 0 (map entry_as es) (map entry_as rs) → Lays f label old new free' S S' (map entry_as es) (map entry_as rs)
+lays_front f p label old new free free' S S' es rs is a i w =
+    let y = w.woven (suc (width f)) a.name a.spares [] (omega (arith, ap (λ (x : Prefix). width x.family) is)) a.tree a.held in
+    let T = w.taken in
+    let E = map entry_as es in
+    let R = map entry_as rs in
+    let Old = rows_of label (whole f old) in
+    let front : E ≡ of_table f T ++ R = w.front ∙ ap (λ z. z ++ R) (told_whole f p T is) in
+    let fits = fits_in_place f T (front_prefixes (of_table f T) R (subst (λ (F : Entries). AllByRecursion IsPrefix (keys_of F)) front (all_prefixes es))) in
+    let s = rows_set f T Old fits i in
+    record {
+      arena = record { name = y.name'; spares = y.spares; tree = y.tree; held = y.held };
+      order = subst (λ (x : Table). InPlace (of_table f x)) (sym y.rows) s.0;
+      other = y.other;
+      best = λ e k. best_alike (suc (width f)) new S' (λ a. lpm (whole f old).routes a 0) (λ a. lpm (whole f new).routes a 0) 0 (λ a l. ap (λ x. lpm x a 0) (sym (routes_by label e (whole f new) (whole f old) y.other))) (y.grown e k).best;
+      rows = ap (λ x. fold with_entry (of_table f x) (own_of f R)) y.rows
+          ∙ (ap (λ x. fold with_entry x (own_of f R)) s.1
+          ∙ (sym (fold-append with_entry (of_table f Old) (of_table f T) (own_of f R))
+          ∙ ap (fold with_entry (of_table f Old)) (ap (λ x. x ++ own_of f R) (sym (own_all f T)) ∙ (sym (filter-append (λ e. same_family f e.0.family) (of_table f T) R) ∙ ap (own_of f) (sym front)))));
+    }
 
 pub settled_whole : (f : Family) (depth free : ℕ) (cells : List Node) (S S' : ℕ → Best) → depth ≡ width f → IsArena f cells free →
     ((name : ℕ → Place) (p : List Bool) → IsTree (suc depth) cells name 0 p → IsMended depth cells name 0 p (λ a. lpm (walks_at (suc depth) cells 0).routes a 0) S S' (S' 0)) → KeepsBest f cells S'

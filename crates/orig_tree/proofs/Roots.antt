@@ -1,5 +1,5 @@
 -- The array as one tree from its root on.
-use Rattle.std.proofs.Common.{◌≡◌, ℕ, zero, suc, ◌+◌, ◌-◌, ◌<◌, ◌≤◌, List, [], ◌∷◌, ◌++◌, Bool, true, refl, sym, ap, ◌∙◌, subst, arith, Option, None}
+use Rattle.std.proofs.Common.{◌≡◌, ℕ, zero, suc, ◌+◌, ◌-◌, ◌<◌, ◌≤◌, List, [], ◌∷◌, Bool, true, refl, sym, ap, ◌∙◌, subst, arith, Option, None}
 use Rattle.address_model.specs.Bits.{bits_of}
 use Rattle.address_model.specs.Width.{width}
 use Rattle.address_model.specs.declared.family.Family.{Family}
@@ -80,11 +80,11 @@ pub bare_labels : (f : Family) (w : Walks) → w ≡ walks_of None None no_walks
     (let a : Labels = record { family = f; routes = of_table f w.routes; entries = of_table f w.entries; nodes = w.nodes; before = of_table f w.routes } in a) ≡ record { family = f; routes = []; entries = []; nodes = [] ∷ []; before = [] }
 bare_labels f w e = ap (λ (x : Walks). let a : Labels = record { family = f; routes = of_table f x.routes; entries = of_table f x.entries; nodes = x.nodes; before = of_table f x.routes } in a) e
 
-pub told_root : (f : Family) (p : code.Prefix) (cells : List Node) (label : Label) (E D : Entries) → prefix_as p ≡ record { family = f; bits = [] } → E ≡ [] → Fits (width f) (rows_of label (whole f cells)) →
-    ((d : ℕ) → width p.family - p.len < d → Fits (width p.family - p.len) (rows_of label (walks_at d cells 0)) → D ≡ E ++ of_table p.family (lift (prefix_as p).bits (rows_of label (walks_at d cells 0)))) →
-    D ≡ of_table f (rows_of label (whole f cells))
-told_root f p cells label E D e n fits t =
-    told_whole f p (rows_of label (whole f cells)) E D e n (t (suc (width f)) (omega (arith, ap (λ (x : Prefix). width x.family) e)) (whole_fits f p (rows_of label (whole f cells)) e fits))
+pub told_root : {S : Type 0} (Takes : S → Entries → S → Type 0) (f : Family) (p : code.Prefix) (cells : List Node) (label : Label) (X Y : S) → prefix_as p ≡ record { family = f; bits = [] } → Fits (width f) (rows_of label (whole f cells)) →
+    ((d : ℕ) → width p.family - p.len < d → Fits (width p.family - p.len) (rows_of label (walks_at d cells 0)) → Takes X (of_table p.family (lift (prefix_as p).bits (rows_of label (walks_at d cells 0)))) Y) →
+    Takes X (of_table f (rows_of label (whole f cells))) Y
+told_root Takes f p cells label X Y e fits t =
+    subst (λ E. Takes X E Y) (told_whole f p (rows_of label (whole f cells)) e) (t (suc (width f)) (omega (arith, ap (λ (x : Prefix). width x.family) e)) (whole_fits f p (rows_of label (whole f cells)) e fits))
 
 pub answer_whole : (f g : Family) (label : Label) (w q n : ℕ) (cells : List Node) (E : Entries) → g ≡ f → w ≡ width f → of_table f (rows_of label (whole f cells)) ≡ E →
     ((d : ℕ) → w < d → n ≡ lpm (rows_of label (walks_at d cells 0)) (bits_of w q) 0) → n ≡ match_in E (record { family = g; bits = bits_of (width g) q })

@@ -9,7 +9,7 @@ use Rattle.address_model.specs.Width.{width}
 use Rattle.address_model.specs.Regions.{half_at}
 use Rattle.address_model.specs.declared.family.Family.{Family}
 use Rattle.table_model.specs.Table.{Table, here}
-use Rattle.table_model.specs.Entries.{Entries, of_table}
+use Rattle.table_model.specs.Entries.{of_table}
 use Rattle.table_model.proofs.Cut.{entry}
 use Rattle.least_model.specs.Regions.{lift, join}
 use Rattle.fib_addr.specs.Views.{prefix_as}
@@ -20,11 +20,11 @@ use Rattle.orig_tree.specs.declared.node.Label.{Label}
 use Rattle.orig_tree.specs.Views.{Fits}
 use Rattle.orig_tree.proofs.Steps.{rows_level, rows_nothing}
 
-lift_append : (p : List Bool) (L M : Table) → lift p (L ++ M) ≡ lift p L ++ lift p M
+pub lift_append : (p : List Bool) (L M : Table) → lift p (L ++ M) ≡ lift p L ++ lift p M
 lift_append p [] M = refl
 lift_append p (e ∷ L) M = ap (λ x. entry (p ++ e.prefix) e.hop ∷ x) (lift_append p L M)
 
-lift_lift : (p q : List Bool) (L : Table) → lift p (lift q L) ≡ lift (p ++ q) L
+pub lift_lift : (p q : List Bool) (L : Table) → lift p (lift q L) ≡ lift (p ++ q) L
 lift_lift p q [] = refl
 lift_lift p q (e ∷ L) = ap (λ x. entry x e.hop ∷ lift p (lift q L)) (sym (append_assoc p q e.prefix)) ∙ ap (λ x. entry ((p ++ q) ++ e.prefix) e.hop ∷ x) (lift_lift p q L)
 
@@ -42,8 +42,8 @@ pub told_own : (p : Prefix) (o : Option ℕ) → map (λ h. (p, h)) (option_to_l
 told_own p None = refl
 told_own p (Some g) = ap (λ z. ((let x : Prefix = record { family = p.family; bits = z } in x), g) ∷ []) (sym (append-nil p.bits))
 
-pub told_nothing : (label : Label) (p : code.Prefix) (w : Walks) (E : Entries) → w ≡ no_walks → E ≡ E ++ of_table p.family (lift (prefix_as p).bits (rows_of label w))
-told_nothing label p w E e = sym (ap (λ z. E ++ of_table p.family (lift (prefix_as p).bits (rows_of label z))) e ∙ (ap (λ z. E ++ of_table p.family (lift (prefix_as p).bits z)) (rows_nothing label) ∙ append-nil E))
+pub told_nothing : (label : Label) (p : code.Prefix) (w : Walks) → w ≡ no_walks → [] ≡ of_table p.family (lift (prefix_as p).bits (rows_of label w))
+told_nothing label p w e = sym (ap (λ z. of_table p.family (lift (prefix_as p).bits (rows_of label z))) e ∙ ap (λ z. of_table p.family (lift (prefix_as p).bits z)) (rows_nothing label))
 
 -- one more bit
 pub half_longer : (p q : code.Prefix) (b : Bool) → prefix_as q ≡ half_at b (prefix_as p) → q.len ≡ p.len + 1
@@ -105,24 +105,21 @@ own_alone n o L M z f =
     let b : M ≡ [] = none_below n true M z (fits_back n (lift (false ∷ []) L) (lift (true ∷ []) M) r) in
     ap (λ x. join o x M) a ∙ (ap (λ x. join o [] x) b ∙ append-nil (here o))
 
-pub told_end : (p : code.Prefix) (label : Label) (route entry o : Option ℕ) (low high node : Walks) (E D : Entries) → walks_of route entry low high ≡ node → p.len ≡ width p.family → Fits (width p.family - p.len) (rows_of label node)
-    → o ≡ labelled label route entry → D ≡ E ++ map (λ h. (prefix_as p, h)) (option_to_list o)
-    → D ≡ E ++ of_table p.family (lift (prefix_as p).bits (rows_of label node))
-told_end p label route entry o low high node E D w n f s d =
-    let d' : D ≡ E ++ of_table p.family (lift (prefix_as p).bits (here o)) = d ∙ ap (λ x. E ++ x) (told_own (prefix_as p) o) in
+pub told_end : (p : code.Prefix) (label : Label) (route entry o : Option ℕ) (low high node : Walks) → walks_of route entry low high ≡ node → p.len ≡ width p.family → Fits (width p.family - p.len) (rows_of label node)
+    → o ≡ labelled label route entry → map (λ h. (prefix_as p, h)) (option_to_list o) ≡ of_table p.family (lift (prefix_as p).bits (rows_of label node))
+told_end p label route entry o low high node w n f s =
     let z : width p.family - p.len ≡ 0 = omega arith in
-    d' ∙ ap (λ x. E ++ of_table p.family (lift (prefix_as p).bits x)) (ap here s
+    told_own (prefix_as p) o
+    ∙ ap (λ x. of_table p.family (lift (prefix_as p).bits x)) (ap here s
     ∙ (sym (own_alone (width p.family - p.len) (labelled label route entry) (rows_of label low) (rows_of label high) z (fits_node (width p.family - p.len) label route entry low high node w f))
     ∙ (sym (rows_level label route entry low high) ∙ ap (rows_of label) w)))
 
 -- what is told of a node: its own entry, then those of its halves
-pub told_level : (p q r : code.Prefix) (label : Label) (route entry o : Option ℕ) (low high node : Walks) (A B C D : Entries) → walks_of route entry low high ≡ node
+pub told_level : (p q r : code.Prefix) (label : Label) (route entry o : Option ℕ) (low high node : Walks) → walks_of route entry low high ≡ node
     → prefix_as q ≡ half_at false (prefix_as p) → prefix_as r ≡ half_at true (prefix_as p) → o ≡ labelled label route entry
-    → B ≡ A ++ map (λ h. (prefix_as p, h)) (option_to_list o)
-    → C ≡ B ++ of_table q.family (lift (prefix_as q).bits (rows_of label low))
-    → D ≡ C ++ of_table r.family (lift (prefix_as r).bits (rows_of label high))
-    → D ≡ A ++ of_table p.family (lift (prefix_as p).bits (rows_of label node))
-told_level p q r label route entry o low high node A B C D w e g s b c d =
+    → map (λ h. (prefix_as p, h)) (option_to_list o) ++ (of_table q.family (lift (prefix_as q).bits (rows_of label low)) ++ of_table r.family (lift (prefix_as r).bits (rows_of label high)))
+    ≡ of_table p.family (lift (prefix_as p).bits (rows_of label node))
+told_level p q r label route entry o low high node w e g s =
     let k = (prefix_as p).bits in
     let f = p.family in
     let L = rows_of label low in
@@ -130,15 +127,15 @@ told_level p q r label route entry o low high node A B C D w e g s b c d =
     let O = of_table f (lift k (here (labelled label route entry))) in
     let X = of_table f (lift (k ++ (false ∷ [])) L) in
     let Y = of_table f (lift (k ++ (true ∷ [])) H) in
-    let c' : C ≡ B ++ X = c ∙ ap (λ (x : Prefix). B ++ of_table x.family (lift x.bits L)) e in
-    let d' : D ≡ C ++ Y = d ∙ ap (λ (x : Prefix). C ++ of_table x.family (lift x.bits H)) g in
-    let b' : B ≡ A ++ O = b ∙ ap (λ x. A ++ x) (told_own (prefix_as p) o ∙ ap (λ x. of_table f (lift k (here x))) s) in
+    let own : map (λ h. (prefix_as p, h)) (option_to_list o) ≡ O = told_own (prefix_as p) o ∙ ap (λ x. of_table f (lift k (here x))) s in
     let whole : of_table f (lift k (rows_of label node)) ≡ O ++ (X ++ Y) =
     ap (λ x. of_table f (lift k x)) (ap (rows_of label) (sym w) ∙ rows_level label route entry low high)
     ∙ (ap (of_table f) (lift_join k (labelled label route entry) L H) ∙ (seen_append f (lift k (here (labelled label route entry))) (lift (k ++ (false ∷ [])) L ++ lift (k ++ (true ∷ [])) H)
     ∙ ap (λ x. O ++ x) (seen_append f (lift (k ++ (false ∷ [])) L) (lift (k ++ (true ∷ [])) H))))
     in
-    d' ∙ (ap (λ x. x ++ Y) (c' ∙ ap (λ x. x ++ X) b') ∙ (append_assoc (A ++ O) X Y ∙ (append_assoc A O (X ++ Y) ∙ ap (λ x. A ++ x) (sym whole))))
+    ap (λ x. x ++ (of_table q.family (lift (prefix_as q).bits L) ++ of_table r.family (lift (prefix_as r).bits H))) own
+    ∙ (ap (λ (x : Prefix). O ++ (of_table x.family (lift x.bits L) ++ of_table r.family (lift (prefix_as r).bits H))) e
+    ∙ (ap (λ (x : Prefix). O ++ (X ++ of_table x.family (lift x.bits H))) g ∙ sym whole))
 
 width_most : (f : Family) → width f ≤ 128
 width_most V4 = omega arith
@@ -165,6 +162,5 @@ whole_fits f p L e a =
     let n : width f ≡ width p.family - p.len = omega (arith, whole_len f p e, ap (λ (x : Prefix). width x.family) e) in
     subst (λ (k : ℕ). Fits k L) n a
 
-pub told_whole : (f : Family) (p : code.Prefix) (L : Table) (E D : Entries) → prefix_as p ≡ record { family = f; bits = [] } → E ≡ [] → D ≡ E ++ of_table p.family (lift (prefix_as p).bits L) → D ≡ of_table f L
-told_whole f p L E D e n d =
-    d ∙ (ap (λ x. x ++ of_table p.family (lift (prefix_as p).bits L)) n ∙ (ap (λ (x : Prefix). of_table x.family (lift x.bits L)) e ∙ ap (of_table f) (lift_none L)))
+pub told_whole : (f : Family) (p : code.Prefix) (L : Table) → prefix_as p ≡ record { family = f; bits = [] } → of_table p.family (lift (prefix_as p).bits L) ≡ of_table f L
+told_whole f p L e = ap (λ (x : Prefix). of_table x.family (lift x.bits L)) e ∙ ap (of_table f) (lift_none L)

@@ -14,3 +14,4 @@ pub mod Within
 pub mod Undos
 pub mod Placed
 pub mod Steps
+pub mod Woven

@@ -24,6 +24,7 @@ mod path;
 mod region;
 mod tree;
 mod undo;
+mod weave;
 mod whole;
 
 pub use answers::{EntriesOf, RoutesOf};

@@ -1,105 +1,87 @@
-//! A tree of many routes, made at once: what the nodes keep is told when all routes are set, from the least regions on.
+//! Many routes or entries set at once. What the nodes keep is told when all routes are set, from the least regions on.
 
 ghost use Rattle.std.specs.Prelude.{◌≡◌, ◌≤◌, ◌+◌, ◌∷◌, [], ℕ, suc, List, Bool, true, false, OnOk, OnErr, IfOk, vec_len, map, filter, None};
 ghost use Rattle.address_model.specs.Bits.{bits_of};
 ghost use Rattle.address_model.specs.Width.{width};
 ghost use Rattle.table_model.specs.Table.{lpm};
 ghost use Rattle.least_model.specs.Sets.{side};
-ghost use Rattle.orig_tree.specs.Walk.{walks_of, no_walks, has_node};
-ghost use Rattle.orig_tree.specs.Views.{InPlace, with_own};
+ghost use Rattle.orig_tree.specs.Walk.{rows_of};
+ghost use Rattle.orig_tree.specs.Views.{InPlace};
 ghost use Rattle.address_model.specs.Address.{same_family};
-ghost use Rattle.table_model.specs.Entries.{of_table, in_order};
+ghost use Rattle.table_model.specs.Entries.{Entries, of_table};
 ghost use Rattle.fib_addr.specs.Views.{entry_as};
 ghost use Rattle.orig_tree.specs.Arena.{cells_of, Place, IfHalf, IsTree, walks_at, from_half, whole, IsArena};
-ghost use Rattle.orig_tree.specs.Bests.{Stands, best_one, best_in, best_behind, KeepsBest, IsLaid, IsMended, HalfMended};
-ghost use Rattle.orig_tree.specs.declared.node.Label.TheVariants.{Route};
+ghost use Rattle.orig_tree.specs.Bests.{Stands, best_one, best_in, best_behind, KeepsBest, IsMended, HalfMended};
+ghost use Rattle.orig_tree.specs.Woven.{Lays};
 
 use crate::best::{Best, Bests, best_at, exchange};
 use crate::node::{Label, Nodes, read, set_label};
 use crate::path::path_bits;
-use fib_addr::{Entry, Family};
+use crate::weave::weave;
+use fib_addr::{Entry, Family, Prefix};
 use std::alloc::{AllocError, Global};
 
-/// Makes a path a node and sets its route. What nodes keep isn't told.
-pub(crate) fn lay_bare(
-    family: Family,
-    nodes: &mut Nodes,
-    bests: &mut Bests,
-    q: u128,
-    len: u8,
-    hop: u16,
-) -> Result<(), AllocError>
-    requires few { len ≤ width family }
-    requires arena { IsArena family (cells_of nodes.old) nodes.old.free }
-    requires long { vec_len nodes.old.halves ≤ vec_len bests.old.halves }
-    ensures arena { IsArena family (cells_of nodes.new) nodes.new.free }
-    ensures long { vec_len nodes.new.halves ≤ vec_len bests.new.halves }
-    ensures laid { OnOk result (IsLaid Route (bits_of len q) hop (whole family (cells_of nodes.old)) (whole
-        family (cells_of nodes.new))) }
-    ensures err { OnErr result (cells_of nodes.new ≡ cells_of nodes.old) }
-{
-    let _ = family;
-    set_label(nodes, bests, 0, q, len, 0, Label::Route, hop)?;
-    Ok(())
-}
-
-/// Whether a route is of the family.
-fn is_of(route: &Entry, family: Family) -> bool
-    ensures { result ≡ same_family family (entry_as route.now).0.family }
+/// Whether an entry is of the family.
+fn is_of(entry: &Entry, family: Family) -> bool
+    ensures { result ≡ same_family family (entry_as entry.now).0.family }
 {
     matches!(
-        (family, route.prefix.family),
+        (family, entry.prefix.family),
         (Family::V4, Family::V4) | (Family::V6, Family::V6)
     )
 }
 
-/// Sets a route, if it is of the family. What nodes keep isn't told.
-fn lay_if(
+/// Sets a label of an entry's prefix, if the entry is of the family.
+fn lay_one(
     family: Family,
     nodes: &mut Nodes,
     bests: &mut Bests,
-    route: &Entry,
+    label: Label,
+    entry: &Entry,
 ) -> Result<(), AllocError>
     requires arena { IsArena family (cells_of nodes.old) nodes.old.free }
     requires long { vec_len nodes.old.halves ≤ vec_len bests.old.halves }
-    requires order { InPlace (of_table family (whole family (cells_of nodes.old)).routes) }
-    ensures arena { IsArena family (cells_of nodes.new) nodes.new.free }
+    requires order { InPlace (of_table family (rows_of label (whole family (cells_of nodes.old)))) }
     ensures long { vec_len nodes.new.halves ≤ vec_len bests.new.halves }
-    ensures order { InPlace (of_table family (whole family (cells_of nodes.new)).routes) }
-    ensures entries { (whole family (cells_of nodes.new)).entries
-        ≡ (whole family (cells_of nodes.old)).entries }
-    ensures routes { OnOk result (of_table family (whole family (cells_of nodes.new)).routes
-        ≡ with_own family (of_table family (whole family (cells_of nodes.old)).routes)
-        (entry_as route.now)) }
+    ensures lays { OnOk result ((rest : Entries) → Lays family label (cells_of nodes.old) (cells_of
+        nodes.new) nodes.new.free (best_in bests.old) (best_in bests.new)
+        (entry_as entry.now ∷ rest) rest) }
 {
-    if !is_of(route, family) {
+    if !is_of(entry, family) {
         return Ok(());
     }
-    let prefix = &route.prefix;
+    let prefix = &entry.prefix;
     let q = path_bits(prefix);
-    lay_bare(family, nodes, bests, q, prefix.len, route.hop.0)?;
+    set_label(nodes, bests, 0, q, prefix.len, 0, label, entry.hop.0)?;
     Ok(())
 }
 
-/// Sets those of the routes that are of the family, in a tree that has none. What nodes keep isn't told.
+/// Sets a label of those of the entries that are of the family, each in its turn. A walk from the root goes on as long as the
+/// next entry is in the order of prefixes, so it is one walk for a list in that order; the first of each is set by itself, so
+/// that each takes one at least.
+///
+/// # Errors
+///
+/// No memory, which comes too where there would be 2^31 nodes or more; then a front of the entries may be set.
 pub(crate) fn lay_all(
     family: Family,
     nodes: &mut Nodes,
     bests: &mut Bests,
-    routes: &[Entry],
+    label: Label,
+    entries: &[Entry],
 ) -> Result<(), AllocError>
     requires arena { IsArena family (cells_of nodes.old) nodes.old.free }
     requires long { vec_len nodes.old.halves ≤ vec_len bests.old.halves }
-    requires bare { whole family (cells_of nodes.old) ≡ walks_of None None no_walks no_walks }
-    ensures arena { IsArena family (cells_of nodes.new) nodes.new.free }
+    requires order { InPlace (of_table family (rows_of label (whole family (cells_of nodes.old)))) }
     ensures long { vec_len nodes.new.halves ≤ vec_len bests.new.halves }
-    ensures order { InPlace (of_table family (whole family (cells_of nodes.new)).routes) }
-    ensures entries { (whole family (cells_of nodes.new)).entries ≡ [] }
-    ensures routes { OnOk result (of_table family (whole family (cells_of nodes.new)).routes
-        ≡ in_order (filter (λ e. same_family family e.0.family) (map entry_as routes.now))) }
+    ensures lays { OnOk result (Lays family label (cells_of nodes.old) (cells_of nodes.new)
+        nodes.new.free (best_in bests.old) (best_in bests.new) (map entry_as entries.now) []) }
 {
-    for route in routes {
-        lay_if(family, nodes, bests, route)?;
+    let root = Prefix::whole(family);
+    let mut left = entries;
+    while let [first, rest @ ..] = left {
+        lay_one(family, nodes, bests, label, first)?;
+        left = weave(nodes, bests, 0, root, 0, label, rest)?;
     }
     Ok(())
 }

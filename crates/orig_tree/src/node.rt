@@ -7,7 +7,7 @@ ghost use Rattle.address_model.specs.Bits.{bits_of};
 ghost use Rattle.address_model.specs.Width.{width};
 ghost use Rattle.table_model.specs.Table.{lpm, root, half, here};
 ghost use Rattle.least_model.specs.Regions.{above, lift};
-ghost use Rattle.fib_addr.specs.Views.{entry_as, prefix_as};
+ghost use Rattle.fib_addr.specs.Views.{prefix_as};
 ghost use Rattle.orig_tree.specs.Walk.{rows_of, edited, Allowed, labelled, has_node};
 ghost use Rattle.table_model.specs.Entries.{of_table};
 ghost use Rattle.orig_tree.specs.Views.{Fits};
@@ -20,7 +20,8 @@ ghost use Rattle.orig_tree.specs.Placed.{Climbs, IsPlaced, route_set};
 use crate::best::{Best, Bests, exchange, fresh, lengthen};
 use crate::counter::{Counter, Uncounted};
 use crate::cover::{Cover, Slot};
-use fib_addr::{Entry, Prefix, bit_at, push_entry};
+use entry_rows::{EntrySink, hand_entry};
+use fib_addr::{Prefix, bit_at};
 use std::alloc::{AllocError, Global};
 
 /// Which of a node's labels.
@@ -221,7 +222,7 @@ fn retell(nodes: &Nodes, node: Node, label: Label, hop: Option<u16>) -> Node
 
 /// Puts a node at its place with one of its labels set and its cover told from those of the halves, and tells whether that is
 /// another than it was.
-fn renew(nodes: &mut Nodes, i: usize, node: Node, label: Label, hop: Option<u16>) -> bool
+pub(crate) fn renew(nodes: &mut Nodes, i: usize, node: Node, label: Label, hop: Option<u16>) -> bool
     ensures cells { cells_of nodes.new ≡ slice_set (cells_of nodes.old) i (retold label hop (cover_at
         (cells_of nodes.old) label (half_place node false)) (cover_at (cells_of nodes.old) label
         (half_place node true)) node) }
@@ -304,23 +305,24 @@ pub(crate) fn uniform(
     }
 }
 
-/// Adds the table of one label from a node on, which stands for the prefix, in the order of prefixes.
+/// Hands on the table of one label from a node on, which stands for the prefix, in the order of prefixes.
 #[cycle(tell)]
-pub(crate) fn tell(
+pub(crate) fn tell<S: EntrySink>(
     nodes: &Nodes,
     i: usize,
     label: Label,
     prefix: Prefix,
-    out: &mut Vec<Entry>,
+    out: &mut S,
 ) -> Result<(), AllocError>
-    ensures { (d : ℕ) → width prefix.family - prefix.len < d
+    requires { S.ready out.old }
+    ensures ready { OnOk result (S.ready out.new) }
+    ensures takes { (d : ℕ) → width prefix.family - prefix.len < d
         → Fits (width prefix.family - prefix.len) (rows_of label (walks_at d (cells_of nodes.now)
-        i)) → OnOk result (map entry_as out.new.items ≡ map entry_as out.old.items ++ of_table
-        prefix.family (lift (prefix_as prefix).bits (rows_of label (walks_at d (cells_of nodes.now)
-        i)))) }
+        i)) → OnOk result (S.takes out.old (of_table prefix.family (lift (prefix_as prefix).bits
+        (rows_of label (walks_at d (cells_of nodes.now) i)))) out.new) }
 {
     let node = read(nodes, i);
-    push_entry(prefix, node.hop(label), out)?;
+    hand_entry(prefix, node.hop(label), out)?;
     if prefix.len == prefix.family.width() {
         return Ok(());
     }
@@ -329,24 +331,27 @@ pub(crate) fn tell(
     Ok(())
 }
 
+/// The same of a half, where it is a node.
 #[cycle(tell)]
-fn tell_half(
+fn tell_half<S: EntrySink>(
     nodes: &Nodes,
     half: Option<usize>,
     label: Label,
     prefix: Prefix,
-    out: &mut Vec<Entry>,
+    out: &mut S,
 ) -> Result<(), AllocError>
-    ensures { (d : ℕ) → width prefix.family - prefix.len < d
+    requires { S.ready out.old }
+    ensures ready { OnOk result (S.ready out.new) }
+    ensures takes { (d : ℕ) → width prefix.family - prefix.len < d
         → Fits (width prefix.family - prefix.len) (rows_of label (from_half (walks_at d (cells_of
-        nodes.now)) half)) → OnOk result (map entry_as out.new.items
-        ≡ map entry_as out.old.items ++ of_table prefix.family (lift (prefix_as prefix).bits
-        (rows_of label (from_half (walks_at d (cells_of nodes.now)) half)))) }
+        nodes.now)) half)) → OnOk result (S.takes out.old (of_table prefix.family
+        (lift (prefix_as prefix).bits (rows_of label (from_half (walks_at d (cells_of nodes.now))
+        half)))) out.new) }
 {
-    match half {
-        None => Ok(()),
-        Some(j) => tell(nodes, j, label, prefix, out),
+    if let Some(j) = half {
+        tell(nodes, j, label, prefix, out)?;
     }
+    Ok(())
 }
 
 /// Whether a path has a node.
@@ -386,7 +391,7 @@ fn take(nodes: &mut Nodes) -> u32
 }
 
 /// Makes a half of a node a node, and tells its place.
-fn split(nodes: &mut Nodes, i: usize, node: Node, bit: bool) -> usize
+pub(crate) fn split(nodes: &mut Nodes, i: usize, node: Node, bit: bool) -> usize
     requires room { vec_len nodes.old.halves + 1 ≤ vec_capacity nodes.old.halves }
     requires few { vec_len nodes.old.halves + 1 < 2 ^ 32 }
     ensures len { vec_len nodes.new.halves ≤ vec_len nodes.old.halves + 1 }
@@ -459,7 +464,7 @@ pub(crate) fn grow(
 }
 
 /// Tells the cover of a node again where that of a half has changed, and tells whether it is another than it was.
-fn climb(nodes: &mut Nodes, i: usize, label: Label, changed: bool) -> bool
+pub(crate) fn climb(nodes: &mut Nodes, i: usize, label: Label, changed: bool) -> bool
     ensures free { nodes.new.free ≡ nodes.old.free }
     ensures len { vec_len nodes.new.halves ≡ vec_len nodes.old.halves }
     ensures climbs { Climbs label changed result (cells_of nodes.old) (cells_of nodes.new) i }

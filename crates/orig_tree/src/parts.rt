@@ -1,17 +1,18 @@
 //! What a tree has at a prefix, and within it.
 
-ghost use Rattle.std.specs.Prelude.{◌≡◌, ◌≤◌, ◌<◌, ◌+◌, ◌-◌, ◌++◌, ℕ, OnOk, map};
+ghost use Rattle.std.specs.Prelude.{◌≡◌, ◌≤◌, ◌<◌, ◌+◌, ◌-◌, ℕ, OnOk};
 ghost use Rattle.address_model.specs.Bits.{bits_of};
 ghost use Rattle.address_model.specs.Width.{width};
 ghost use Rattle.table_model.specs.Table.{cut};
 ghost use Rattle.table_model.specs.Entries.{of_table};
 ghost use Rattle.least_model.specs.Regions.{entry_at, lift};
-ghost use Rattle.fib_addr.specs.Views.{entry_as, prefix_as};
+ghost use Rattle.fib_addr.specs.Views.{prefix_as};
 ghost use Rattle.orig_tree.specs.Arena.{cells_of, walks_at};
 ghost use Rattle.orig_tree.specs.Views.{Fits};
 
 use crate::node::{Label, Nodes, read, tell};
-use fib_addr::{Entry, Prefix, bit_at};
+use entry_rows::EntrySink;
+use fib_addr::{Prefix, bit_at};
 use std::alloc::AllocError;
 
 /// The hop of a path's own route.
@@ -31,28 +32,31 @@ pub(crate) fn route_at(nodes: &Nodes, i: usize, q: u128, left: u8) -> Option<u16
     }
 }
 
-/// Adds the entries within a path, in the order of prefixes; the path stands for the prefix.
-pub(crate) fn tell_within(
+/// Hands on the entries within a path, in the order of prefixes; the path stands for the prefix.
+pub(crate) fn tell_within<S: EntrySink>(
     nodes: &Nodes,
     i: usize,
     q: u128,
     left: u8,
     prefix: Prefix,
-    out: &mut Vec<Entry>,
+    out: &mut S,
 ) -> Result<(), AllocError>
-    requires { left ≤ 128 }
-    ensures { (d : ℕ) → left + (width prefix.family - prefix.len) < d
+    requires few { left ≤ 128 }
+    requires ready { S.ready out.old }
+    ensures ready { OnOk result (S.ready out.new) }
+    ensures takes { (d : ℕ) → left + (width prefix.family - prefix.len) < d
         → Fits (width prefix.family - prefix.len) (cut (bits_of left q) (walks_at d (cells_of
-        nodes.now) i).entries) → OnOk result (map entry_as out.new.items
-        ≡ map entry_as out.old.items ++ of_table prefix.family (lift (prefix_as prefix).bits
-        (cut (bits_of left q) (walks_at d (cells_of nodes.now) i).entries))) }
+        nodes.now) i).entries) → OnOk result (S.takes out.old (of_table prefix.family
+        (lift (prefix_as prefix).bits (cut (bits_of left q) (walks_at d (cells_of nodes.now)
+        i).entries))) out.new) }
 {
     if left == 0 {
-        return tell(nodes, i, Label::Entry, prefix, out);
+        tell(nodes, i, Label::Entry, prefix, out)?;
+        return Ok(());
     }
     let at = left - 1;
-    match read(nodes, i).half(bit_at(q, at)) {
-        None => Ok(()),
-        Some(j) => tell_within(nodes, j, q, at, prefix, out),
+    if let Some(j) = read(nodes, i).half(bit_at(q, at)) {
+        tell_within(nodes, j, q, at, prefix, out)?;
     }
+    Ok(())
 }

@@ -129,6 +129,52 @@ fn routes_are_loaded_at_once(rt: HostRuntime) -> Result<(), AllocError> {
     Ok(())
 }
 
+/// An entry to the hop of this number.
+fn entry(prefix: Prefix, hop: u16) -> Entry {
+    Entry {
+        prefix,
+        hop: Hop(hop),
+    }
+}
+
+/// The entries of a tree of these routes that is given them as entries too.
+fn entered(alloc: Global, given: &[Entry]) -> Result<Vec<Entry>, AllocError> {
+    let tree = Tree::load(alloc, Family::V4, given)?;
+    let tree = tree.enter_all(given)?;
+    tree.entries()
+}
+
+#[test]
+fn entries_come_in_any_order_and_the_last_at_a_prefix_counts(
+    rt: HostRuntime,
+) -> Result<(), AllocError> {
+    let first = entry(wide(), 1);
+    let second = entry(narrow(), 2);
+    let third = entry(beside(), 3);
+    let told = [first, second, third];
+    let sorted = [first, second, third, entry(Prefix::whole(Family::V6), 9)];
+    let turned = [third, second, entry(Prefix::whole(Family::V6), 9), first];
+    let twice = [entry(beside(), 7), entry(wide(), 7), first, second, third];
+    assert_eq!(rt;
+        entered(rt.alloc(), sorted.as_slice())?.as_slice(),
+        told.as_slice()
+    );
+    assert_eq!(rt;
+        entered(rt.alloc(), turned.as_slice())?.as_slice(),
+        told.as_slice()
+    );
+    assert_eq!(rt;
+        entered(rt.alloc(), twice.as_slice())?.as_slice(),
+        told.as_slice()
+    );
+    let tree = Tree::new(rt.alloc(), Family::V4).enter_all(told.as_slice())?;
+    assert_eq!(rt; tree.uniform_entry(&narrow()), Some(Hop(2)));
+    assert_eq!(rt; tree.uniform_entry(&wide()), None);
+    assert_eq!(rt; tree.nodes_within(&wide()), 11);
+    assert_eq!(rt; tree.region(&prefix(0, 0)).k(), 0);
+    Ok(())
+}
+
 #[test]
 fn room_that_nothing_uses_is_given_back(rt: HostRuntime) -> Result<(), AllocError> {
     let mut tree = Tree::new(rt.alloc(), Family::V4);

@@ -30,6 +30,7 @@ use crate::path::path_bits;
 use crate::region::{Region, below};
 use crate::undo::{Undo, keep_if, room_of};
 use crate::whole::{alter, change, drop_unused, empty, enter, lay, make_room, take_back};
+use entry_rows::EntrySink;
 use fib_addr::{Addr, Entry, Family, Hop, Prefix};
 use std::alloc::{AllocError, Global};
 use std::marker::Model;
@@ -64,20 +65,21 @@ impl Model for Tree {
     ghost invariant = { λ t. IsArena t.family (cells_of t.nodes) t.nodes.free × InPlace (of_table t.family (whole t.family (cells_of t.nodes)).routes) × InPlace (of_table t.family (whole t.family (cells_of t.nodes)).entries) × KeepsBest t.family (cells_of t.nodes) (best_in t.bests) × (vec_len t.nodes.halves ≤ vec_len t.bests.halves) × CanUndo t.family (cells_of t.nodes) (best_in t.bests) t.undo };
 }
 
-/// The table of one label from the root on, in the order of prefixes.
-fn list_label(
-    alloc: Global,
+/// Hands on the table of one label from the root on, in the order of prefixes.
+fn tell_all<S: EntrySink>(
     family: Family,
     nodes: &Nodes,
     label: Label,
-) -> Result<Vec<Entry>, AllocError>
-    requires { Fits (width family) (rows_of label (whole family (cells_of nodes.now))) }
-    ensures { IfOk result (λ v. map entry_as v.items
-        ≡ of_table family (rows_of label (whole family (cells_of nodes.now)))) }
+    out: &mut S,
+) -> Result<(), AllocError>
+    requires fits { Fits (width family) (rows_of label (whole family (cells_of nodes.now))) }
+    requires ready { S.ready out.old }
+    ensures ready { OnOk result (S.ready out.new) }
+    ensures takes { OnOk result (S.takes out.old (of_table family (rows_of label (whole family
+        (cells_of nodes.now)))) out.new) }
 {
-    let mut list = Vec::new(alloc);
-    tell(nodes, 0, label, Prefix::whole(family), &mut list)?;
-    Ok(list)
+    tell(nodes, 0, label, Prefix::whole(family), out)?;
+    Ok(())
 }
 
 impl Tree {
@@ -102,7 +104,7 @@ impl Tree {
     }
 
     /// A tree with those of the routes that are of its family, the last at each prefix. What the nodes keep is told once, when
-    /// all are set: it costs the routes' lengths, and the nodes.
+    /// all are set. It costs the nodes, where the routes stand in the order of prefixes, and else the routes' lengths too.
     ///
     /// # Errors
     ///
@@ -116,7 +118,7 @@ impl Tree {
     {
         let mut nodes = empty(alloc, family);
         let mut bests = root_best(alloc);
-        lay_all(family, &mut nodes, &mut bests, routes)?;
+        lay_all(family, &mut nodes, &mut bests, Label::Route, routes)?;
         settle_all(alloc, family, &nodes, &mut bests)?;
         Ok(Tree {
             alloc,
@@ -128,12 +130,42 @@ impl Tree {
         })
     }
 
+    /// A tree without entries is given those of these entries that are of its family, the last at each prefix. It costs the
+    /// nodes on the ways to them, each once where the entries stand in the order of prefixes. The last change of a route can't
+    /// be put back any more.
+    ///
+    /// # Errors
+    ///
+    /// No memory, which comes too where there would be 2^31 nodes or more.
+    pub fn enter_all(self, entries: &[Entry]) -> Result<Tree, AllocError>
+        requires { self.entries ≡ [] }
+        ensures family { IfOk result (λ t. t.family ≡ self.family) }
+        ensures routes { IfOk result (λ t. t.routes ≡ self.routes) }
+        ensures entries { IfOk result (λ t. t.entries ≡ in_order (filter (λ e. same_family self.family
+            e.0.family) (map entry_as entries.now))) }
+        ensures before { IfOk result (λ t. t.before ≡ t.routes) }
+    {
+        let mut nodes = self.nodes;
+        let mut bests = self.bests;
+        lay_all(self.family, &mut nodes, &mut bests, Label::Entry, entries)?;
+        Ok(Tree {
+            alloc: self.alloc,
+            family: self.family,
+            nodes,
+            bests,
+            undo: None,
+            spare: self.spare,
+        })
+    }
+
     /// The routes.
     pub fn routes(&self) -> Result<Vec<Entry>, AllocError>
         ensures order { InPlace self.now.routes }
         ensures routes { IfOk result (λ v. map entry_as v.items ≡ self.now.routes) }
     {
-        list_label(self.alloc, self.family, &self.nodes, Label::Route)
+        let mut list = Vec::new(self.alloc);
+        self.hand_routes(&mut list)?;
+        Ok(list)
     }
 
     /// The entries.
@@ -142,7 +174,37 @@ impl Tree {
         ensures family { AllByRecursion (λ p. p.family ≡ self.now.family) (keys_of self.now.entries) }
         ensures entries { IfOk result (λ v. map entry_as v.items ≡ self.now.entries) }
     {
-        list_label(self.alloc, self.family, &self.nodes, Label::Entry)
+        let mut list = Vec::new(self.alloc);
+        self.hand_entries(&mut list)?;
+        Ok(list)
+    }
+
+    /// Hands the routes on one by one, in the order of prefixes: it takes no memory of its own, and costs the nodes.
+    ///
+    /// # Errors
+    ///
+    /// No memory; then a front of the routes was taken.
+    pub fn hand_routes<S: EntrySink>(&self, out: &mut S) -> Result<(), AllocError>
+        requires { S.ready out.old }
+        ensures ready { OnOk result (S.ready out.new) }
+        ensures takes { OnOk result (S.takes out.old self.now.routes out.new) }
+    {
+        tell_all(self.family, &self.nodes, Label::Route, out)?;
+        Ok(())
+    }
+
+    /// Hands the entries on one by one, in the order of prefixes: it takes no memory of its own, and costs the nodes.
+    ///
+    /// # Errors
+    ///
+    /// No memory; then a front of the entries was taken.
+    pub fn hand_entries<S: EntrySink>(&self, out: &mut S) -> Result<(), AllocError>
+        requires { S.ready out.old }
+        ensures ready { OnOk result (S.ready out.new) }
+        ensures takes { OnOk result (S.takes out.old self.now.entries out.new) }
+    {
+        tell_all(self.family, &self.nodes, Label::Entry, out)?;
+        Ok(())
     }
 
     /// The tree's family.

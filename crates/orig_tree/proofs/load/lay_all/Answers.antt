@@ -1,29 +1,31 @@
-use Rattle.std.proofs.Common.{ap, ◌∙◌}
-use Rattle.table_model.specs.Entries.{of_table}
-use Rattle.orig_tree.specs.Arena.{cells_of, whole}
-use Rattle.orig_tree.specs.Walk.{Walks}
-use Rattle.orig_tree.specs.Views.{with_own}
+use Rattle.std.proofs.Common.{◌-◌, map, take, drop, length, sym, ap, subst}
+use Rattle.table_model.specs.Entries.{Entries}
 use Rattle.fib_addr.specs.Views.{entry_as}
-use Rattle.orig_tree.proofs.Places.{in_place_nil}
-use Rattle.orig_tree.proofs.Loading.{one_own}
+use Rattle.orig_tree.specs.Arena.{cells_of}
+use Rattle.orig_tree.specs.Bests.{best_in}
+use Rattle.orig_tree.specs.Woven.{Lays}
+use Rattle.orig_tree.proofs.Weaving.{first_rest}
+use Rattle.orig_tree.proofs.Loading.{lays_none, lays_after, lays_front}
 use Rattle.orig_tree.proofs.load.lay_all.Goals as goal
 
-pub loop-route-init : goal.loop-route-init
-loop-route-init c = record {
-  arena = c.requires.arena;
-  long = c.requires.long;
-  order = in_place_nil c.args.family (whole c.args.family (cells_of c.args.nodes.now)).routes (ap (λ (n : Walks). n.routes) c.requires.bare);
-  entries = ap (λ (n : Walks). n.entries) c.requires.bare;
-  routes = ap (λ (n : Walks). of_table c.args.family n.routes) c.requires.bare;
-}
+pub loop-left-init : goal.loop-left-init
+loop-left-init c = record { long = c.requires.long; lays = lays_none c.args.family c.args.label (cells_of c.args.nodes.now) c.args.nodes.now.free (best_in c.args.bests.now) (map entry_as c.args.entries.now) c.requires.arena c.requires.order }
 
-pub loop-route-preserved : goal.loop-route-preserved
-loop-route-preserved c =
+pub loop-left-preserved : goal.loop-left-preserved
+loop-left-preserved c =
     let f = c.args.family in
+    let l = c.args.label in
+    let left = c.loop-left.left.now in
+    let rest = take (length left - 1) (drop 1 left) in
+    let x = c.first-item.result in
+    let A = cells_of c.args.nodes.now in
+    let B = cells_of c.loop-left.nodes in
+    let C = cells_of c.lay_one.new.nodes in
+    let D = cells_of c.weave.new.nodes in
+    let one = subst (λ (E : Entries). Lays f l B C c.lay_one.new.nodes.free (best_in c.loop-left.bests) (best_in c.lay_one.new.bests) E (map entry_as rest)) (sym (ap (map entry_as) (first_rest left x c.in-len1-up.len_at_least c.first-item.is))) (c.in_ok-lay_one.ensures.lays (map entry_as rest)) in
+    let more = lays_front f c.whole-root.result l C D c.lay_one.new.nodes.free c.weave.new.nodes.free (best_in c.lay_one.new.bests) (best_in c.weave.new.bests) rest c.in_ok-left.left.now c.whole-root.ensures one.arena one.order c.in_ok-left.ensures.woven in
     record {
-      arena = c.lay_if.ensures.arena;
-      long = c.lay_if.ensures.long;
-      order = c.lay_if.ensures.order;
-      entries = c.lay_if.ensures.entries ∙ c.loop-route.invariant.entries;
-      routes = c.in_ok-lay_if.ensures.routes ∙ (ap (λ R. with_own f R (entry_as c.route-item.result)) c.loop-route.invariant.routes ∙ one_own f c.args.routes.now c.loop-route.route-index c.route-item.result c.loop-route-test.true c.route-item.is);
+      long = c.weave.ensures.long;
+      lays = lays_after f l A B D c.loop-left.nodes.free c.weave.new.nodes.free (best_in c.args.bests.now) (best_in c.loop-left.bests) (best_in c.weave.new.bests) (map entry_as c.args.entries.now) (map entry_as left) (map entry_as c.in_ok-left.left.now) c.loop-left.invariant.lays
+          (lays_after f l B C D c.lay_one.new.nodes.free c.weave.new.nodes.free (best_in c.loop-left.bests) (best_in c.lay_one.new.bests) (best_in c.weave.new.bests) (map entry_as left) (map entry_as rest) (map entry_as c.in_ok-left.left.now) one more);
     }

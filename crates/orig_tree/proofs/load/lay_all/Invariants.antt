@@ -1,15 +1,15 @@
-use Rattle.std.proofs.Common.{◌≡◌, ◌≤◌, [], take, vec_len}
-use Rattle.table_model.specs.Entries.{of_table}
-use Rattle.orig_tree.specs.Views.{InPlace}
-use Rattle.orig_tree.specs.Arena.{cells_of, whole, IsArena}
-use Rattle.orig_tree.proofs.Loading.{routes_of}
+use Rattle.std.proofs.Common.{◌≤◌, map, length, vec_len}
+use Rattle.fib_addr.specs.Views.{entry_as}
+use Rattle.orig_tree.specs.Arena.{cells_of}
+use Rattle.orig_tree.specs.Bests.{best_in}
+use Rattle.orig_tree.specs.Woven.{Lays}
 use Rattle.orig_tree.proofs.load.lay_all.Given as goal
 
-abbrev pub invariant-loop-route : goal.invariant-loop-route
-invariant-loop-route l = record {
-  arena : IsArena l.family (cells_of l.nodes) l.nodes.free;
+abbrev pub invariant-loop-left : goal.invariant-loop-left
+invariant-loop-left l = record {
   long : vec_len l.nodes.halves ≤ vec_len l.bests.halves;
-  order : InPlace (of_table l.family (whole l.family (cells_of l.nodes)).routes);
-  entries : (whole l.family (cells_of l.nodes)).entries ≡ [];
-  routes : of_table l.family (whole l.family (cells_of l.nodes)).routes ≡ routes_of l.family (take l.route-index l.routes);
+  lays : Lays l.family l.label (cells_of l.fn.nodes) (cells_of l.nodes) l.nodes.free (best_in l.fn.bests) (best_in l.bests) (map entry_as l.entries) (map entry_as l.left);
 }
+
+abbrev pub decreases-loop-left : goal.decreases-loop-left
+decreases-loop-left l = length l.left

@@ -17,4 +17,4 @@ returns-clause-entries c =
     let same = c.requires ∙ sym (ap (λ (s : Labels). s.family) c.self.view_is) in
     told_within p t.family q L c.args.self.now.entries (map entry_as c.new-list.result.items) (map entry_as c.tell_within.new.out.items) same c.path_bits-q.ensures
     (ap (λ (s : Labels). s.entries) c.self.view_is) (ap (map entry_as) c.new-list.ensures.items)
-    (c.in_ok-tell_within.ensures (suc (width t.family)) (levels_left p t.family same) (fits_prefix p t.family q L same c.path_bits-q.ensures (fits_in_place t.family L c.self.invariant.2.0)))
+    (c.in_ok-tell_within.ensures.takes (suc (width t.family)) (levels_left p t.family same) (fits_prefix p t.family q L same c.path_bits-q.ensures (fits_in_place t.family L c.self.invariant.2.0)))

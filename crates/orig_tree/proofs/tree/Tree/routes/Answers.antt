@@ -1,6 +1,0 @@
-use Rattle.orig_tree.specs.Arena.{cells_of, whole}
-use Rattle.orig_tree.proofs.Telling.{fits_in_place}
-use Rattle.orig_tree.proofs.tree.Tree.routes.Goals as goal
-
-pub list_label-requires : goal.list_label-requires
-list_label-requires c = fits_in_place c.self.inside.family (whole c.self.inside.family (cells_of c.self.inside.nodes)).routes c.self.invariant.1.0

@@ -1,0 +1,21 @@
+use Rattle.std.proofs.Common.{◌≡◌, ◌∷◌, refl, sym, ap, ◌∙◌, subst, map, take, drop, ◌-◌, length}
+use Rattle.address_model.specs.Address.{Prefix}
+use Rattle.table_model.specs.Entries.{Entries}
+use Rattle.fib_addr.specs.Views.{entry_as, prefix_as}
+use Rattle.orig_tree.specs.Arena.{cells_of}
+use Rattle.orig_tree.specs.Woven.{Weaves}
+use Rattle.orig_tree.proofs.Weaving.{weaves_none, weaves_own, first_rest, same_code}
+use Rattle.orig_tree.proofs.weave.weave_own.Goals as goal
+
+pub returns-in-len1-up-clause-woven : goal.returns-in-len1-up-clause-woven
+returns-in-len1-up-clause-woven c = λ h levels S.
+    let E = c.args.entries.now in
+    let rest = take (length E - 1) (drop 1 E) in
+    let x = c.first-item.result in
+    let P = prefix_as c.args.at.now in
+    let is : map entry_as E ≡ (P, x.hop.0) ∷ map entry_as rest = ap (map entry_as) (first_rest E x c.in-len1-up.len_at_least c.first-item.is) ∙ ap (λ (p : Prefix). (p, x.hop.0) ∷ map entry_as rest) (same_code x.prefix c.args.at.now c.if-eq.ensures) in
+    subst (λ (F : Entries). Weaves c.args.label h levels P (cells_of c.args.nodes.now) (cells_of c.renew.new.nodes) c.args.nodes.now.free c.renew.new.nodes.free S S c.args.i F (map entry_as rest)) (sym is)
+    (weaves_own c.args.label h levels P c.read-node.result _ (cells_of c.args.nodes.now) (cells_of c.renew.new.nodes) c.args.nodes.now.free c.renew.new.nodes.free S c.args.i x.hop.0 (map entry_as rest) c.read-node.ensures refl c.renew.ensures.cells c.renew.ensures.free)
+
+pub returns-in_default-2-clause-woven : goal.returns-in_default-2-clause-woven
+returns-in_default-2-clause-woven c = λ h levels S. weaves_none c.args.label h levels (prefix_as c.args.at.now) (cells_of c.args.nodes.now) c.args.nodes.now.free S c.args.i (map entry_as c.args.entries.now)

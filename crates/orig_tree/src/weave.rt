@@ -1,0 +1,136 @@
+//! Many entries set in one walk: as long as the next one is within the region at hand, the walk goes on from there.
+
+ghost use Rattle.std.specs.Prelude.{◌≡◌, ◌≤◌, ◌<◌, ◌-◌, ℕ, List, Bool, IfOk, map, vec_len};
+ghost use Rattle.address_model.specs.Width.{width};
+ghost use Rattle.fib_addr.specs.Views.{entry_as, prefix_as};
+ghost use Rattle.orig_tree.specs.Arena.{cells_of, Place, IsTree, IsHeld};
+ghost use Rattle.orig_tree.specs.Bests.{best_in};
+ghost use Rattle.orig_tree.specs.Woven.{starts_within, IsOpened, Weaves};
+ghost use Rattle.orig_tree.specs.declared.best.Best.{Best as best_view};
+
+use crate::best::{Best, Bests, exchange};
+use crate::node::{Label, Nodes, climb, read, renew, reserve, split};
+use fib_addr::{Entry, Prefix};
+use std::alloc::AllocError;
+
+/// Whether there is a first entry, and its prefix is within this one.
+fn starts_within(entries: &[Entry], prefix: &Prefix) -> bool
+    ensures { result ≡ starts_within (prefix_as prefix.now) (map entry_as entries.now) }
+{
+    match entries {
+        [first, ..] => first.prefix.is_within(prefix),
+        [] => false,
+    }
+}
+
+/// Sets a label of a node, which stands for the prefix, where the first entry is at that prefix, and gives those that are left.
+fn weave_own<'a>(
+    nodes: &mut Nodes,
+    i: usize,
+    at: &Prefix,
+    label: Label,
+    entries: &'a [Entry],
+) -> &'a [Entry]
+    ensures len { vec_len nodes.new.halves ≡ vec_len nodes.old.halves }
+    ensures woven { (h levels : ℕ) (kept : ℕ → best_view) → Weaves label h levels (prefix_as at.now)
+        (cells_of nodes.old) (cells_of nodes.new) nodes.old.free nodes.new.free kept kept i
+        (map entry_as entries.now) (map entry_as result.now) }
+{
+    match entries {
+        [first, rest @ ..] if first.prefix == *at => {
+            let node = read(nodes, i);
+            renew(nodes, i, node, label, Some(first.hop.0));
+            rest
+        }
+        _ => entries,
+    }
+}
+
+/// The place of a half of a node, which is made a node if it is none.
+fn open_half(
+    nodes: &mut Nodes,
+    bests: &mut Bests,
+    i: usize,
+    bit: bool,
+    inherited: u16,
+) -> Result<usize, AllocError>
+    requires long { vec_len nodes.old.halves ≤ vec_len bests.old.halves }
+    ensures long { vec_len nodes.new.halves ≤ vec_len bests.new.halves }
+    ensures open { IfOk result (λ j. (d : ℕ) (name : ℕ → Place) (n : ℕ) (p : List Bool) → 1 < d
+        → IsTree d (cells_of nodes.old) name i p → IsHeld (cells_of nodes.old) nodes.old.free name n
+        → IsOpened d bit (cells_of nodes.old) (cells_of nodes.new) nodes.new.free name i p inherited
+        (best_in bests.old) (best_in bests.new) j) }
+{
+    let node = read(nodes, i);
+    if let Some(j) = node.half(bit) {
+        return Ok(j);
+    }
+    reserve(nodes, bests, 1)?;
+    let j = split(nodes, i, node, bit);
+    let hop = node.route.hop.unwrap_or(inherited);
+    let mut best = Best::one(hop);
+    exchange(bests, j, &mut best);
+    Ok(j)
+}
+
+/// Sets a label for those of the entries, from the first on, whose prefixes are within that of a node, each in its turn, and
+/// gives those from the first other one on. The node inherits the hop from the routes. It costs the nodes on the ways to them,
+/// each once where the entries stand in the order of prefixes.
+///
+/// # Errors
+///
+/// No memory, which comes too where there would be 2^31 nodes or more; then a front of the entries may be set.
+#[cycle(weave)]
+pub(crate) fn weave<'a>(
+    nodes: &mut Nodes,
+    bests: &mut Bests,
+    i: usize,
+    at: Prefix,
+    inherited: u16,
+    label: Label,
+    entries: &'a [Entry],
+) -> Result<&'a [Entry], AllocError>
+    requires long { vec_len nodes.old.halves ≤ vec_len bests.old.halves }
+    ensures long { vec_len nodes.new.halves ≤ vec_len bests.new.halves }
+    ensures woven { IfOk result (λ rest. Weaves label inherited (width at.family - at.len) (prefix_as at)
+        (cells_of nodes.old) (cells_of nodes.new) nodes.old.free nodes.new.free (best_in bests.old)
+        (best_in bests.new) i (map entry_as entries.now) (map entry_as rest.now)) }
+{
+    let rest = weave_own(nodes, i, &at, label, entries);
+    if at.len == at.family.width() {
+        return Ok(rest);
+    }
+    let rest = weave_half(nodes, bests, i, false, at, inherited, label, rest)?;
+    let rest = weave_half(nodes, bests, i, true, at, inherited, label, rest)?;
+    Ok(rest)
+}
+
+/// The same of a half of the node, which is made a node where there is an entry for it.
+#[cycle(weave)]
+fn weave_half<'a>(
+    nodes: &mut Nodes,
+    bests: &mut Bests,
+    i: usize,
+    bit: bool,
+    at: Prefix,
+    inherited: u16,
+    label: Label,
+    entries: &'a [Entry],
+) -> Result<&'a [Entry], AllocError>
+    requires longer { at.len < width at.family }
+    requires long { vec_len nodes.old.halves ≤ vec_len bests.old.halves }
+    ensures long { vec_len nodes.new.halves ≤ vec_len bests.new.halves }
+    ensures woven { IfOk result (λ rest. Weaves label inherited (width at.family - at.len) (prefix_as at)
+        (cells_of nodes.old) (cells_of nodes.new) nodes.old.free nodes.new.free (best_in bests.old)
+        (best_in bests.new) i (map entry_as entries.now) (map entry_as rest.now)) }
+{
+    let half = at.half(bit);
+    if !starts_within(entries, &half) {
+        return Ok(entries);
+    }
+    let j = open_half(nodes, bests, i, bit, inherited)?;
+    let below = read(nodes, i).route.hop.unwrap_or(inherited);
+    let rest = weave(nodes, bests, j, half, below, label, entries)?;
+    climb(nodes, i, label, true);
+    Ok(rest)
+}
