@@ -1,5 +1,5 @@
 -- The tables of repairs and snapshots.
-use Rattle.std.proofs.Common.{◌≡◌, ℕ, ◌≤◌, List, [], ◌∷◌, Bool, true, false, cond, map, refl, sym, ap, subst, ◌∙◌, arith}
+use Rattle.std.proofs.Common.{◌≡◌, ℕ, ◌≤◌, List, [], ◌∷◌, Bool, true, false, cond, filter, map, refl, sym, ap, subst, ◌∙◌, arith}
 use Rattle.std.specs.List.{AllByRecursion}
 use Rattle.std.specs.Map.{keys_of}
 use Rattle.std.proofs.lemmas.Bool.{and_parts}
@@ -8,9 +8,10 @@ use Rattle.address_model.specs.Bits.{begins}
 use Rattle.address_model.specs.Address.{Prefix, IsPrefix, same_family}
 use Rattle.address_model.specs.Order.{prefix_cmp}
 use Rattle.address_model.specs.declared.family.Family.{Family}
-use Rattle.address_model.proofs.Same.{same_family_is}
+use Rattle.address_model.proofs.Same.{same_family_is, same_family_itself}
 use Rattle.table_model.specs.Table.{Table}
-use Rattle.table_model.specs.Entries.{Entries, of_family, of_table}
+use Rattle.table_model.specs.Entries.{Entries, in_order, of_family, of_table}
+use Rattle.table_model.proofs.Sums.{in_order_again}
 use Rattle.table_model.specs.Changes.{Change, after_changes}
 use Rattle.std.proofs.Common.{Some}
 use Rattle.fib_delta.specs.declared.change.Change as code
@@ -98,3 +99,15 @@ some_is a b e = cc
 
 pub came : (xs : List code.Change) (E T N U : Entries) → map change_as xs ≡ between T N → E ≡ T → InPlace T → InPlace N → after_changes (map change_as xs) E ≡ Some U → U ≡ N
 came xs E T N U s e t n a = some_is U N (sym a ∙ led xs E T N s e t n)
+
+-- ---- a table in place of an empty one
+
+all_of : (f : Family) (L : Entries) → AllByRecursion (λ (p : Prefix). p.family ≡ f) (keys_of L) → filter (λ e. same_family f e.0.family) L ≡ L
+all_of f [] a = refl
+all_of f (e ∷ L) a = ap (λ b. cond b (e ∷ filter (λ d. same_family f d.0.family) L) (filter (λ d. same_family f d.0.family) L)) (ap (same_family f) a.0 ∙ same_family_itself f) ∙ ap (λ M. e ∷ M) (all_of f L a.1)
+
+-- the least table's entries, put one by one, are the table
+pub entered : (f : Family) (R T L : Entries) → L ≡ aggregate_in f R T → in_order (filter (λ e. same_family f e.0.family) L) ≡ L
+entered f R T L e =
+    let N = aggregate_in f R T in
+    ap (λ (M : Entries). in_order (filter (λ d. same_family f d.0.family) M)) e ∙ (ap in_order (all_of f N (renewed_family f R T)) ∙ (in_order_again N (renewed_placed f R T).1 ∙ sym e))

@@ -26,10 +26,11 @@ use crate::plan::plan_moves;
 use crate::repair::{Moved, Repair};
 use crate::routes::{former_prefix, planned_prefix, put_back_planned, set};
 use cert_rows::RowSink;
+use entry_rows::EntrySink;
 use fib_addr::{Entry, Family, Hop, Prefix};
 use fib_delta::Change;
 use orig_tree::Tree;
-use ortc::{Fresh, certify, fresh, least_table};
+use ortc::{Fresh, certify, fresh, hand_least, least_table};
 use std::alloc::{AllocError, Global};
 use std::marker::Model;
 
@@ -90,6 +91,33 @@ impl Keep {
             tree,
             marks: Marks::all(),
         })
+    }
+
+    /// The routes with their least table in place of an empty one, and its entries. It costs the tree's nodes, where a snapshot
+    /// would cost each entry's length too.
+    ///
+    /// # Errors
+    ///
+    /// No memory.
+    pub fn filled(self) -> Result<(Keep, Vec<Entry>), AllocError>
+        requires { self.entries ≡ [] }
+        ensures family { IfOk result (λ r. r.0.family ≡ self.family) }
+        ensures routes { IfOk result (λ r. r.0.routes ≡ self.routes) }
+        ensures table { IfOk result (λ r. r.0.entries ≡ aggregate_in self.family self.routes []) }
+        ensures least { IfOk result (λ r. IsLeast r.0) }
+        ensures entries { IfOk result (λ r. map entry_as r.1.items ≡ r.0.entries) }
+    {
+        let family = self.tree.family();
+        let least = least_table(self.alloc, &self.tree)?;
+        let tree = self.tree.enter_all(&least)?;
+        let mut marks = self.marks;
+        marks.leave(self.alloc, family, true, None);
+        let keep = Keep {
+            alloc: self.alloc,
+            tree,
+            marks,
+        };
+        Ok((keep, least))
     }
 
     /// Gives a prefix this route, or with `Hop::NONE` none. The table stays.
@@ -278,6 +306,33 @@ impl Keep {
             ≡ aggregate_in self.now.family self.now.routes self.now.entries) }
     {
         least_table(self.alloc, &self.tree)
+    }
+
+    /// Hands on the table's entries one by one, in the order of prefixes.
+    ///
+    /// # Errors
+    ///
+    /// No memory; then a front of the entries was taken.
+    pub fn hand_table<S: EntrySink>(&self, out: &mut S) -> Result<(), AllocError>
+        requires { S.ready out.old }
+        ensures ready { OnOk result (S.ready out.new) }
+        ensures takes { OnOk result (S.takes out.old self.now.entries out.new) }
+    {
+        self.tree.hand_entries(out)
+    }
+
+    /// Hands on the entries of the least table of the routes, with the kept one as the old table, one by one.
+    ///
+    /// # Errors
+    ///
+    /// No memory; then a front of the entries was taken.
+    pub fn hand_least<S: EntrySink>(&self, out: &mut S) -> Result<(), AllocError>
+        requires { S.ready out.old }
+        ensures ready { OnOk result (S.ready out.new) }
+        ensures takes { OnOk result (S.takes out.old
+            (aggregate_in self.now.family self.now.routes self.now.entries) out.new) }
+    {
+        hand_least(&self.tree, out)
     }
 
     /// Hands on the rows that prove a table of the routes least, one by one.
