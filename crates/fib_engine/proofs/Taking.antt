@@ -156,7 +156,7 @@ kept_fresh f E T R k s r e = record {
 }
 
 -- the tables of the routes before their first snapshot, and after it
-module _ (C : Candidates) (H : List Address) (b t n : Both) (s : IsSound C H false b) (a : AreOfRoutes (entries_of H C) t) (k : KeepRoutes t n) (v4 : n.v4.entries ≡ aggregate_in V4 t.v4.routes t.v4.entries) (v6 : n.v6.entries ≡ aggregate_in V6 t.v6.routes t.v6.entries) where
+module _ (C : Candidates) (H : List Address) (b t n : Both) (s : IsSound C H false b) (a : AreOfRoutes (entries_of H C) t) (k : KeepRoutes t n) (v4 : n.v4.entries ≡ aggregate_in V4 t.v4.routes []) (v6 : n.v6.entries ≡ aggregate_in V6 t.v6.routes []) where
   pub sound_end : IsSound C H true n
   sound_end = record {
     elems = s.elems;
@@ -164,30 +164,21 @@ module _ (C : Candidates) (H : List Address) (b t n : Both) (s : IsSound C H fal
     candidates = s.candidates;
     hops = s.hops;
     few = s.few;
-    v4 = kept_fresh V4 (entries_of H C) t.v4.entries t.v4.routes n.v4 (k.v4_family ∙ a.families.0) (k.v4 ∙ a.v4) v4;
-    v6 = kept_fresh V6 (entries_of H C) t.v6.entries t.v6.routes n.v6 (k.v6_family ∙ a.families.1) (k.v6 ∙ a.v6) v6;
+    v4 = kept_fresh V4 (entries_of H C) [] t.v4.routes n.v4 (k.v4_family ∙ a.families.0) (k.v4 ∙ a.v4) v4;
+    v6 = kept_fresh V6 (entries_of H C) [] t.v6.routes n.v6 (k.v6_family ∙ a.families.1) (k.v6 ∙ a.v6) v6;
   }
 
   low_end : n.v4.entries ≡ aggregate_in V4 (only V4 (entries_of H C)) []
-  low_end = v4 ∙ (ap (λ (R : Entries). aggregate_in V4 R t.v4.entries) a.v4 ∙ ap (λ (T : Entries). aggregate_in V4 (only V4 (entries_of H C)) T) a.v4_empty)
+  low_end = v4 ∙ ap (λ (R : Entries). aggregate_in V4 R []) a.v4
 
   high_end : n.v6.entries ≡ aggregate_in V6 (only V6 (entries_of H C)) []
-  high_end = v6 ∙ (ap (λ (R : Entries). aggregate_in V6 R t.v6.entries) a.v6 ∙ ap (λ (T : Entries). aggregate_in V6 (only V6 (entries_of H C)) T) a.v6_empty)
+  high_end = v6 ∙ ap (λ (R : Entries). aggregate_in V6 R []) a.v6
 
   pub table_end : both_tables n ≡ kept_at_load H C
   table_end =
       let E = entries_of H C in
       ap (λ (L : Entries). L ++ n.v6.entries) low_end
       ∙ (ap (λ (L : Entries). aggregate_in V4 (only V4 E) [] ++ L) high_end ∙ (both_aggregates E [] [] tt tt ∙ sym (snapshot_is E [])))
-
-  pub changes_end : between t.v4.entries n.v4.entries ++ between t.v6.entries n.v6.entries ≡ between [] (both_tables n)
-  changes_end =
-      let none4 : Fine V4 [] = record { order = none_order; of = tt } in
-      let none6 : Fine V6 [] = record { order = none_order; of = tt } in
-      let x = sound_end in
-      ap (λ (L : Entries). between L n.v4.entries ++ between t.v6.entries n.v6.entries) a.v4_empty
-      ∙ (ap (λ (L : Entries). between [] n.v4.entries ++ between L n.v6.entries) a.v6_empty
-      ∙ both_changes [] [] n.v4.entries n.v6.entries none4 none6 (record { order = x.v4.order; of = x.v4.of_family }) (record { order = x.v6.order; of = x.v6.of_family }))
 
 pub stands_end : (load : List Elem) (old new : Held) → new.candidates ≡ old.candidates → new.hops ≡ old.hops → new.table ≡ kept_at_load old.hops old.candidates → new.loaded ≡ true → new.events ≡ old.events → shortage new.sizes (routes_in new) ≡ None → IsLoading load old → Stands load [] new
 unfolding kept_from

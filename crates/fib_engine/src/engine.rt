@@ -4,7 +4,6 @@ ghost use Rattle.std.specs.Prelude.{◌≡◌, ◌≤◌, ◌<◌, ◌+◌, ◌^
 ghost use Rattle.address_model.specs.Address.{Address};
 ghost use Rattle.least_model.specs.Both.{aggregate_in_both};
 ghost use Rattle.cert_model.specs.Rows.{certificate_of};
-ghost use Rattle.delta_model.specs.Between.{between};
 ghost use Rattle.route_model.specs.Events.{Elem as model_elem};
 ghost use Rattle.route_model.specs.Choice.{elems_of};
 ghost use Rattle.feed_model.specs.Feed.{hops_after, number_in};
@@ -320,17 +319,17 @@ impl Engine {
         Ok(tables)
     }
 
-    /// Ends the load: makes the kept tables, which are least for the routes, and gives what adds their entries; counts what tries of
-    /// the routes need.
+    /// Ends the load: makes the kept tables, which are least for the routes, and gives their entries; counts what tries of the
+    /// routes need.
     ///
     /// # Errors
     ///
     /// `TrieFull` exactly where that is more than an arena has, of which it names the first; or no memory. Then the engine is as
     /// it was.
-    pub fn finish_load(&mut self) -> Result<Vec<Change>, EngineError>
+    pub fn finish_load(&mut self) -> Result<Vec<Entry>, EngineError>
         requires { self.old.loaded ≡ false }
         ensures ends { OnOk result (EndsLoad self.old self.new) }
-        ensures changes { IfOk result (λ v. map change_as v.items ≡ between [] self.new.table) }
+        ensures entries { IfOk result (λ v. map entry_as v.items ≡ self.new.table) }
         ensures stands { OnOk result ((load : List model_elem) → IsLoading load self.old
             → Stands load [] self.new) }
         ensures fits { OnOk result (shortage self.new.sizes (routes_in self.new) ≡ None) }
@@ -339,14 +338,14 @@ impl Engine {
             → IsShortFor self.old (routes_in self.old) t }
         ensures err { OnErr result (self.new ≡ self.old) }
     {
-        let mut tables = self.tables_of_routes()?;
+        let tables = self.tables_of_routes()?;
         let needs = tables.needs(self.limits.sizes.direct);
         needs.fit(&self.limits.sizes)?;
-        let changes = tables.snapshot()?;
+        let (tables, entries) = tables.filled()?;
         self.tables = tables;
         self.needs = needs;
         self.is_loaded = true;
-        Ok(changes)
+        Ok(entries)
     }
 
     /// The kept table, in the order of prefixes.

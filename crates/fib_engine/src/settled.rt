@@ -1,15 +1,15 @@
 //! What an engine is once no more events come.
 
-ghost use Rattle.std.specs.Prelude.{◌≡◌, ◌++◌, IfOk, OnOk, map};
+ghost use Rattle.std.specs.Prelude.{◌≡◌, ◌++◌, IfOk, OnOk};
 ghost use Rattle.least_model.specs.Both.{aggregate_in_both};
 ghost use Rattle.cert_model.specs.Rows.{certificate_of};
-ghost use Rattle.fib_addr.specs.Views.{entry_as};
 ghost use Rattle.route_tries.specs.Sizes.{AreFew, needs_of};
 ghost use Rattle.route_tries.specs.Tries.{AreTriesOf};
 
 use crate::tables::Tables;
 use cert_rows::RowSink;
-use fib_prefix::{Entry, Family};
+use entry_rows::EntrySink;
+use fib_prefix::Family;
 use route_tries::{FamilyNeeds, Sizes, Tries, TriesError};
 use std::alloc::{AllocError, Global};
 use std::marker::Model;
@@ -37,38 +37,44 @@ impl Model for Settled {
 }
 
 impl Settled {
-    /// The routes, in the order of prefixes. They are read from the trees.
+    /// Hands on the routes one by one, in the order of prefixes. They are read from the trees.
     ///
     /// # Errors
     ///
-    /// No memory.
-    pub fn routes(&self) -> Result<Vec<Entry>, AllocError>
-        ensures { IfOk result (λ v. map entry_as v.items ≡ self.now.routes) }
+    /// No memory; then a front of the routes was taken.
+    pub fn hand_routes<S: EntrySink>(&self, out: &mut S) -> Result<(), AllocError>
+        requires { S.ready out.old }
+        ensures ready { OnOk result (S.ready out.new) }
+        ensures takes { OnOk result (S.takes out.old self.now.routes out.new) }
     {
-        self.tables.routes()
+        self.tables.hand_routes(out)
     }
 
-    /// The kept table, in the order of prefixes.
+    /// Hands on the entries of the kept table one by one, in the order of prefixes.
     ///
     /// # Errors
     ///
-    /// No memory.
-    pub fn table(&self) -> Result<Vec<Entry>, AllocError>
-        ensures { IfOk result (λ v. map entry_as v.items ≡ self.now.table) }
+    /// No memory; then a front of the entries was taken.
+    pub fn hand_table<S: EntrySink>(&self, out: &mut S) -> Result<(), AllocError>
+        requires { S.ready out.old }
+        ensures ready { OnOk result (S.ready out.new) }
+        ensures takes { OnOk result (S.takes out.old self.now.table out.new) }
     {
-        self.tables.table()
+        self.tables.hand_table(out)
     }
 
-    /// The least table of the routes, with the kept one as the old table; IPv4 first.
+    /// Hands on the entries of the least table of the routes one by one, with the kept one as the old table; IPv4 first.
     ///
     /// # Errors
     ///
-    /// No memory.
-    pub fn least_table(&self) -> Result<Vec<Entry>, AllocError>
-        ensures { IfOk result (λ v. map entry_as v.items
-            ≡ aggregate_in_both self.now.routes self.now.table) }
+    /// No memory; then a front of the entries was taken.
+    pub fn hand_least<S: EntrySink>(&self, out: &mut S) -> Result<(), AllocError>
+        requires { S.ready out.old }
+        ensures ready { OnOk result (S.ready out.new) }
+        ensures takes { OnOk result (S.takes out.old
+            (aggregate_in_both self.now.routes self.now.table) out.new) }
     {
-        self.tables.least_table()
+        self.tables.hand_least(out)
     }
 
     /// Hands on the rows that prove the least table least, one by one; IPv4 first. Each family's table is let go once its rows

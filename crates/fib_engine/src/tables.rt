@@ -5,7 +5,6 @@ ghost use Rattle.std.specs.List.{AllByRecursion};
 ghost use Rattle.address_model.specs.declared.family.Family.TheVariants.{V4, V6};
 ghost use Rattle.least_model.specs.Both.{aggregate_in};
 ghost use Rattle.cert_model.specs.Rows.{family_rows};
-ghost use Rattle.delta_model.specs.Between.{between};
 ghost use Rattle.fib_addr.specs.Views.{entry_as};
 ghost use Rattle.fib_delta.specs.Views.{change_as};
 ghost use Rattle.cert_rows.specs.Views.{row_as};
@@ -14,6 +13,7 @@ ghost use Rattle.route_tries.specs.Sizes.{told_needs};
 ghost use Rattle.fib_engine.specs.Tables.{AreBoth, AreTold, ArePlanned, ArePut, AreUndone, Given, gathered, needs_in, route_in, labels_of, table_of, both_routes, KeepRoutes, KeepTables, MadeBy};
 
 use cert_rows::RowSink;
+use entry_rows::EntrySink;
 use fib_delta::Change;
 use fib_prefix::{Entry, Family, Hop, Prefix};
 use orig_tree::Tree;
@@ -98,21 +98,23 @@ impl Tables {
         Ok(Tables { v4, v6 })
     }
 
-    /// Makes both tables least, and gives the changes, IPv4 first.
-    pub fn snapshot(&mut self) -> Result<Vec<Change>, AllocError>
-        requires { AreBoth self.old }
-        ensures routes { KeepRoutes self.old self.new }
-        ensures v4 { OnOk result (self.new.v4.entries
-            ≡ aggregate_in V4 self.old.v4.routes self.old.v4.entries) }
-        ensures v6 { OnOk result (self.new.v6.entries
-            ≡ aggregate_in V6 self.old.v6.routes self.old.v6.entries) }
-        ensures changes { IfOk result (λ v. map change_as v.items
-            ≡ between self.old.v4.entries self.new.v4.entries
-            ++ between self.old.v6.entries self.new.v6.entries) }
+    /// The routes with their least tables in place of empty ones, and the entries of both, IPv4 first.
+    ///
+    /// # Errors
+    ///
+    /// No memory.
+    pub fn filled(self) -> Result<(Tables, Vec<Entry>), AllocError>
+        requires both { AreBoth self }
+        requires empty { (self.v4.entries ≡ []) × (self.v6.entries ≡ []) }
+        ensures routes { IfOk result (λ r. KeepRoutes self r.0) }
+        ensures v4 { IfOk result (λ r. r.0.v4.entries ≡ aggregate_in V4 self.v4.routes []) }
+        ensures v6 { IfOk result (λ r. r.0.v6.entries ≡ aggregate_in V6 self.v6.routes []) }
+        ensures entries { IfOk result (λ r. map entry_as r.1.items ≡ table_of r.0) }
     {
-        let mut changes = self.v4.snapshot()?;
-        changes.extend_from_slice(&self.v6.snapshot()?)?;
-        Ok(changes)
+        let (v4, mut entries) = self.v4.filled()?;
+        let (v6, others) = self.v6.filled()?;
+        entries.extend_from_slice(&others)?;
+        Ok((Tables { v4, v6 }, entries))
     }
 
     /// Plans the repair where a route changes, if one does, and a snapshot of both, if it is due: the table of the route's
@@ -207,25 +209,40 @@ impl Tables {
         Ok(table)
     }
 
-    /// The routes of both, IPv4 first.
-    pub fn routes(&self) -> Result<Vec<Entry>, AllocError>
-        ensures { IfOk result (λ v. map entry_as v.items ≡ both_routes self.now) }
+    /// Hands on the routes of both, IPv4 first.
+    pub fn hand_routes<S: EntrySink>(&self, out: &mut S) -> Result<(), AllocError>
+        requires { S.ready out.old }
+        ensures ready { OnOk result (S.ready out.new) }
+        ensures takes { OnOk result (S.takes out.old (both_routes self.now) out.new) }
     {
-        let mut routes = self.v4.tree().routes()?;
-        routes.extend_from_slice(&self.v6.tree().routes()?)?;
-        Ok(routes)
+        self.v4.tree().hand_routes(out)?;
+        self.v6.tree().hand_routes(out)?;
+        Ok(())
     }
 
-    /// The least tables of the routes, with the kept ones as the old tables; IPv4 first.
-    pub fn least_table(&self) -> Result<Vec<Entry>, AllocError>
-        requires { AreBoth self.now }
-        ensures { IfOk result (λ v. map entry_as v.items
-            ≡ aggregate_in V4 self.now.v4.routes self.now.v4.entries
-            ++ aggregate_in V6 self.now.v6.routes self.now.v6.entries) }
+    /// Hands on the entries of both tables, IPv4 first.
+    pub fn hand_table<S: EntrySink>(&self, out: &mut S) -> Result<(), AllocError>
+        requires { S.ready out.old }
+        ensures ready { OnOk result (S.ready out.new) }
+        ensures takes { OnOk result (S.takes out.old (table_of self.now) out.new) }
     {
-        let mut table = self.v4.least_table()?;
-        table.extend_from_slice(&self.v6.least_table()?)?;
-        Ok(table)
+        self.v4.hand_table(out)?;
+        self.v6.hand_table(out)?;
+        Ok(())
+    }
+
+    /// Hands on the entries of the least tables of the routes, with the kept ones as the old tables; IPv4 first.
+    pub fn hand_least<S: EntrySink>(&self, out: &mut S) -> Result<(), AllocError>
+        requires both { AreBoth self.now }
+        requires ready { S.ready out.old }
+        ensures ready { OnOk result (S.ready out.new) }
+        ensures takes { OnOk result (S.takes out.old (aggregate_in V4 self.now.v4.routes
+            self.now.v4.entries ++ aggregate_in V6 self.now.v6.routes self.now.v6.entries)
+            out.new) }
+    {
+        self.v4.hand_least(out)?;
+        self.v6.hand_least(out)?;
+        Ok(())
     }
 
     /// Hands on the rows that prove tables of the routes least; IPv4 first. Each is let go once its rows are told.

@@ -125,10 +125,10 @@ fn what_is_held_is_told(rt: HostRuntime) -> Result<(), EngineError> {
 #[test]
 fn what_is_left_is_told(rt: HostRuntime) -> Result<(), EngineError> {
     let lower = prefix(0, 1);
-    let held = [Entry {
+    let held = Entry {
         prefix: lower,
         hop: Hop(1),
-    }];
+    };
     let due = [
         Row::Leaf(lower, Hop(1)),
         Row::Leaf(prefix(0x8000_0000, 1), Hop::NONE),
@@ -139,9 +139,11 @@ fn what_is_left_is_told(rt: HostRuntime) -> Result<(), EngineError> {
     ];
     let (settled, hops) = loaded(rt.alloc(), 0, lower)?.settle();
     assert_eq!(rt; hops.find(&hop(1)), Some(Hop(1)));
-    assert!(rt; entries_are(settled.routes(), &held));
-    assert!(rt; entries_are(settled.table(), &held));
-    assert!(rt; entries_are(settled.least_table(), &held));
+    let mut handed = Vec::new(rt.alloc());
+    settled.hand_routes(&mut handed)?;
+    settled.hand_table(&mut handed)?;
+    settled.hand_least(&mut handed)?;
+    assert_eq!(rt; handed.as_slice(), [held, held, held].as_slice());
     assert!(rt; rows_are(rt.alloc(), settled, &due));
     Ok(())
 }

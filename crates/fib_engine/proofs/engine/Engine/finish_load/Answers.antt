@@ -8,7 +8,7 @@ use Rattle.fib_engine.proofs.Erring.{err_is, is_full}
 use Rattle.kept_feed.specs.Kept.{kept_at_load}
 use Rattle.fib_engine.specs.Held.{Held, IsSound, routes_in}
 use Rattle.fib_engine.specs.Tables.{AreOfRoutes, table_of}
-use Rattle.fib_engine.proofs.Taking.{sound_end, table_end, changes_end, stands_end}
+use Rattle.fib_engine.proofs.Taking.{sound_end, table_end, stands_end}
 use Rattle.fib_engine.proofs.engine.Engine.finish_load.Goals as goal
 
 pub invariant_of-self : goal.invariant_of-self
@@ -19,7 +19,7 @@ invariant_of-self c =
     let z = sizes_as t.limits.sizes in
     let E = entries_of t.hops.list t.candidates.candidates in
     let is : c.needs-needs.result ≡ told_needs (needs_of z.direct E) = c.needs-needs.ensures ∙ ap told_needs (needs_known z.direct c.in_ok-tables.tables.v4.routes c.in_ok-tables.tables.v6.routes E a.v4 a.v6) in (
-      sound_end t.candidates.candidates t.hops.list t.tables c.in_ok-tables.tables c.snapshot.new.self s a c.snapshot.ensures.routes c.in_ok-changes.ensures.v4 c.in_ok-changes.ensures.v6,
+      sound_end t.candidates.candidates t.hops.list t.tables c.in_ok-tables.tables c.in_ok-tables-2.tables s a c.in_ok-tables-2.ensures.routes c.in_ok-tables-2.ensures.v4 c.in_ok-tables-2.ensures.v6,
       counted z t.limits.sizes.few_nodes t.limits.sizes.few_leaves E c.needs-needs.result is c.in_ok-fit.ensures.ok,
     )
 
@@ -48,7 +48,7 @@ returns-clause-ends c =
     let t = c.self.inside in
     let s = subst (λ (b : Bool). IsSound t.candidates.candidates t.hops.list b t.tables) (ap (λ (e : Held). e.loaded) c.self.view_is ∙ c.requires) c.self.invariant.0 in
     let a = subst (λ (e : Held). AreOfRoutes (routes_in e) c.in_ok-tables.tables) (sym c.self.view_is) c.in_ok-tables.ensures in
-    let there = table_end t.candidates.candidates t.hops.list t.tables c.in_ok-tables.tables c.snapshot.new.self s a c.snapshot.ensures.routes c.in_ok-changes.ensures.v4 c.in_ok-changes.ensures.v6 in
+    let there = table_end t.candidates.candidates t.hops.list t.tables c.in_ok-tables.tables c.in_ok-tables-2.tables s a c.in_ok-tables-2.ensures.routes c.in_ok-tables-2.ensures.v4 c.in_ok-tables-2.ensures.v6 in
     record {
       candidates = ap (λ (e : Held). e.candidates) c.self.view_is;
       hops = ap (λ (e : Held). e.hops) c.self.view_is;
@@ -59,13 +59,6 @@ returns-clause-ends c =
       events = ap (λ (e : Held). e.events) c.self.view_is;
     }
 
-pub returns-clause-changes : goal.returns-clause-changes
-returns-clause-changes c =
-    let t = c.self.inside in
-    let s = subst (λ (b : Bool). IsSound t.candidates.candidates t.hops.list b t.tables) (ap (λ (e : Held). e.loaded) c.self.view_is ∙ c.requires) c.self.invariant.0 in
-    let a = subst (λ (e : Held). AreOfRoutes (routes_in e) c.in_ok-tables.tables) (sym c.self.view_is) c.in_ok-tables.ensures in
-    c.in_ok-changes.ensures.changes ∙ changes_end t.candidates.candidates t.hops.list t.tables c.in_ok-tables.tables c.snapshot.new.self s a c.snapshot.ensures.routes c.in_ok-changes.ensures.v4 c.in_ok-changes.ensures.v6
-
 pub returns-clause-stands : goal.returns-clause-stands
 returns-clause-stands c = λ load st.
     let t = c.self.inside in
@@ -74,6 +67,6 @@ returns-clause-stands c = λ load st.
     let z = sizes_as t.limits.sizes in
     let E = entries_of t.hops.list t.candidates.candidates in
     let is : c.needs-needs.result ≡ told_needs (needs_of z.direct E) = c.needs-needs.ensures ∙ ap told_needs (needs_known z.direct c.in_ok-tables.tables.v4.routes c.in_ok-tables.tables.v6.routes E a.v4 a.v6) in
-    let there = table_end t.candidates.candidates t.hops.list t.tables c.in_ok-tables.tables c.snapshot.new.self s a c.snapshot.ensures.routes c.in_ok-changes.ensures.v4 c.in_ok-changes.ensures.v6 in
-    let new : Held = record { every = t.limits.every; sizes = sizes_as t.limits.sizes; candidates = t.candidates.candidates; hops = t.hops.list; table = table_of c.snapshot.new.self; loaded = true; events = t.events } in
+    let there = table_end t.candidates.candidates t.hops.list t.tables c.in_ok-tables.tables c.in_ok-tables-2.tables s a c.in_ok-tables-2.ensures.routes c.in_ok-tables-2.ensures.v4 c.in_ok-tables-2.ensures.v6 in
+    let new : Held = record { every = t.limits.every; sizes = sizes_as t.limits.sizes; candidates = t.candidates.candidates; hops = t.hops.list; table = table_of c.in_ok-tables-2.tables; loaded = true; events = t.events } in
     stands_end load c.args.self.now new (ap (λ (e : Held). e.candidates) c.self.view_is) (ap (λ (e : Held). e.hops) c.self.view_is) (there ∙ ap (λ (e : Held). kept_at_load e.hops e.candidates) c.self.view_is) refl (ap (λ (e : Held). e.events) c.self.view_is) (counted z t.limits.sizes.few_nodes t.limits.sizes.few_leaves E c.needs-needs.result is c.in_ok-fit.ensures.ok).fit st
