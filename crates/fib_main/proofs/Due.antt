@@ -1,8 +1,9 @@
 -- What is due, part by part.
-use Rattle.std.proofs.Common.{◌≡◌, ℕ, false, List, [], Option, Some, None, Result, Ok, Err, inr, refl, sym, ap, ◌∙◌, subst, append-nil, arith}
+use Rattle.std.proofs.Common.{◌≡◌, ℕ, false, List, [], ◌++◌, map, Option, Some, None, Result, Ok, Err, inr, refl, sym, ap, ◌∙◌, subst, append-nil, arith}
 use Rattle.std.specs.Prelude.{option_to_list}
 use Rattle.octet_fields.specs.Field.{◌>>=◌}
 use Rattle.address_model.specs.Address.{Address}
+use Rattle.table_model.specs.Changes.{additions}
 use Rattle.fib_words.specs.Commands.{Named}
 use Rattle.fib_main.specs.declared.outcome.Outcome.{Outcome}
 use Rattle.fib_main.specs.declared.outcome.Outcome.TheVariants.{Done, CheckNo, Usage, ReadFault, WriteFault, NoMemory, TooLarge, Malformed, HopsFull, TrieFull, BadLine}
@@ -22,7 +23,8 @@ use Rattle.fib_main.specs.Owned.{StopsAt}
 use Rattle.fib_main.specs.declared.outcome.Which.TheVariants as which
 use Rattle.fib_main.specs.declared.state.FeedError.{FeedError}
 use Rattle.fib_main.specs.declared.state.FeedError.TheVariants as feed
-use Rattle.feed_model.specs.Feed.{entries_of, hops_after}
+use Rattle.feed_model.specs.Feed.{at_event, entries_of, hops_after}
+use Rattle.fib_addr.specs.Views.{entry_as}
 
 refused_not_ok : {X : Type 0} (o : Outcome) (x : X) → Err (Refused o) ≡ Ok x → ⊥
 refused_not_ok o x e = cc
@@ -188,15 +190,15 @@ updates_read content named load before mid now o i same r =
 
 -- ---- where the inputs begin
 
-pub stands_new : (limits : Limits) (state : State) → state.engine ≡ record { every = limits.every; sizes = limits.sizes; candidates = []; hops = []; table = []; loaded = false; events = 0 } → state.changes.items ≡ [] → StateStands Dump limits [] [] state
+pub stands_new : (limits : Limits) (state : State) → state.engine ≡ record { every = limits.every; sizes = limits.sizes; candidates = []; hops = []; table = []; loaded = false; events = 0 } → state.added.items ≡ [] → state.changes.items ≡ [] → StateStands Dump limits [] [] state
 unfolding stop_at
-stands_new limits state e n = record {
+stands_new limits state e a n = record {
   engine = rw e (record { candidates = refl; hops = refl; proper = tt; table = refl; loaded = refl; events = refl });
   every_is = ap (λ (h : Held). h.every) e;
   sizes_are = ap (λ (h : Held). h.sizes) e;
   few = rw e (omega arith);
   fits = refl;
-  changes = ap changes_as n;
+  changes = ap (λ es. at_event 0 (additions (map entry_as es)) ++ changes_as state.changes.items) a ∙ ap changes_as n;
 }
 
 pub fed_all : (limits : Limits) (load updates : Feed) (fed : Fed) (before state : State) → StateHas Dump limits [] load fed.load before → StateHas Updates limits load.elems updates fed.updates state → IsFed limits load updates fed state

@@ -8,19 +8,26 @@ use Rattle.fib_main.specs.declared.state.FeedError.TheVariants.{Malformed, HopsF
 use Rattle.std.proofs.lemmas.List.{map_push}
 use Rattle.std.proofs.lemmas.List.Sums.{fold-append}
 use Rattle.address_model.specs.Address.{Address}
-use Rattle.table_model.specs.Changes.{Change}
+use Rattle.std.specs.List.Sorted.{IsStrictlySortedBy}
+use Rattle.std.specs.Map.{keys_of}
+use Rattle.address_model.specs.Order.{prefix_cmp}
+use Rattle.table_model.specs.Changes.{Change, Add, additions}
+use Rattle.table_model.specs.Entries.{Entries}
 use Rattle.route_model.specs.Events.{Elem, Event}
 use Rattle.route_model.specs.Choice.{Candidates, after_elem, after_elems, elems_of, elems_after}
 use Rattle.route_model.proofs.Elems.{elems_more}
 use Rattle.delta_model.specs.Between.{between}
+use Rattle.delta_model.proofs.Merged.{first_new}
 use Rattle.feed_model.specs.Feed.{hops_after, entries_of, at_event}
 use Rattle.feed_model.proofs.Numbers.{hops_more}
-use Rattle.kept_feed.specs.Kept.{changes_by, kept_at_load, kept_changes_from, kept_load_changes}
+use Rattle.kept_feed.specs.Kept.{changes_by, kept_at_load, kept_changes_from}
+use Rattle.kept_feed.proofs.Sums.{snapshot_placed}
+use Rattle.fib_addr.specs.Views.{entry_as}
 use Rattle.fib_addr.specs.Hops.{most_hops}
 use Rattle.fib_main.specs.declared.outcome.MrtInput.{MrtInput}
 use Rattle.fib_main.specs.declared.outcome.MrtInput.TheVariants.{Dump, Updates}
 use Rattle.fib_main.specs.declared.state.State.{State}
-use Rattle.fib_main.specs.Views.{changes_as}
+use Rattle.fib_main.specs.Views.{changes_as, told_changes}
 use Rattle.fib_engine.specs.Held.{routes_in}
 use Rattle.fib_engine.specs.Stands.{EndsLoad, IsLoading, IsShortFor, IsTooMany, Loads, Stands, Takes, changes_of as engine_changes, routes_after}
 use Rattle.route_tries.specs.Sizes.{shortage, shortage_as}
@@ -112,7 +119,7 @@ few_push : (elem : Elem) (old new : State) → (IsTooMany elem old.engine → �
 few_push elem old new n h = rw h (few_after old.engine.hops elem n)
 
 -- an elementary event of the load
-pub loads_one : (event : ℕ) (elem : Elem) (old new : State) → Loads elem old.engine new.engine → ((load : List Elem) → IsLoading load old.engine → IsLoading (load ++ elem ∷ []) new.engine) → (IsTooMany elem old.engine → ⊥) → new.changes.items ≡ old.changes.items
+pub loads_one : (event : ℕ) (elem : Elem) (old new : State) → Loads elem old.engine new.engine → ((load : List Elem) → IsLoading load old.engine → IsLoading (load ++ elem ∷ []) new.engine) → (IsTooMany elem old.engine → ⊥) → told_changes new ≡ told_changes old
     → StateTakes {T = Unit {0}} Dump event (elem ∷ []) old (Ok tt) new
 loads_one event elem old new l loading n same = λ limits before done counted s. record {
   engine = subst (λ es. IsLoading es new.engine) (sym (elems_push before done elem)) (loading (before ++ done) s.engine);
@@ -120,7 +127,7 @@ loads_one event elem old new l loading n same = λ limits before done counted s.
   sizes_are = l.sizes ∙ s.sizes_are;
   few = few_push elem old new n l.hops;
   fits = fits_push Dump limits before done elem old s (dump_fits limits.sizes ((before ++ done) ++ elem ∷ []) (few_next Dump limits before done elem old s n));
-  changes = ap changes_as same ∙ s.changes;
+  changes = same ∙ s.changes;
 }
 
 -- tries of the routes after an elementary event that was taken have room
@@ -131,7 +138,7 @@ room_next limits before done elem old new s t room =
 
 -- an elementary event of updates
 pub takes_one : (event : ℕ) (elem : Elem) (old new : State) (changes : List Change) → Takes elem old.engine new.engine → ((load elems : List Elem) → Stands load elems old.engine → Stands load (elems ++ elem ∷ []) new.engine) → (IsTooMany elem old.engine → ⊥)
-    → shortage new.engine.sizes (routes_in new.engine) ≡ None → changes ≡ engine_changes elem old.engine → changes_as new.changes.items ≡ changes_as old.changes.items ++ at_event event changes → StateTakes {T = Unit {0}} Updates event (elem ∷ []) old (Ok tt) new
+    → shortage new.engine.sizes (routes_in new.engine) ≡ None → changes ≡ engine_changes elem old.engine → told_changes new ≡ told_changes old ++ at_event event changes → StateTakes {T = Unit {0}} Updates event (elem ∷ []) old (Ok tt) new
 takes_one event elem old new changes t stands n room c grown = λ limits before done counted s. record {
   engine = stands before done s.engine;
   every_is = t.every ∙ s.every_is;
@@ -140,7 +147,7 @@ takes_one event elem old new changes t stands n room c grown = λ limits before 
   fits = fits_push Updates limits before done elem old s (updates_fit limits.sizes ((before ++ done) ++ elem ∷ []) (few_next Updates limits before done elem old s n) (room_next limits before done elem old new s t room));
   changes = all limits before done counted s;
 } where
-  all : (limits : Limits) (before done : List Elem) → event ≡ length (done ++ elem ∷ []) → StateStands Updates limits before done old → changes_as new.changes.items ≡ changes_of limits.every new.engine.hops before (done ++ elem ∷ [])
+  all : (limits : Limits) (before done : List Elem) → event ≡ length (done ++ elem ∷ []) → StateStands Updates limits before done old → told_changes new ≡ changes_of limits.every new.engine.hops before (done ++ elem ∷ [])
   all limits before done counted s =
       let n : event ≡ old.engine.events + 1 = omega (arith, counted, s.engine.events, length-append done (elem ∷ [])) in
       let by : changes ≡ changes_by limits.every (hops_after old.engine.hops (elem ∷ [])) (old.engine.events + 1) old.engine.candidates old.engine.table elem = c ∙ ap (λ k. changes_by k (hops_after old.engine.hops (elem ∷ [])) (old.engine.events + 1) old.engine.candidates old.engine.table elem) s.every_is in
@@ -153,20 +160,36 @@ takes_one event elem old new changes t stands n room c grown = λ limits before 
 
 -- ---- the end of the load
 
-pub load_ended : (limits : Limits) (load : List Elem) (old new : State) (changes : List Change) → EndsLoad old.engine new.engine → ((load : List Elem) → IsLoading load old.engine → Stands load [] new.engine) → changes ≡ between [] new.engine.table → changes_as new.changes.items ≡ changes_as old.changes.items ++ at_event 0 changes
+last_none : {A : Type 0} (xs ys : List A) → xs ++ ys ≡ [] → ys ≡ []
+last_none [] ys e = e
+last_none (x ∷ xs) ys e = cc
+
+-- what makes a table of none adds its entries, where these stand in order
+between_none : (T : Entries) → IsStrictlySortedBy prefix_cmp (keys_of T) → between [] T ≡ additions T
+unfolding between IsStrictlySortedBy
+between_none [] s = refl
+between_none (e ∷ T) s = first_new e [] T tt s.0 ∙ ap (λ cs. Add e.0 e.1 ∷ cs) (between_none T s.1)
+
+pub load_ended : (limits : Limits) (load : List Elem) (old new : State) → EndsLoad old.engine new.engine → ((load : List Elem) → IsLoading load old.engine → Stands load [] new.engine) → map entry_as new.added.items ≡ new.engine.table → new.changes.items ≡ old.changes.items
     → StateStands Dump limits [] load old → StateStands Updates limits load [] new
 unfolding stop_at kept_changes_from
-load_ended limits load old new changes e stands c grown s = record {
+load_ended limits load old new e stands there same s = record {
   engine = stands load s.engine;
   every_is = e.every ∙ s.every_is;
   sizes_are = e.sizes ∙ s.sizes_are;
   few = rw e.hops s.few;
   fits = refl;
-  changes = grown
-      ∙ (ap (λ cs. cs ++ at_event 0 changes) s.changes
-      ∙ (ap (at_event 0) (c ∙ ap (between []) (e.table ∙ ap (kept_at_load old.engine.hops) s.engine.candidates))
-      ∙ (ap (λ hs. kept_load_changes hs (after_elems [] load)) (sym e.hops) ∙ sym (append-nil (kept_load_changes new.engine.hops (after_elems [] load))))));
-}
+  changes = ap (λ L. at_event 0 (additions L) ++ changes_as new.changes.items) (there ∙ table)
+      ∙ (ap (λ cs. at_event 0 (additions T) ++ cs) none ∙ ap (λ cs. at_event 0 cs ++ []) (sym (between_none T (snapshot_placed (entries_of new.engine.hops (after_elems [] load)) []).1)));
+} where
+  T : Entries
+  T = kept_at_load new.engine.hops (after_elems [] load)
+
+  table : new.engine.table ≡ T
+  table = e.table ∙ (ap (kept_at_load old.engine.hops) s.engine.candidates ∙ ap (λ hs. kept_at_load hs (after_elems [] load)) (sym e.hops))
+
+  none : changes_as new.changes.items ≡ []
+  none = ap changes_as same ∙ last_none (at_event 0 (additions (map entry_as old.added.items))) (changes_as old.changes.items) s.changes
 
 -- its end isn't reached
 pub load_short : (limits : Limits) (load : List Elem) (old : State) (full : TrieFull) → StateStands Dump limits [] load old → IsShortFor old.engine (routes_in old.engine) full → shortage limits.sizes (routes_by load) ≡ Some (shortage_as full)

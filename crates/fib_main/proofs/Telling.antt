@@ -22,7 +22,7 @@ use Rattle.fib_report.specs.Rows.{run_text}
 use Rattle.fib_main.specs.declared.report.Fed.{Fed}
 use Rattle.fib_main.specs.declared.state.State.{State}
 use Rattle.fib_main.specs.Due.{Feed, answers_to, counts, changes_of, kept_of, printed, printed_text}
-use Rattle.fib_main.specs.Views.{changes_as, totals}
+use Rattle.fib_main.specs.Views.{told_changes, totals}
 use Rattle.fib_main.specs.Standing.{IsFed, IsCounted}
 
 counted : (load updates : Feed) (fed : Fed) (R T : Entries) (n m : ℕ) (needs : FamilyNeeds) → IsCounted load fed.load → IsCounted updates fed.updates → n ≡ length R → m ≡ length T → totals fed.load fed.updates n m needs ≡ counts load updates R T needs
@@ -34,7 +34,7 @@ told_by direct R T changes asks report = record { routes = R; changes = changes;
 
 pub told_is : (limits : Limits) (load updates : Feed) (fed : Fed) (state : State) (asks : List Address) (direct : ℕ) (routes table : Entries) (report : Report) (n m : ℕ) (needs : FamilyNeeds)
     → direct ≡ state.engine.sizes.direct → routes ≡ routes_in state.engine → table ≡ state.engine.table → report ≡ totals fed.load fed.updates n m needs → needs ≡ needs_of direct routes → n ≡ length routes → m ≡ length table → IsFed limits load updates fed state
-    → told_by direct routes table (changes_as state.changes.items) asks report ≡ (printed limits load updates asks).told
+    → told_by direct routes table (told_changes state) asks report ≡ (printed limits load updates asks).told
 told_is limits load updates fed state asks direct routes table report n m needs d r t told need len long f =
     let elems : List Elem = load.elems ++ updates.elems in
     let hops : List Address = hops_after [] elems in
@@ -46,12 +46,12 @@ told_is limits load updates fed state asks direct routes table report n m needs 
     let chosen : routes ≡ R = r ∙ (ap (λ h. entries_of h state.engine.candidates) s.engine.hops ∙ ap (entries_of hops) candidates) in
     let kept : table ≡ T = t ∙ (s.engine.table ∙ (ap (λ k. kept_of k state.engine.hops load.elems updates.elems) s.every_is ∙ ap (λ h. kept_of limits.every h load.elems updates.elems) s.engine.hops)) in
     let bits : direct ≡ limits.sizes.direct = d ∙ ap (λ (z : Sizes). z.direct) s.sizes_are in
-    let changes : changes_as state.changes.items ≡ changes_of limits.every hops load.elems updates.elems = s.changes ∙ ap (λ h. changes_of limits.every h load.elems updates.elems) s.engine.hops in
+    let changes : told_changes state ≡ changes_of limits.every hops load.elems updates.elems = s.changes ∙ ap (λ h. changes_of limits.every h load.elems updates.elems) s.engine.hops in
     let needed : needs ≡ needs_of limits.sizes.direct R = need ∙ (ap (λ E. needs_of direct E) chosen ∙ ap (λ z. needs_of z R) bits) in
     let report_is : report ≡ counts load updates R T (needs_of limits.sizes.direct R) = told ∙ (counted load updates fed R T n m needs f.counted f.has.counted (len ∙ ap length chosen) (long ∙ ap length kept) ∙ ap (counts load updates R T) needed) in
-    ap (λ E. told_by direct E table (changes_as state.changes.items) asks report) chosen
-    ∙ (ap (λ E. told_by direct R E (changes_as state.changes.items) asks report) kept
-    ∙ (ap (λ z. told_by z R T (changes_as state.changes.items) asks report) bits
+    ap (λ E. told_by direct E table (told_changes state) asks report) chosen
+    ∙ (ap (λ E. told_by direct R E (told_changes state) asks report) kept
+    ∙ (ap (λ z. told_by z R T (told_changes state) asks report) bits
     ∙ (ap (λ c. told_by limits.sizes.direct R T c asks report) changes ∙ ap (told_by limits.sizes.direct R T (changes_of limits.every hops load.elems updates.elems) asks) report_is)))
 
 pub text_is : (limits : Limits) (load updates : Feed) (fed : Fed) (state : State) (asks hops : List Address) (run : Told) (text : List ℕ) → IsFed limits load updates fed state → run ≡ (printed limits load updates asks).told → hops ≡ state.engine.hops → text ≡ run_text hops run → text ≡ printed_text (printed limits load updates asks)

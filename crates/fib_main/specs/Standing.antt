@@ -24,7 +24,7 @@ use Rattle.fib_io.specs.declared.pieces.ReadError.TheVariants as pieces
 use Rattle.fib_main.specs.declared.report.Fed.{Fed}
 use Rattle.mrt_read.specs.declared.reader.EventsError.{EventsError}
 use Rattle.mrt_read.specs.declared.reader.EventsError.TheVariants as read
-use Rattle.fib_main.specs.Views.{changes_as}
+use Rattle.fib_main.specs.Views.{told_changes}
 use Rattle.fib_main.specs.Stops.{Stop, IsDueIfTold, FailsDue, event_in, input_of}
 use Rattle.fib_main.specs.Refusals.{Limits, ManyHops, Refusal, Short, routes_by, stop_at, too_much}
 use Rattle.fib_main.specs.Due.{Feed, changes_of, feeds_at, limits_of}
@@ -56,7 +56,7 @@ pub record StateStands (which : MrtInput) (limits : Limits) (before elems : List
   pub sizes_are : state.engine.sizes ≡ limits.sizes
   pub few : length state.engine.hops ≤ most_hops
   pub fits : stop_at (too_much which limits.sizes) before elems ≡ None
-  pub changes : changes_as state.changes.items ≡ changes_so_far which limits.every state.engine.hops before elems
+  pub changes : told_changes state ≡ changes_so_far which limits.every state.engine.hops before elems
 
 -- the first of these elementary events after which something is too much has this number
 abbrev pub IsStopped : MrtInput → Limits → List Elem → List Elem → ℕ → Refusal → Type 0

@@ -1,6 +1,8 @@
 -- What a clause sees of this crate's values.
-use Rattle.std.specs.Prelude.{ℕ, ◌+◌, List, map, option_map}
-use Rattle.table_model.specs.Changes.{Change}
+use Rattle.std.specs.Prelude.{ℕ, ◌+◌, ◌++◌, List, map, option_map}
+use Rattle.table_model.specs.Changes.{Change, additions}
+use Rattle.feed_model.specs.Feed.{at_event}
+use Rattle.fib_addr.specs.Views.{entry_as}
 use Rattle.fib_delta.specs.declared.change.Change as code_change
 use Rattle.fib_report.specs.declared.run.Report.{Report}
 use Rattle.fib_engine.specs.declared.engine.Limits as code_limits
@@ -11,11 +13,16 @@ use Rattle.cert_check.specs.Views.{no_as}
 use Rattle.fib_main.specs.declared.feed.Counts.{Counts}
 use Rattle.fib_main.specs.declared.check.Reply as code_reply
 use Rattle.fib_main.specs.Refusals.{Limits}
+use Rattle.fib_main.specs.declared.state.State.{State}
 use Rattle.fib_main.specs.Due.{Reply, all_leaves, all_nodes}
 
 -- changes with their events' numbers
 abbrev pub changes_as : List (ℕ × code_change.Change) → List (ℕ × Change)
 changes_as changes = map (λ c. (c.0, change_as c.1)) changes
+
+-- all changes of a state: those of the load, event 0, and those of updates
+abbrev pub told_changes : State → List (ℕ × Change)
+told_changes state = at_event 0 (additions (map entry_as state.added.items)) ++ changes_as state.changes.items
 
 -- a text, and what is wrong where it says so
 abbrev pub reply_as : code_reply.Reply → Reply

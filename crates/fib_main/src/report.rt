@@ -2,13 +2,15 @@
 //! and the counts.
 //!
 //! The printed table is the kept one, which is the least table's old table too. The text is made section by section, from what
-//! the engine leaves once its candidates are let go; each list is let go once its rows are written, and the rows of the
-//! certificate are written as they are found, after which a family's tree is let go.
+//! the engine leaves once its candidates are let go: routes, entries and the rows of the certificate are written as they are
+//! found in the trees, after which a family's tree is let go; no list of them is made.
 
-ghost use Rattle.std.specs.Prelude.{◌≡◌, ℕ, [], true, IfOk, OnOk, flat_map, length, map};
+ghost use Rattle.std.specs.Prelude.{◌≡◌, ◌++◌, ℕ, [], true, IfOk, OnOk, flat_map, length, map};
 ghost use Rattle.table_model.specs.Entries.{Entries};
 ghost use Rattle.least_model.specs.Both.{aggregate_in_both};
-ghost use Rattle.fib_addr.specs.Views.{addr_as};
+ghost use Rattle.table_model.specs.Changes.{additions};
+ghost use Rattle.feed_model.specs.Feed.{at_event};
+ghost use Rattle.fib_addr.specs.Views.{addr_as, entry_as};
 ghost use Rattle.fib_main.specs.Due.{answers_to, Feed, printed, printed_text};
 ghost use Rattle.fib_report.specs.Rows.{of_answer, of_change, report_text, table_entry_row};
 ghost use Rattle.printed_model.specs.Numbered.{of_least, of_route};
@@ -26,8 +28,8 @@ use crate::feed::Counts;
 use crate::state::State;
 use fib_delta::Change;
 use fib_engine::{FamilyNeeds, Settled, Tries};
-use fib_prefix::Addr;
-use fib_report::{Answer, Report, RunText, report_text};
+use fib_prefix::{Addr, Entry};
+use fib_report::{Answer, Report, RunText, Section, report_text};
 use std::alloc::{AllocError, Global};
 use std::marker::Brand;
 use std::sync::ledger::{Blank, Ledger};
@@ -71,7 +73,7 @@ fn answers(alloc: Global, settled: &Settled, asks: &[Addr]) -> Result<Vec<Answer
 }
 
 /// The counts of both inputs, of the routes and of the table's entries, and what tries need.
-fn totals(fed: &Fed, routes: usize, entries: usize, needs: &FamilyNeeds) -> Report
+fn totals(fed: &Fed, routes: u64, entries: u64, needs: &FamilyNeeds) -> Report
     requires counts { AddUp fed.now.load fed.now.updates }
     requires few { AreFew needs.now }
     ensures { result ≡ totals fed.now.load fed.now.updates routes entries needs.now }
@@ -80,8 +82,8 @@ fn totals(fed: &Fed, routes: usize, entries: usize, needs: &FamilyNeeds) -> Repo
         records: fed.load.records + fed.updates.records,
         skipped: fed.load.skipped + fed.updates.skipped,
         events: fed.load.events + fed.updates.events,
-        routes: routes as u64,
-        entries: entries as u64,
+        routes,
+        entries,
         nodes: needs.v4.nodes + needs.v6.nodes,
         leaves: needs.v4.leaves + needs.v6.leaves,
         treated: fed.load.treated + fed.updates.treated,
@@ -98,24 +100,33 @@ pub struct Fed {
 }
 
 /// Writes the routes, and gives how many there are.
-fn write_routes(settled: &Settled, text: &mut RunText<'_>) -> Result<usize, AllocError>
-    requires { IsReady text.old }
-    ensures count { IfOk result (λ n. n ≡ length settled.now.routes) }
-    ensures writes { OnOk result (Writes text.old text.new
-        (flat_map (of_route (hops_in text.old)) settled.now.routes)) }
+fn write_routes<'a>(
+    settled: &Settled,
+    text: RunText<'a>,
+) -> Result<(RunText<'a>, u64), AllocError>
+    requires { IsReady text }
+    ensures count { IfOk result (λ r. r.1 ≡ length settled.now.routes) }
+    ensures writes { IfOk result (λ r. Writes text.entry r.0
+        (flat_map (of_route (hops_in text.entry)) settled.now.routes)) }
 {
-    let routes = settled.routes()?;
-    text.routes(&routes)?;
-    Ok(routes.len())
+    let mut rows = text.section(Section::Routes);
+    settled.hand_routes(&mut rows)?;
+    Ok(rows.end())
 }
 
-/// Writes changes, which are let go then.
-fn write_changes(changes: Vec<(u64, Change)>, text: &mut RunText<'_>) -> Result<(), AllocError>
+/// Writes the changes of the load and those of updates, which are let go then.
+fn write_changes(
+    added: Vec<Entry>,
+    changes: Vec<(u64, Change)>,
+    text: &mut RunText<'_>,
+) -> Result<(), AllocError>
     requires { IsReady text.old }
-    ensures { OnOk result (Writes text.old text.new
-        (map (of_change (hops_in text.old)) (changes_as changes.items))) }
+    ensures { OnOk result (Writes text.old text.new (map (of_change (hops_in text.old))
+        (at_event 0 (additions (map entry_as added.items)) ++ changes_as changes.items))) }
 {
-    text.changes(&changes)
+    text.entries(Section::Added, &added)?;
+    text.changes(&changes)?;
+    Ok(())
 }
 
 /// Writes each address with its answer.
@@ -133,24 +144,26 @@ fn write_answers(
 }
 
 /// Writes the kept table, and gives how many entries it has.
-fn write_table(settled: &Settled, text: &mut RunText<'_>) -> Result<usize, AllocError>
-    requires { IsReady text.old }
-    ensures count { IfOk result (λ n. n ≡ length settled.now.table) }
-    ensures writes { OnOk result (Writes text.old text.new
-        (map (table_entry_row (hops_in text.old)) settled.now.table)) }
+fn write_table<'a>(settled: &Settled, text: RunText<'a>) -> Result<(RunText<'a>, u64), AllocError>
+    requires { IsReady text }
+    ensures count { IfOk result (λ r. r.1 ≡ length settled.now.table) }
+    ensures writes { IfOk result (λ r. Writes text.entry r.0
+        (map (table_entry_row (hops_in text.entry)) settled.now.table)) }
 {
-    let table = settled.table()?;
-    text.table(&table)?;
-    Ok(table.len())
+    let mut rows = text.section(Section::Table);
+    settled.hand_table(&mut rows)?;
+    Ok(rows.end())
 }
 
 /// Writes the least table.
-fn write_least(settled: &Settled, text: &mut RunText<'_>) -> Result<(), AllocError>
-    requires { IsReady text.old }
-    ensures { OnOk result (Writes text.old text.new
-        (map (of_least (hops_in text.old)) (aggregate_in_both settled.now.routes settled.now.table))) }
+fn write_least<'a>(settled: &Settled, text: RunText<'a>) -> Result<RunText<'a>, AllocError>
+    requires { IsReady text }
+    ensures { IfOk result (λ t. Writes text.entry t (map (of_least (hops_in text.entry))
+        (aggregate_in_both settled.now.routes settled.now.table))) }
 {
-    text.least(&settled.least_table()?)
+    let mut rows = text.section(Section::Least);
+    settled.hand_least(&mut rows)?;
+    Ok(rows.end().0)
 }
 
 /// The text of the rows.
@@ -168,16 +181,20 @@ pub fn write_text(
     ensures yes { (limits : Limits) (load updates : Feed) → IsFed limits load updates fed.now state
         → IfOk result (λ text. ChecksYes text.items) }
 {
-    let State { engine, changes } = state;
+    let State {
+        engine,
+        added,
+        changes,
+    } = state;
     // from here on no candidate is held
     let (settled, hops) = engine.settle();
     let needs = settled.needs();
-    let mut text = RunText::new(alloc, &hops);
-    let routes = write_routes(&settled, &mut text)?;
-    write_changes(changes, &mut text)?;
+    let text = RunText::new(alloc, &hops);
+    let (mut text, routes) = write_routes(&settled, text)?;
+    write_changes(added, changes, &mut text)?;
     write_answers(alloc, &settled, asks, &mut text)?;
-    let entries = write_table(&settled, &mut text)?;
-    write_least(&settled, &mut text)?;
+    let (text, entries) = write_table(&settled, text)?;
+    let mut text = write_least(&settled, text)?;
     settled.certify(&mut text)?;
     text.report(&totals(fed, routes, entries, &needs))?;
     text.finish()
@@ -194,6 +211,6 @@ pub fn write_counts(alloc: Global, state: &State, fed: &Fed) -> Result<Vec<u8>, 
     let engine = &state.engine;
     let routes = engine.routes()?;
     let table = engine.table()?;
-    let report = totals(fed, routes.len(), table.len(), &engine.needs());
+    let report = totals(fed, routes.len() as u64, table.len() as u64, &engine.needs());
     report_text(alloc, &report)
 }

@@ -16,7 +16,7 @@ use crate::outcome::MrtInput;
 use fib_delta::Change;
 use fib_engine::{Engine, EngineError, Limits, TrieFull};
 use fib_io::ReadError;
-use fib_prefix::{Elem, Event};
+use fib_prefix::{Elem, Entry, Event};
 use mrt_read::{EventsError, Malformed};
 use std::alloc::{AllocError, AllocFailed, Global};
 use std::slice;
@@ -100,7 +100,9 @@ impl<T: Drop> From<AllocFailed<T>> for FeedError {
 pub struct State {
     /// The candidates of all peers, the numbers of next hops, and the kept table.
     pub engine: Engine,
-    /// The changes of the kept table, each with its event's number: those of the load, and those that updates make.
+    /// The entries of the kept table after the load: what the load adds to it.
+    pub added: Vec<Entry>,
+    /// The changes of the kept table that updates make, each with its event's number.
     pub changes: Vec<(u64, Change)>,
 }
 
@@ -129,11 +131,12 @@ impl State {
     {
         State {
             engine: Engine::new(alloc, limits),
+            added: Vec::new(alloc),
             changes: Vec::new(alloc),
         }
     }
 
-    /// Ends the load: the kept table is made, and what adds its entries are the changes of event 0.
+    /// Ends the load: the kept table is made, and its entries are what the load adds.
     pub fn finish_load(&mut self) -> Result<(), FeedError>
         requires { IsReady MrtInput.Dump 0 self.old.engine }
         ensures stands { OnOk result ((limits : ends) (load : List model_elem)
@@ -146,11 +149,10 @@ impl State {
             ≡ self.old.engine.candidates) }
         ensures ready { OnOk result (IsReady MrtInput.Updates 0 self.new.engine) }
     {
-        let changes = match self.engine.finish_load() {
-            Ok(changes) => changes,
+        match self.engine.finish_load() {
+            Ok(added) => self.added = added,
             Err(error) => return Err(refusal_at(LOAD, error)),
-        };
-        push_changes(&mut self.changes, LOAD, &changes)?;
+        }
         Ok(())
     }
 }

@@ -1,5 +1,9 @@
-use Rattle.std.proofs.Common.{refl, ap, map, ◌∙◌}
+use Rattle.std.proofs.Common.{◌++◌, refl, sym, ap, map, ◌∙◌, append_assoc}
+use Rattle.table_model.specs.Changes.{additions}
+use Rattle.feed_model.specs.Feed.{at_event}
+use Rattle.fib_addr.specs.Views.{entry_as}
 use Rattle.fib_delta.specs.Views.{change_as}
+use Rattle.fib_main.specs.Views.{changes_as}
 use Rattle.fib_main.proofs.Steps.{loads_one, not_loaded, not_taken, takes_one, took_it}
 use Rattle.fib_main.proofs.state.step.Goals as goal
 
@@ -12,7 +16,10 @@ returns-in-Err-clause-takes c = not_loaded c.args.which c.args.event _ c.args.st
 pub returns-in_ok-push_changes-in-Ok-apply-clause-takes : goal.returns-in_ok-push_changes-in-Ok-apply-clause-takes
 returns-in_ok-push_changes-in-Ok-apply-clause-takes c =
     let told = c.in-Ok-apply.ensures in
-    rw c.in-Updates.is (takes_one _ _ c.args.state.now _ _ told.takes told.stands (took_it c.in-Ok-apply.changes _ c.args.state.now told.full.1) told.fits (ap (map change_as) c.deref.ensures.value ∙ told.changes) c.in_ok-push_changes-in-Ok-apply.ensures)
+    let old = c.args.state.now in
+    let load = at_event 0 (additions (map entry_as old.added.items)) in
+    let grown = ap (λ cs. load ++ cs) c.in_ok-push_changes-in-Ok-apply.ensures ∙ sym (append_assoc load (changes_as old.changes.items) _) in
+    rw c.in-Updates.is (takes_one _ _ old _ _ told.takes told.stands (took_it c.in-Ok-apply.changes _ old told.full.1) told.fits (ap (map change_as) c.deref.ensures.value ∙ told.changes) grown)
 
 pub returns-in-Err-apply-clause-takes : goal.returns-in-Err-apply-clause-takes
 returns-in-Err-apply-clause-takes c =
