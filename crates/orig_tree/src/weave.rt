@@ -1,6 +1,6 @@
 //! Many entries set in one walk: as long as the next one is within the region at hand, the walk goes on from there.
 
-ghost use Rattle.std.specs.Prelude.{◌≡◌, ◌≤◌, ◌<◌, ◌-◌, ℕ, List, Bool, IfOk, map, vec_len};
+ghost use Rattle.std.specs.Prelude.{◌≡◌, ◌≤◌, ◌<◌, ◌-◌, ℕ, List, Bool, true, IfOk, IfSome, map, vec_len};
 ghost use Rattle.address_model.specs.Width.{width};
 ghost use Rattle.fib_addr.specs.Views.{entry_as, prefix_as};
 ghost use Rattle.orig_tree.specs.Arena.{cells_of, Place, IsTree, IsHeld};
@@ -10,16 +10,20 @@ ghost use Rattle.orig_tree.specs.declared.best.Best.{Best as best_view};
 
 use crate::best::{Best, Bests, exchange};
 use crate::node::{Label, Nodes, climb, read, renew, reserve, split};
-use fib_addr::{Entry, Prefix};
+use fib_addr::{Entry, Prefix, bit_at};
 use std::alloc::AllocError;
 
-/// Whether there is a first entry, and its prefix is within this one.
-fn starts_within(entries: &[Entry], prefix: &Prefix) -> bool
-    ensures { result ≡ starts_within (prefix_as prefix.now) (map entry_as entries.now) }
+/// Which half of the prefix the first entry is in, if it is in one. Only what the walk costs hangs on it: an entry that isn't
+/// in the half that is told is left by the walk there.
+fn next_half(entries: &[Entry], at: &Prefix) -> Option<bool>
+    requires { at.now.len < width at.now.family }
+    ensures { IfSome result (λ _. starts_within (prefix_as at.now) (map entry_as entries.now) ≡ true) }
 {
     match entries {
-        [first, ..] => first.prefix.is_within(prefix),
-        [] => false,
+        [first, ..] if first.prefix.len > at.len && first.prefix.is_within(at) => {
+            Some(bit_at(first.prefix.bits, at.family.width() - at.len - 1))
+        }
+        _ => None,
     }
 }
 
@@ -100,12 +104,24 @@ pub(crate) fn weave<'a>(
     if at.len == at.family.width() {
         return Ok(rest);
     }
-    let rest = weave_half(nodes, bests, i, false, at, inherited, label, rest)?;
-    let rest = weave_half(nodes, bests, i, true, at, inherited, label, rest)?;
-    Ok(rest)
+    match next_half(rest, &at) {
+        None => Ok(rest),
+        Some(true) => {
+            let rest = weave_half(nodes, bests, i, true, at, inherited, label, rest)?;
+            Ok(rest)
+        }
+        Some(false) => {
+            let rest = weave_half(nodes, bests, i, false, at, inherited, label, rest)?;
+            let Some(true) = next_half(rest, &at) else {
+                return Ok(rest);
+            };
+            let rest = weave_half(nodes, bests, i, true, at, inherited, label, rest)?;
+            Ok(rest)
+        }
+    }
 }
 
-/// The same of a half of the node, which is made a node where there is an entry for it.
+/// The same of a half of the node, which is made a node if it is none.
 #[cycle(weave)]
 fn weave_half<'a>(
     nodes: &mut Nodes,
@@ -125,9 +141,6 @@ fn weave_half<'a>(
         (best_in bests.new) i (map entry_as entries.now) (map entry_as rest.now)) }
 {
     let half = at.half(bit);
-    if !starts_within(entries, &half) {
-        return Ok(entries);
-    }
     let j = open_half(nodes, bests, i, bit, inherited)?;
     let below = read(nodes, i).route.hop.unwrap_or(inherited);
     let rest = weave(nodes, bests, j, half, below, label, entries)?;

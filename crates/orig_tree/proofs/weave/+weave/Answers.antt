@@ -4,27 +4,44 @@ use Rattle.fib_addr.specs.Views.{entry_as, prefix_as}
 use Rattle.orig_tree.specs.Arena.{cells_of}
 use Rattle.orig_tree.specs.Bests.{best_in}
 use Rattle.orig_tree.proofs.Telling.{half_longer, half_most}
-use Rattle.orig_tree.proofs.Weaving.{weaves_none, weaves_after, weaves_half}
+use Rattle.orig_tree.proofs.Weaving.{weaves_after, weaves_half}
 use Rattle.orig_tree.proofs.weave.+weave.Goals as goal
 
-pub weave-returns-clause-woven : goal.weave-returns-clause-woven
-weave-returns-clause-woven t c =
+pub weave-returns-in_ok-rest-in-Some-true-clause-woven : goal.weave-returns-in_ok-rest-in-Some-true-clause-woven
+weave-returns-in_ok-rest-in-Some-true-clause-woven t c =
     let a = c.args in
     let levels = width a.at.family - a.at.len in
     let P = prefix_as a.at in
     let S = best_in a.bests.now in
-    let E = map entry_as a.entries.now in
-    let A = map entry_as c.weave_own-rest.result.now in
-    let B = map entry_as c.in_ok-rest.rest.now in
-    let C = map entry_as c.in_ok-rest-2.rest.now in
     let own = c.weave_own-rest.new.nodes in
-    let low = c.weave_half.new.nodes in
-    let high = c.weave_half-2.new.nodes in
-    weaves_after a.label a.inherited levels P (cells_of a.nodes.now) (cells_of own) (cells_of high) a.nodes.now.free own.free high.free S S (best_in c.weave_half-2.new.bests) a.i E A C (c.weave_own-rest.ensures.woven a.inherited levels S)
-    (weaves_after a.label a.inherited levels P (cells_of own) (cells_of low) (cells_of high) own.free low.free high.free S (best_in c.weave_half.new.bests) (best_in c.weave_half-2.new.bests) a.i A B C c.in_ok-rest.ensures.woven c.in_ok-rest-2.ensures.woven)
+    let A = map entry_as c.weave_own-rest.result.now in
+    weaves_after a.label a.inherited levels P (cells_of a.nodes.now) (cells_of own) (cells_of c.weave_half.new.nodes) a.nodes.now.free own.free c.weave_half.new.nodes.free S S (best_in c.weave_half.new.bests) a.i (map entry_as a.entries.now) A (map entry_as c.in_ok-rest-in-Some-true.rest.now) (c.weave_own-rest.ensures.woven a.inherited levels S)
+    c.in_ok-rest-in-Some-true.ensures.woven
 
-pub weave_half-returns-then-not-starts_within-clause-woven : goal.weave_half-returns-then-not-starts_within-clause-woven
-weave_half-returns-then-not-starts_within-clause-woven t c = weaves_none c.args.label c.args.inherited (width c.args.at.family - c.args.at.len) (prefix_as c.args.at) (cells_of c.args.nodes.now) c.args.nodes.now.free (best_in c.args.bests.now) c.args.i (map entry_as c.args.entries.now)
+pub weave-returns-in_default-clause-woven : goal.weave-returns-in_default-clause-woven
+weave-returns-in_default-clause-woven t c =
+    let a = c.args in
+    let levels = width a.at.family - a.at.len in
+    let P = prefix_as a.at in
+    let S = best_in a.bests.now in
+    let own = c.weave_own-rest.new.nodes in
+    let A = map entry_as c.weave_own-rest.result.now in
+    weaves_after a.label a.inherited levels P (cells_of a.nodes.now) (cells_of own) (cells_of c.weave_half-in-Some-false.new.nodes) a.nodes.now.free own.free c.weave_half-in-Some-false.new.nodes.free S S (best_in c.weave_half-in-Some-false.new.bests) a.i (map entry_as a.entries.now) A (map entry_as c.in_ok-rest-in-Some-false.rest.now) (c.weave_own-rest.ensures.woven a.inherited levels S)
+    c.in_ok-rest-in-Some-false.ensures.woven
+
+pub weave-returns-in_ok-rest-in-Some-false-2-clause-woven : goal.weave-returns-in_ok-rest-in-Some-false-2-clause-woven
+weave-returns-in_ok-rest-in-Some-false-2-clause-woven t c =
+    let a = c.args in
+    let levels = width a.at.family - a.at.len in
+    let P = prefix_as a.at in
+    let S = best_in a.bests.now in
+    let own = c.weave_own-rest.new.nodes in
+    let A = map entry_as c.weave_own-rest.result.now in
+    let low = c.weave_half-in-Some-false.new.nodes in
+    let high = c.weave_half-in-Some-false-2.new.nodes in
+    weaves_after a.label a.inherited levels P (cells_of a.nodes.now) (cells_of own) (cells_of c.weave_half-in-Some-false-2.new.nodes) a.nodes.now.free own.free c.weave_half-in-Some-false-2.new.nodes.free S S (best_in c.weave_half-in-Some-false-2.new.bests) a.i (map entry_as a.entries.now) A (map entry_as c.in_ok-rest-in-Some-false-2.rest.now) (c.weave_own-rest.ensures.woven a.inherited levels S)
+    (weaves_after a.label a.inherited levels P (cells_of own) (cells_of low) (cells_of high) own.free low.free high.free S (best_in c.weave_half-in-Some-false.new.bests) (best_in c.weave_half-in-Some-false-2.new.bests) a.i A (map entry_as c.in_ok-rest-in-Some-false.rest.now) (map entry_as c.in_ok-rest-in-Some-false-2.rest.now)
+    c.in_ok-rest-in-Some-false.ensures.woven c.in_ok-rest-in-Some-false-2.ensures.woven)
 
 pub weave_half-weave-requires : goal.weave_half-weave-requires
 weave_half-weave-requires t c = (omega (arith, half_longer c.args.at c.half-half.result c.args.bit c.half-half.ensures, half_most c.half-half.result), c.open_half.ensures.long)
