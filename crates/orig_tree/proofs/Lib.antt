@@ -30,4 +30,5 @@ pub mod Undoing
 pub mod Loading
 pub mod Placing
 pub mod Costing
+pub mod Heading
 pub mod Weaving

@@ -44,6 +44,7 @@ use Rattle.orig_tree.proofs.Rooms.{no, no_begin, both_not, spare_kept}
 use Rattle.orig_tree.proofs.Halving.{halves_same, halves_retold}
 use Rattle.orig_tree.proofs.Standing.{stands_one, best_alike, best_stay, best_same}
 use Rattle.orig_tree.proofs.Mending.{half_gets}
+use Rattle.orig_tree.proofs.Heading.{both_true}
 use Rattle.orig_tree.proofs.Settling.{others_after, put_held}
 use Rattle.orig_tree.proofs.Growing.{grown_end, grown_alike, grown_below, tree_side, split_grown}
 
@@ -307,10 +308,6 @@ pub first_rest : (E : List code_entry.Entry) (x : code_entry.Entry) → 1 ≤ le
 first_rest [] x l e = absurd (omega arith)
 first_rest (y ∷ E) x l e = ap (λ z. z ∷ E) (sym e) ∙ ap (λ F. x ∷ F) (sym (take_all (length (y ∷ E) - 1) E (omega arith)))
 
-both_true : (a b : Bool) → true ≡ (a && b) → (a ≡ true) × (b ≡ true)
-both_true true b e = (refl, sym e)
-both_true false b e = cc
-
 same_families : (f g : Family) → sameb the_type f g ≡ true → f ≡ g
 same_families V4 V4 e = refl
 same_families V6 V6 e = refl
@@ -319,8 +316,8 @@ same_families V6 V4 e = cc
 
 pub same_code : (p q : code.Prefix) → true ≡ (nat_eq p.bits q.bits && (sameb the_type p.family q.family && nat_eq p.len q.len)) → prefix_as p ≡ prefix_as q
 same_code p q e =
-    let a = both_true (nat_eq p.bits q.bits) (sameb the_type p.family q.family && nat_eq p.len q.len) e in
-    let b = both_true (sameb the_type p.family q.family) (nat_eq p.len q.len) (sym a.1) in
+    let a = both_true (nat_eq p.bits q.bits) (sameb the_type p.family q.family && nat_eq p.len q.len) (sym e) in
+    let b = both_true (sameb the_type p.family q.family) (nat_eq p.len q.len) a.1 in
     ap (λ f. let x : Prefix = record { family = f; bits = take p.len (bits_of (width f) p.bits) } in x) (same_families p.family q.family b.0)
     ∙ (ap (λ n. let x : Prefix = record { family = q.family; bits = take p.len (bits_of (width q.family) n) } in x) (eqb-true p.bits q.bits a.0)
     ∙ ap (λ l. let x : Prefix = record { family = q.family; bits = take l (bits_of (width q.family) q.bits) } in x) (eqb-true p.len q.len b.1))

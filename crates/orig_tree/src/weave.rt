@@ -1,6 +1,7 @@
 //! Many entries set in one walk: as long as the next one is within the region at hand, the walk goes on from there.
 
-ghost use Rattle.std.specs.Prelude.{◌≡◌, ◌≤◌, ◌<◌, ◌-◌, ℕ, List, Bool, true, IfOk, IfSome, map, vec_len};
+ghost use Rattle.std.specs.Prelude.{◌≡◌, ◌≤◌, ◌<◌, ◌-◌, ℕ, List, Bool, true, IfOk, IfSome, IfNone, false, map, vec_len};
+ghost use Rattle.address_model.specs.Regions.{half_at};
 ghost use Rattle.address_model.specs.Width.{width};
 ghost use Rattle.fib_addr.specs.Views.{entry_as, prefix_as};
 ghost use Rattle.orig_tree.specs.Arena.{cells_of, Place, IsTree, IsHeld};
@@ -13,18 +14,24 @@ use crate::node::{Label, Nodes, climb, read, renew, reserve, split};
 use fib_addr::{Entry, Prefix, bit_at};
 use std::alloc::AllocError;
 
-/// Which half of the prefix the first entry is in, if it is in one. Only what the walk costs hangs on it: an entry that isn't
-/// in the half that is told is left by the walk there.
+/// The half of the prefix that the first entry's prefix is within, if it is in one.
 fn next_half(entries: &[Entry], at: &Prefix) -> Option<bool>
     requires { at.now.len < width at.now.family }
-    ensures { IfSome result (λ _. starts_within (prefix_as at.now) (map entry_as entries.now) ≡ true) }
+    ensures some { IfSome result (λ b. starts_within (half_at b (prefix_as at.now))
+        (map entry_as entries.now) ≡ true) }
+    ensures none { IfNone result ((b : Bool) → starts_within (half_at b (prefix_as at.now))
+        (map entry_as entries.now) ≡ false) }
 {
-    match entries {
-        [first, ..] if first.prefix.len > at.len && first.prefix.is_within(at) => {
-            Some(bit_at(first.prefix.bits, at.family.width() - at.len - 1))
-        }
-        _ => None,
+    let [first, ..] = entries else {
+        return None;
+    };
+    if first.prefix.len <= at.len {
+        return None;
     }
+    if !first.prefix.is_within(at) {
+        return None;
+    }
+    Some(bit_at(first.prefix.bits, at.family.width() - at.len - 1))
 }
 
 /// Sets a label of a node, which stands for the prefix, where the first entry is at that prefix, and gives those that are left.
