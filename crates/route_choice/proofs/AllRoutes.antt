@@ -1,6 +1,6 @@
 -- The routes of all prefixes that rows and ranks have are all routes.
 use Rattle.std.proofs.Common.{inl, inr, append_assoc, ◌+◌, ◌≡◌, ◌<◌, ◌≤◌, ℕ, zero, suc, length, List, [], ◌∷◌, ◌++◌, Bool, true, false, cond, Option, Some, None, refl, sym, ap, subst, ◌∙◌, arith, append-nil}
-use Rattle.std.specs.Prelude.{option_map, map, filter, ◌||◌, slice_get}
+use Rattle.std.specs.Prelude.{option_map, map, ◌||◌, slice_get}
 use Rattle.std.specs.List.{AllByRecursion, list_any}
 use Rattle.std.specs.List.Sorted.{IsStrictlySortedBy}
 use Rattle.std.specs.Map.{lookup, keys_of}
@@ -29,7 +29,7 @@ use Rattle.flat_base.specs.declared.rows.Row.{Row}
 use Rattle.flat_base.specs.declared.flat.Flat.{Flat}
 use Rattle.flat_base.specs.Orders.{seat_cmp, rank_cmp}
 use Rattle.flat_base.specs.Seats.{Seats, held_in, offer_at, rank_at}
-use Rattle.flat_base.specs.Flat.{IsFlat, flat_seats, both}
+use Rattle.flat_base.specs.Flat.{IsFlat, IsRow, flat_seats, both}
 use Rattle.flat_base.specs.Bests.{IsBest}
 use Rattle.flat_base.proofs.Orders.{prefix_same, is_prefix, is_equal, prefix_total}
 use Rattle.flat_base.proofs.Views.{are_candidates}
@@ -282,6 +282,16 @@ pub no_row_here : (rows : List Row) (n : ℕ) → None ≡ prefix_or (slice_get 
 no_row_here [] n e l = omega (arith, l)
 no_row_here (r ∷ rows) zero e l = absurd cc
 no_row_here (r ∷ rows) (suc n) e l = no_row_here rows n e (omega (arith, l))
+
+-- the row of a number is that of its prefix
+pub is_row : (rows : List Row) (n : ℕ) (p : code.Prefix) → Some p ≡ prefix_or (slice_get rows n) → IsRow rows p n
+is_row rows n p e = by_slot (slice_get rows n) refl e
+  where
+    by_slot : (o : Option Row) → slice_get rows n ≡ o → Some p ≡ prefix_or o → IsRow rows p n
+    by_slot None r f = cc
+    by_slot (Some row) r f =
+        let same : p ≡ row.prefix = cc in
+        (row, r, prefix_same p row.prefix ∙ (ap (λ (q : code.Prefix). same_prefix (prefix_as p) (prefix_as q)) (sym same) ∙ same_prefix_itself (prefix_as p)))
 
 pub row_route : (seats : Seats) (rows : List Row) (n : ℕ) (old new : Routes) (p : code.Prefix) → Some p ≡ prefix_or (slice_get rows n) → new ≡ old ++ routes_at seats (p ∷ []) → old ≡ routes_at seats (first_rows n rows) → new ≡ routes_at seats (first_rows (n + 1) rows)
 row_route seats rows n old new p e h told =

@@ -9,15 +9,14 @@ use Rattle.std.specs.BTreeMap.{is_at}
 use Rattle.std.specs.declared.cmp.Ordering.{Ordering}
 use Rattle.std.specs.declared.cmp.Ordering.TheVariants.{Less, Equal, Greater}
 use Rattle.std.proofs.lemmas.Cmp.{tied_itself, tied_back, ranked}
-use Rattle.address_model.specs.Address.{Prefix, same_prefix}
+use Rattle.address_model.specs.Address.{same_prefix}
 use Rattle.address_model.proofs.Same.{same_prefix_is}
 use Rattle.fib_addr.specs.Views.{prefix_as}
 use Rattle.fib_prefix.specs.Views.{via_as}
 use Rattle.fib_addr.specs.Order.{code_cmp}
 use Rattle.fib_addr.specs.declared.prefix.Prefix as code
 use Rattle.fib_prefix.specs.declared.event.Via.{Via}
-use Rattle.route_model.specs.Events as events
-use Rattle.route_model.specs.Events.{same_via, via_cmp}
+use Rattle.route_model.specs.Events.{via_cmp}
 use Rattle.route_model.specs.Choice as model
 use Rattle.route_model.specs.Choice.{Place, Candidates, IsHeld, same_place, beats}
 use Rattle.route_model.proofs.Places.{via_key}
@@ -32,7 +31,7 @@ use Rattle.flat_base.specs.Seats.{Seats, held_in, flat, offer_at, rank_at, seat_
 use Rattle.route_choice.specs.Seats.{IsIndexed}
 use Rattle.route_choice.specs.Walks.{ranks_of, offer_with_path, offer_ranked, or_next, first_in}
 use Rattle.flat_base.proofs.Orders.{place_as, via_is, via_same, prefix_same, prefix_total, seat_total, rank_total, via_total, seat_tied}
-use Rattle.flat_base.proofs.Views.{at_seat, held_seat, lookup_by_test}
+use Rattle.flat_base.proofs.Views.{at_seat, lookup_by_test}
 use Rattle.flat_base.specs.Bests.{IsBestOf, is_out, out_as, candidate_as, offer_as}
 use Rattle.flat_base.proofs.Holds.{code_of, is_out_as}
 use Rattle.flat_base.proofs.Orders.{is_equal}

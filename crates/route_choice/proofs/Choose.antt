@@ -1,12 +1,8 @@
 -- The chosen hop before and after an elementary event.
-use Rattle.std.proofs.Common.{subst, ◌≡◌, ℕ, List, Bool, true, false, cond, Option, Some, None, refl, sym, ap, ◌∙◌}
+use Rattle.std.proofs.Common.{subst, ◌≡◌, Bool, true, false, cond, Option, Some, None, refl, sym, ap, ◌∙◌}
 use Rattle.std.specs.Prelude.{option_map, if◌then◌else◌, ◌&&◌, ◌||◌, ◌==◌, nat_lt}
-use Rattle.std.specs.List.Sorted.{IsStrictlySortedBy}
 use Rattle.std.specs.Map.{lookup}
 use Rattle.std.specs.Ordering.{nat_cmp, ordering_then, is_lt}
-use Rattle.std.specs.declared.cmp.Ordering.{Ordering}
-use Rattle.std.specs.declared.cmp.Ordering.TheVariants.{Less, Equal, Greater}
-use Rattle.std.proofs.lemmas.Bool.{and_from}
 use Rattle.address_model.specs.Address.{Address, Prefix, same_prefix}
 use Rattle.address_model.proofs.Same.{same_prefix_is, same_prefix_itself}
 use Rattle.fib_addr.specs.Views.{addr_as, prefix_as}
@@ -23,15 +19,13 @@ use Rattle.route_model.proofs.Places.{place_key, via_key}
 use Rattle.route_model.proofs.Choices.{chosen_for-best, chosen_for-none, not_itself, not_back, not_beaten}
 use Rattle.route_model.proofs.Said.{candidates_after, offer_after}
 use Rattle.flat_base.specs.declared.keys.Seat.{Seat}
-use Rattle.flat_base.specs.declared.keys.Rank.{Rank}
 use Rattle.flat_base.specs.declared.keys.Offer.{Offer}
 use Rattle.flat_base.specs.declared.keys.Candidate.{Candidate}
 use Rattle.route_choice.specs.declared.choice.Choice.{Choice}
-use Rattle.flat_base.specs.Orders.{rank_cmp}
 use Rattle.fib_prefix.specs.Order.{code_via_cmp}
 use Rattle.flat_base.specs.Seats.{Seats, held_in, offer_at}
-use Rattle.route_choice.specs.Seats.{IsIndexed, seat_in, offer_in}
-use Rattle.route_choice.specs.Walks.{ranks_of, first_in, better_of}
+use Rattle.route_choice.specs.Seats.{seat_in, offer_in}
+use Rattle.route_choice.specs.Walks.{better_of}
 use Rattle.route_model.specs.Events.{elem_prefix}
 use Rattle.route_choice.specs.Held.{IsChoice}
 use Rattle.flat_base.proofs.Orders.{place_as, via_is}

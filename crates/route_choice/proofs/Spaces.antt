@@ -16,11 +16,11 @@ use Rattle.flat_base.specs.declared.keys.Offer.{Offer}
 use Rattle.flat_base.specs.declared.flat.Flat.{Flat}
 use Rattle.flat_base.specs.Orders.{seat_cmp}
 use Rattle.flat_base.specs.Seats.{Seats}
-use Rattle.flat_base.specs.Flat.{IsSlotOf, HasNoSeat, HasHop, Grows, flat_seats}
+use Rattle.flat_base.specs.Flat.{IsSlotOf, HasNoSeat, Grows, flat_seats}
 use Rattle.flat_base.proofs.Flats.{slot_stays}
 use Rattle.route_choice.specs.declared.plan.Plan.{Plan}
-use Rattle.route_choice.specs.Seats.{seat_in, offer_in}
-use Rattle.route_choice.specs.Kept.{IsKept, KeepsBeside, StaysKept, holds_seat, holds_rank}
+use Rattle.route_choice.specs.Seats.{seat_in}
+use Rattle.route_choice.specs.Kept.{IsKept, KeepsBeside, holds_seat, holds_rank}
 use Rattle.route_choice.specs.Space.{over_of, planned_elem, HasPlace, HasNumber, HasSpace}
 
 no_seat_stays : (b n : Flat) (t : Seat) → flat_seats n ≡ flat_seats b → HasNoSeat b t → HasNoSeat n t

@@ -1,25 +1,18 @@
 -- The candidates that seats hold.
-use Rattle.std.proofs.Common.{◌≡◌, List, [], ◌∷◌, Bool, true, false, cond, Option, Some, None, refl, sym, ap, ◌∙◌}
+use Rattle.std.proofs.Common.{◌≡◌, Bool, true, false, cond, Some, refl, sym, ap, ◌∙◌}
 use Rattle.std.specs.Prelude.{option_map, if◌then◌else◌}
-use Rattle.std.specs.Cmp.{IsTotalOrder}
 use Rattle.std.specs.Map.{lookup}
-use Rattle.std.specs.Ordering.{is_eq, ordering_reverse}
-use Rattle.std.specs.BTreeMap.{is_at}
-use Rattle.std.specs.declared.cmp.Ordering.{Ordering}
-use Rattle.std.specs.declared.cmp.Ordering.TheVariants.{Less, Equal, Greater}
-use Rattle.fib_addr.specs.Views.{addr_as}
+use Rattle.std.specs.Ordering.{is_eq}
 use Rattle.fib_prefix.specs.Views.{elem_as}
 use Rattle.fib_prefix.specs.declared.event.Elem.{Elem}
 use Rattle.fib_prefix.specs.declared.event.Elem.TheVariants as elem
 use Rattle.route_model.specs.Choice as model
 use Rattle.route_model.specs.Choice.{Place, Candidates, AreCandidates, IsElem, same_place, after_elem, is_about, offered}
-use Rattle.route_model.proofs.Keyed.{same_entries}
 use Rattle.route_model.proofs.Places.{place_key}
-use Rattle.route_model.proofs.Said.{none_yet, candidates_after, offer_after}
+use Rattle.route_model.proofs.Said.{candidates_after, offer_after}
 use Rattle.flat_base.specs.declared.keys.Seat.{Seat}
-use Rattle.flat_base.specs.declared.keys.Offer.{Offer}
 use Rattle.flat_base.specs.Orders.{seat_cmp}
-use Rattle.flat_base.specs.Seats.{Seats, said_by, held_in, flat, offer_at}
+use Rattle.flat_base.specs.Seats.{Seats, held_in, offer_at}
 use Rattle.route_choice.specs.Seats.{seat_in, offer_in}
 use Rattle.flat_base.proofs.Orders.{place_as, seat_same, seat_total, is_prefix, is_peer}
 use Rattle.flat_base.proofs.Views.{are_candidates, at_seat, held_seat, by_seats, flips}

@@ -1,14 +1,10 @@
 -- Seats and ranks as they lie, and the room for a plan.
-use Rattle.std.specs.Prelude.{◌≡◌, ⊤, ℕ, List, [], ◌∷◌, Bool, true, Option, Some, None, is_some}
+use Rattle.std.specs.Prelude.{◌≡◌, ⊤, List, Bool, true, Option, Some, None, is_some}
 use Rattle.std.specs.List.{list_any}
 use Rattle.std.specs.Map.{lookup}
 use Rattle.std.specs.BTreeMap.{is_at}
-use Rattle.fib_addr.specs.Views.{addr_as, prefix_as}
-use Rattle.fib_prefix.specs.Views.{via_as}
 use Rattle.fib_prefix.specs.declared.event.Elem.{Elem}
 use Rattle.fib_prefix.specs.declared.event.Elem.TheVariants as elem
-use Rattle.route_model.specs.Events as model
-use Rattle.route_model.specs.Choice.{Candidates, after_elem}
 use Rattle.flat_base.specs.declared.keys.Seat.{Seat}
 use Rattle.flat_base.specs.declared.keys.Rank.{Rank}
 use Rattle.flat_base.specs.declared.keys.Offer.{Offer}

@@ -1,5 +1,5 @@
 -- What walks over seats and ranks find.
-use Rattle.std.specs.Prelude.{◌≡◌, ◌==◌, ◌&&◌, ◌||◌, nat_lt, ℕ, List, [], ◌∷◌, Bool, true, false, Option, Some, None, map, filter, slice_get, if◌then◌else◌}
+use Rattle.std.specs.Prelude.{◌≡◌, ◌==◌, ◌&&◌, ◌||◌, nat_lt, ℕ, List, [], ◌∷◌, Bool, true, Option, Some, None, map, filter, slice_get, if◌then◌else◌}
 use Rattle.std.specs.List.{AllByRecursion, list_any}
 use Rattle.std.specs.BTreeMap.{is_at}
 use Rattle.address_model.specs.Address.{Address, Prefix}

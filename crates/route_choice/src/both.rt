@@ -2,7 +2,7 @@
 
 ghost use Rattle.std.specs.Prelude.{◌≡◌, true, false, Some, None, MatchOption, IfOk, OnOk, OnErr};
 ghost use Rattle.flat_base.specs.Seats.{held_in, offer_at as offered};
-ghost use Rattle.flat_base.specs.Flat.{IsFlat, AreApart, Offers, SameOffers, HasNoSeat, IsSlotOf, Grows, flat_seats, both};
+ghost use Rattle.flat_base.specs.Flat.{IsFlat, AreApart, Offers, SameOffers, HasNoSeat, IsRow, IsSlotOf, Grows, flat_seats, both};
 ghost use Rattle.flat_base.specs.Bests.{IsBest};
 ghost use Rattle.route_choice.specs.Seats.{IsIndexed, seat_in, offer_in};
 ghost use Rattle.route_choice.specs.Kept.{IsKept, StaysKept, KeepsBeside};
@@ -64,6 +64,24 @@ pub fn best_of(
 {
     let other = best_but(seats, ranks, prefix, but);
     flat.best(prefix, but, other)
+}
+
+/// The preferred route for the prefix of a row.
+pub fn best_of_row(
+    flat: &Flat,
+    seats: &BTreeMap<Seat, Option<Offer>>,
+    ranks: &BTreeSet<Rank>,
+    row: usize,
+    prefix: &Prefix,
+) -> Option<Candidate>
+    requires flat { IsFlat flat.now }
+    requires apart { AreApart (flat_seats flat.now) seats.now.entries }
+    requires indexed { IsIndexed seats.now.entries ranks.now.keys }
+    requires row { IsRow flat.now.rows.items prefix.now row }
+    ensures { IsBest (both flat.now seats.now.entries) None prefix.now result }
+{
+    let other = best_but(seats, ranks, prefix, None);
+    flat.best_in(row, prefix, None, other)
 }
 
 /// The preferred route for the prefix of a seat, that of the seat's way left out; the seat's slot has this place, if it has one.

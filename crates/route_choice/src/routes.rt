@@ -1,19 +1,20 @@
 //! All routes: each prefix with the next hop of its chosen one.
 
-ghost use Rattle.std.specs.Prelude.{◌≡◌, ◌++◌, ◌∷◌, [], map, true, IfOk, OnOk};
+ghost use Rattle.std.specs.Prelude.{◌≡◌, ◌++◌, ◌∷◌, [], map, true, IfOk, None, OnOk};
 ghost use Rattle.std.specs.BTreeSet as set;
 ghost use Rattle.fib_addr.specs.Views.{route_as};
 ghost use Rattle.fib_addr.specs.Order.{code_cmp};
 ghost use Rattle.fib_addr.specs.declared.prefix.Prefix as code;
 ghost use Rattle.route_model.specs.Choice.{routes_of as model_routes};
-ghost use Rattle.flat_base.specs.Seats.{held_in};
+ghost use Rattle.flat_base.specs.Seats.{Seats, held_in};
+ghost use Rattle.flat_base.specs.Bests.{IsBest};
 ghost use Rattle.flat_base.specs.Flat.{IsFlat, AreApart, flat_seats, both};
 ghost use Rattle.route_choice.specs.Seats.{IsIndexed};
 ghost use Rattle.route_choice.specs.Walks.{routes_at, has_prefix, row_prefixes, HasRows, HasRanks};
 
-use crate::both::best_of;
+use crate::both::{best_of, best_of_row};
 use fib_prefix::{Addr, Prefix};
-use flat_base::{Flat, Offer, Rank, Seat};
+use flat_base::{Candidate, Flat, Offer, Rank, Seat};
 use std::alloc::{AllocError, Global};
 use std::collections::{BTreeMap, BTreeSet};
 
@@ -57,7 +58,8 @@ fn routes_of_rows(
     let mut routes = Vec::new(alloc);
     for row in 0..flat.row_count() {
         if let Some(prefix) = flat.prefix_of(row) {
-            push_route(flat, seats, ranks, &prefix, &mut routes)?;
+            let best = best_of_row(flat, seats, ranks, row, &prefix);
+            push_route(&prefix, best, &mut routes)?;
         }
     }
     Ok(routes)
@@ -80,26 +82,23 @@ fn routes_of_prefixes(
 {
     let mut routes = Vec::new(alloc);
     for prefix in prefixes.iter() {
-        push_route(flat, seats, ranks, prefix, &mut routes)?;
+        let best = best_of(flat, seats, ranks, prefix, None);
+        push_route(prefix, best, &mut routes)?;
     }
     Ok(routes)
 }
 
-/// Adds the route of a prefix, if it has one.
+/// Adds the route of a prefix, if it has one, by its best candidate.
 fn push_route(
-    flat: &Flat,
-    seats: &BTreeMap<Seat, Option<Offer>>,
-    ranks: &BTreeSet<Rank>,
     prefix: &Prefix,
+    best: Option<Candidate>,
     routes: &mut Vec<(Prefix, Addr)>,
 ) -> Result<(), AllocError>
-    requires flat { IsFlat flat.now }
-    requires apart { AreApart (flat_seats flat.now) seats.now.entries }
-    requires indexed { IsIndexed seats.now.entries ranks.now.keys }
-    ensures { OnOk result (map route_as routes.new.items ≡ map route_as routes.old.items
-        ++ routes_at (both flat.now seats.now.entries) (prefix.now ∷ [])) }
+    ensures { (seats : Seats) → IsBest seats None prefix.now best
+        → OnOk result (map route_as routes.new.items ≡ map route_as routes.old.items
+        ++ routes_at seats (prefix.now ∷ [])) }
 {
-    if let Some(best) = best_of(flat, seats, ranks, prefix, None) {
+    if let Some(best) = best {
         routes.push((*prefix, best.offer.hop()))?;
     }
     Ok(())

@@ -1,4 +1,4 @@
-use Rattle.route_choice.proofs.Spaces.{made_space, kept_beside}
+use Rattle.route_choice.proofs.Spaces.{made_space}
 use Rattle.route_choice.proofs.both.make_space.Goals as goal
 
 pub returns-in_ok-number_offer-in-Some-clause-space : goal.returns-in_ok-number_offer-in-Some-clause-space

@@ -1,5 +1,5 @@
 use Rattle.std.proofs.Common.{Some}
-use Rattle.flat_base.proofs.Parts.{over_apart, over_offers_from, both_same, still_none}
+use Rattle.flat_base.proofs.Parts.{over_apart, over_offers_from, still_none}
 use Rattle.route_choice.proofs.both.put_new.Goals as goal
 
 pub returns-clause-apart : goal.returns-clause-apart

@@ -1,4 +1,4 @@
-use Rattle.std.proofs.Common.{ap, sym, ◌∙◌, Some, None}
+use Rattle.std.proofs.Common.{ap, sym, ◌∙◌, Some}
 use Rattle.std.specs.Prelude.{option_map}
 use Rattle.fib_addr.specs.Views.{addr_as, prefix_as}
 use Rattle.route_model.specs.Choice.{chosen_for}
