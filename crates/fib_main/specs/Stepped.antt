@@ -3,7 +3,7 @@ use Rattle.std.specs.Prelude.{◌≡◌, ℕ, zero, suc, List, Option, Some, Non
 use Rattle.fib_io.specs.Octets.{Adds, AddsSome}
 use Rattle.address_model.specs.declared.family.Family.{Family}
 use Rattle.address_model.specs.declared.family.Family.TheVariants.{V4, V6}
-use Rattle.step_model.specs.Machine.{State, ComesTo, IsHopsFull, IsTrieFull}
+use Rattle.step_model.specs.Machine.{ComesTo, IsHopsFull, IsTrieFull}
 use Rattle.step_run.specs.Stepping.{Stepping, IsTextOf}
 use Rattle.fib_words.specs.Commands.{Asked, Run, Check, Make, Steps}
 use Rattle.fib_main.specs.declared.check.Reply as code_reply

@@ -100,10 +100,7 @@ pub struct Fed {
 }
 
 /// Writes the routes, and gives how many there are.
-fn write_routes<'a>(
-    settled: &Settled,
-    text: RunText<'a>,
-) -> Result<(RunText<'a>, u64), AllocError>
+fn write_routes<'a>(settled: &Settled, text: RunText<'a>) -> Result<(RunText<'a>, u64), AllocError>
     requires { IsReady text }
     ensures count { IfOk result (λ r. r.1 ≡ length settled.now.routes) }
     ensures writes { IfOk result (λ r. Writes text.entry r.0
@@ -211,6 +208,11 @@ pub fn write_counts(alloc: Global, state: &State, fed: &Fed) -> Result<Vec<u8>, 
     let engine = &state.engine;
     let routes = engine.routes()?;
     let table = engine.table()?;
-    let report = totals(fed, routes.len() as u64, table.len() as u64, &engine.needs());
+    let report = totals(
+        fed,
+        routes.len() as u64,
+        table.len() as u64,
+        &engine.needs(),
+    );
     report_text(alloc, &report)
 }

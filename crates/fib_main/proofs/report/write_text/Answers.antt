@@ -1,4 +1,4 @@
-use Rattle.std.proofs.Common.{◌≡◌, IfOk, map, ap, ◌∙◌}
+use Rattle.std.proofs.Common.{◌≡◌, map, ap, ◌∙◌}
 use Rattle.std.proofs.lemmas.Result.{IfOk-weaker}
 use Rattle.fib_addr.specs.Views.{addr_as}
 use Rattle.fib_report.specs.Rows.{run_text}
@@ -18,9 +18,9 @@ returns-clause-text c = λ limits load updates f.
     let hops = c.settle-settled.result.1.list in
     let asks = map addr_as c.args.asks.now in
     let run : Told = told_by s.sizes.direct s.routes s.table (told_changes c.args.state) asks c.totals.result in
-    let is = told_is limits load updates c.args.fed.now c.args.state asks s.sizes.direct s.routes s.table c.totals.result _ _ _ (ap (λ z. z.direct) c.settle-settled.ensures.sizes) c.settle-settled.ensures.routes c.settle-settled.ensures.table c.totals.ensures c.needs-needs.ensures.needs c.in_ok-routes.ensures.count c.in_ok-entries.ensures.count f in
-    let all : text_in c.report.new.self ≡ run_text hops run = text_written hops run c.new-text.result c.write_routes.new.text c.write_changes.new.text c.write_answers.new.text c.write_table.new.text c.write_least.new.text c.certify.new.out c.report.new.self c.new-text.ensures.hops
-    c.in_ok-routes.ensures.writes c.in_ok-write_changes.ensures c.in_ok-write_answers.ensures c.in_ok-entries.ensures.writes c.in_ok-write_least.ensures c.in_ok-certify.ensures.takes c.in_ok-report.ensures c.new-text.ensures.empty
+    let is = told_is limits load updates c.args.fed.now c.args.state asks s.sizes.direct s.routes s.table c.totals.result _ _ _ (ap (λ z. z.direct) c.settle-settled.ensures.sizes) c.settle-settled.ensures.routes c.settle-settled.ensures.table c.totals.ensures c.needs-needs.ensures.needs c.in_ok-text.ensures.count c.in_ok-text-2.ensures.count f in
+    let all : text_in c.report.new.self ≡ run_text hops run = text_written hops run c.new-text.result c.in_ok-text.text c.write_changes.new.text c.write_answers.new.text c.in_ok-text-2.text c.in_ok-text-3.text c.certify.new.out c.report.new.self c.new-text.ensures.hops
+    c.in_ok-text.ensures.writes c.in_ok-write_changes.ensures c.in_ok-write_answers.ensures c.in_ok-text-2.ensures.writes c.in_ok-text-3.ensures c.in_ok-certify.ensures.takes c.in_ok-report.ensures c.new-text.ensures.empty
     in
     IfOk-weaker c.finish.result (λ text. text.items ≡ text_in c.report.new.self) (λ text. text.items ≡ printed_text (printed limits load updates asks)) (λ text e. text_is limits load updates c.args.fed.now c.args.state asks hops run text.items f is c.settle-settled.ensures.hops (e ∙ all)) c.finish.ensures
 
@@ -30,8 +30,8 @@ returns-clause-yes c = λ limits load updates f.
     let hops = c.settle-settled.result.1.list in
     let asks = map addr_as c.args.asks.now in
     let run : Told = told_by s.sizes.direct s.routes s.table (told_changes c.args.state) asks c.totals.result in
-    let is = told_is limits load updates c.args.fed.now c.args.state asks s.sizes.direct s.routes s.table c.totals.result _ _ _ (ap (λ z. z.direct) c.settle-settled.ensures.sizes) c.settle-settled.ensures.routes c.settle-settled.ensures.table c.totals.ensures c.needs-needs.ensures.needs c.in_ok-routes.ensures.count c.in_ok-entries.ensures.count f in
-    let rows = all_written hops run c.new-text.result c.write_routes.new.text c.write_changes.new.text c.write_answers.new.text c.write_table.new.text c.write_least.new.text c.certify.new.out c.report.new.self c.new-text.ensures.hops
-    c.in_ok-routes.ensures.writes c.in_ok-write_changes.ensures c.in_ok-write_answers.ensures c.in_ok-entries.ensures.writes c.in_ok-write_least.ensures c.in_ok-certify.ensures.takes c.in_ok-report.ensures
+    let is = told_is limits load updates c.args.fed.now c.args.state asks s.sizes.direct s.routes s.table c.totals.result _ _ _ (ap (λ z. z.direct) c.settle-settled.ensures.sizes) c.settle-settled.ensures.routes c.settle-settled.ensures.table c.totals.ensures c.needs-needs.ensures.needs c.in_ok-text.ensures.count c.in_ok-text-2.ensures.count f in
+    let rows = all_written hops run c.new-text.result c.in_ok-text.text c.write_changes.new.text c.write_answers.new.text c.in_ok-text-2.text c.in_ok-text-3.text c.certify.new.out c.report.new.self c.new-text.ensures.hops
+    c.in_ok-text.ensures.writes c.in_ok-write_changes.ensures c.in_ok-write_answers.ensures c.in_ok-text-2.ensures.writes c.in_ok-text-3.ensures c.in_ok-certify.ensures.takes c.in_ok-report.ensures
     in
     IfOk-weaker c.finish.result (λ text. text.items ≡ printed_text (printed limits load updates asks)) (λ text. ChecksYes text.items) (λ text e. checks_yes limits load updates c.args.fed.now c.args.state asks hops run text.items f is c.settle-settled.ensures.hops rows.proper e) (returns-clause-text c limits load updates f)
