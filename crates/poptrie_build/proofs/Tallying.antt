@@ -9,23 +9,22 @@ use Rattle.address_model.proofs.BitLaws.{length-bits_of}
 use Rattle.fib_regions.specs.Answers.{side, part, one_answer}
 use Rattle.fib_regions.proofs.OneAnswer.{one_answer_part, mixed_bits}
 use Rattle.block_pool.specs.Powers.{up}
-use Rattle.poptrie_build.specs.Strides.{slot, mixed, starts, or_earlier, leaf_before, run_start, total}
-use Rattle.poptrie_build.specs.Need.{told, need_nodes, need_leaves}
-use Rattle.poptrie_build.specs.Tally.{IsNeed, IsTally, AreParts}
+use Rattle.poptrie_build.specs.Strides.{slot, slots, mixed, starts, or_earlier, leaf_before, run_start, total}
+use Rattle.poptrie_build.specs.Need.{told, children, runs, need_nodes, need_leaves}
+use Rattle.poptrie_build.specs.Tally.{AreLeaves, IsNeed, IsTally, AreParts}
 use Rattle.poptrie_build.specs.declared.counts.Needs.{Needs}
 use Rattle.poptrie_build.specs.declared.tally.Tally.{Tally}
-use Rattle.poptrie_build.proofs.Counting.{total_more, need_nodes_is, need_leaves_is, no_nodes, no_leaves}
+use Rattle.poptrie_build.proofs.Counting.{total_more, nodes_at, leaves_at, need_nodes_is, need_leaves_is, no_nodes, no_leaves}
 use Rattle.poptrie_build.proofs.Slotting.{low_bits, high_bits, take_nil, double}
 use Rattle.poptrie_build.proofs.So_far.{last_more, starts_other}
 
-pub tally_start : (t : Tally) (e : ℕ) (r : ℕ → List Bool → ℕ) → t.last ≡ None → t.nodes ≡ 0 → t.leaves ≡ 0 → t.below.nodes ≡ 0 → t.below.leaves ≡ 0 → IsTally t e r 0
+pub tally_start : (t : Tally) (g : ℕ → Option ℕ) (N L : ℕ → ℕ) → t.last ≡ None → t.nodes ≡ 0 → t.leaves ≡ 0 → t.below.nodes ≡ 0 → t.below.leaves ≡ 0 → IsTally t g N L 0
 unfolding leaf_before total
-tally_start t e r l n m bn bl = record {
+tally_start t g N L l n m bn bl = record {
   last = l;
   nodes = n;
   leaves = m;
-  nodes_below = λ k h. bn;
-  leaves_below = λ k h. bl;
+  below = record { nodes = bn; leaves = bl };
 }
 
 -- ---- many leaves of one hop
@@ -57,15 +56,19 @@ runs_alike g v (suc n) h a =
     let q : run_start g (v + suc n) ≡ 0 = ap (λ x. starts x (leaf_before g (v + suc n))) (a (suc n) (omega arith)) ∙ (ap (starts (Some h)) b ∙ ap (λ x. cond x 0 1) (eq-eqb h h refl)) in
     ap (total (run_start g)) s ∙ omega arith
 
-pub tally_leaves : (t s : Tally) (h e v n : ℕ) (r : ℕ → List Bool → ℕ) → s.last ≡ Some h → s.nodes ≡ t.nodes → s.leaves ≡ t.leaves + starts (Some h) t.last → s.below.nodes ≡ t.below.nodes → s.below.leaves ≡ t.below.leaves → 0 < n → ((u : ℕ) → u < n → one_answer e (r (v + u)) ≡ Some h) → IsTally t e r v → IsTally s e r (v + n)
-tally_leaves t s h e v zero r l c m bn bl z a i = absurd (omega arith)
-tally_leaves t s h e v (suc n) r l c m bn bl z a i = record {
-  last = l ∙ sym (before_alike (λ u. one_answer e (r u)) v n h a);
-  nodes = c ∙ (i.nodes ∙ sym (total_none (λ u. mixed (one_answer e (r u))) v (suc n) (λ u l. ap mixed (a u l))));
-  leaves = m ∙ (ap (λ x. x + starts (Some h) t.last) i.leaves ∙ (ap (λ x. total (run_start (λ u. one_answer e (r u))) v + starts (Some h) x) i.last ∙ sym (runs_alike (λ u. one_answer e (r u)) v n h a)));
-  nodes_below = λ k q. bn ∙ (i.nodes_below k q ∙ ap told (sym (total_none (λ u. need_nodes k e (r u)) v (suc n) (λ u l. no_nodes k e h (r (v + u)) (a u l)))));
-  leaves_below = λ k q. bl ∙ (i.leaves_below k q ∙ ap told (sym (total_none (λ u. need_leaves k e (r u)) v (suc n) (λ u l. no_leaves k e h (r (v + u)) (a u l)))));
-}
+pub tally_leaves : (t s : Tally) (h : ℕ) (g : ℕ → Option ℕ) (N L : ℕ → ℕ) (v n : ℕ) → s.last ≡ Some h → s.nodes ≡ t.nodes → s.leaves ≡ t.leaves + starts (Some h) t.last → s.below.nodes ≡ t.below.nodes → s.below.leaves ≡ t.below.leaves → 0 < n → AreLeaves h g N L v n → IsTally t g N L v → IsTally s g N L (v + n)
+tally_leaves t s h g N L v zero l c m bn bl z a i = absurd (omega arith)
+tally_leaves t s h g N L v (suc n) l c m bn bl z a i =
+    let alike : (u : ℕ) → u < suc n → g (v + u) ≡ Some h = λ u l. (a u l).0 in
+    record {
+      last = l ∙ sym (before_alike g v n h alike);
+      nodes = c ∙ (i.nodes ∙ sym (total_none (λ u. mixed (g u)) v (suc n) (λ u l. ap mixed (alike u l))));
+      leaves = m ∙ (ap (λ x. x + starts (Some h) t.last) i.leaves ∙ (ap (λ x. total (run_start g) v + starts (Some h) x) i.last ∙ sym (runs_alike g v n h alike)));
+      below = record {
+        nodes = bn ∙ (i.below.nodes ∙ ap told (sym (total_none N v (suc n) (λ u l. (a u l).1))));
+        leaves = bl ∙ (i.below.leaves ∙ ap told (sym (total_none L v (suc n) (λ u l. (a u l).2))));
+      };
+    }
 
 pub last_is : (o : Option ℕ) (h : ℕ) → option_eq eqb o (Some h) ≡ true → o ≡ Some h
 last_is None h e = cc
@@ -79,26 +82,30 @@ starts_anew None h e = refl
 starts_anew (Some k) h e = starts_other h k (λ q. eqb-false k h e (sym q))
 
 -- ---- a node
-pub tally_node : (t s : Tally) (n : Needs) (e v : ℕ) (r : ℕ → List Bool → ℕ) → s.last ≡ t.last → s.nodes ≡ t.nodes + 1 → s.leaves ≡ t.leaves → s.below.nodes ≡ min (t.below.nodes + n.nodes) 18446744073709551615 → s.below.leaves ≡ min (t.below.leaves + n.leaves) 18446744073709551615 → one_answer e (r v) ≡ None → IsNeed n e (r v) → IsTally t e r v → IsTally s e r (v + 1)
-tally_node t s n e v r l c m bn bl none need i = record {
-  last = l ∙ (i.last ∙ (sym (ap (λ x. or_earlier x (leaf_before (λ u. one_answer e (r u)) v)) none) ∙ sym (last_more (λ u. one_answer e (r u)) v)));
-  nodes = omega (arith, c, i.nodes, total_more (λ u. mixed (one_answer e (r u))) v, ap mixed none);
-  leaves = omega (arith, m, i.leaves, total_more (run_start (λ u. one_answer e (r u))) v, ap (λ x. starts x (leaf_before (λ u. one_answer e (r u)) v)) none);
-  nodes_below = λ k q. omega (arith, bn, i.nodes_below k q, need.nodes k q, total_more (λ u. need_nodes k e (r u)) v);
-  leaves_below = λ k q. omega (arith, bl, i.leaves_below k q, need.leaves k q, total_more (λ u. need_leaves k e (r u)) v);
+pub tally_node : (t s : Tally) (n : Needs) (g : ℕ → Option ℕ) (N L : ℕ → ℕ) (v : ℕ) → s.last ≡ t.last → s.nodes ≡ t.nodes + 1 → s.leaves ≡ t.leaves → s.below.nodes ≡ min (t.below.nodes + n.nodes) 18446744073709551615 → s.below.leaves ≡ min (t.below.leaves + n.leaves) 18446744073709551615 → g v ≡ None → IsNeed n (N v) (L v) → IsTally t g N L v → IsTally s g N L (v + 1)
+tally_node t s n g N L v l c m bn bl none need i = record {
+  last = l ∙ (i.last ∙ (sym (ap (λ x. or_earlier x (leaf_before g v)) none) ∙ sym (last_more g v)));
+  nodes = omega (arith, c, i.nodes, total_more (λ u. mixed (g u)) v, ap mixed none);
+  leaves = omega (arith, m, i.leaves, total_more (run_start g) v, ap (λ x. starts x (leaf_before g v)) none);
+  below = record {
+    nodes = omega (arith, bn, i.below.nodes, need.nodes, total_more N v);
+    leaves = omega (arith, bl, i.below.leaves, need.leaves, total_more L v);
+  };
 }
 
 -- ---- at the end
-pub tally_end : (t : Tally) (n : Needs) (d : ℕ) (f : List Bool → ℕ) → n.nodes ≡ min (up t.nodes + t.below.nodes) 18446744073709551615 → n.leaves ≡ min (up t.leaves + t.below.leaves) 18446744073709551615 → one_answer d f ≡ None → IsTally t (d - 6) (slot d f) 64 → IsNeed n d f
-tally_end t n d f en el none i = record { nodes = nodes; leaves = leaves }
-  where
-    nodes : (k : ℕ) → d ≤ 6 * k → n.nodes ≡ told (need_nodes k d f)
-    nodes zero h = absurd (let m = mixed_bits d f none in omega arith)
-    nodes (suc k) h = omega (arith, en, ap up i.nodes, i.nodes_below k (omega arith), need_nodes_is k d f none)
+pub tally_end : (t : Tally) (n : Needs) (g : ℕ → Option ℕ) (N L : ℕ → ℕ) → n.nodes ≡ min (up t.nodes + t.below.nodes) 18446744073709551615 → n.leaves ≡ min (up t.leaves + t.below.leaves) 18446744073709551615 → IsTally t g N L 64 → IsNeed n (up (children g) + total N 64) (up (runs g) + total L 64)
+tally_end t n g N L en el i = record {
+  nodes = omega (arith, en, ap up i.nodes, i.below.nodes);
+  leaves = omega (arith, el, ap up i.leaves, i.below.leaves);
+}
 
-    leaves : (k : ℕ) → d ≤ 6 * k → n.leaves ≡ told (need_leaves k d f)
-    leaves zero h = absurd (let m = mixed_bits d f none in omega arith)
-    leaves (suc k) h = omega (arith, el, ap up i.leaves, i.leaves_below k (omega arith), need_leaves_is k d f none)
+-- the need of a region with two answers
+pub need_end : (n : Needs) (d : ℕ) (f : List Bool → ℕ) → one_answer d f ≡ None → ((j : ℕ) → d - 6 ≤ 6 * j → IsNeed n (up (children (slots d f)) + total (nodes_at j d f) 64) (up (runs (slots d f)) + total (leaves_at j d f) 64)) → (k : ℕ) → d ≤ 6 * k → IsNeed n (need_nodes k d f) (need_leaves k d f)
+need_end n d f none i zero h = absurd (let m = mixed_bits d f none in omega arith)
+need_end n d f none i (suc k) h =
+    let all = i k (omega arith) in
+    record { nodes = all.nodes ∙ ap told (sym (need_nodes_is k d f none)); leaves = all.leaves ∙ ap told (sym (need_leaves_is k d f none)) }
 
 -- ---- the slots of a region
 pub parts_start : (d : ℕ) (f : List Bool → ℕ) → AreParts 6 d f (d - 6) (slot d f) 0
@@ -125,14 +132,22 @@ one_part j d e v f r z a =
     ∙ (ap (λ i. part (take d (bits_of i 0)) f) z
     ∙ ap (λ p. part p f) (take_nil d)))
 
--- the need of a region that is one slot
-pub parts_node : (n : Needs) (j d e v : ℕ) (f : List Bool → ℕ) (r : ℕ → List Bool → ℕ) → j ≡ 0 → one_answer d f ≡ None → IsNeed n d f → AreParts j d f e r v → (one_answer e (r v) ≡ None) × IsNeed n e (r v)
-parts_node n j d e v f r z none need a =
+-- a region that is one slot, and what is needed below it
+pub part_node : (j d e v : ℕ) (f : List Bool → ℕ) (r : ℕ → List Bool → ℕ) → j ≡ 0 → one_answer d f ≡ None → AreParts j d f e r v → one_answer e (r v) ≡ None
+part_node j d e v f r z none a =
     let b : d ≡ e = omega (arith, a.bits) in
-    let w = one_part j d e v f r z a in (
-      ap (one_answer e) w ∙ (ap (λ x. one_answer x f) (sym b) ∙ none),
-      subst (λ (g : List Bool → ℕ). IsNeed n e g) (sym w) (subst (λ (x : ℕ). IsNeed n x f) b need),
-    )
+    ap (one_answer e) (one_part j d e v f r z a) ∙ (ap (λ x. one_answer x f) (sym b) ∙ none)
+
+pub part_need : (n : Needs) (N L : ℕ → (List Bool → ℕ) → ℕ) (j d e v : ℕ) (f : List Bool → ℕ) (r : ℕ → List Bool → ℕ) → j ≡ 0 → AreParts j d f e r v → IsNeed n (N d f) (L d f) → IsNeed n (N e (r v)) (L e (r v))
+part_need n N L j d e v f r z a need =
+    let b : d ≡ e = omega (arith, a.bits) in
+    subst (λ (g : List Bool → ℕ). IsNeed n (N e g) (L e g)) (sym (one_part j d e v f r z a)) (subst (λ (x : ℕ). IsNeed n (N x f) (L x f)) b need)
+
+-- the slots of a region with one answer
+pub uniform_slots : (k j d h e v : ℕ) (f : List Bool → ℕ) (r : ℕ → List Bool → ℕ) → one_answer d f ≡ Some h → AreParts j d f e r v → AreLeaves h (λ u. one_answer e (r u)) (λ u. need_nodes k e (r u)) (λ u. need_leaves k e (r u)) v (2 ^ j)
+uniform_slots k j d h e v f r one a u l =
+    let is = parts_alike j d h e v f r one a u l in
+    (is, no_nodes k e h (r (v + u)) is, no_leaves k e h (r (v + u)) is)
 
 low_parts : (j d e v : ℕ) (f : List Bool → ℕ) (r : ℕ → List Bool → ℕ) → AreParts (suc j) (suc d) f e r v → AreParts j d (side false f) e r v
 low_parts j d e v f r a = record {
@@ -165,7 +180,7 @@ module _ (j d e v : ℕ) (f : List Bool → ℕ) (r : ℕ → List Bool → ℕ)
   parts_high s = subst (λ (x : List Bool → ℕ). AreParts (j - 1) b x e r (v + 2 ^ (j - 1))) (sym s) (high_parts (j - 1) b e v f r whole)
 
 -- a node's slots are those of its two halves
-pub node_slots : (low all : Tally) (d b c : ℕ) (f g h : List Bool → ℕ) → b + 1 ≡ d → g ≡ side false f → c + 1 ≡ d → h ≡ side true f → (AreParts 5 b g (d - 6) (slot d f) 0 → IsTally low (d - 6) (slot d f) 32) → (AreParts 5 c h (d - 6) (slot d f) 32 → IsTally low (d - 6) (slot d f) 32 → IsTally all (d - 6) (slot d f) 64) → IsTally all (d - 6) (slot d f) 64
-node_slots low all d b c f g h eb eg ec eh first second =
+pub node_slots : (P : Tally → ℕ → Type 0) (low all : Tally) (d b c : ℕ) (f g h : List Bool → ℕ) → b + 1 ≡ d → g ≡ side false f → c + 1 ≡ d → h ≡ side true f → (AreParts 5 b g (d - 6) (slot d f) 0 → P low 32) → (AreParts 5 c h (d - 6) (slot d f) 32 → P low 32 → P all 64) → P all 64
+node_slots P low all d b c f g h eb eg ec eh first second =
     let six : 6 ≢ 0 = omega arith in
     second (parts_high 6 d (d - 6) 0 f (slot d f) six c h ec (parts_start d f) eh) (first (parts_low 6 d (d - 6) 0 f (slot d f) six b g eb (parts_start d f) eg))

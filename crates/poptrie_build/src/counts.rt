@@ -3,7 +3,7 @@
 ghost use Rattle.std.specs.Prelude.{◌≡◌, ℕ, ◌+◌, ◌-◌, ◌*◌, ◌^◌, ◌≤◌, List, Bool, None};
 ghost use Rattle.fib_regions.specs.Answers.{one_answer};
 ghost use Rattle.poptrie_build.specs.Need.{told, need_nodes, need_leaves, trie_nodes, trie_leaves};
-ghost use Rattle.poptrie_build.specs.Tally.{AreParts, IsTally};
+ghost use Rattle.poptrie_build.specs.Tally.{AreParts, IsWholeTally};
 
 use crate::tally::{Tally, needs_of, no_slots, with_leaves, with_node};
 use fib_regions::Region;
@@ -37,9 +37,9 @@ pub(crate) fn count_node<R: Region>(region: &R) -> Needs
 fn tally_slots<R: Region>(region: &R, depth: u8, so_far: Tally) -> Tally
     requires nodes { so_far.nodes + 2 ^ depth ≤ 64 }
     requires leaves { so_far.leaves + 2 ^ depth ≤ 64 }
-    ensures tally { (e v : ℕ) (r : ℕ → List Bool → ℕ)
-        → AreParts depth (R.bits region.now) (R.answers region.now) e r v → IsTally so_far e r v
-        → IsTally result e r (v + 2 ^ depth) }
+    ensures tally { (k e v : ℕ) (r : ℕ → List Bool → ℕ) → e ≤ 6 * k
+        → AreParts depth (R.bits region.now) (R.answers region.now) e r v
+        → IsWholeTally so_far k e r v → IsWholeTally result k e r (v + 2 ^ depth) }
     ensures nodes { result.nodes ≤ so_far.nodes + 2 ^ depth }
     ensures leaves { result.leaves ≤ so_far.leaves + 2 ^ depth }
 {

@@ -1,29 +1,30 @@
 //! What the slots of a node need, counted one after the other.
 
-ghost use Rattle.std.specs.Prelude.{◌≡◌, ℕ, ◌+◌, ◌-◌, ◌<◌, ◌≤◌, List, Bool, Some, None};
-ghost use Rattle.fib_regions.specs.Answers.{one_answer};
-ghost use Rattle.poptrie_build.specs.Strides.{slot};
-ghost use Rattle.poptrie_build.specs.Tally.{IsTally, IsNeed};
+ghost use Rattle.std.specs.Prelude.{◌≡◌, ℕ, ◌+◌, ◌<◌, ◌≤◌, Option, None};
+ghost use Rattle.block_pool.specs.Powers.{up};
+ghost use Rattle.poptrie_build.specs.Need.{children, runs};
+ghost use Rattle.poptrie_build.specs.Strides.{total};
+ghost use Rattle.poptrie_build.specs.Tally.{AreLeaves, IsTally, IsNeed};
 
 use crate::counts::Needs;
 use block_pool::block_size;
 
 /// What the slots so far of a node are, and what they need.
 #[derive(Clone, Copy)]
-pub(crate) struct Tally {
+pub struct Tally {
     /// The hop of the last leaf.
-    pub(crate) last: Option<u16>,
+    pub last: Option<u16>,
     /// How many slots have nodes.
-    pub(crate) nodes: u32,
+    pub nodes: u32,
     /// How many runs of leaves there are.
-    pub(crate) leaves: u32,
+    pub leaves: u32,
     /// What the arrays below the nodes need.
-    pub(crate) below: Needs,
+    pub below: Needs,
 }
 
 /// The tally of no slots.
-pub(crate) fn no_slots() -> Tally
-    ensures tally { (e : ℕ) (r : ℕ → List Bool → ℕ) → IsTally result e r 0 }
+pub fn no_slots() -> Tally
+    ensures tally { (g : ℕ → Option ℕ) (N L : ℕ → ℕ) → IsTally result g N L 0 }
     ensures none { (result.nodes ≡ 0) × (result.leaves ≡ 0) }
 {
     Tally {
@@ -38,11 +39,10 @@ pub(crate) fn no_slots() -> Tally
 }
 
 /// The tally with more slots, one at least, that are all leaves of this hop.
-pub(crate) fn with_leaves(so_far: Tally, hop: u16) -> Tally
+pub fn with_leaves(so_far: Tally, hop: u16) -> Tally
     requires { so_far.leaves < 64 }
-    ensures tally { (e v n : ℕ) (r : ℕ → List Bool → ℕ) → 0 < n
-        → ((u : ℕ) → u < n → one_answer e (r (v + u)) ≡ Some hop) → IsTally so_far e r v
-        → IsTally result e r (v + n) }
+    ensures tally { (g : ℕ → Option ℕ) (N L : ℕ → ℕ) (v n : ℕ) → 0 < n
+        → AreLeaves hop g N L v n → IsTally so_far g N L v → IsTally result g N L (v + n) }
     ensures few { (result.nodes ≡ so_far.nodes) × (result.leaves ≤ so_far.leaves + 1) }
 {
     if so_far.last == Some(hop) {
@@ -56,10 +56,10 @@ pub(crate) fn with_leaves(so_far: Tally, hop: u16) -> Tally
 }
 
 /// The tally with one more slot that has a node, of which this is what the arrays below it need.
-pub(crate) fn with_node(so_far: Tally, need: Needs) -> Tally
+pub fn with_node(so_far: Tally, need: Needs) -> Tally
     requires { so_far.nodes < 64 }
-    ensures tally { (e v : ℕ) (r : ℕ → List Bool → ℕ) → one_answer e (r v) ≡ None
-        → IsNeed need e (r v) → IsTally so_far e r v → IsTally result e r (v + 1) }
+    ensures tally { (g : ℕ → Option ℕ) (N L : ℕ → ℕ) (v : ℕ) → g v ≡ None
+        → IsNeed need (N v) (L v) → IsTally so_far g N L v → IsTally result g N L (v + 1) }
     ensures few { (result.nodes ≡ so_far.nodes + 1) × (result.leaves ≡ so_far.leaves) }
 {
     Tally {
@@ -72,10 +72,10 @@ pub(crate) fn with_node(so_far: Tally, need: Needs) -> Tally
     }
 }
 
-/// What the arrays below a node need of whose slots this is the tally.
-pub(crate) fn needs_of(all: Tally) -> Needs
-    ensures { (d : ℕ) (f : List Bool → ℕ) → one_answer d f ≡ None
-        → IsTally all (d - 6) (slot d f) 64 → IsNeed result d f }
+/// What the arrays below a node need of whose slots this is the tally: the node's own, and those below its slots.
+pub fn needs_of(all: Tally) -> Needs
+    ensures { (g : ℕ → Option ℕ) (N L : ℕ → ℕ) → IsTally all g N L 64
+        → IsNeed result (up (children g) + total N 64) (up (runs g) + total L 64) }
 {
     Needs {
         nodes: block_size(all.nodes).saturating_add(all.below.nodes),

@@ -1,10 +1,14 @@
-use Rattle.std.proofs.Common.{rules, ◌≡◌, ℕ, ◌+◌, ◌-◌, ◌^◌, ap, arith, subst, sym}
+use Rattle.std.proofs.Common.{rules, ◌≡◌, ℕ, ◌+◌, ◌-◌, ◌*◌, ◌^◌, ◌≤◌, ap, arith, subst, sym}
 use Rattle.std.proofs.lemmas.Nat.{pow_pos}
 use Rattle.fib_regions.proofs.OneAnswer.{mixed_bits}
-use Rattle.poptrie_build.specs.Strides.{slot}
-use Rattle.poptrie_build.specs.Tally.{IsTally}
+use Rattle.fib_regions.specs.Answers.{one_answer}
+use Rattle.poptrie_build.specs.Need.{need_nodes, need_leaves}
+use Rattle.poptrie_build.specs.Strides.{slot, slots}
+use Rattle.poptrie_build.specs.Tally.{IsWholeTally}
+use Rattle.poptrie_build.specs.declared.tally.Tally.{Tally}
+use Rattle.poptrie_build.proofs.Counting.{nodes_at, leaves_at}
 use Rattle.poptrie_build.proofs.Slotting.{halved}
-use Rattle.poptrie_build.proofs.Tallying.{parts_alike, parts_node, parts_low, parts_high, node_slots}
+use Rattle.poptrie_build.proofs.Tallying.{part_node, part_need, uniform_slots, parts_low, parts_high, need_end, node_slots}
 use Rattle.poptrie_build.proofs.counts.+count_node.Goals as goal
 
 pub count_node-half-requires : goal.count_node-half-requires
@@ -14,10 +18,12 @@ pub count_node-returns : goal.count_node-returns
 count_node-returns g t c =
     let d = g.R.Region.bits c.args.region.now in
     let f = g.R.Region.answers c.args.region.now in
-    let all = node_slots c.tally_slots-low.result c.tally_slots-all.result d (g.R.Region.bits c.half.result) (g.R.Region.bits c.half-2.result) f (g.R.Region.answers c.half.result) (g.R.Region.answers c.half-2.result) c.half.ensures.bits c.half.ensures.answers c.half-2.ensures.bits c.half-2.ensures.answers
-    (λ a. c.tally_slots-low.ensures.tally (d - 6) 0 (slot d f) a (c.no_slots.ensures.tally (d - 6) (slot d f))) (λ a i. c.tally_slots-all.ensures.tally (d - 6) 32 (slot d f) a i) in
-    let need = c.needs_of.ensures d f c.requires all in
-    record { nodes = need.nodes; leaves = need.leaves }
+    let all = λ (k : ℕ) (h : d - 6 ≤ 6 * k).
+    node_slots (λ (t : Tally) (v : ℕ). IsWholeTally t k (d - 6) (slot d f) v) c.tally_slots-low.result c.tally_slots-all.result d (g.R.Region.bits c.half.result) (g.R.Region.bits c.half-2.result) f (g.R.Region.answers c.half.result) (g.R.Region.answers c.half-2.result) c.half.ensures.bits c.half.ensures.answers c.half-2.ensures.bits c.half-2.ensures.answers
+    (λ a. c.tally_slots-low.ensures.tally k (d - 6) 0 (slot d f) h a (c.no_slots.ensures.tally (slots d f) (nodes_at k d f) (leaves_at k d f))) (λ a i. c.tally_slots-all.ensures.tally k (d - 6) 32 (slot d f) h a i)
+    in
+    let need = need_end c.needs_of.result d f c.requires (λ k h. c.needs_of.ensures (slots d f) (nodes_at k d f) (leaves_at k d f) (all k h)) in
+    record { nodes = λ k h. (need k h).nodes; leaves = λ k h. (need k h).leaves }
 
 pub tally_slots-half-requires : goal.tally_slots-half-requires
 tally_slots-half-requires g t c = mixed_bits (g.R.Region.bits c.args.region.now) (g.R.Region.answers c.args.region.now) c.in-None.ensures.differ
@@ -33,22 +39,26 @@ tally_slots-tally_slots-requires g t c κs within =
     search (rules, w)
 
 pub tally_slots-returns-in-Some-clause-tally : goal.tally_slots-returns-in-Some-clause-tally
-tally_slots-returns-in-Some-clause-tally g t c = λ e v r a.
-    c.with_leaves.ensures.tally e v (2 ^ c.args.depth) r (pow_pos c.args.depth) (parts_alike c.args.depth (g.R.Region.bits c.args.region.now) c.in-Some.hop.0 e v (g.R.Region.answers c.args.region.now) r c.in-Some.ensures.one a)
+tally_slots-returns-in-Some-clause-tally g t c = λ k e v r h a.
+    c.with_leaves.ensures.tally (λ u. one_answer e (r u)) (λ u. need_nodes k e (r u)) (λ u. need_leaves k e (r u)) v (2 ^ c.args.depth) (pow_pos c.args.depth) (uniform_slots k c.args.depth (g.R.Region.bits c.args.region.now) c.in-Some.hop.0 e v (g.R.Region.answers c.args.region.now) r c.in-Some.ensures.one a)
 
 pub tally_slots-returns-then-depth-eq0-clause-tally : goal.tally_slots-returns-then-depth-eq0-clause-tally
-tally_slots-returns-then-depth-eq0-clause-tally g t c = λ e v r a i.
-    let p = parts_node c.count_node.result c.args.depth (g.R.Region.bits c.args.region.now) e v (g.R.Region.answers c.args.region.now) r c.if-depth-eq0.true c.in-None.ensures.differ (record { nodes = c.count_node.ensures.nodes; leaves = c.count_node.ensures.leaves }) a in
+tally_slots-returns-then-depth-eq0-clause-tally g t c = λ k e v r h a i.
+    let d = g.R.Region.bits c.args.region.now in
+    let f = g.R.Region.answers c.args.region.now in
+    let none = part_node c.args.depth d e v f r c.if-depth-eq0.true c.in-None.ensures.differ a in
+    let here : d ≤ 6 * k = omega (arith, h, a.bits, c.if-depth-eq0.true) in
+    let need = part_need c.count_node.result (need_nodes k) (need_leaves k) c.args.depth d e v f r c.if-depth-eq0.true a (record { nodes = c.count_node.ensures.nodes k here; leaves = c.count_node.ensures.leaves k here }) in
     let one : v + 1 ≡ v + 2 ^ c.args.depth = ap (λ n. v + 2 ^ n) (sym c.if-depth-eq0.true) in
-    subst (λ (x : ℕ). IsTally c.with_node.result e r x) one (c.with_node.ensures.tally e v r p.0 p.1 i)
+    subst (λ (x : ℕ). IsWholeTally c.with_node.result k e r x) one (c.with_node.ensures.tally (λ u. one_answer e (r u)) (λ u. need_nodes k e (r u)) (λ u. need_leaves k e (r u)) v none need i)
 
 pub tally_slots-returns-else-depth-eq0-clause-tally : goal.tally_slots-returns-else-depth-eq0-clause-tally
-tally_slots-returns-else-depth-eq0-clause-tally g t c = λ e v r a i.
+tally_slots-returns-else-depth-eq0-clause-tally g t c = λ k e v r h a i.
     let w = halved c.args.depth c.if-depth-eq0.false in
-    let low = c.tally_slots-low.ensures.tally e v r (parts_low c.args.depth (g.R.Region.bits c.args.region.now) e v (g.R.Region.answers c.args.region.now) r c.if-depth-eq0.false (g.R.Region.bits c.half.result) (g.R.Region.answers c.half.result) c.half.ensures.bits a c.half.ensures.answers) i in
-    let high = c.tally_slots.ensures.tally e (v + 2 ^ (c.args.depth - 1)) r (parts_high c.args.depth (g.R.Region.bits c.args.region.now) e v (g.R.Region.answers c.args.region.now) r c.if-depth-eq0.false (g.R.Region.bits c.half-in-None.result) (g.R.Region.answers c.half-in-None.result) c.half-in-None.ensures.bits a c.half-in-None.ensures.answers) low in
+    let low = c.tally_slots-low.ensures.tally k e v r h (parts_low c.args.depth (g.R.Region.bits c.args.region.now) e v (g.R.Region.answers c.args.region.now) r c.if-depth-eq0.false (g.R.Region.bits c.half.result) (g.R.Region.answers c.half.result) c.half.ensures.bits a c.half.ensures.answers) i in
+    let high = c.tally_slots.ensures.tally k e (v + 2 ^ (c.args.depth - 1)) r h (parts_high c.args.depth (g.R.Region.bits c.args.region.now) e v (g.R.Region.answers c.args.region.now) r c.if-depth-eq0.false (g.R.Region.bits c.half-in-None.result) (g.R.Region.answers c.half-in-None.result) c.half-in-None.ensures.bits a c.half-in-None.ensures.answers) low in
     let e2 : v + 2 ^ (c.args.depth - 1) + 2 ^ (c.args.depth - 1) ≡ v + 2 ^ c.args.depth = omega (arith, w) in
-    subst (λ (x : ℕ). IsTally c.tally_slots.result e r x) e2 high
+    subst (λ (x : ℕ). IsWholeTally c.tally_slots.result k e r x) e2 high
 
 pub tally_slots-returns-else-depth-eq0-clause-nodes : goal.tally_slots-returns-else-depth-eq0-clause-nodes
 tally_slots-returns-else-depth-eq0-clause-nodes g t c =

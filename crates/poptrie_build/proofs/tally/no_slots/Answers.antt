@@ -3,4 +3,4 @@ use Rattle.poptrie_build.proofs.Tallying.{tally_start}
 use Rattle.poptrie_build.proofs.tally.no_slots.Goals as goal
 
 pub returns-clause-tally : goal.returns-clause-tally
-returns-clause-tally c = λ e r. tally_start _ e r refl refl refl refl refl
+returns-clause-tally c = λ g N L. tally_start _ g N L refl refl refl refl refl

@@ -3,12 +3,12 @@ use Rattle.poptrie_build.proofs.Tallying.{tally_leaves, last_is, goes_on, starts
 use Rattle.poptrie_build.proofs.tally.with_leaves.Goals as goal
 
 pub returns-then-eq-clause-tally : goal.returns-then-eq-clause-tally
-returns-then-eq-clause-tally c = λ e v n r.
+returns-then-eq-clause-tally c = λ g N L v n.
     let same = last_is c.args.so_far.last c.args.hop (sym c.eq.ensures ∙ c.if-eq.true) in
     let z = goes_on c.args.so_far.last c.args.hop same in
-    tally_leaves c.args.so_far c.args.so_far c.args.hop e v n r same refl (omega (arith, z)) refl refl
+    tally_leaves c.args.so_far c.args.so_far c.args.hop g N L v n same refl (omega (arith, z)) refl refl
 
 pub returns-clause-tally : goal.returns-clause-tally
-returns-clause-tally c = λ e v n r.
+returns-clause-tally c = λ g N L v n.
     let one = starts_anew c.args.so_far.last c.args.hop (sym c.eq.ensures ∙ c.if-eq.false) in
-    tally_leaves c.args.so_far _ c.args.hop e v n r refl refl (ap (λ x. c.args.so_far.leaves + x) (sym one)) refl refl
+    tally_leaves c.args.so_far _ c.args.hop g N L v n refl refl (ap (λ x. c.args.so_far.leaves + x) (sym one)) refl refl
