@@ -6,7 +6,7 @@ use Rattle.buddy_arena.specs.Space as arena
 use Rattle.fib_regions.specs.Answers.{one_answer, part}
 use Rattle.poptrie_build.specs.Strides.{slots, slot, mixed, starts, or_earlier, leaf_before, run_start, total}
 use Rattle.block_pool.specs.Powers.{up}
-use Rattle.poptrie_build.specs.Need.{told, children, runs, if_mixed, need_nodes, need_leaves}
+use Rattle.poptrie_build.specs.Need.{children, runs, if_mixed, need_nodes, need_leaves}
 use Rattle.poptrie_build.specs.Stands.{IsCanonical}
 use Rattle.poptrie_build.specs.Slots.{AreSlots}
 use Rattle.poptrie_build.specs.Making.{kind_in}
@@ -195,8 +195,3 @@ descended_slot d v b f g e h = (omega arith, h ∙ ap (λ p. part p f) (sym (tak
 
 pub six_bits : (d v : ℕ) (f : List Bool → ℕ) → None ≡ slots d f v → 6 ≤ d
 six_bits d v f e = let m = mixed_bits (d - 6) (slot d f v) (sym e) in omega arith
-
--- a need as it is told before any child's
-pub told_start : (c x : ℕ) (g : ℕ → ℕ) → x ≡ up c → x < 18446744073709551616 → x ≡ told (up c + total g 0)
-unfolding total
-told_start c x g e l = omega (arith, e, l)

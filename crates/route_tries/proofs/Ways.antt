@@ -1,7 +1,6 @@
 -- Needs on the way to a path, slot by slot.
-use Rattle.std.proofs.Common.{◌≡◌, ℕ, zero, suc, ◌+◌, ◌-◌, ◌*◌, ◌≤◌, List, [], ◌∷◌, ◌++◌, Bool, true, false, Option, Some, None, length, take, drop, min, refl, sym, ap, ◌∙◌, arith, inl, inr}
-use Rattle.std.specs.Prelude.{if◌then◌else◌, not}
-use Rattle.std.specs.Option.{is_some}
+use Rattle.std.proofs.Common.{◌≡◌, ℕ, zero, suc, ◌+◌, ◌-◌, ◌*◌, ◌≤◌, List, [], ◌∷◌, ◌++◌, Bool, true, false, Option, Some, None, length, take, drop, refl, sym, ap, ◌∙◌, arith, inl, inr}
+use Rattle.std.specs.Prelude.{if◌then◌else◌}
 use Rattle.std.proofs.lemmas.Bool.{cases_lt}
 use Rattle.std.proofs.lemmas.List.{length-take}
 use Rattle.address_model.specs.Bits.{bits_of, begins}
@@ -11,9 +10,12 @@ use Rattle.fib_regions.specs.Answers.{one_answer}
 use Rattle.fib_regions.proofs.OneAnswer.{one_answer_part, mixed_bits}
 use Rattle.poptrie_build.specs.Strides.{slots, slot, slot_bits, mixed, total}
 use Rattle.poptrie_build.specs.Need.{told, children, runs, if_mixed, need_nodes, need_leaves}
-use Rattle.poptrie_build.proofs.Counting.{total_more, nodes_at, leaves_at, need_nodes_is, need_leaves_is, no_nodes, no_leaves}
+use Rattle.poptrie_build.proofs.Counting.{nodes_at, leaves_at, need_nodes_is, need_leaves_is, no_nodes, no_leaves}
+use Rattle.poptrie_build.specs.Tally.{IsNeed}
+use Rattle.poptrie_build.specs.declared.counts.Needs.{Needs}
 use Rattle.route_tries.specs.Parts.{AreMoved, meet, way_nodes, way_leaves}
-use Rattle.route_tries.proofs.Meeting.{apart, within, meet_none, bits_drop}
+use Rattle.route_tries.specs.Way.{nodes_below, leaves_below}
+use Rattle.route_tries.proofs.Meeting.{apart, within, meet_none}
 
 pub same_function : (f g : List Bool → ℕ) → ((a : List Bool) → f a ≡ g a) → f ≡ g
 same_function f g h = λ i a. h a i
@@ -106,7 +108,7 @@ module _ (N : ℕ → ℕ → (List Bool → ℕ) → ℕ) (W : ℕ → ℕ → 
 
 -- ---- nodes
 abbrev pub slot_nodes : ℕ → ℕ → (List Bool → ℕ) → List Bool → ℕ → ℕ
-slot_nodes k d f p v = if meet (bits_of 6 v) p then way_nodes k (d - 6) (slot d f v) (drop 6 p) else 0
+slot_nodes k d f p v = nodes_below 6 k (d - 6) (slot d f v) p v
 
 abbrev own_nodes : ℕ → (List Bool → ℕ) → ℕ
 own_nodes d f = if_mixed (one_answer d f) (up (children (slots d f)))
@@ -120,12 +122,12 @@ pub way_nodes_is : (k d : ℕ) (f : List Bool → ℕ) (p : List Bool) → one_a
 unfolding way_nodes
 way_nodes_is k d f p e = ap (λ x. if_mixed x (up (children (slots d f)) + total (slot_nodes k d f p) 64)) e
 
--- a uniform slot has no share
-pub no_slot_nodes : (k d h v : ℕ) (f : List Bool → ℕ) (p : List Bool) → slots d f v ≡ Some h → slot_nodes k d f p v ≡ 0
-no_slot_nodes k d h v f p e = by (meet (bits_of 6 v) p)
+-- below a uniform slot nothing is needed
+pub no_nodes_below : (k e h v : ℕ) (f : List Bool → ℕ) (p : List Bool) → one_answer e f ≡ Some h → nodes_below 6 k e f p v ≡ 0
+no_nodes_below k e h v f p o = by (meet (bits_of 6 v) p)
   where
-    by : (b : Bool) → (if b then way_nodes k (d - 6) (slot d f v) (drop 6 p) else 0) ≡ 0
-    by true = no_way_nodes k (d - 6) h (slot d f v) (drop 6 p) e
+    by : (b : Bool) → (if b then way_nodes k e f (drop 6 p) else 0) ≡ 0
+    by true = no_way_nodes k e h f (drop 6 p) o
     by false = refl
 
 nodes_by_slots : (k d : ℕ) (f : List Bool → ℕ) → need_nodes (suc k) d f ≡ own_nodes d f + total (nodes_at k d f) 64
@@ -140,7 +142,7 @@ way_nodes_by_slots k d f p = by (one_answer d f) refl
   where
     by : (o : Option ℕ) → one_answer d f ≡ o → way_nodes (suc k) d f p ≡ own_nodes d f + total (slot_nodes k d f p) 64
     by None e = way_nodes_is k d f p e ∙ sym (ap (λ x. if_mixed x (up (children (slots d f))) + total (slot_nodes k d f p) 64) e)
-    by (Some h) e = omega (arith, no_way_nodes (suc k) d h f p e, ap (λ x. if_mixed x (up (children (slots d f)))) e, total_none (slot_nodes k d f p) 64 (λ v. no_slot_nodes k d h v f p (slot_one d h v f e)))
+    by (Some h) e = omega (arith, no_way_nodes (suc k) d h f p e, ap (λ x. if_mixed x (up (children (slots d f)))) e, total_none (slot_nodes k d f p) 64 (λ v. no_nodes_below k (d - 6) h v (slot d f v) p (slot_one d h v f e)))
 
 no_strides_nodes : (d : ℕ) (f : List Bool → ℕ) → need_nodes 0 d f ≡ 0
 unfolding need_nodes
@@ -158,7 +160,7 @@ nodes_moved_below = way_moved need_nodes way_nodes own_nodes no_strides_nodes no
 
 -- ---- leaves
 abbrev pub slot_leaves : ℕ → ℕ → (List Bool → ℕ) → List Bool → ℕ → ℕ
-slot_leaves k d f p v = if meet (bits_of 6 v) p then way_leaves k (d - 6) (slot d f v) (drop 6 p) else 0
+slot_leaves k d f p v = leaves_below 6 k (d - 6) (slot d f v) p v
 
 abbrev own_leaves : ℕ → (List Bool → ℕ) → ℕ
 own_leaves d f = if_mixed (one_answer d f) (up (runs (slots d f)))
@@ -172,12 +174,12 @@ pub way_leaves_is : (k d : ℕ) (f : List Bool → ℕ) (p : List Bool) → one_
 unfolding way_leaves
 way_leaves_is k d f p e = ap (λ x. if_mixed x (up (runs (slots d f)) + total (slot_leaves k d f p) 64)) e
 
--- a uniform slot has no share
-pub no_slot_leaves : (k d h v : ℕ) (f : List Bool → ℕ) (p : List Bool) → slots d f v ≡ Some h → slot_leaves k d f p v ≡ 0
-no_slot_leaves k d h v f p e = by (meet (bits_of 6 v) p)
+-- below a uniform slot nothing is needed
+pub no_leaves_below : (k e h v : ℕ) (f : List Bool → ℕ) (p : List Bool) → one_answer e f ≡ Some h → leaves_below 6 k e f p v ≡ 0
+no_leaves_below k e h v f p o = by (meet (bits_of 6 v) p)
   where
-    by : (b : Bool) → (if b then way_leaves k (d - 6) (slot d f v) (drop 6 p) else 0) ≡ 0
-    by true = no_way_leaves k (d - 6) h (slot d f v) (drop 6 p) e
+    by : (b : Bool) → (if b then way_leaves k e f (drop 6 p) else 0) ≡ 0
+    by true = no_way_leaves k e h f (drop 6 p) o
     by false = refl
 
 leaves_by_slots : (k d : ℕ) (f : List Bool → ℕ) → need_leaves (suc k) d f ≡ own_leaves d f + total (leaves_at k d f) 64
@@ -192,7 +194,7 @@ way_leaves_by_slots k d f p = by (one_answer d f) refl
   where
     by : (o : Option ℕ) → one_answer d f ≡ o → way_leaves (suc k) d f p ≡ own_leaves d f + total (slot_leaves k d f p) 64
     by None e = way_leaves_is k d f p e ∙ sym (ap (λ x. if_mixed x (up (runs (slots d f))) + total (slot_leaves k d f p) 64) e)
-    by (Some h) e = omega (arith, no_way_leaves (suc k) d h f p e, ap (λ x. if_mixed x (up (runs (slots d f)))) e, total_none (slot_leaves k d f p) 64 (λ v. no_slot_leaves k d h v f p (slot_one d h v f e)))
+    by (Some h) e = omega (arith, no_way_leaves (suc k) d h f p e, ap (λ x. if_mixed x (up (runs (slots d f)))) e, total_none (slot_leaves k d f p) 64 (λ v. no_leaves_below k (d - 6) h v (slot d f v) p (slot_one d h v f e)))
 
 no_strides_leaves : (d : ℕ) (f : List Bool → ℕ) → need_leaves 0 d f ≡ 0
 unfolding need_leaves
@@ -208,65 +210,13 @@ whole_leaves = whole_way need_leaves way_leaves own_leaves no_strides_leaves no_
 pub leaves_moved_below : (k d : ℕ) (f g : List Bool → ℕ) (p : List Bool) → AlikeElse p f g → AreMoved (need_leaves k d f) (need_leaves k d g) (way_leaves k d f p) (way_leaves k d g p)
 leaves_moved_below = way_moved need_leaves way_leaves own_leaves no_strides_leaves no_way_strides_leaves (λ k h f e. no_leaves k 0 h f e) (λ k h f p e. no_way_leaves k 0 h f p e) leaves_by_slots way_leaves_by_slots
 
--- ---- as they are told while the slots are gone through
--- so far, and with slot v, which has a share or has none
-module _ (c v : ℕ) (g : ℕ → ℕ) where
-  told_skip : (x : ℕ) → g v ≡ 0 → x ≡ told (c + total g v) → x ≡ told (c + total g (v + 1))
-  told_skip x e i = omega (arith, e, i, total_more g v)
-
-  told_share : (n x y : ℕ) → n ≡ g v → x ≡ told (c + total g v) → y ≡ told n → min (x + y) 18446744073709551615 ≡ told (c + total g (v + 1))
-  told_share n x y e i j = omega (arith, e, i, j, total_more g v)
-
--- what is behind a slot on a path of left bits
-behind : (left j q : ℕ) → j ≡ left - 6 → bits_of j q ≡ drop 6 (bits_of left q)
-behind left j q e = ap (λ n. bits_of n q) e ∙ sym (bits_drop 6 left q)
-
-module _ (d : ℕ) (f : List Bool → ℕ) (c k v x left q : ℕ) where
-  pub told_leaf : (h z : ℕ) → z ≡ x → slots d f v ≡ Some h → x ≡ told (c + total (slot_nodes k d f (bits_of left q)) v) → z ≡ told (c + total (slot_nodes k d f (bits_of left q)) (v + 1))
-  told_leaf h z s e i = s ∙ told_skip c v (slot_nodes k d f (bits_of left q)) x (no_slot_nodes k d h v f (bits_of left q) e) i
-
-  pub told_apart : (z : ℕ) → z ≡ x → false ≡ meet (bits_of 6 v) (bits_of left q) → x ≡ told (c + total (slot_nodes k d f (bits_of left q)) v) → z ≡ told (c + total (slot_nodes k d f (bits_of left q)) (v + 1))
-  told_apart z s m i = s ∙ told_skip c v (slot_nodes k d f (bits_of left q)) x (sym (ap (λ t. if t then way_nodes k (d - 6) (slot d f v) (drop 6 (bits_of left q)) else 0) m)) i
-
-  pub told_child : (b j y z sum : ℕ) (g : List Bool → ℕ) → z ≡ sum → sum ≡ min (x + y) 18446744073709551615 → b ≡ d - 6 → g ≡ slot d f v → j ≡ left - 6 → true ≡ meet (bits_of 6 v) (bits_of left q) → x ≡ told (c + total (slot_nodes k d f (bits_of left q)) v) → y ≡ told (way_nodes k b g (bits_of j q)) → z ≡ told (c + total (slot_nodes k d f (bits_of left q)) (v + 1))
-  told_child b j y z sum g s r bits is e m i t =
-      let share : way_nodes k b g (bits_of j q) ≡ slot_nodes k d f (bits_of left q) v =
-      ap (λ n. way_nodes k n g (bits_of j q)) bits
-      ∙ (ap (λ (h : List Bool → ℕ). way_nodes k (d - 6) h (bits_of j q)) is
-      ∙ (ap (way_nodes k (d - 6) (slot d f v)) (behind left j q e) ∙ ap (λ t. if t then way_nodes k (d - 6) (slot d f v) (drop 6 (bits_of left q)) else 0) m))
-      in
-      s ∙ r ∙ told_share c v (slot_nodes k d f (bits_of left q)) (way_nodes k b g (bits_of j q)) x y share i t
-
-  pub told_leaf_leaves : (h z : ℕ) → z ≡ x → slots d f v ≡ Some h → x ≡ told (c + total (slot_leaves k d f (bits_of left q)) v) → z ≡ told (c + total (slot_leaves k d f (bits_of left q)) (v + 1))
-  told_leaf_leaves h z s e i = s ∙ told_skip c v (slot_leaves k d f (bits_of left q)) x (no_slot_leaves k d h v f (bits_of left q) e) i
-
-  pub told_apart_leaves : (z : ℕ) → z ≡ x → false ≡ meet (bits_of 6 v) (bits_of left q) → x ≡ told (c + total (slot_leaves k d f (bits_of left q)) v) → z ≡ told (c + total (slot_leaves k d f (bits_of left q)) (v + 1))
-  told_apart_leaves z s m i = s ∙ told_skip c v (slot_leaves k d f (bits_of left q)) x (sym (ap (λ t. if t then way_leaves k (d - 6) (slot d f v) (drop 6 (bits_of left q)) else 0) m)) i
-
-  pub told_child_leaves : (b j y z sum : ℕ) (g : List Bool → ℕ) → z ≡ sum → sum ≡ min (x + y) 18446744073709551615 → b ≡ d - 6 → g ≡ slot d f v → j ≡ left - 6 → true ≡ meet (bits_of 6 v) (bits_of left q) → x ≡ told (c + total (slot_leaves k d f (bits_of left q)) v) → y ≡ told (way_leaves k b g (bits_of j q)) → z ≡ told (c + total (slot_leaves k d f (bits_of left q)) (v + 1))
-  told_child_leaves b j y z sum g s r bits is e m i t =
-      let share : way_leaves k b g (bits_of j q) ≡ slot_leaves k d f (bits_of left q) v =
-      ap (λ n. way_leaves k n g (bits_of j q)) bits
-      ∙ (ap (λ (h : List Bool → ℕ). way_leaves k (d - 6) h (bits_of j q)) is
-      ∙ (ap (way_leaves k (d - 6) (slot d f v)) (behind left j q e) ∙ ap (λ t. if t then way_leaves k (d - 6) (slot d f v) (drop 6 (bits_of left q)) else 0) m))
-      in
-      s ∙ r ∙ told_share c v (slot_leaves k d f (bits_of left q)) (way_leaves k b g (bits_of j q)) x y share i t
-
--- ---- at the end
-module _ (d : ℕ) (f : List Bool → ℕ) (p : List Bool) (k v x : ℕ) (upto : v ≤ 64) (all : 64 ≤ v) (none : one_answer d f ≡ None) (over : d ≤ 6 * k) where
-  pub nodes_end : ((j : ℕ) → d - 6 ≤ 6 * j → x ≡ told (up (children (slots d f)) + total (slot_nodes j d f p) v)) → x ≡ told (way_nodes k d f p)
-  nodes_end i = by k over
-    where
-      by : (k : ℕ) → d ≤ 6 * k → x ≡ told (way_nodes k d f p)
-      by zero h = absurd (let m = mixed_bits d f none in omega arith)
-      by (suc k) h = let e : v ≡ 64 = omega arith in i k (omega arith) ∙ (ap (λ n. told (up (children (slots d f)) + total (slot_nodes k d f p) n)) e ∙ ap told (sym (way_nodes_is k d f p none)))
-
-  pub leaves_end : ((j : ℕ) → d - 6 ≤ 6 * j → x ≡ told (up (runs (slots d f)) + total (slot_leaves j d f p) v)) → x ≡ told (way_leaves k d f p)
-  leaves_end i = by k over
-    where
-      by : (k : ℕ) → d ≤ 6 * k → x ≡ told (way_leaves k d f p)
-      by zero h = absurd (let m = mixed_bits d f none in omega arith)
-      by (suc k) h = let e : v ≡ 64 = omega arith in i k (omega arith) ∙ (ap (λ n. told (up (runs (slots d f)) + total (slot_leaves k d f p) n)) e ∙ ap told (sym (way_leaves_is k d f p none)))
+-- ---- what is counted of a node's slots
+-- the need of a region with two answers
+pub way_end : (n : Needs) (d : ℕ) (f : List Bool → ℕ) (p : List Bool) → one_answer d f ≡ None → ((j : ℕ) → d - 6 ≤ 6 * j → IsNeed n (up (children (slots d f)) + total (slot_nodes j d f p) 64) (up (runs (slots d f)) + total (slot_leaves j d f p) 64)) → (k : ℕ) → d ≤ 6 * k → IsNeed n (way_nodes k d f p) (way_leaves k d f p)
+way_end n d f p none i zero h = absurd (let m = mixed_bits d f none in omega arith)
+way_end n d f p none i (suc k) h =
+    let all = i k (omega arith) in
+    record { nodes = all.nodes ∙ ap told (sym (way_nodes_is k d f p none)); leaves = all.leaves ∙ ap told (sym (way_leaves_is k d f p none)) }
 
 -- ---- a slot of the direct bits that has no node
 pub none_nodes : (k d h : ℕ) (f : List Bool → ℕ) (p : List Bool) → one_answer d f ≡ Some h → 0 ≡ told (mixed (one_answer d f) + way_nodes k d f p)
@@ -274,14 +224,3 @@ none_nodes k d h f p e = omega (arith, ap mixed e, no_way_nodes k d h f p e)
 
 pub none_leaves : (k d h : ℕ) (f : List Bool → ℕ) (p : List Bool) → one_answer d f ≡ Some h → 0 ≡ told (way_leaves k d f p)
 none_leaves k d h f p e = omega (arith, no_way_leaves k d h f p e)
-
--- ---- whether a slot has a node
-pub has_none : (o : Option ℕ) (b : Bool) → is_some o ≡ not b → b ≡ true → o ≡ None
-has_none None b e t = refl
-has_none (Some h) true e t = cc
-has_none (Some h) false e t = cc
-
-pub has_one : (o : Option ℕ) (b : Bool) → is_some o ≡ not b → b ≡ false → (h : ℕ) × (o ≡ Some h)
-has_one (Some h) b e t = (h, refl)
-has_one None true e t = cc
-has_one None false e t = cc

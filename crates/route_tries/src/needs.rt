@@ -32,7 +32,8 @@ pub fn need_of(tree: &Tree, direct: u8) -> Needs
 }
 
 /// What a trie of a tree's routes needs at a prefix: each node on the way to it needs its own places, and what is within the
-/// prefix needs all of its own. It costs 64 slots for each node on the way, and what the tree has within the prefix.
+/// prefix needs all of its own. It costs the regions with two answers in the nodes on the way, and what the tree has within the
+/// prefix.
 pub fn need_at(tree: &Tree, direct: u8, prefix: &Prefix) -> Needs
     requires family { prefix.now.family ≡ tree.now.family }
     requires few { direct ≤ 18 }

@@ -1,31 +1,21 @@
 //! What the nodes on the way to a path need, and all that is at and within the path.
 
-ghost use Rattle.std.specs.Prelude.{◌≡◌, ℕ, ◌+◌, ◌*◌, ◌≤◌, ◌<◌, None};
+ghost use Rattle.std.specs.Prelude.{◌≡◌, ℕ, ◌+◌, ◌*◌, ◌^◌, ◌≤◌, ◌<◌, List, Bool, None};
 ghost use Rattle.address_model.specs.Bits.{bits_of};
 ghost use Rattle.fib_regions.specs.Answers.{one_answer};
 ghost use Rattle.poptrie_build.specs.Need.{told};
 ghost use Rattle.poptrie_build.specs.Strides.{mixed};
-ghost use Rattle.route_tries.specs.Parts.{meet, way_nodes, way_leaves};
+ghost use Rattle.poptrie_build.specs.Tally.{AreParts, IsTally};
+ghost use Rattle.route_tries.specs.Parts.{way_nodes, way_leaves};
+ghost use Rattle.route_tries.specs.Way.{AreOnWay, AreBeside};
 
-use block_pool::block_size;
 use fib_regions::Region;
-use poptrie_build::{Needs, ask, descend, make_vectors};
-
-/// Whether a slot of a node and a path meet: whether some addresses begin with both. The path is the lowest `left` bits of `q`,
-/// the highest of them first. It compares as many bits as both have.
-fn meets(slot: u8, q: u128, left: u8) -> bool
-    requires slot { slot < 64 }
-    requires few { left ≤ 128 }
-    ensures { result ≡ meet (bits_of 6 slot) (bits_of left q) }
-{
-    let common = left.min(6);
-    let first = (q >> (left - common)) % (1 << common);
-    first == u128::from(slot >> (6 - common))
-}
+use poptrie_build::{Needs, Tally, needs_of, no_slots, with_leaves, with_node};
 
 /// What the node of a region with two answers needs below it on the way to a path and within it: its own places, and what the
-/// slots that meet the path need there. The path is the lowest `left` bits of `q`. It costs the nodes on the way and those within
-/// the path, of 64 slots each.
+/// slots that meet the path need there. The path is the lowest `left` bits of `q`. It costs the regions with two answers in the
+/// nodes on the way and in those within the path, and asks about the halves of each once.
+#[cycle(count_way)]
 pub(crate) fn count_way<R: Region>(region: &R, q: u128, left: u8) -> Needs
     requires mixed { one_answer (R.bits region.now) (R.answers region.now) ≡ None }
     requires few { left ≤ 128 }
@@ -36,20 +26,92 @@ pub(crate) fn count_way<R: Region>(region: &R, q: u128, left: u8) -> Needs
         → result.leaves ≡ told (way_leaves k (R.bits region.now) (R.answers region.now)
         (bits_of left q)) }
 {
-    let mut kinds = [None; 64];
-    ask(region, 6, &mut kinds);
-    let made = make_vectors(&kinds);
-    let mut nodes = block_size(made.nodes);
-    let mut leaves = block_size(made.leaves);
-    for slot in 0..64u8 {
-        if kinds[usize::from(slot)].is_none() && meets(slot, q, left) {
-            let child = descend(region, slot, 6);
-            let below = count_way(&child, q, left.saturating_sub(6));
-            nodes = nodes.saturating_add(below.nodes);
-            leaves = leaves.saturating_add(below.leaves);
+    needs_of(tally_halves(region, 6, q, left, no_slots()))
+}
+
+/// The tally with the slots of a part of a node's region with two answers, a part on the way, which `depth` more bits tell apart:
+/// those of its halves. The path goes on in the half of its next bit, and the other half is beside the way; where nothing is left of
+/// the path, both halves are within it.
+#[cycle(count_way)]
+fn tally_halves<R: Region>(region: &R, depth: u8, q: u128, left: u8, so_far: Tally) -> Tally
+    requires mixed { one_answer (R.bits region.now) (R.answers region.now) ≡ None }
+    requires some { 0 < depth }
+    requires nodes { so_far.nodes + 2 ^ depth ≤ 64 }
+    requires leaves { so_far.leaves + 2 ^ depth ≤ 64 }
+    requires few { left ≤ 128 }
+    ensures tally { (k e v : ℕ) (r : ℕ → List Bool → ℕ) (N L : ℕ → ℕ) → e ≤ 6 * k
+        → AreParts depth (R.bits region.now) (R.answers region.now) e r v
+        → AreOnWay depth k e r (bits_of left q) N L v
+        → IsTally so_far (λ u. one_answer e (r u)) N L v
+        → IsTally result (λ u. one_answer e (r u)) N L (v + 2 ^ depth) }
+    ensures nodes { result.nodes ≤ so_far.nodes + 2 ^ depth }
+    ensures leaves { result.leaves ≤ so_far.leaves + 2 ^ depth }
+{
+    if left == 0 {
+        let low = tally_way(&region.half(false), depth - 1, q, 0, so_far);
+        return tally_way(&region.half(true), depth - 1, q, 0, low);
+    }
+    let rest = left - 1;
+    if (q >> rest) & 1 == 1 {
+        let beside = tally_beside(&region.half(false), depth - 1, so_far);
+        return tally_way(&region.half(true), depth - 1, q, rest, beside);
+    }
+    let on_way = tally_way(&region.half(false), depth - 1, q, rest, so_far);
+    tally_beside(&region.half(true), depth - 1, on_way)
+}
+
+/// The tally with the slots of one more part of a node's region, a part on the way, which `depth` more bits tell apart. A part with
+/// one answer is as many leaves at once, and below a slot that has a node the need is counted right there.
+#[cycle(count_way)]
+fn tally_way<R: Region>(region: &R, depth: u8, q: u128, left: u8, so_far: Tally) -> Tally
+    requires nodes { so_far.nodes + 2 ^ depth ≤ 64 }
+    requires leaves { so_far.leaves + 2 ^ depth ≤ 64 }
+    requires few { left ≤ 128 }
+    ensures tally { (k e v : ℕ) (r : ℕ → List Bool → ℕ) (N L : ℕ → ℕ) → e ≤ 6 * k
+        → AreParts depth (R.bits region.now) (R.answers region.now) e r v
+        → AreOnWay depth k e r (bits_of left q) N L v
+        → IsTally so_far (λ u. one_answer e (r u)) N L v
+        → IsTally result (λ u. one_answer e (r u)) N L (v + 2 ^ depth) }
+    ensures nodes { result.nodes ≤ so_far.nodes + 2 ^ depth }
+    ensures leaves { result.leaves ≤ so_far.leaves + 2 ^ depth }
+{
+    match region.only() {
+        Some(hop) => with_leaves(so_far, hop.0),
+        None => {
+            if depth == 0 {
+                return with_node(so_far, count_way(region, q, left));
+            }
+            tally_halves(region, depth, q, left, so_far)
         }
     }
-    Needs { nodes, leaves }
+}
+
+/// The same of a part beside the way: nothing is needed below its slots.
+#[cycle(tally_beside)]
+fn tally_beside<R: Region>(region: &R, depth: u8, so_far: Tally) -> Tally
+    requires nodes { so_far.nodes + 2 ^ depth ≤ 64 }
+    requires leaves { so_far.leaves + 2 ^ depth ≤ 64 }
+    ensures tally { (e v : ℕ) (r : ℕ → List Bool → ℕ) (N L : ℕ → ℕ)
+        → AreParts depth (R.bits region.now) (R.answers region.now) e r v
+        → AreBeside depth N L v → IsTally so_far (λ u. one_answer e (r u)) N L v
+        → IsTally result (λ u. one_answer e (r u)) N L (v + 2 ^ depth) }
+    ensures nodes { result.nodes ≤ so_far.nodes + 2 ^ depth }
+    ensures leaves { result.leaves ≤ so_far.leaves + 2 ^ depth }
+{
+    match region.only() {
+        Some(hop) => with_leaves(so_far, hop.0),
+        None => {
+            if depth == 0 {
+                let nothing = Needs {
+                    nodes: 0,
+                    leaves: 0,
+                };
+                return with_node(so_far, nothing);
+            }
+            let low = tally_beside(&region.half(false), depth - 1, so_far);
+            tally_beside(&region.half(true), depth - 1, low)
+        }
+    }
 }
 
 /// What the region of a direct slot needs on the way to a path and within it: nothing if it has one answer, else the place of its

@@ -1,90 +1,89 @@
-use Rattle.std.proofs.Common.{rules, arith, ◌≡◌, ◌∙◌, ap, sym, true, false, None, Some}
-use Rattle.poptrie_build.specs.Need.{children, runs}
-use Rattle.route_tries.specs.Parts.{meet}
+use Rattle.std.proofs.Common.{◌≡◌, ◌≢◌, ℕ, ◌+◌, ◌-◌, ◌*◌, ◌/◌, ◌^◌, ◌≤◌, ap, refl, arith, subst, sym, bit_and, nat_eq}
+use Rattle.std.proofs.lemmas.Bool.{eq-eqb, ne_eqb}
+use Rattle.std.proofs.lemmas.Nat.{pow_pos}
 use Rattle.address_model.specs.Bits.{bits_of}
-use Rattle.block_pool.specs.Powers.{up}
-use Rattle.poptrie_build.specs.Strides.{slots}
-use Rattle.poptrie_build.specs.Making.{kind_in}
-use Rattle.poptrie_build.proofs.Going.{child_none, child_less}
-use Rattle.poptrie_build.proofs.Counting.{children_same, runs_same, kinds_agree, descended_slot, six_bits, told_start}
-use Rattle.route_tries.proofs.Ways.{slot_nodes, slot_leaves, told_leaf, told_leaf_leaves, told_apart, told_apart_leaves, told_child, told_child_leaves, nodes_end, leaves_end, has_none, has_one}
-use Rattle.route_tries.proofs.way.+count_way.Goals.{then-is_none+then-meets, else-is_none, else-is_none-via-then-is_none+else-meets, else-is_none-via-else-is_none}
+use Rattle.fib_regions.specs.Answers.{one_answer}
+use Rattle.fib_regions.proofs.OneAnswer.{mixed_bits}
+use Rattle.poptrie_build.specs.Strides.{slot, slots}
+use Rattle.poptrie_build.specs.Tally.{IsTally}
+use Rattle.poptrie_build.proofs.Slotting.{halved}
+use Rattle.poptrie_build.proofs.Tallying.{part_node, part_need, parts_start, parts_low, parts_high}
+use Rattle.route_tries.specs.Parts.{way_nodes, way_leaves}
+use Rattle.route_tries.proofs.Ways.{slot_nodes, slot_leaves, way_end}
+use Rattle.route_tries.proofs.Halves.{next_bit, no_bit, on_low, on_high, off_low, off_high, within_low, within_high, way_start, slot_on_way, uniform_on_way}
 use Rattle.route_tries.proofs.way.+count_way.Goals as goal
 
-pub loop-slot-init : goal.loop-slot-init
-loop-slot-init g t c =
+pub count_way-returns : goal.count_way-returns
+count_way-returns g t c =
     let d = g.R.Region.bits c.args.region.now in
     let f = g.R.Region.answers c.args.region.now in
-    let a = kinds_agree d f c.ask.new.slots c.ask.ensures in
-    let rs = runs_same c.make_vectors-made.result.leaves (kind_in c.ask.new.slots) (slots d f) a c.make_vectors-made.ensures.leaves in
-    let cs = children_same c.make_vectors-made.result.nodes (kind_in c.ask.new.slots) (slots d f) a c.make_vectors-made.ensures.nodes in
-    record {
-      nodes = λ k h. told_start (children (slots d f)) c.block_size-nodes.result (slot_nodes k d f (bits_of c.args.left c.args.q)) (c.block_size-nodes.ensures ∙ ap up cs) c.block_size-nodes.type_inv;
-      leaves = λ k h. told_start (runs (slots d f)) c.block_size-leaves.result (slot_leaves k d f (bits_of c.args.left c.args.q)) (c.block_size-leaves.ensures ∙ ap up rs) c.block_size-leaves.type_inv;
-    }
+    let p = bits_of c.args.left c.args.q in
+    let need = way_end c.needs_of.result d f p c.requires.mixed
+    (λ k h. c.needs_of.ensures (slots d f) (slot_nodes k d f p) (slot_leaves k d f p)
+    (c.tally_halves.ensures.tally k (d - 6) 0 (slot d f) (slot_nodes k d f p) (slot_leaves k d f p) h (parts_start d f) (way_start k d f p) (c.no_slots.ensures.tally (slots d f) (slot_nodes k d f p) (slot_leaves k d f p))))
+    in
+    record { nodes = λ k h. (need k h).nodes; leaves = λ k h. (need k h).leaves }
 
-pub descend-child-requires-clause-fits : goal.descend-child-requires-clause-fits
-descend-child-requires-clause-fits g t c =
+pub tally_halves-half-requires : goal.tally_halves-half-requires
+tally_halves-half-requires g t c = mixed_bits (g.R.Region.bits c.args.region.now) (g.R.Region.answers c.args.region.now) c.requires.mixed
+
+pub tally_halves-half-requires-then-q-rest-eq1 : goal.tally_halves-half-requires-then-q-rest-eq1
+tally_halves-half-requires-then-q-rest-eq1 g t c = mixed_bits (g.R.Region.bits c.args.region.now) (g.R.Region.answers c.args.region.now) c.requires.mixed
+
+pub tally_halves-half-requires-2 : goal.tally_halves-half-requires-2
+tally_halves-half-requires-2 g t c = mixed_bits (g.R.Region.bits c.args.region.now) (g.R.Region.answers c.args.region.now) c.requires.mixed
+
+pub tally_halves-returns-then-left-eq0-clause-tally : goal.tally_halves-returns-then-left-eq0-clause-tally
+tally_halves-returns-then-left-eq0-clause-tally g t c = λ k e v r N L h a w i.
     let d = g.R.Region.bits c.args.region.now in
     let f = g.R.Region.answers c.args.region.now in
-    let a = kinds_agree d f c.ask.new.slots c.ask.ensures in
-    let none : None ≡ slots d f c.loop-slot.slot = sym (has_none _ _ c.is_none.ensures c.if-is_none.true) ∙ (ap (kind_in c.ask.new.slots) c.from.ensures ∙ a c.loop-slot.slot c.loop-slot-test.true) in
-    six_bits d c.loop-slot.slot f none
+    let j = c.args.depth in
+    let p = bits_of c.args.left c.args.q in
+    let some : j ≢ 0 = omega (arith, c.requires.some) in
+    let none = no_bit c.args.left c.args.q c.if-left-eq0.true in
+    let rest = no_bit 0 c.args.q refl in
+    let low = c.tally_way-low.ensures.tally k e v r N L h (parts_low j d e v f r some (g.R.Region.bits c.half.result) (g.R.Region.answers c.half.result) c.half.ensures.bits a c.half.ensures.answers) (within_low j k e v r N L some p (bits_of 0 c.args.q) none rest w) i in
+    let high = c.tally_way.ensures.tally k e (v + 2 ^ (j - 1)) r N L h (parts_high j d e v f r some (g.R.Region.bits c.half-then-left-eq0.result) (g.R.Region.answers c.half-then-left-eq0.result) c.half-then-left-eq0.ensures.bits a c.half-then-left-eq0.ensures.answers) (within_high j k e v r N L some p (bits_of 0 c.args.q) none rest w) low in
+    let all : v + 2 ^ (j - 1) + 2 ^ (j - 1) ≡ v + 2 ^ j = omega (arith, halved j some) in
+    subst (λ (x : ℕ). IsTally c.tally_way.result (λ u. one_answer e (r u)) N L x) all high
 
-pub count_way-below-requires : goal.count_way-below-requires
-count_way-below-requires g t c κs within =
+pub tally_halves-returns-then-q-rest-eq1-clause-tally : goal.tally_halves-returns-then-q-rest-eq1-clause-tally
+tally_halves-returns-then-q-rest-eq1-clause-tally g t c = λ k e v r N L h a w i.
     let d = g.R.Region.bits c.args.region.now in
     let f = g.R.Region.answers c.args.region.now in
-    let a = kinds_agree d f c.ask.new.slots c.ask.ensures in
-    let none : None ≡ slots d f c.loop-slot.slot = sym (has_none _ _ c.is_none.ensures c.if-is_none.true) ∙ (ap (kind_in c.ask.new.slots) c.from.ensures ∙ a c.loop-slot.slot c.loop-slot-test.true) in
-    let down = descended_slot d c.loop-slot.slot (g.R.Region.bits c.descend-child.result) f (g.R.Region.answers c.descend-child.result) c.descend-child.ensures.bits c.descend-child.ensures.answers in
-    let m = child_none d (g.R.Region.bits c.descend-child.result) c.loop-slot.slot f (g.R.Region.answers c.descend-child.result) down.0 down.1 none in
-    let l = child_less d (g.R.Region.bits c.descend-child.result) c.loop-slot.slot f (g.R.Region.answers c.descend-child.result) down.0 down.1 none in
-    (search (rules, l), (within, (m, omega (arith, c.saturating_sub.ensures, c.requires.few))))
+    let j = c.args.depth in
+    let p = bits_of c.args.left c.args.q in
+    let some : j ≢ 0 = omega (arith, c.requires.some) in
+    let next = next_bit c.args.left c.args.q (bit_and (c.args.q / 2 ^ (c.args.left - 1)) 1) c.if-left-eq0.false refl in
+    let low = c.tally_beside-beside.ensures.tally e v r N L (parts_low j d e v f r some (g.R.Region.bits c.half-then-q-rest-eq1.result) (g.R.Region.answers c.half-then-q-rest-eq1.result) c.half-then-q-rest-eq1.ensures.bits a c.half-then-q-rest-eq1.ensures.answers) (off_low j k e v r N L some p (bits_of (c.args.left - 1) c.args.q) (nat_eq (bit_and (c.args.q / 2 ^ (c.args.left - 1)) 1) 1) next (eq-eqb (bit_and (c.args.q / 2 ^ (c.args.left - 1)) 1) 1 c.if-q-rest-eq1.true) w) i in
+    let high = c.tally_way-then-q-rest-eq1.ensures.tally k e (v + 2 ^ (j - 1)) r N L h (parts_high j d e v f r some (g.R.Region.bits c.half-then-q-rest-eq1-2.result) (g.R.Region.answers c.half-then-q-rest-eq1-2.result) c.half-then-q-rest-eq1-2.ensures.bits a c.half-then-q-rest-eq1-2.ensures.answers) (on_high j k e v r N L some p (bits_of (c.args.left - 1) c.args.q) (nat_eq (bit_and (c.args.q / 2 ^ (c.args.left - 1)) 1) 1) next (eq-eqb (bit_and (c.args.q / 2 ^ (c.args.left - 1)) 1) 1 c.if-q-rest-eq1.true) w) low in
+    let all : v + 2 ^ (j - 1) + 2 ^ (j - 1) ≡ v + 2 ^ j = omega (arith, halved j some) in
+    subst (λ (x : ℕ). IsTally c.tally_way-then-q-rest-eq1.result (λ u. one_answer e (r u)) N L x) all high
 
-pub loop-slot-preserved : goal.loop-slot-preserved
-loop-slot-preserved g t c =
+pub tally_halves-returns-clause-tally : goal.tally_halves-returns-clause-tally
+tally_halves-returns-clause-tally g t c = λ k e v r N L h a w i.
     let d = g.R.Region.bits c.args.region.now in
     let f = g.R.Region.answers c.args.region.now in
-    let n = up (children (slots d f)) in
-    let l = up (runs (slots d f)) in
-    let v = c.loop-slot.slot in
-    let now = c.loop-slot.invariant in
-    let a = kinds_agree d f c.ask.new.slots c.ask.ensures in
-    elim c.if-is_none.branch [
-      | then-is_none+then-meets w ↦
-          let b = g.R.Region.bits w.descend-child.result in
-          let h = g.R.Region.answers w.descend-child.result in
-          let y = w.count_way-below.result in
-          let j = w.saturating_sub.result in
-          let down = descended_slot d v b f h w.descend-child.ensures.bits w.descend-child.ensures.answers in
-          let m : true ≡ meet (bits_of 6 v) (bits_of c.args.left c.args.q) = sym w.if-meets.true ∙ w.meets.ensures in
-          record {
-            nodes = λ k over. told_child d f n k v c.loop-slot.nodes c.args.left c.args.q b j y.nodes c.if-is_none.nodes w.saturating_add-nodes.result h w.nodes-is w.saturating_add-nodes.ensures down.0 down.1 w.saturating_sub.ensures m (now.nodes k over) (w.count_way-below.ensures.nodes k (omega (arith, down.0)));
-            leaves = λ k over. told_child_leaves d f l k v c.loop-slot.leaves c.args.left c.args.q b j y.leaves c.if-is_none.leaves w.saturating_add-leaves.result h w.leaves-is w.saturating_add-leaves.ensures down.0 down.1 w.saturating_sub.ensures m (now.leaves k over) (w.count_way-below.ensures.leaves k (omega (arith, down.0)));
-          }
-      | else-is_none w ↦
-          elim w.else-is_none.branch [
-            | else-is_none-via-then-is_none+else-meets u ↦
-                let m : false ≡ meet (bits_of 6 v) (bits_of c.args.left c.args.q) = sym u.if-meets.false ∙ u.meets.ensures in
-                record {
-                  nodes = λ k over. told_apart d f n k v c.loop-slot.nodes c.args.left c.args.q c.if-is_none.nodes w.nodes-is m (now.nodes k over);
-                  leaves = λ k over. told_apart_leaves d f l k v c.loop-slot.leaves c.args.left c.args.q c.if-is_none.leaves w.leaves-is m (now.leaves k over);
-                }
-            | else-is_none-via-else-is_none u ↦
-                let o = has_one _ _ c.is_none.ensures u.if-is_none.false in
-                let some : slots d f v ≡ Some o.0 = sym (a v c.loop-slot-test.true) ∙ (sym (ap (kind_in c.ask.new.slots) c.from.ensures) ∙ o.1) in
-                record {
-                  nodes = λ k over. told_leaf d f n k v c.loop-slot.nodes c.args.left c.args.q o.0 c.if-is_none.nodes w.nodes-is some (now.nodes k over);
-                  leaves = λ k over. told_leaf_leaves d f l k v c.loop-slot.leaves c.args.left c.args.q o.0 c.if-is_none.leaves w.leaves-is some (now.leaves k over);
-                }
-          ]
-    ]
+    let j = c.args.depth in
+    let p = bits_of c.args.left c.args.q in
+    let some : j ≢ 0 = omega (arith, c.requires.some) in
+    let next = next_bit c.args.left c.args.q (bit_and (c.args.q / 2 ^ (c.args.left - 1)) 1) c.if-left-eq0.false refl in
+    let low = c.tally_way-on_way.ensures.tally k e v r N L h (parts_low j d e v f r some (g.R.Region.bits c.half-2.result) (g.R.Region.answers c.half-2.result) c.half-2.ensures.bits a c.half-2.ensures.answers) (on_low j k e v r N L some p (bits_of (c.args.left - 1) c.args.q) (nat_eq (bit_and (c.args.q / 2 ^ (c.args.left - 1)) 1) 1) next (ne_eqb (bit_and (c.args.q / 2 ^ (c.args.left - 1)) 1) 1 c.if-q-rest-eq1.false) w) i in
+    let high = c.tally_beside.ensures.tally e (v + 2 ^ (j - 1)) r N L (parts_high j d e v f r some (g.R.Region.bits c.half-3.result) (g.R.Region.answers c.half-3.result) c.half-3.ensures.bits a c.half-3.ensures.answers) (off_high j k e v r N L some p (bits_of (c.args.left - 1) c.args.q) (nat_eq (bit_and (c.args.q / 2 ^ (c.args.left - 1)) 1) 1) next (ne_eqb (bit_and (c.args.q / 2 ^ (c.args.left - 1)) 1) 1 c.if-q-rest-eq1.false) w) low in
+    let all : v + 2 ^ (j - 1) + 2 ^ (j - 1) ≡ v + 2 ^ j = omega (arith, halved j some) in
+    subst (λ (x : ℕ). IsTally c.tally_beside.result (λ u. one_answer e (r u)) N L x) all high
 
-pub returns-clause-nodes : goal.returns-clause-nodes
-returns-clause-nodes g t c =
-    λ k h. nodes_end (g.R.Region.bits c.args.region.now) (g.R.Region.answers c.args.region.now) (bits_of c.args.left c.args.q) k c.loop-slot.slot _ c.loop-slot.auto.slot-end c.loop-slot-test.false c.requires.mixed h c.loop-slot.invariant.nodes
+pub tally_way-returns-in-Some-clause-tally : goal.tally_way-returns-in-Some-clause-tally
+tally_way-returns-in-Some-clause-tally g t c = λ k e v r N L h a w.
+    c.with_leaves.ensures.tally (λ u. one_answer e (r u)) N L v (2 ^ c.args.depth) (pow_pos c.args.depth) (uniform_on_way c.args.depth (g.R.Region.bits c.args.region.now) c.in-Some.hop.0 e v (g.R.Region.answers c.args.region.now) r N L c.in-Some.ensures.one a k (bits_of c.args.left c.args.q) w)
 
-pub returns-clause-leaves : goal.returns-clause-leaves
-returns-clause-leaves g t c =
-    λ k h. leaves_end (g.R.Region.bits c.args.region.now) (g.R.Region.answers c.args.region.now) (bits_of c.args.left c.args.q) k c.loop-slot.slot _ c.loop-slot.auto.slot-end c.loop-slot-test.false c.requires.mixed h c.loop-slot.invariant.leaves
+pub tally_way-returns-then-depth-eq0-clause-tally : goal.tally_way-returns-then-depth-eq0-clause-tally
+tally_way-returns-then-depth-eq0-clause-tally g t c = λ k e v r N L h a w i.
+    let d = g.R.Region.bits c.args.region.now in
+    let f = g.R.Region.answers c.args.region.now in
+    let p = bits_of c.args.left c.args.q in
+    let none = part_node c.args.depth d e v f r c.if-depth-eq0.true c.in-None.ensures.differ a in
+    let enough : d ≤ 6 * k = omega (arith, h, a.bits, c.if-depth-eq0.true) in
+    let below = part_need c.count_way.result (λ n x. way_nodes k n x p) (λ n x. way_leaves k n x p) c.args.depth d e v f r c.if-depth-eq0.true a (record { nodes = c.count_way.ensures.nodes k enough; leaves = c.count_way.ensures.leaves k enough }) in
+    let one : v + 1 ≡ v + 2 ^ c.args.depth = ap (λ n. v + 2 ^ n) (sym c.if-depth-eq0.true) in
+    subst (λ (x : ℕ). IsTally c.with_node.result (λ u. one_answer e (r u)) N L x) one (c.with_node.ensures.tally (λ u. one_answer e (r u)) N L v none (slot_on_way c.count_way.result c.args.depth k e v r p N L c.if-depth-eq0.true below w) i)
