@@ -72,8 +72,8 @@ impl Keep {
         }
     }
 
-    /// Those of the routes that are of the family, the last at each prefix, and an empty table. It costs the routes' lengths and
-    /// the tree's nodes, where a `put` for each would cost the nodes on each way with their sets of hops.
+    /// Those of the routes that are of the family, the last at each prefix, and an empty table. It costs the tree's nodes, where
+    /// the routes stand in the order of prefixes; a `put` for each would cost the nodes on each way with their sets of hops.
     ///
     /// # Errors
     ///
