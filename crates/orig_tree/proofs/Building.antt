@@ -20,7 +20,7 @@ use Rattle.orig_tree.specs.Packed.{bare_slot, cover_in}
 use Rattle.orig_tree.specs.Arena.{Place, blank, bare_cover_is, node_at, half_place, from_half, walks_by, walks_at, IfHalf, IsNode, IsTree, IsHeld, GivesPlace, link, KeepsOthers, cover_at, retold, whole, IsArena}
 use Rattle.orig_tree.specs.Bests.{Stands, best_one, best_in, best_behind, AreBest, KeepsBest}
 use Rattle.orig_tree.specs.Woven.{with_rows, IsWoven, Weaves, Lays}
-use Rattle.orig_tree.specs.Built.{OnlyAdds, answers_of, IsBuilt, HalfBuilt, Builds, BuildsHalf}
+use Rattle.orig_tree.specs.Built.{with_halves, OnlyAdds, answers_of, IsBuilt, HalfBuilt, Builds, BuildsHalf}
 use Rattle.orig_tree.specs.declared.node.Node.{Node}
 use Rattle.orig_tree.specs.declared.node.Label.TheVariants.{Route}
 use Rattle.orig_tree.specs.declared.best.Best.{Best}
@@ -244,11 +244,6 @@ half_added d T old mid new free free' name p h S S1 S' n x k at some is here oth
           best = (subst (λ (y : Best). Stands d f y) (sym here) b.stands, λ s. subst (λ (y : Node). IfHalf (λ j. AreBest d new S' (side s f) j) (half_place y s)) (sym put) (bests s));
         }
 
--- what was joined at the places that a node tells
-pub joined_at : (S : ℕ → Best) (lo ho lo' ho' : Option ℕ) (hop : ℕ) (x : Best) → lo ≡ lo' → ho ≡ ho' → ((d : ℕ) (f : List Bool → ℕ) → Stands d (side false f) (best_behind S lo (best_one hop)) → Stands d (side true f) (best_behind S ho (best_one hop)) → Stands (suc d) f x) →
-    (d : ℕ) (f : List Bool → ℕ) → Stands d (side false f) (best_behind S lo' (best_one hop)) → Stands d (side true f) (best_behind S ho' (best_one hop)) → Stands (suc d) f x
-joined_at S lo ho lo' ho' hop x l h j d f s t = j d f (subst (λ (o : Option ℕ). Stands d (side false f) (best_behind S o (best_one hop))) (sym l) s) (subst (λ (o : Option ℕ). Stands d (side true f) (best_behind S o (best_one hop))) (sym h) t)
-
 -- the root's is put: the halves keep what they kept
 pub kept_behind : (s : Bests) (x : Best) (j : ℕ) → j ≢ 0 → best_in (record { root = x; halves = s.halves }) j ≡ best_in s j
 kept_behind s x zero z = absurd (z refl)
@@ -264,7 +259,7 @@ builds_alone h levels hop P own cells free S E R n x front is hop_is one = recor
   built = λ d name m r l held. built_alone d own cells free m name r h hop S n x is hop_is one held;
 }
 
-pub builds_node : (h hop : ℕ) (p : code.Prefix) (own : Option ℕ) (old mid new : List Node) (free free1 free' : ℕ) (S S1 S' : ℕ → Best) (E A B R : Entries) (k n : Node) (x : Best) → p.len < width p.family →
+builds_node : (h hop : ℕ) (p : code.Prefix) (own : Option ℕ) (old mid new : List Node) (free free1 free' : ℕ) (S S1 S' : ℕ → Best) (E A B R : Entries) (k n : Node) (x : Best) → p.len < width p.family →
     E ≡ of_table p.family (lift (prefix_as p).bits (here own)) ++ A → k.entry ≡ bare_slot → n ≡ retold Route own (cover_at new Route (half_place k false)) (cover_at new Route (half_place k true)) k → hop ≡ unwrap_or own h →
     BuildsHalf hop (width p.family - p.len - 1) (half_at false (prefix_as p)) old mid free free1 S S1 A B (half_place k false) → BuildsHalf hop (width p.family - p.len - 1) (half_at true (prefix_as p)) mid new free1 free' S1 S' B R (half_place k true) →
     ((d : ℕ) (f : List Bool → ℕ) → Stands d (side false f) (best_behind S' (half_place k false) (best_one hop)) → Stands d (side true f) (best_behind S' (half_place k true) (best_one hop)) → Stands (suc d) f x) →
@@ -291,6 +286,15 @@ builds_node h hop p own old mid new free free1 free' S S1 S' E A B R k n x longe
         let low = y.built e name m (r ++ (false ∷ [])) (omega (arith, l)) held in
         let high = z.built e low.name' low.spares (r ++ (true ∷ [])) (omega (arith, l)) low.held in
         built_node e own y.taken z.taken old mid new free1 free' name r h hop S S1 S' k n x bare is hop_is low high joined
+
+pub builds_over : (h hop : ℕ) (p : code.Prefix) (own : Option ℕ) (old mid new : List Node) (free free1 free' : ℕ) (S S1 S' : ℕ → Best) (E A B R R' : Entries) (low high : ℕ) (n : Node) (x : Best) → p.len < width p.family → E ≡ of_table p.family (lift (prefix_as p).bits (here own)) ++ A →
+    n ≡ retold Route own (cover_at new Route (link low)) (cover_at new Route (link high)) (with_halves low high) → hop ≡ unwrap_or own h →
+    BuildsHalf hop (width p.family - p.len - 1) (half_at false (prefix_as p)) old mid free free1 S S1 A B (link low) → BuildsHalf hop (width p.family - p.len - 1) (half_at true (prefix_as p)) mid new free1 free' S1 S' B R (link high) →
+    ((d : ℕ) (f : List Bool → ℕ) → Stands d (side false f) (best_behind S' (link low) (best_one hop)) → Stands d (side true f) (best_behind S' (link high) (best_one hop)) → Stands (suc d) f x) → R' ≡ R →
+    Builds h (width p.family - p.len) (prefix_as p) old new free free' S S' E R' n x
+builds_over h hop p own old mid new free free1 free' S S1 S' E A B R R' low high n x longer front is hop_is y z joined left =
+    subst (λ (Q : Entries). Builds h (width p.family - p.len) (prefix_as p) old new free free' S S' E Q n x) (sym left)
+    (builds_node h hop p own old mid new free free1 free' S S1 S' E A B R (with_halves low high) n x longer front refl is hop_is y z joined)
 
 pub builds_bare : (h levels : ℕ) (P : Prefix) (cells : List Node) (free : ℕ) (S : ℕ → Best) (E : Entries) → BuildsHalf h levels P cells cells free free S S E E None
 builds_bare h levels P cells free S E = record { taken = []; front = refl; built = λ d name m r l held. half_bare d cells free m name r h S held }

@@ -6,6 +6,7 @@ use Rattle.table_model.specs.Entries.{Entries, of_table}
 use Rattle.least_model.specs.Regions.{lift}
 use Rattle.least_model.specs.Sets.{side}
 use Rattle.orig_tree.specs.Arena.{Place, At, node_at, half_place, from_half, walks_by, walks_at, IfHalf, IsNode, IsTree, IsHeld}
+use Rattle.orig_tree.specs.Packed.{bare_slot}
 use Rattle.orig_tree.specs.Bests.{Stands, best_one, best_behind, AreBest}
 use Rattle.orig_tree.specs.Woven.{with_rows}
 use Rattle.orig_tree.specs.declared.node.Node.{Node}
@@ -15,6 +16,10 @@ use Rattle.orig_tree.specs.declared.best.Best.{Best}
 pub record OnlyAdds (old new : List Node) (name name' : ℕ → Place) (kept kept' : ℕ → Best) : Type 0 where
   pub long : length old ≤ length new
   pub same : (j : ℕ) (q : List Bool) → name j ≡ At q → (node_at new j ≡ node_at old j) × (name' j ≡ At q) × (kept' j ≡ kept j)
+
+-- a node with halves at these places, 0 where one is no node, and no labels yet
+abbrev pub with_halves : ℕ → ℕ → Node
+with_halves low high = record { low = low; high = high; route = bare_slot; entry = bare_slot }
 
 -- the answers of the routes T, each set in its turn, where h is inherited
 abbrev pub answers_of : Table → ℕ → List Bool → ℕ

@@ -1,17 +1,18 @@
 //! A tree built in one walk over routes that stand in order: a node is made after its halves, and is written once, with its
 //! route, its cover and what it keeps of its region.
 
-ghost use Rattle.std.specs.Prelude.{◌≡◌, ◌<◌, ◌-◌, ℕ, List, [], ◌∷◌, ◌++◌, OnOk, IfOk, map, vec_len, length};
+ghost use Rattle.std.specs.Prelude.{◌≡◌, ◌<◌, ◌-◌, ℕ, suc, Bool, true, false, List, [], ◌∷◌, ◌++◌, OnOk, IfOk, map, vec_len, length};
 ghost use Rattle.address_model.specs.Width.{width};
 ghost use Rattle.table_model.specs.Table.{here};
 ghost use Rattle.table_model.specs.Entries.{of_table};
 ghost use Rattle.least_model.specs.Regions.{lift};
+ghost use Rattle.least_model.specs.Sets.{side};
 ghost use Rattle.address_model.specs.Regions.{half_at};
 ghost use Rattle.fib_addr.specs.Views.{entry_as, prefix_as};
-ghost use Rattle.orig_tree.specs.Arena.{blank, bare_cover_is, cells_of, link, retold, IsArena};
-ghost use Rattle.orig_tree.specs.Bests.{best_one, best_in, KeepsBest};
+ghost use Rattle.orig_tree.specs.Arena.{blank, bare_cover_is, cells_of, cover_at, link, retold, IsArena};
+ghost use Rattle.orig_tree.specs.Bests.{Stands, best_one, best_in, best_behind, KeepsBest};
 ghost use Rattle.orig_tree.specs.Woven.{Lays};
-ghost use Rattle.orig_tree.specs.Built.{Builds, BuildsHalf};
+ghost use Rattle.orig_tree.specs.Built.{with_halves, Builds, BuildsHalf};
 ghost use Rattle.orig_tree.specs.declared.node.Label.TheVariants.{Route};
 
 use crate::best::{Best, Bests, join_kept};
@@ -28,7 +29,7 @@ struct Built<'a> {
     rest: &'a [Entry],
 }
 
-/// The place of a half that was built, or 0 where it is no node, and the routes that are left.
+/// The place of a half that was built, and the routes that are left.
 #[derive(Clone, Copy)]
 struct BuiltHalf<'a> {
     place: u32,
@@ -81,6 +82,37 @@ fn alone<'a>(nodes: &Nodes, own: Option<u16>, hop: u16, rest: &'a [Entry]) -> Bu
     }
 }
 
+/// A region with its own route, or with none, from its halves, whose places are given, or 0 where one is no node.
+fn from_halves<'a>(
+    alloc: Global,
+    nodes: &Nodes,
+    bests: &Bests,
+    own: Option<u16>,
+    hop: u16,
+    low: u32,
+    high: u32,
+    rest: &'a [Entry],
+) -> Result<Built<'a>, AllocError>
+    ensures node { IfOk result (λ b. b.node ≡ retold Route own (cover_at (cells_of nodes.now) Route (link
+        low)) (cover_at (cells_of nodes.now) Route (link high)) (with_halves low high)) }
+    ensures best { IfOk result (λ b. (d : ℕ) (f : List Bool → ℕ) → Stands d (side false f)
+        (best_behind (best_in bests.now) (link low) (best_one hop)) → Stands d (side true f)
+        (best_behind (best_in bests.now) (link high) (best_one hop)) → Stands (suc d) f b.best) }
+    ensures rest { IfOk result (λ b. b.rest.now ≡ rest.now) }
+{
+    let halves = Node {
+        low,
+        high,
+        ..leaf()
+    };
+    let best = join_kept(alloc, bests, halves.half(false), halves.half(true), hop)?;
+    Ok(Built {
+        node: retell(nodes, halves, Label::Route, own),
+        best,
+        rest,
+    })
+}
+
 /// Builds the region of a prefix, which inherits the hop, from the routes, as long as the next one is within the region and in
 /// order. It costs the region's nodes.
 ///
@@ -107,30 +139,29 @@ fn build<'a>(
     if at.len == at.family.width() {
         return Ok(alone(nodes, own, hop, rest));
     }
-    let next = next_half(rest, &at);
-    if next.is_none() {
-        return Ok(alone(nodes, own, hop, rest));
+    match next_half(rest, &at) {
+        None => Ok(alone(nodes, own, hop, rest)),
+        Some(true) => {
+            let high = build_half(alloc, nodes, bests, at, true, hop, rest)?;
+            let built = from_halves(alloc, nodes, bests, own, hop, 0, high.place, high.rest)?;
+            Ok(built)
+        }
+        Some(false) => {
+            let low = build_half(alloc, nodes, bests, at, false, hop, rest)?;
+            let Some(true) = next_half(low.rest, &at) else {
+                let built = from_halves(alloc, nodes, bests, own, hop, low.place, 0, low.rest)?;
+                return Ok(built);
+            };
+            let high = build_half(alloc, nodes, bests, at, true, hop, low.rest)?;
+            let built = from_halves(
+                alloc, nodes, bests, own, hop, low.place, high.place, high.rest,
+            )?;
+            Ok(built)
+        }
     }
-    let low = build_half(alloc, nodes, bests, at, false, next, hop, rest)?;
-    let next = match next {
-        Some(true) => next,
-        _ => next_half(low.rest, &at),
-    };
-    let high = build_half(alloc, nodes, bests, at, true, next, hop, low.rest)?;
-    let halves = Node {
-        low: low.place,
-        high: high.place,
-        ..leaf()
-    };
-    let best = join_kept(alloc, bests, halves.half(false), halves.half(true), hop)?;
-    Ok(Built {
-        node: retell(nodes, halves, Label::Route, own),
-        best,
-        rest: high.rest,
-    })
 }
 
-/// The same of a half of the region, which becomes a node where it is the half that the next route is within.
+/// The same of a half of the region, which becomes a node.
 #[cycle(build)]
 fn build_half<'a>(
     alloc: Global,
@@ -138,7 +169,6 @@ fn build_half<'a>(
     bests: &mut Bests,
     at: Prefix,
     bit: bool,
-    next: Option<bool>,
     inherited: u16,
     routes: &'a [Entry],
 ) -> Result<BuiltHalf<'a>, AllocError>
@@ -150,20 +180,12 @@ fn build_half<'a>(
         (best_in bests.old) (best_in bests.new) (map entry_as routes.now) (map entry_as b.rest.now)
         (link b.place)) }
 {
-    match next {
-        Some(next) if next == bit => {
-            let built = build(alloc, nodes, bests, at.half(bit), inherited, routes)?;
-            let place = add(nodes, bests, built.node, built.best)?;
-            Ok(BuiltHalf {
-                place,
-                rest: built.rest,
-            })
-        }
-        _ => Ok(BuiltHalf {
-            place: 0,
-            rest: routes,
-        }),
-    }
+    let built = build(alloc, nodes, bests, at.half(bit), inherited, routes)?;
+    let place = add(nodes, bests, built.node, built.best)?;
+    Ok(BuiltHalf {
+        place,
+        rest: built.rest,
+    })
 }
 
 /// Builds a family's tree from a front of the routes, where there is the root alone, and gives the routes that are left.
