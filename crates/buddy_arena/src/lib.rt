@@ -14,6 +14,3 @@ mod word;
 
 pub use arena::{Arena, Block, Full};
 pub use laws::blocks_law;
-
-#[cfg(test)]
-mod tests;

@@ -30,6 +30,3 @@ pub use node::{Node, rank};
 pub use slots::{ask, descend};
 pub use tally::{Tally, needs_of, no_slots, with_leaves, with_node};
 pub use trie::{Trie, empty_words};
-
-#[cfg(test)]
-mod tests;

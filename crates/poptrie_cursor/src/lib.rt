@@ -13,6 +13,3 @@ mod laws;
 
 pub use cursors::{Cursors, CursorsFull, NotOpen};
 pub use laws::{nobody_law, prepare_law, step_law};
-
-#[cfg(test)]
-mod tests;

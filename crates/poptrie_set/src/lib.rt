@@ -16,6 +16,3 @@ mod trie_set;
 pub use reading::At;
 pub use reasons::NotReady;
 pub use trie_set::{Oldest, Pending, TrieSet};
-
-#[cfg(test)]
-mod tests;

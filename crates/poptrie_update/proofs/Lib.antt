@@ -2,4 +2,3 @@ pub mod Pair
 pub mod Short
 pub mod Rebuilt
 pub mod Made
-pub mod Hop_changed

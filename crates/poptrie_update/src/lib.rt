@@ -14,6 +14,3 @@ mod pending;
 pub use live::{At, Live};
 pub use pending::{NotReady, Pending};
 pub use poptrie_set::Oldest;
-
-#[cfg(test)]
-mod tests;

@@ -18,6 +18,3 @@ pub use poptrie_build::{Found, Needs};
 pub use region::RouteRegion;
 pub use sizes::{Sizes, TrieFull};
 pub use tries::{Tries, TriesError};
-
-#[cfg(test)]
-mod tests;

@@ -1,0 +1,19 @@
+//! What arenas, tries and their lookups offer, tested: of their own, since a crate with tests is proved twice.
+#![tactic(auto)]
+
+#[cfg(test)]
+mod arena;
+#[cfg(test)]
+mod build;
+#[cfg(test)]
+mod common;
+#[cfg(test)]
+mod cursors;
+#[cfg(test)]
+mod live;
+#[cfg(test)]
+mod pairs;
+#[cfg(test)]
+mod steps;
+#[cfg(test)]
+mod tries;

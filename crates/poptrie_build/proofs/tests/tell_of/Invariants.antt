@@ -1,4 +1,0 @@
-use Rattle.poptrie_build.proofs.tests.tell_of.Given as goal
-
-abbrev pub ghosts-tell : goal.ghosts-tell
-ghosts-tell a = record { name = a.blank.name; parts = a.blank.parts }

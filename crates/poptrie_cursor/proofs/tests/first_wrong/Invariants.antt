@@ -1,5 +1,0 @@
-use Rattle.poptrie_cursor.specs.Cursors.{Dues, FitsAll}
-use Rattle.poptrie_cursor.proofs.tests.first_wrong.Given as goal
-
-abbrev pub invariant-loop-place : goal.invariant-loop-place
-invariant-loop-place l = (due : Dues) × FitsAll l.live l.cursors due

@@ -1,5 +1,0 @@
-use Rattle.poptrie_cursor.specs.Cursors.{Dues, FitsAll}
-use Rattle.poptrie_cursor.proofs.tests.starts.Given as goal
-
-abbrev pub invariant-loop-number : goal.invariant-loop-number
-invariant-loop-number l = (due : Dues) × FitsAll l.live l.cursors due
