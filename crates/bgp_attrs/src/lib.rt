@@ -16,6 +16,3 @@ pub use list::{Attrs, read_attrs};
 pub use multiprotocol::{Reach, Unreach};
 pub use path::path_length;
 pub use wire_model::Place;
-
-#[cfg(test)]
-mod tests;

@@ -11,6 +11,3 @@ mod update;
 pub use event::push_event;
 pub use message::{push_message, read_message};
 pub use wire_fields::{Refusal, WireFault, read_wire_prefix};
-
-#[cfg(test)]
-mod tests;

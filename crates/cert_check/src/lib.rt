@@ -17,6 +17,3 @@ mod verdict;
 pub use alike::{Differ, same};
 pub use refusal::{CheckError, No};
 pub use verdict::check;
-
-#[cfg(test)]
-mod tests;

@@ -12,8 +12,6 @@ mod error;
 mod fields;
 mod printed;
 mod printed_row;
-#[cfg(test)]
-mod tests;
 pub mod why;
 
 pub use cert_rows::Row;

@@ -22,6 +22,3 @@ pub use hops::{HopError, HopTable, HopsFull, MOST_HOPS};
 pub use laws::{hops_law, order_law, prefix_text_law, text_law, uniform_law};
 pub use prefix::{Prefix, bit_at};
 pub use text::{MOST_TEXT, addr_text, prefix_text, read_addr, read_ipv4, read_number, read_prefix};
-
-#[cfg(test)]
-mod tests;

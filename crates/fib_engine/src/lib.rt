@@ -24,6 +24,3 @@ pub use error::EngineError;
 pub use route_tries::{FamilyNeeds, Found, Needs, Sizes, TrieFull, Tries};
 pub use settled::Settled;
 pub use turns::Turns;
-
-#[cfg(test)]
-mod tests;

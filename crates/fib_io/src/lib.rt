@@ -22,8 +22,6 @@ mod memory_sinks;
 mod pieces;
 mod plan;
 mod streams;
-#[cfg(test)]
-mod tests;
 
 pub use files::{ByName, FileInputs, ReadSeek, SystemFiles};
 pub use memory_inputs::{MemInputs, SureInputs};

@@ -16,8 +16,6 @@ mod run;
 mod run_text;
 mod section;
 mod section_text;
-#[cfg(test)]
-mod tests;
 mod whole_run;
 
 pub use fields::{family_field, hop_field};

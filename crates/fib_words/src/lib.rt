@@ -397,6 +397,3 @@ pub fn read_words<'a>(alloc: Global, words: &'a [String]) -> Result<CommandWords
         None => Err(WordsError::Usage),
     }
 }
-
-#[cfg(test)]
-mod tests;

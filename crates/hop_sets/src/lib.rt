@@ -8,6 +8,3 @@ mod hop_set;
 mod merge;
 
 pub use hop_set::{HopSet, Joint};
-
-#[cfg(test)]
-mod tests;

@@ -14,6 +14,3 @@ mod scratch;
 mod updates;
 
 pub use make::generate;
-
-#[cfg(test)]
-mod tests;

@@ -236,6 +236,3 @@ impl Framer {
         }
     }
 }
-
-#[cfg(test)]
-mod tests;

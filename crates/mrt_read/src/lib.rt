@@ -12,6 +12,3 @@ mod reader;
 
 pub use mrt_frame::Malformed;
 pub use reader::{EventsError, Reader};
-
-#[cfg(test)]
-mod tests;

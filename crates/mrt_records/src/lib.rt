@@ -18,6 +18,3 @@ pub use peer_table::PeerTable;
 pub use record::{RecordTold, read_record};
 pub use rib::{push_rib, read_rib};
 pub use wire_fields::Refusal;
-
-#[cfg(test)]
-mod tests;

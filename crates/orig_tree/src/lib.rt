@@ -36,6 +36,3 @@ pub use node_ref::NodeRef;
 pub use path::path_bits;
 pub use region::Region;
 pub use tree::Tree;
-
-#[cfg(test)]
-mod tests;

@@ -11,6 +11,3 @@ mod table;
 pub use down::{fresh, hand_least, least_table, own_hop, within, within_counted};
 pub use rows::certify;
 pub use table::Fresh;
-
-#[cfg(test)]
-mod tests;

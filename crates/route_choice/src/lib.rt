@@ -31,6 +31,3 @@ mod routes;
 
 pub use candidates::Candidates;
 pub use choice::{Choice, Pick};
-
-#[cfg(test)]
-mod tests;

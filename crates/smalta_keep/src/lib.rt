@@ -22,6 +22,3 @@ mod told;
 
 pub use keep::Keep;
 pub use repair::{Moved, Repair};
-
-#[cfg(test)]
-mod tests;

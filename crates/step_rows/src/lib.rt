@@ -5,8 +5,6 @@
 #![tactic(auto)]
 
 mod row;
-#[cfg(test)]
-mod tests;
 mod text;
 
 pub use row::Row;

@@ -7,8 +7,6 @@
 
 mod script;
 mod step;
-#[cfg(test)]
-mod tests;
 
 pub use cost_cert::BadRow;
 pub use script::{ScriptError, read_script};

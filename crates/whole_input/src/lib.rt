@@ -4,8 +4,6 @@
 //! among them. A record that breaks a rule, and an input of more than 2^36 octets, give none.
 #![tactic(auto)]
 
-#[cfg(test)]
-mod tests;
 mod whole;
 
 pub use whole::{WholeError, read_all_events};

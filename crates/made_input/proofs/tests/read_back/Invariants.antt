@@ -1,6 +1,0 @@
-use Rattle.std.proofs.Common.{length}
-use Rattle.mrt_read.specs.Standing.{reader_left}
-use Rattle.made_input.proofs.tests.read_back.Given as goal
-
-abbrev pub decreases-loop-events : goal.decreases-loop-events
-decreases-loop-events l = length (reader_left l.reader)

@@ -1,0 +1,15 @@
+//! What texts, rows, words and streams offer, tested: of their own, since a crate with tests is proved twice.
+#![tactic(auto)]
+
+#[cfg(test)]
+mod certs;
+#[cfg(test)]
+mod report;
+#[cfg(test)]
+mod rows;
+#[cfg(test)]
+mod script;
+#[cfg(test)]
+mod streams;
+#[cfg(test)]
+mod words;
