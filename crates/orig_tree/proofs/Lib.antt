@@ -32,4 +32,3 @@ pub mod Placing
 pub mod Costing
 pub mod Heading
 pub mod Weaving
-pub mod Building

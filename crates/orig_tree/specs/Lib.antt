@@ -15,4 +15,3 @@ pub mod Undos
 pub mod Placed
 pub mod Steps
 pub mod Woven
-pub mod Built

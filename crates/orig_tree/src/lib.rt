@@ -12,7 +12,6 @@
 
 mod answers;
 mod best;
-mod build;
 mod count;
 mod counter;
 mod cover;
