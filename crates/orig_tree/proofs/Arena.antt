@@ -179,7 +179,7 @@ half_carried d old new name name' r None c t = (refl, tt)
 half_carried d old new name name' r (Some j) c t = c j t
 
 -- a node whose halves are carried over
-node_carried : (d : ℕ) (old new : List Node) (name name' : ℕ → Place) (p : List Bool) (n : Node) →
+pub node_carried : (d : ℕ) (old new : List Node) (name name' : ℕ → Place) (p : List Bool) (n : Node) →
     ((b : Bool) (j : ℕ) → IsTree d old name j (p ++ (b ∷ [])) → (walks_at d new j ≡ walks_at d old j) × IsTree d new name' j (p ++ (b ∷ []))) →
     IsNode (walks_at d old) (λ b j. IsTree d old name j (p ++ (b ∷ []))) n →
     (walks_by (walks_at d new) n ≡ walks_by (walks_at d old) n) × IsNode (walks_at d new) (λ b j. IsTree d new name' j (p ++ (b ∷ []))) n

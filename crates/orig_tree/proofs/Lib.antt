@@ -32,3 +32,4 @@ pub mod Placing
 pub mod Costing
 pub mod Heading
 pub mod Weaving
+pub mod Building

@@ -54,11 +54,11 @@ pub rows_append : (T U R : Table) → with_rows (T ++ U) R ≡ with_rows U (with
 rows_append [] U R = refl
 rows_append (e ∷ T) U R = rows_append T U (put e.prefix e.hop R)
 
-rows_low : (T : Table) (o : Option ℕ) (L M : Table) → with_rows (lift (false ∷ []) T) (join o L M) ≡ join o (with_rows T L) M
+pub rows_low : (T : Table) (o : Option ℕ) (L M : Table) → with_rows (lift (false ∷ []) T) (join o L M) ≡ join o (with_rows T L) M
 rows_low [] o L M = refl
 rows_low (e ∷ T) o L M = ap (with_rows (lift (false ∷ []) T)) (edit_low e.prefix (Some e.hop) o L M) ∙ rows_low T o (put e.prefix e.hop L) M
 
-rows_high : (T : Table) (o : Option ℕ) (L M : Table) → with_rows (lift (true ∷ []) T) (join o L M) ≡ join o L (with_rows T M)
+pub rows_high : (T : Table) (o : Option ℕ) (L M : Table) → with_rows (lift (true ∷ []) T) (join o L M) ≡ join o L (with_rows T M)
 rows_high [] o L M = refl
 rows_high (e ∷ T) o L M = ap (with_rows (lift (true ∷ []) T)) (edit_high e.prefix (Some e.hop) o L M) ∙ rows_high T o L (put e.prefix e.hop M)
 

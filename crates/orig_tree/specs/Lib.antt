@@ -15,3 +15,4 @@ pub mod Undos
 pub mod Placed
 pub mod Steps
 pub mod Woven
+pub mod Built

@@ -5,7 +5,7 @@ ghost use Rattle.address_model.specs.Bits.{bits_of};
 ghost use Rattle.table_model.specs.Table.{lpm};
 ghost use Rattle.least_model.specs.Sets.{side};
 ghost use Rattle.orig_tree.specs.Edits.{edit, put};
-ghost use Rattle.orig_tree.specs.Bests.{Stands, best_one, best_in, put_at, changed, back};
+ghost use Rattle.orig_tree.specs.Bests.{Stands, best_one, best_in, best_behind, put_at, changed, back};
 
 use hop_sets::HopSet;
 use std::alloc::{AllocError, Global};
@@ -137,6 +137,37 @@ pub(crate) fn best_at<'a>(bests: &'a Bests, i: usize, none: &'a Best) -> &'a Bes
     }
 }
 
+/// What a half keeps; where it is no node, what a region keeps whose addresses all get the hop.
+fn half_keeps<'a>(bests: &'a Bests, half: Option<usize>, none: &'a Best, bare: &'a Best) -> &'a Best
+    requires { none.now ≡ best_one 0 }
+    ensures { result.now ≡ best_behind (best_in bests.now) half bare.now }
+{
+    match half {
+        Some(j) => best_at(bests, j, none),
+        None => bare,
+    }
+}
+
+/// What a node's region keeps, from what its halves keep.
+pub(crate) fn join_kept(
+    alloc: Global,
+    bests: &Bests,
+    low: Option<usize>,
+    high: Option<usize>,
+    hop: u16,
+) -> Result<Best, AllocError>
+    ensures { IfOk result (λ x. (d : ℕ) (f : List Bool → ℕ)
+        → Stands d (side false f) (best_behind (best_in bests.now) low (best_one hop))
+        → Stands d (side true f) (best_behind (best_in bests.now) high (best_one hop))
+        → Stands (suc d) f x) }
+{
+    let none = Best::one(0);
+    let bare = Best::one(hop);
+    let low = half_keeps(bests, low, &none, &bare);
+    let high = half_keeps(bests, high, &none, &bare);
+    Best::joined(alloc, low, high)
+}
+
 /// No changes yet, with room for those on a way of so many bits. The list's own room is used again.
 pub(crate) fn no_changes(mut spare: Vec<Change>, depth: u8) -> Result<Vec<Change>, AllocError>
     ensures { IfOk result (λ v. v.items ≡ []) }
@@ -201,7 +232,8 @@ pub(crate) fn lengthen(bests: &mut Bests, len: usize) -> Result<(), AllocError>
 
 /// What is kept where there is the root alone, and all addresses get none.
 pub(crate) fn root_best(alloc: Global) -> Bests
-    ensures { (i : ℕ) → best_in result i ≡ best_one 0 }
+    ensures kept { (i : ℕ) → best_in result i ≡ best_one 0 }
+    ensures alone { vec_len result.halves ≡ 0 }
 {
     Bests {
         root: Best::one(0),

@@ -12,6 +12,7 @@
 
 mod answers;
 mod best;
+mod build;
 mod count;
 mod counter;
 mod cover;

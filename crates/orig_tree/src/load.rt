@@ -1,20 +1,22 @@
-//! Many routes or entries set at once. What the nodes keep is told when all routes are set, from the least regions on.
+//! Many routes or entries set at once. Routes that stand in order are built in one walk; where others are set after them, what the
+//! nodes keep is told anew when all are set, from the least regions on.
 
 ghost use Rattle.std.specs.Prelude.{◌≡◌, ◌≤◌, ◌+◌, ◌∷◌, [], ℕ, suc, List, Bool, true, false, OnOk, OnErr, IfOk, vec_len, map, filter, None};
 ghost use Rattle.address_model.specs.Bits.{bits_of};
 ghost use Rattle.address_model.specs.Width.{width};
 ghost use Rattle.table_model.specs.Table.{lpm};
-ghost use Rattle.least_model.specs.Sets.{side};
 ghost use Rattle.orig_tree.specs.Walk.{rows_of};
 ghost use Rattle.orig_tree.specs.Views.{InPlace};
 ghost use Rattle.address_model.specs.Address.{same_family};
 ghost use Rattle.table_model.specs.Entries.{Entries, of_table};
 ghost use Rattle.fib_addr.specs.Views.{entry_as};
-ghost use Rattle.orig_tree.specs.Arena.{cells_of, Place, IfHalf, IsTree, walks_at, from_half, whole, IsArena};
-ghost use Rattle.orig_tree.specs.Bests.{Stands, best_one, best_in, best_behind, KeepsBest, IsMended, HalfMended};
-ghost use Rattle.orig_tree.specs.Woven.{Lays};
+ghost use Rattle.orig_tree.specs.Arena.{blank, cells_of, Place, IfHalf, IsTree, walks_at, from_half, whole, IsArena};
+ghost use Rattle.orig_tree.specs.Bests.{best_one, best_in, best_behind, KeepsBest, IsMended, HalfMended};
+ghost use Rattle.orig_tree.specs.Woven.{own_of, Lays};
+ghost use Rattle.orig_tree.specs.declared.node.Label.TheVariants.{Route};
 
-use crate::best::{Best, Bests, best_at, exchange};
+use crate::best::{Best, Bests, exchange, join_kept};
+use crate::build::build_all;
 use crate::node::{Label, Nodes, read, set_label};
 use crate::path::path_bits;
 use crate::weave::weave;
@@ -29,6 +31,20 @@ fn is_of(entry: &Entry, family: Family) -> bool
         (family, entry.prefix.family),
         (Family::V4, Family::V4) | (Family::V6, Family::V6)
     )
+}
+
+/// The entries from the first of the family on.
+fn skip_others<'a>(family: Family, entries: &'a [Entry]) -> &'a [Entry]
+    ensures { own_of family (map entry_as result.now) ≡ own_of family (map entry_as entries.now) }
+{
+    let mut left = entries;
+    while let [first, rest @ ..] = left {
+        if is_of(first, family) {
+            return left;
+        }
+        left = rest;
+    }
+    left
 }
 
 /// Sets a label of an entry's prefix, if the entry is of the family.
@@ -84,37 +100,6 @@ pub(crate) fn lay_all(
         left = weave(nodes, bests, 0, root, 0, label, rest)?;
     }
     Ok(())
-}
-
-/// What a half keeps; where it is no node, what a region keeps whose addresses all get the hop.
-fn half_keeps<'a>(bests: &'a Bests, half: Option<usize>, none: &'a Best, bare: &'a Best) -> &'a Best
-    requires { none.now ≡ best_one 0 }
-    ensures { result.now ≡ best_behind (best_in bests.now) half bare.now }
-{
-    match half {
-        Some(j) => best_at(bests, j, none),
-        None => bare,
-    }
-}
-
-/// What a node's region keeps, from what its halves keep.
-fn join_kept(
-    alloc: Global,
-    bests: &Bests,
-    low: Option<usize>,
-    high: Option<usize>,
-    hop: u16,
-) -> Result<Best, AllocError>
-    ensures { IfOk result (λ x. (d : ℕ) (f : List Bool → ℕ)
-        → Stands d (side false f) (best_behind (best_in bests.now) low (best_one hop))
-        → Stands d (side true f) (best_behind (best_in bests.now) high (best_one hop))
-        → Stands (suc d) f x) }
-{
-    let none = Best::one(0);
-    let bare = Best::one(hop);
-    let low = half_keeps(bests, low, &none, &bare);
-    let high = half_keeps(bests, high, &none, &bare);
-    Best::joined(alloc, low, high)
 }
 
 /// Tells what the nodes from a node on keep, which inherits the hop, over `depth` levels below it.
@@ -188,5 +173,38 @@ pub(crate) fn settle_all(
 {
     let depth = family.width();
     settle(alloc, nodes, bests, 0, 0, depth)?;
+    Ok(())
+}
+
+/// Sets those of the routes that are of the family in a tree of the root alone, each in its turn, and tells what all nodes
+/// keep. A front of them that stands in the order of prefixes is built in one walk; only where more are left are those set
+/// after it, and what the nodes keep told anew.
+///
+/// # Errors
+///
+/// No memory, which comes too where there would be 2^31 nodes or more.
+pub(crate) fn load_all(
+    alloc: Global,
+    family: Family,
+    nodes: &mut Nodes,
+    bests: &mut Bests,
+    routes: &[Entry],
+) -> Result<(), AllocError>
+    requires arena { IsArena family (cells_of nodes.old) nodes.old.free }
+    requires bare { cells_of nodes.old ≡ blank ∷ [] }
+    requires none { vec_len bests.old.halves ≡ 0 }
+    ensures long { OnOk result (vec_len nodes.new.halves ≤ vec_len bests.new.halves) }
+    ensures lays { OnOk result (Lays family Route (cells_of nodes.old) (cells_of nodes.new)
+        nodes.new.free (best_in bests.old) (best_in bests.new) (map entry_as routes.now) []) }
+    ensures best { OnOk result (KeepsBest family (cells_of nodes.new) (best_in bests.new)) }
+{
+    let own = skip_others(family, routes);
+    let rest = build_all(alloc, family, nodes, bests, own)?;
+    let left = skip_others(family, rest);
+    if left.is_empty() {
+        return Ok(());
+    }
+    lay_all(family, nodes, bests, Label::Route, left)?;
+    settle_all(alloc, family, nodes, bests)?;
     Ok(())
 }

@@ -201,7 +201,7 @@ fn cover(node: Node, label: Label) -> Cover
 }
 
 /// A node with one of its labels set, and its cover told from those of the halves.
-fn retell(nodes: &Nodes, node: Node, label: Label, hop: Option<u16>) -> Node
+pub(crate) fn retell(nodes: &Nodes, node: Node, label: Label, hop: Option<u16>) -> Node
     ensures { result ≡ retold label hop (cover_at (cells_of nodes.now) label (half_place node
         false)) (cover_at (cells_of nodes.now) label (half_place node true)) node }
 {
@@ -574,7 +574,7 @@ pub(crate) fn set_label(
 }
 
 /// The most places of halves there may be; with the root's it is 2^31 - 1.
-const MOST: usize = 0x7fff_fffe;
+pub(crate) const MOST: usize = 0x7fff_fffe;
 
 /// Makes sure that so many more places take no memory.
 ///

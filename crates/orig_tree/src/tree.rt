@@ -22,7 +22,7 @@ ghost use Rattle.orig_tree.specs.Within.{nodes_in, told};
 use crate::best::{Bests, Change, root_best};
 use crate::count::count_within;
 use crate::counter::{Counter, Uncounted};
-use crate::load::{lay_all, settle_all};
+use crate::load::{lay_all, load_all};
 use crate::node::{Label, Nodes, answer, inherited, is_node, tell, uniform};
 use crate::node_ref::NodeRef;
 use crate::parts::{route_at, tell_within};
@@ -103,8 +103,9 @@ impl Tree {
         }
     }
 
-    /// A tree with those of the routes that are of its family, the last at each prefix. What the nodes keep is told once, when
-    /// all are set. It costs the nodes, where the routes stand in the order of prefixes, and else the routes' lengths too.
+    /// A tree with those of the routes that are of its family, the last at each prefix. A front of them that stands in the order
+    /// of prefixes, each once, is built in one walk, which costs its nodes; any others are set after it, at the cost of their
+    /// lengths too, and what the nodes keep is then told anew.
     ///
     /// # Errors
     ///
@@ -118,8 +119,7 @@ impl Tree {
     {
         let mut nodes = empty(alloc, family);
         let mut bests = root_best(alloc);
-        lay_all(family, &mut nodes, &mut bests, Label::Route, routes)?;
-        settle_all(alloc, family, &nodes, &mut bests)?;
+        load_all(alloc, family, &mut nodes, &mut bests, routes)?;
         Ok(Tree {
             alloc,
             family,

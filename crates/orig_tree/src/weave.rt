@@ -15,7 +15,7 @@ use fib_addr::{Entry, Prefix, bit_at};
 use std::alloc::AllocError;
 
 /// The half of the prefix that the first entry's prefix is within, if it is in one.
-fn next_half(entries: &[Entry], at: &Prefix) -> Option<bool>
+pub(crate) fn next_half(entries: &[Entry], at: &Prefix) -> Option<bool>
     requires { at.now.len < width at.now.family }
     ensures some { IfSome result (λ b. starts_within (half_at b (prefix_as at.now))
         (map entry_as entries.now) ≡ true) }

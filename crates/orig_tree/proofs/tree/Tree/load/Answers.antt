@@ -7,17 +7,14 @@ use Rattle.orig_tree.specs.Woven.{own_of}
 use Rattle.orig_tree.proofs.Places.{in_place_nil}
 use Rattle.orig_tree.proofs.tree.Tree.load.Goals as goal
 
-pub lay_all-requires-clause-order : goal.lay_all-requires-clause-order
-lay_all-requires-clause-order c = in_place_nil c.args.family (whole c.args.family (cells_of c.empty-nodes.result)).routes (ap (λ (w : Walks). w.routes) c.empty-nodes.ensures.bare)
-
 pub invariant_of-result : goal.invariant_of-result
 invariant_of-result c =
-    let w = whole c.args.family (cells_of c.lay_all.new.nodes) in
-    let lays = c.in_ok-lay_all.ensures.lays in
-    (lays.arena, lays.order, in_place_nil c.args.family w.entries (lays.other ∙ ap (λ (w : Walks). w.entries) c.empty-nodes.ensures.bare), c.in_ok-settle_all.ensures.best, c.settle_all.ensures.long, tt)
+    let w = whole c.args.family (cells_of c.load_all.new.nodes) in
+    let lays = c.in_ok-load_all.ensures.lays in
+    (lays.arena, lays.order, in_place_nil c.args.family w.entries (lays.other ∙ ap (λ (w : Walks). w.entries) c.empty-nodes.ensures.bare), c.in_ok-load_all.ensures.best, c.in_ok-load_all.ensures.long, tt)
 
 pub returns-clause-routes : goal.returns-clause-routes
-returns-clause-routes c = c.in_ok-lay_all.ensures.lays.rows ∙ ap (λ (w : Walks). fold with_entry (of_table c.args.family w.routes) (own_of c.args.family (map entry_as c.args.routes.now))) c.empty-nodes.ensures.bare
+returns-clause-routes c = c.in_ok-load_all.ensures.lays.rows ∙ ap (λ (w : Walks). fold with_entry (of_table c.args.family w.routes) (own_of c.args.family (map entry_as c.args.routes.now))) c.empty-nodes.ensures.bare
 
 pub returns-clause-entries : goal.returns-clause-entries
-returns-clause-entries c = ap (of_table c.args.family) (c.in_ok-lay_all.ensures.lays.other ∙ ap (λ (w : Walks). w.entries) c.empty-nodes.ensures.bare)
+returns-clause-entries c = ap (of_table c.args.family) (c.in_ok-load_all.ensures.lays.other ∙ ap (λ (w : Walks). w.entries) c.empty-nodes.ensures.bare)

@@ -1,0 +1,8 @@
+use Rattle.std.proofs.Common.{◌*◌, ◌-◌}
+use Rattle.orig_tree.proofs.build.+build.Given as goal
+
+abbrev pub decreases-build : goal.decreases-build
+decreases-build l = 2 * (129 - l.at.len)
+
+abbrev pub decreases-build_half : goal.decreases-build_half
+decreases-build_half l = 2 * (129 - l.at.len) - 1
