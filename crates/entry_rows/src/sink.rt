@@ -55,18 +55,18 @@ impl EntrySink for Vec<Entry> {
 ///
 /// No memory.
 pub fn hand_entry<S: EntrySink>(
-    prefix: Prefix,
+    prefix: &Prefix,
     hop: Option<u16>,
     out: &mut S,
 ) -> Result<(), AllocError>
     requires { S.ready out.old }
     ensures ready { OnOk result (S.ready out.new) }
-    ensures takes { OnOk result (S.takes out.old (map (λ h. (prefix_as prefix, h))
+    ensures takes { OnOk result (S.takes out.old (map (λ h. (prefix_as prefix.now, h))
         (option_to_list hop)) out.new) }
 {
     if let Some(hop) = hop {
         out.put(Entry {
-            prefix,
+            prefix: *prefix,
             hop: Hop(hop),
         })?;
     }

@@ -80,6 +80,17 @@ half_fits w len place n m true h p lt z e =
     omega (arith, room_for_bit w place n (omega arith) lt (ap (λ (j : ℕ). n % 2 ^ j) (sym f) ∙ z))
 half_fits w len place n m false h p lt z e = omega arith
 
+-- and has only zeros behind that bit
+pub half_cleared : (w len place n m : ℕ) (b : Bool) → len < w → place ≡ w - len - 1 → n % 2 ^ (w - len) ≡ 0 → m ≡ n + bit_worth b (2 ^ place) → m % 2 ^ (w - (len + 1)) ≡ 0
+half_cleared w len place n m b h p z e =
+    let f : w - len ≡ place + 1 = omega arith in
+    let g : w - (len + 1) ≡ place = omega arith in
+    let x = 2 ^ place in
+    let k = 2 * (n / 2 ^ (place + 1)) + bit_worth b 1 in
+    let is : m ≡ k * x = e ∙ (ap (λ (y : ℕ). y + bit_worth b x) (multiple n (2 ^ (place + 1)) (pow_pos (place + 1)) (ap (λ (j : ℕ). n % 2 ^ j) (sym f) ∙ z)) ∙ worth_times (n / 2 ^ (place + 1)) place b) in
+    let whole : m / x * x ≡ m = ap (λ (y : ℕ). y / x * x) is ∙ (ap (λ (y : ℕ). y * x) (shl-shr k place) ∙ sym is) in
+    ap (λ (j : ℕ). m % 2 ^ j) g ∙ (let r : m % x ≡ 0 = omega (arith, whole) in r)
+
 pub half_is : (f : Family) (len w n m : ℕ) (b : Bool) (p : Prefix) → len < width f → w ≡ width f → n % 2 ^ (width f - len) ≡ 0 → m ≡ n + bit_worth b (2 ^ (w - len - 1))
     → p ≡ first_bits (len + 1) (record { family = f; bits = bits_of (width f) m }) → p ≡ half_at b (record { family = f; bits = take len (bits_of (width f) n) })
 half_is f len w n m b p h wide z e is =

@@ -190,10 +190,10 @@ impl Prefix {
         ensures { prefix_as result ≡ half_at bit (prefix_as self.now) }
     {
         let place = self.family.width() - self.len - 1;
-        let first = Addr {
-            family: self.family,
+        Prefix {
             bits: with_bit(self.bits, place, bit),
-        };
-        Prefix::new(&first, self.len + 1)
+            family: self.family,
+            len: self.len + 1,
+        }
     }
 }

@@ -12,8 +12,7 @@ use Rattle.fib_main.specs.declared.outcome.Which.TheVariants as which
 use Rattle.fib_main.specs.declared.outcome.Outcome.{Outcome}
 use Rattle.fib_main.specs.Stops.{Stop, Untold, Refused, rowed, FailsDue, IsDueIfTold}
 use Rattle.step_run.specs.Stepping.{Stepping}
-use Rattle.fib_main.specs.Due.{Printed, Reply, stepped, stepping_at, ran, checked, due, made, made_at, with_counts, input_at, output_at, run_at, usage, used_at, printed_text, with_text, with_reply}
-use Rattle.fib_report.specs.Rows.{report_text}
+use Rattle.fib_main.specs.Due.{Printed, Reply, stepped, stepping_at, ran, checked, due, made, made_at, input_at, output_at, run_at, usage, used_at, printed_text, with_text, with_reply}
 use Rattle.fib_main.specs.Proves.{IfChecked, Decides, YesProves}
 use Rattle.fib_main.proofs.Due.{fails_by, retyped}
 use Rattle.fib_main.proofs.Fitting.{read_fits}
@@ -54,21 +53,6 @@ refused_alike {A = A} {B = B} view h s d o f = fails_by (viewed view d) (h d) (i
 -- a refusal of its text is one of what is to be replied
 pub ran_refused : (d : Result Printed Stop) (o : Outcome) → FailsDue o (with_text d) → FailsDue o (with_reply (ran d))
 ran_refused d o f = refused_alike printed_text (λ d. with_reply (ran d)) (λ stop. refl) d o f
-
--- so of a run on inputs that are made
-pub made_replied : (routes seed : ℕ) (content : List ℕ → Option (List ℕ)) (asked : Asked) (text : List ℕ) (reply : Reply) → asked ≡ Make routes seed → reply ≡ record { text = text; wrong = None } → IsDueIfTold (with_counts (made_at routes seed)) (Ok text) → IsDueIfTold (with_reply (output_at content asked)) (Ok reply)
-unfolding output_at
-made_replied routes seed content asked text reply a r i = rw (a, r) (by_run (made_at routes seed) i)
-  where
-    by_run : (d : Result Printed Stop) → IsDueIfTold (with_counts d) (fine text) → IsDueIfTold (with_reply (made d)) (fine (plain text))
-    by_run (Ok p) i = ap (λ t. fine (plain t)) (same_fine (report_text p.told.report) text i)
-    by_run (Err Untold) i = tt
-    by_run (Err (Refused o)) i = absurd cc
-
--- a refusal of it is one of what is to be replied
-pub made_refused : (routes seed : ℕ) (content : List ℕ → Option (List ℕ)) (asked : Asked) (o : Outcome) → asked ≡ Make routes seed → FailsDue o (with_counts (made_at routes seed)) → FailsDue o (with_reply (output_at content asked))
-unfolding output_at
-made_refused routes seed content asked o a f = rw a (refused_alike (λ p. report_text p.told.report) (λ d. with_reply (made d)) (λ stop. refl) (made_at routes seed) o f)
 
 -- ---- what holds of each text that is checked
 

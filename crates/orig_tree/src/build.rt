@@ -136,23 +136,23 @@ fn build<'a>(
     alloc: Global,
     nodes: &mut Nodes,
     bests: &mut Bests,
-    at: Prefix,
+    at: &Prefix,
     inherited: u16,
     routes: &'a [Entry],
 ) -> Result<Built<'a>, AllocError>
     requires same { vec_len nodes.old.halves ≡ vec_len bests.old.halves }
     ensures same { OnOk result (vec_len nodes.new.halves ≡ vec_len bests.new.halves) }
     ensures more { OnOk result (vec_len nodes.old.halves ≤ vec_len nodes.new.halves) }
-    ensures built { IfOk result (λ b. Builds inherited (width at.family - at.len) (prefix_as at)
+    ensures built { IfOk result (λ b. Builds inherited (width at.now.family - at.now.len) (prefix_as at.now)
         (cells_of nodes.old) (cells_of nodes.new) nodes.old.free nodes.new.free (best_in bests.old)
         (best_in bests.new) (map entry_as routes.now) (map entry_as b.rest.now) b.node b.best) }
 {
-    let (own, rest) = own_route(&at, routes);
+    let (own, rest) = own_route(at, routes);
     let hop = own.unwrap_or(inherited);
     if at.len == at.family.width() {
         return Ok(alone(nodes, own, hop, rest));
     }
-    match next_half(rest, &at) {
+    match next_half(rest, at) {
         None => Ok(alone(nodes, own, hop, rest)),
         Some(true) => {
             let high = build_half(alloc, nodes, bests, at, true, hop, rest)?;
@@ -161,7 +161,7 @@ fn build<'a>(
         }
         Some(false) => {
             let low = build_half(alloc, nodes, bests, at, false, hop, rest)?;
-            let Some(true) = next_half(low.rest, &at) else {
+            let Some(true) = next_half(low.rest, at) else {
                 let built = from_halves(alloc, nodes, bests, own, hop, low.place, 0, low.rest)?;
                 return Ok(built);
             };
@@ -181,22 +181,22 @@ fn build_half<'a>(
     alloc: Global,
     nodes: &mut Nodes,
     bests: &mut Bests,
-    at: Prefix,
+    at: &Prefix,
     bit: bool,
     inherited: u16,
     routes: &'a [Entry],
 ) -> Result<BuiltHalf<'a>, AllocError>
-    requires longer { at.len < width at.family }
+    requires longer { at.now.len < width at.now.family }
     requires same { vec_len nodes.old.halves ≡ vec_len bests.old.halves }
     ensures same { OnOk result (vec_len nodes.new.halves ≡ vec_len bests.new.halves) }
     ensures more { OnOk result (vec_len nodes.old.halves ≤ vec_len nodes.new.halves) }
-    ensures built { IfOk result (λ b. BuildsHalf inherited (width at.family - at.len - 1) (half_at bit
-        (prefix_as at)) (cells_of nodes.old) (cells_of nodes.new) nodes.old.free nodes.new.free
+    ensures built { IfOk result (λ b. BuildsHalf inherited (width at.now.family - at.now.len - 1) (half_at
+        bit (prefix_as at.now)) (cells_of nodes.old) (cells_of nodes.new) nodes.old.free nodes.new.free
         (best_in bests.old) (best_in bests.new) (map entry_as routes.now) (map entry_as b.rest.now)
         (link b.place)) }
 {
     let place = take_place(nodes, bests)?;
-    let built = build(alloc, nodes, bests, at.half(bit), inherited, routes)?;
+    let built = build(alloc, nodes, bests, &at.half(bit), inherited, routes)?;
     fill(nodes, bests, place as usize, built.node, built.best);
     Ok(BuiltHalf {
         place,
@@ -226,7 +226,7 @@ pub(crate) fn build_all<'a>(
     ensures best { OnOk result (KeepsBest family (cells_of nodes.new) (best_in bests.new)) }
 {
     let root = Prefix::whole(family);
-    let built = build(alloc, nodes, bests, root, 0, routes)?;
+    let built = build(alloc, nodes, bests, &root, 0, routes)?;
     fill(nodes, bests, 0, built.node, built.best);
     Ok(built.rest)
 }

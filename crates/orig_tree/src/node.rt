@@ -311,14 +311,14 @@ pub(crate) fn tell<S: EntrySink>(
     nodes: &Nodes,
     i: usize,
     label: Label,
-    prefix: Prefix,
+    prefix: &Prefix,
     out: &mut S,
 ) -> Result<(), AllocError>
     requires { S.ready out.old }
     ensures ready { OnOk result (S.ready out.new) }
-    ensures takes { (d : ℕ) → width prefix.family - prefix.len < d
-        → Fits (width prefix.family - prefix.len) (rows_of label (walks_at d (cells_of nodes.now)
-        i)) → OnOk result (S.takes out.old (of_table prefix.family (lift (prefix_as prefix).bits
+    ensures takes { (d : ℕ) → width prefix.now.family - prefix.now.len < d
+        → Fits (width prefix.now.family - prefix.now.len) (rows_of label (walks_at d (cells_of nodes.now)
+        i)) → OnOk result (S.takes out.old (of_table prefix.now.family (lift (prefix_as prefix.now).bits
         (rows_of label (walks_at d (cells_of nodes.now) i)))) out.new) }
 {
     let node = read(nodes, i);
@@ -326,8 +326,8 @@ pub(crate) fn tell<S: EntrySink>(
     if prefix.len == prefix.family.width() {
         return Ok(());
     }
-    tell_half(nodes, node.half(false), label, prefix.half(false), out)?;
-    tell_half(nodes, node.half(true), label, prefix.half(true), out)?;
+    tell_half(nodes, node.half(false), label, &prefix.half(false), out)?;
+    tell_half(nodes, node.half(true), label, &prefix.half(true), out)?;
     Ok(())
 }
 
@@ -337,15 +337,15 @@ fn tell_half<S: EntrySink>(
     nodes: &Nodes,
     half: Option<usize>,
     label: Label,
-    prefix: Prefix,
+    prefix: &Prefix,
     out: &mut S,
 ) -> Result<(), AllocError>
     requires { S.ready out.old }
     ensures ready { OnOk result (S.ready out.new) }
-    ensures takes { (d : ℕ) → width prefix.family - prefix.len < d
-        → Fits (width prefix.family - prefix.len) (rows_of label (from_half (walks_at d (cells_of
-        nodes.now)) half)) → OnOk result (S.takes out.old (of_table prefix.family
-        (lift (prefix_as prefix).bits (rows_of label (from_half (walks_at d (cells_of nodes.now))
+    ensures takes { (d : ℕ) → width prefix.now.family - prefix.now.len < d
+        → Fits (width prefix.now.family - prefix.now.len) (rows_of label (from_half (walks_at d (cells_of
+        nodes.now)) half)) → OnOk result (S.takes out.old (of_table prefix.now.family
+        (lift (prefix_as prefix.now).bits (rows_of label (from_half (walks_at d (cells_of nodes.now))
         half)))) out.new) }
 {
     if let Some(j) = half {

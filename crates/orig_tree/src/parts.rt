@@ -38,16 +38,16 @@ pub(crate) fn tell_within<S: EntrySink>(
     i: usize,
     q: u128,
     left: u8,
-    prefix: Prefix,
+    prefix: &Prefix,
     out: &mut S,
 ) -> Result<(), AllocError>
     requires few { left ≤ 128 }
     requires ready { S.ready out.old }
     ensures ready { OnOk result (S.ready out.new) }
-    ensures takes { (d : ℕ) → left + (width prefix.family - prefix.len) < d
-        → Fits (width prefix.family - prefix.len) (cut (bits_of left q) (walks_at d (cells_of
-        nodes.now) i).entries) → OnOk result (S.takes out.old (of_table prefix.family
-        (lift (prefix_as prefix).bits (cut (bits_of left q) (walks_at d (cells_of nodes.now)
+    ensures takes { (d : ℕ) → left + (width prefix.now.family - prefix.now.len) < d
+        → Fits (width prefix.now.family - prefix.now.len) (cut (bits_of left q) (walks_at d (cells_of
+        nodes.now) i).entries) → OnOk result (S.takes out.old (of_table prefix.now.family
+        (lift (prefix_as prefix.now).bits (cut (bits_of left q) (walks_at d (cells_of nodes.now)
         i).entries))) out.new) }
 {
     if left == 0 {

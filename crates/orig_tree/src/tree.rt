@@ -78,7 +78,7 @@ fn tell_all<S: EntrySink>(
     ensures takes { OnOk result (S.takes out.old (of_table family (rows_of label (whole family
         (cells_of nodes.now)))) out.new) }
 {
-    tell(nodes, 0, label, Prefix::whole(family), out)?;
+    tell(nodes, 0, label, &Prefix::whole(family), out)?;
     Ok(())
 }
 
@@ -410,7 +410,7 @@ impl Tree {
     {
         let q = path_bits(prefix);
         let mut list = Vec::new(self.alloc);
-        tell_within(&self.nodes, 0, q, prefix.len, *prefix, &mut list)?;
+        tell_within(&self.nodes, 0, q, prefix.len, prefix, &mut list)?;
         Ok(list)
     }
 

@@ -96,22 +96,22 @@ pub(crate) fn weave<'a>(
     nodes: &mut Nodes,
     bests: &mut Bests,
     i: usize,
-    at: Prefix,
+    at: &Prefix,
     inherited: u16,
     label: Label,
     entries: &'a [Entry],
 ) -> Result<&'a [Entry], AllocError>
     requires long { vec_len nodes.old.halves ≤ vec_len bests.old.halves }
     ensures long { vec_len nodes.new.halves ≤ vec_len bests.new.halves }
-    ensures woven { IfOk result (λ rest. Weaves label inherited (width at.family - at.len) (prefix_as at)
+    ensures woven { IfOk result (λ rest. Weaves label inherited (width at.now.family - at.now.len) (prefix_as at.now)
         (cells_of nodes.old) (cells_of nodes.new) nodes.old.free nodes.new.free (best_in bests.old)
         (best_in bests.new) i (map entry_as entries.now) (map entry_as rest.now)) }
 {
-    let rest = weave_own(nodes, i, &at, label, entries);
+    let rest = weave_own(nodes, i, at, label, entries);
     if at.len == at.family.width() {
         return Ok(rest);
     }
-    match next_half(rest, &at) {
+    match next_half(rest, at) {
         None => Ok(rest),
         Some(true) => {
             let rest = weave_half(nodes, bests, i, true, at, inherited, label, rest)?;
@@ -119,7 +119,7 @@ pub(crate) fn weave<'a>(
         }
         Some(false) => {
             let rest = weave_half(nodes, bests, i, false, at, inherited, label, rest)?;
-            let Some(true) = next_half(rest, &at) else {
+            let Some(true) = next_half(rest, at) else {
                 return Ok(rest);
             };
             let rest = weave_half(nodes, bests, i, true, at, inherited, label, rest)?;
@@ -135,22 +135,22 @@ fn weave_half<'a>(
     bests: &mut Bests,
     i: usize,
     bit: bool,
-    at: Prefix,
+    at: &Prefix,
     inherited: u16,
     label: Label,
     entries: &'a [Entry],
 ) -> Result<&'a [Entry], AllocError>
-    requires longer { at.len < width at.family }
+    requires longer { at.now.len < width at.now.family }
     requires long { vec_len nodes.old.halves ≤ vec_len bests.old.halves }
     ensures long { vec_len nodes.new.halves ≤ vec_len bests.new.halves }
-    ensures woven { IfOk result (λ rest. Weaves label inherited (width at.family - at.len) (prefix_as at)
+    ensures woven { IfOk result (λ rest. Weaves label inherited (width at.now.family - at.now.len) (prefix_as at.now)
         (cells_of nodes.old) (cells_of nodes.new) nodes.old.free nodes.new.free (best_in bests.old)
         (best_in bests.new) i (map entry_as entries.now) (map entry_as rest.now)) }
 {
     let half = at.half(bit);
     let j = open_half(nodes, bests, i, bit, inherited)?;
     let below = read(nodes, i).route.hop.unwrap_or(inherited);
-    let rest = weave(nodes, bests, j, half, below, label, entries)?;
+    let rest = weave(nodes, bests, j, &half, below, label, entries)?;
     climb(nodes, i, label, true);
     Ok(rest)
 }

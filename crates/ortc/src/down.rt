@@ -62,15 +62,15 @@ fn below(label: Option<u16>, inherited: u16) -> u16
 fn descend<S: EntrySink, C: Counter>(
     region: &Region<'_>,
     inherited: u16,
-    prefix: Prefix,
+    prefix: &Prefix,
     out: &mut S,
     steps: &mut C,
 ) -> Result<(), AllocError>
-    requires bits { region.now.bits + prefix.len ≡ width prefix.family }
+    requires bits { region.now.bits + prefix.now.len ≡ width prefix.now.family }
     requires ready { S.ready out.old }
     ensures ready { OnOk result (S.ready out.new) }
-    ensures takes { OnOk result (S.takes out.old (of_table prefix.family
-        (lift (prefix_as prefix).bits (agg region.now.bits (answers_in region.now)
+    ensures takes { OnOk result (S.takes out.old (of_table prefix.now.family
+        (lift (prefix_as prefix.now).bits (agg region.now.bits (answers_in region.now)
         region.now.entries inherited))) out.new) }
     ensures steps { C.count steps.new ≤ C.count steps.old + 1 + 2 * length region.now.nodes }
 {
@@ -85,8 +85,8 @@ fn descend<S: EntrySink, C: Counter>(
     let own = own_hop(region, inherited);
     let hop = below(own, inherited);
     hand_entry(prefix, own, out)?;
-    descend(&region.half(false), hop, prefix.half(false), out, steps)?;
-    descend(&region.half(true), hop, prefix.half(true), out, steps)?;
+    descend(&region.half(false), hop, &prefix.half(false), out, steps)?;
+    descend(&region.half(true), hop, &prefix.half(true), out, steps)?;
     Ok(())
 }
 
@@ -150,7 +150,7 @@ pub fn within_counted<C: Counter>(
 {
     let mut table = Vec::new(alloc);
     let region = tree.region_counted(prefix, steps);
-    descend(&region, inherited.0, *prefix, &mut table, steps)?;
+    descend(&region, inherited.0, prefix, &mut table, steps)?;
     Ok(table)
 }
 
@@ -169,7 +169,7 @@ pub fn hand_least<S: EntrySink>(tree: &Tree, out: &mut S) -> Result<(), AllocErr
 {
     let whole = Prefix::whole(tree.family());
     let region = tree.region(&whole);
-    descend(&region, Hop::NONE.0, whole, out, &mut Uncounted)?;
+    descend(&region, Hop::NONE.0, &whole, out, &mut Uncounted)?;
     Ok(())
 }
 

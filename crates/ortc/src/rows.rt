@@ -17,23 +17,27 @@ use orig_tree::{Region, Tree};
 use std::alloc::AllocError;
 
 /// Hands on the rows of the region of a prefix.
-fn hand_rows<S: RowSink>(region: &Region<'_>, prefix: Prefix, out: &mut S) -> Result<(), AllocError>
-    requires bits { region.now.bits + prefix.len ≡ width prefix.family }
+fn hand_rows<S: RowSink>(
+    region: &Region<'_>,
+    prefix: &Prefix,
+    out: &mut S,
+) -> Result<(), AllocError>
+    requires bits { region.now.bits + prefix.now.len ≡ width prefix.now.family }
     requires ready { S.ready out.old }
     ensures ready { OnOk result (S.ready out.new) }
     ensures takes { OnOk result (S.takes out.old (region_rows region.now.bits
-        (answers_in region.now) (prefix_as prefix)) out.new) }
+        (answers_in region.now) (prefix_as prefix.now)) out.new) }
 {
     if let Some(hop) = region.leaf() {
-        out.put(Row::Leaf(prefix, Hop(hop)))?;
+        out.put(Row::Leaf(*prefix, Hop(hop)))?;
         return Ok(());
     }
     if prefix.len == prefix.family.width() {
         return Ok(());
     }
-    hand_rows(&region.half(false), prefix.half(false), out)?;
-    hand_rows(&region.half(true), prefix.half(true), out)?;
-    out.put(Row::Join(prefix, region.k()))?;
+    hand_rows(&region.half(false), &prefix.half(false), out)?;
+    hand_rows(&region.half(true), &prefix.half(true), out)?;
+    out.put(Row::Join(*prefix, region.k()))?;
     Ok(())
 }
 
@@ -63,7 +67,7 @@ pub fn certify<S: RowSink>(tree: &Tree, out: &mut S) -> Result<(), AllocError>
 {
     let whole = Prefix::whole(tree.family());
     let region = tree.region(&whole);
-    hand_rows(&region, whole, out)?;
+    hand_rows(&region, &whole, out)?;
     out.put(Row::Bound(whole.family, bound_of(&region)?))?;
     Ok(())
 }

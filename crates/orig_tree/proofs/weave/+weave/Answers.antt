@@ -10,8 +10,8 @@ use Rattle.orig_tree.proofs.weave.+weave.Goals as goal
 pub weave-returns-in_ok-rest-in-Some-true-clause-woven : goal.weave-returns-in_ok-rest-in-Some-true-clause-woven
 weave-returns-in_ok-rest-in-Some-true-clause-woven t c =
     let a = c.args in
-    let levels = width a.at.family - a.at.len in
-    let P = prefix_as a.at in
+    let levels = width a.at.now.family - a.at.now.len in
+    let P = prefix_as a.at.now in
     let S = best_in a.bests.now in
     let own = c.weave_own-rest.new.nodes in
     let A = map entry_as c.weave_own-rest.result.now in
@@ -21,8 +21,8 @@ weave-returns-in_ok-rest-in-Some-true-clause-woven t c =
 pub weave-returns-in_default-clause-woven : goal.weave-returns-in_default-clause-woven
 weave-returns-in_default-clause-woven t c =
     let a = c.args in
-    let levels = width a.at.family - a.at.len in
-    let P = prefix_as a.at in
+    let levels = width a.at.now.family - a.at.now.len in
+    let P = prefix_as a.at.now in
     let S = best_in a.bests.now in
     let own = c.weave_own-rest.new.nodes in
     let A = map entry_as c.weave_own-rest.result.now in
@@ -32,8 +32,8 @@ weave-returns-in_default-clause-woven t c =
 pub weave-returns-in_ok-rest-in-Some-false-2-clause-woven : goal.weave-returns-in_ok-rest-in-Some-false-2-clause-woven
 weave-returns-in_ok-rest-in-Some-false-2-clause-woven t c =
     let a = c.args in
-    let levels = width a.at.family - a.at.len in
-    let P = prefix_as a.at in
+    let levels = width a.at.now.family - a.at.now.len in
+    let P = prefix_as a.at.now in
     let S = best_in a.bests.now in
     let own = c.weave_own-rest.new.nodes in
     let A = map entry_as c.weave_own-rest.result.now in
@@ -44,7 +44,7 @@ weave-returns-in_ok-rest-in-Some-false-2-clause-woven t c =
     c.in_ok-rest-in-Some-false.ensures.woven c.in_ok-rest-in-Some-false-2.ensures.woven)
 
 pub weave_half-weave-requires : goal.weave_half-weave-requires
-weave_half-weave-requires t c = (omega (arith, half_longer c.args.at c.half-half.result c.args.bit c.half-half.ensures, half_most c.half-half.result), c.open_half.ensures.long)
+weave_half-weave-requires t c = (omega (arith, half_longer c.args.at.now c.half-half.result c.args.bit c.half-half.ensures, half_most c.half-half.result), c.open_half.ensures.long)
 
 pub weave_half-returns-clause-woven : goal.weave_half-returns-clause-woven
 weave_half-returns-clause-woven t c =
@@ -52,6 +52,6 @@ weave_half-returns-clause-woven t c =
     let mid = c.open_half.new.nodes in
     let below = c.weave.new.nodes in
     let new = c.climb.new.nodes in
-    weaves_half a.label a.inherited c.unwrap_or-below.result a.at c.half-half.result a.bit c.climb.result (cells_of a.nodes.now) (cells_of mid) (cells_of below) (cells_of new) a.nodes.now.free mid.free below.free new.free
+    weaves_half a.label a.inherited c.unwrap_or-below.result a.at.now c.half-half.result a.bit c.climb.result (cells_of a.nodes.now) (cells_of mid) (cells_of below) (cells_of new) a.nodes.now.free mid.free below.free new.free
     (best_in a.bests.now) (best_in c.open_half.new.bests) (best_in c.weave.new.bests) a.i c.in_ok-j.j (map entry_as a.entries.now) (map entry_as c.in_ok-rest.rest.now) c.requires.longer c.half-half.ensures
     (λ d name n r l s h. c.in_ok-j.ensures.open d name n r l s h) (c.unwrap_or-below.ensures ∙ ap (λ n. unwrap_or n.route.hop a.inherited) c.read.ensures) c.in_ok-rest.ensures.woven c.climb.ensures.climbs c.climb.ensures.free

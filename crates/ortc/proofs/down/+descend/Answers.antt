@@ -11,7 +11,7 @@ use Rattle.ortc.proofs.down.+descend.Goals as goal
 pub returns-in-Some-clause-takes : goal.returns-in-Some-clause-takes
 returns-in-Some-clause-takes g t c =
     let s = c.args.region.now in
-    handed_leaf g.S.EntrySink.takes c.args.prefix s.bits (answers_in s) s.entries c.in-Some.hop c.args.inherited c.leaf_hop.result c.args.out.now c.hand_entry.new.out c.in-Some.ensures.one c.leaf_hop.ensures c.in_ok-hand_entry.ensures.takes
+    handed_leaf g.S.EntrySink.takes c.args.prefix.now s.bits (answers_in s) s.entries c.in-Some.hop c.args.inherited c.leaf_hop.result c.args.out.now c.hand_entry.new.out c.in-Some.ensures.one c.leaf_hop.ensures c.in_ok-hand_entry.ensures.takes
 
 pub returns-then-prefix-width-clause-takes : goal.returns-then-prefix-width-clause-takes
 returns-then-prefix-width-clause-takes g t c =
@@ -21,19 +21,19 @@ returns-then-prefix-width-clause-takes g t c =
 pub descend-requires : goal.descend-requires
 descend-requires g t c = λ κs h. (
   omega (arith, c.half.ensures.bits),
-  (h.0, (h.1, (omega (arith, c.requires.bits, c.half.ensures.bits, half_longer c.args.prefix c.half-2.result false c.half-2.ensures, ap (λ (x : Prefix). width x.family) c.half-2.ensures), c.in_ok-hand_entry-2.ensures.ready))),
+  (h.0, (h.1, (omega (arith, c.requires.bits, c.half.ensures.bits, half_longer c.args.prefix.now c.half-2.result false c.half-2.ensures, ap (λ (x : Prefix). width x.family) c.half-2.ensures), c.in_ok-hand_entry-2.ensures.ready))),
 )
 
 pub descend-requires-2 : goal.descend-requires-2
 descend-requires-2 g t c = λ κs h. (
   omega (arith, c.half-3.ensures.bits),
-  (h.0, (h.1, (omega (arith, c.requires.bits, c.half-3.ensures.bits, half_longer c.args.prefix c.half-4.result true c.half-4.ensures, ap (λ (x : Prefix). width x.family) c.half-4.ensures), c.in_ok-descend.ensures.ready))),
+  (h.0, (h.1, (omega (arith, c.requires.bits, c.half-3.ensures.bits, half_longer c.args.prefix.now c.half-4.result true c.half-4.ensures, ap (λ (x : Prefix). width x.family) c.half-4.ensures), c.in_ok-descend.ensures.ready))),
 )
 
 pub returns-clause-takes : goal.returns-clause-takes
 returns-clause-takes g t c =
     let s = c.args.region.now in
-    handed_join g.S.EntrySink.takes g.met.S.EntrySink.more c.args.prefix c.half-2.result c.half-4.result s c.half.result c.half-3.result c.args.inherited c.below-hop.result c.own_hop-own.result
+    handed_join g.S.EntrySink.takes g.met.S.EntrySink.more c.args.prefix.now c.half-2.result c.half-4.result s c.half.result c.half-3.result c.args.inherited c.below-hop.result c.own_hop-own.result
     c.args.out.now c.hand_entry-2.new.out c.descend.new.out c.descend-2.new.out
     (some_bit s.bits (answers_in s) c.in_default.ensures.more) c.own_hop-own.ensures c.below-hop.ensures
     c.half.ensures.bits c.half.ensures.routes c.half.ensures.entries c.half.ensures.hop c.half-3.ensures.bits c.half-3.ensures.routes c.half-3.ensures.entries c.half-3.ensures.hop

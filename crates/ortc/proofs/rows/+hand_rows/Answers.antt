@@ -11,7 +11,7 @@ use Rattle.ortc.proofs.rows.+hand_rows.Goals as goal
 pub returns-in-Some-clause-takes : goal.returns-in-Some-clause-takes
 returns-in-Some-clause-takes g t c =
     let s = c.args.region.now in
-    handed_leaf g.S.RowSink.takes (prefix_as c.args.prefix) s.bits (answers_in s) c.in-Some.hop c.args.out.now c.put.new.self c.in-Some.ensures.one c.in_ok-put.ensures.takes
+    handed_leaf g.S.RowSink.takes (prefix_as c.args.prefix.now) s.bits (answers_in s) c.in-Some.hop c.args.out.now c.put.new.self c.in-Some.ensures.one c.in_ok-put.ensures.takes
 
 pub returns-then-prefix-width : goal.returns-then-prefix-width
 returns-then-prefix-width g t c =
@@ -21,18 +21,18 @@ returns-then-prefix-width g t c =
 pub hand_rows-requires : goal.hand_rows-requires
 hand_rows-requires g t c = λ κs h. (
   omega (arith, c.half.ensures.bits),
-  (h, (omega (arith, c.requires.bits, c.half.ensures.bits, half_longer c.args.prefix c.half-2.result false c.half-2.ensures, ap (λ (x : Prefix). width x.family) c.half-2.ensures), c.requires.ready)),
+  (h, (omega (arith, c.requires.bits, c.half.ensures.bits, half_longer c.args.prefix.now c.half-2.result false c.half-2.ensures, ap (λ (x : Prefix). width x.family) c.half-2.ensures), c.requires.ready)),
 )
 
 pub hand_rows-requires-2 : goal.hand_rows-requires-2
 hand_rows-requires-2 g t c = λ κs h. (
   omega (arith, c.half-3.ensures.bits),
-  (h, (omega (arith, c.requires.bits, c.half-3.ensures.bits, half_longer c.args.prefix c.half-4.result true c.half-4.ensures, ap (λ (x : Prefix). width x.family) c.half-4.ensures), c.in_ok-hand_rows.ensures.ready)),
+  (h, (omega (arith, c.requires.bits, c.half-3.ensures.bits, half_longer c.args.prefix.now c.half-4.result true c.half-4.ensures, ap (λ (x : Prefix). width x.family) c.half-4.ensures), c.in_ok-hand_rows.ensures.ready)),
 )
 
 pub returns-clause-takes : goal.returns-clause-takes
 returns-clause-takes g t c =
     let s = c.args.region.now in
-    handed_join g.S.RowSink.takes g.met.S.RowSink.more c.args.prefix c.half-2.result c.half-4.result s c.half.result c.half-3.result c.k.result c.args.out.now c.hand_rows.new.out c.hand_rows-2.new.out c.put-2.new.self
+    handed_join g.S.RowSink.takes g.met.S.RowSink.more c.args.prefix.now c.half-2.result c.half-4.result s c.half.result c.half-3.result c.k.result c.args.out.now c.hand_rows.new.out c.hand_rows-2.new.out c.put-2.new.self
     c.in_default.ensures.more c.k.ensures c.half.ensures.bits c.half.ensures.routes c.half.ensures.hop c.half-3.ensures.bits c.half-3.ensures.routes c.half-3.ensures.hop c.half-2.ensures c.half-4.ensures
     c.in_ok-hand_rows.ensures.takes c.in_ok-hand_rows-2.ensures.takes c.in_ok-put-2.ensures.takes
