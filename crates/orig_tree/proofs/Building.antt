@@ -17,8 +17,8 @@ use Rattle.fib_addr.specs.declared.entry.Entry as code_entry
 use Rattle.orig_tree.specs.Walk.{Walks}
 use Rattle.orig_tree.specs.Cover.{IsCover, covered}
 use Rattle.orig_tree.specs.Packed.{bare_slot, cover_in}
-use Rattle.orig_tree.specs.Arena.{Place, At, blank, bare_cover_is, half_place, from_half, walks_by, walks_at, IfHalf, IsNode, IsTree, IsHeld, GivesPlace, link, KeepsOthers, cover_at, retold, whole, IsArena}
-use Rattle.orig_tree.specs.Bests.{Stands, best_one, best_behind, put_at, AreBest, KeepsBest}
+use Rattle.orig_tree.specs.Arena.{Place, At, blank, bare_cover_is, half_place, from_half, walks_by, walks_at, IfHalf, IsNode, IsTree, IsHeld, GivesPlace, link, cover_at, retold, whole, IsArena}
+use Rattle.orig_tree.specs.Bests.{Stands, best_one, best_behind, AreBest, KeepsBest}
 use Rattle.orig_tree.specs.Woven.{with_rows, IsWoven, Weaves, Lays}
 use Rattle.orig_tree.specs.Built.{with_halves, OnlyAdds, answers_of, IsBuilt, HalfBuilt, Builds, BuildsHalf}
 use Rattle.orig_tree.specs.declared.node.Node.{Node}
@@ -26,16 +26,37 @@ use Rattle.orig_tree.specs.declared.node.Label.TheVariants.{Route}
 use Rattle.orig_tree.specs.declared.best.Best.{Best}
 use Rattle.orig_tree.proofs.Arena.{Carries, carry, half_carried, cover_half, cover_packed, placed, below_it}
 use Rattle.orig_tree.proofs.Covers.{bare_cover, cover_level}
-use Rattle.orig_tree.proofs.Rooms.{new_place, link_some}
+use Rattle.orig_tree.proofs.Rooms.{new_place, link_some, apart}
 use Rattle.orig_tree.proofs.Standing.{stands_one, stands_alike, both_half, best_carry, best_alike, if_half}
-use Rattle.orig_tree.proofs.Settling.{others_after, put_held, put_best}
+use Rattle.orig_tree.proofs.Settling.{outside_not, put_held, put_best}
 use Rattle.orig_tree.proofs.Steps.{given_is}
 use Rattle.orig_tree.proofs.Growing.{within_it}
-use Rattle.orig_tree.proofs.Mending.{own_route, half_gets, put_here, put_other}
+use Rattle.orig_tree.proofs.Mending.{own_route, half_gets}
 use Rattle.orig_tree.proofs.Telling.{lift_join, seen_append, half_longer}
 use Rattle.orig_tree.proofs.Weaving.{rows_append, rows_low, rows_high}
 use Rattle.orig_tree.proofs.Loading.{lays_front}
 use Rattle.orig_tree.proofs.Places.{in_place_nil}
+
+-- ---- a node that has no place yet
+
+-- The array after the halves of the region of path p were built from the routes T: the node n, which has no place yet, stands for
+-- them, and x is what it is to keep.
+record IsMade (d : ℕ) (T : Table) (old new : List Node) (free : ℕ) (name : ℕ → Place) (p : List Bool) (h : ℕ) (kept kept' : ℕ → Best) (n : Node) (x : Best) : Type 0 where
+  name' : ℕ → Place
+  spares : ℕ
+  held : IsHeld new free name' spares
+  adds : OnlyAdds old new name name' kept kept'
+  node : IsNode (walks_at d new) (λ b j. IsTree d new name' j (p ++ (b ∷ []))) n
+  routes : (walks_by (walks_at d new) n).routes ≡ with_rows T []
+  entries : (walks_by (walks_at d new) n).entries ≡ []
+  stands : Stands d (answers_of T h) x
+  best : (b : Bool) → IfHalf (λ j. AreBest d new kept' (side b (answers_of T h)) j) (half_place n b)
+
+-- the same of the region of the prefix p, with so many levels below it, for which a front of the routes was taken
+pub record Makes (h levels : ℕ) (p : Prefix) (old new : List Node) (free free' : ℕ) (kept kept' : ℕ → Best) (routes rest : Entries) (n : Node) (x : Best) : Type 0 where
+  taken : Table
+  front : routes ≡ of_table p.family (lift p.bits taken) ++ rest
+  made : (d : ℕ) (name : ℕ → Place) (m : ℕ) (r : List Bool) → levels ≤ d → IsHeld old free name m → IsMade d taken old new free' name r h kept kept' n x
 
 -- ---- nodes are added
 
@@ -107,9 +128,9 @@ module _ (own : Option ℕ) (new : List Node) (d : ℕ) (name : ℕ → Place) (
       })
 
 -- a region that has its own route alone, or none
-built_alone : (d : ℕ) (own : Option ℕ) (cells : List Node) (free m : ℕ) (name : ℕ → Place) (p : List Bool) (h hop : ℕ) (S : ℕ → Best) (n : Node) (x : Best) → n ≡ retold Route own bare_cover_is bare_cover_is blank → hop ≡ unwrap_or own h → x ≡ best_one hop → IsHeld cells free name m →
-    IsBuilt d (here own) cells cells free name p h S S n x
-built_alone d own cells free m name p h hop S n x e hop_is one held =
+made_alone : (d : ℕ) (own : Option ℕ) (cells : List Node) (free m : ℕ) (name : ℕ → Place) (p : List Bool) (h hop : ℕ) (S : ℕ → Best) (n : Node) (x : Best) → n ≡ retold Route own bare_cover_is bare_cover_is blank → hop ≡ unwrap_or own h → x ≡ best_one hop → IsHeld cells free name m →
+    IsMade d (here own) cells cells free name p h S S n x
+made_alone d own cells free m name p h hop S n x e hop_is one held =
     let W = walks_at d cells in
     let rows : (walks_by W n).routes ≡ with_rows (here own) [] = told_routes own cells d name p blank n refl e ∙ sym (rows_node own [] []) ∙ ap (λ z. with_rows z []) (tail own) in
     let gets : (a : List Bool) → length a ≡ d → answers_of (here own) h a ≡ hop = λ a l. ap (λ R. lpm R a h) (sym rows) ∙ (ap (λ (y : Node). lpm (walks_by W y).routes a h) e ∙ (all W a ∙ (given_is own h ∙ sym hop_is))) in
@@ -153,11 +174,11 @@ kept_half e T old mid new free name name' p h S S1 S' o y x =
     same (Some j) t = (x.same j p t.0).2
 
 module _ (e : ℕ) (own : Option ℕ) (T U : Table) (old mid new : List Node) (free1 free' : ℕ) (name : ℕ → Place) (p : List Bool) (h hop : ℕ) (S S1 S' : ℕ → Best) (k n : Node) (x : Best) where
-  built_node : k.entry ≡ bare_slot → n ≡ retold Route own (cover_at new Route (half_place k false)) (cover_at new Route (half_place k true)) k → hop ≡ unwrap_or own h →
+  made_node : k.entry ≡ bare_slot → n ≡ retold Route own (cover_at new Route (half_place k false)) (cover_at new Route (half_place k true)) k → hop ≡ unwrap_or own h →
       (y : HalfBuilt e T old mid free1 name (p ++ (false ∷ [])) hop S S1 (half_place k false)) → HalfBuilt e U mid new free' y.name' (p ++ (true ∷ [])) hop S1 S' (half_place k true) →
       ((d : ℕ) (f : List Bool → ℕ) → Stands d (side false f) (best_behind S' (half_place k false) (best_one hop)) → Stands d (side true f) (best_behind S' (half_place k true) (best_one hop)) → Stands (suc d) f x) →
-      IsBuilt (suc e) (join own T U) old new free' name p h S S' n x
-  built_node bare is hop_is y z joined =
+      IsMade (suc e) (join own T U) old new free' name p h S S' n x
+  made_node bare is hop_is y z joined =
       let All = join own T U in
       let D = suc e in
       let W = walks_at D new in
@@ -208,85 +229,83 @@ half_bare d cells free m name p h S held = record {
   best = tt;
 }
 
--- ---- a node that was built is put at its place
+-- ---- a node that was made is put at its place
 
-module _ (d : ℕ) (T : Table) (mid : List Node) (free : ℕ) (name : ℕ → Place) (p : List Bool) (h i : ℕ) (S1 S' : ℕ → Best) (n : Node) (x : Best) (is : (j : ℕ) → S' j ≡ put_at S1 i x j) where
-  abbrev New : List Node
-  New = slice_set mid i n
-
-  abbrev F : List Bool → ℕ
-  F = answers_of T h
-
-  there : S' i ≡ x
-  there = is i ∙ put_here S1 i x
-
-  others : (j : ℕ) → j ≢ i → S' j ≡ S1 j
-  others j z = is j ∙ put_other S1 i j x z
-
-  -- what it and the nodes below it keep stands, and so do its rows
-  put_built : (m : ℕ) → name i ≡ At p → i < length mid → IsHeld mid free name m → IsNode (walks_at d mid) (λ b j. IsTree d mid name j (p ++ (b ∷ []))) n → Stands d F x →
-      ((b : Bool) → IfHalf (λ j. AreBest d mid S1 (side b F) j) (half_place n b)) →
-      (walks_at (suc d) New i ≡ walks_by (walks_at d mid) n) × IsTree (suc d) New name i p × IsHeld New free name m × AreBest (suc d) New S' F i
-  put_built m own inside held node stands best =
-      let at = placed d mid i n name p own inside node in (
-        at.0,
-        at.1,
-        (put_held mid free i m n name p own held).0,
-        put_best d mid i n name p S' F own inside node.halves (subst (λ (y : Best). Stands d F y) (sym there) stands)
-            (λ s. both_half (λ j. IsTree d mid name j (p ++ (s ∷ []))) (λ j. AreBest d mid S1 (side s F) j) (λ j. AreBest d mid S' (side s F) j) (half_place n s)
-            (λ j u v. best_carry d mid mid S1 S' name (side s F) j (p ++ (s ∷ [])) u (λ z q w e. (refl, others z (below_it name i z p q s own w e))) v) (node.halves s) (best s)),
-      )
-
--- a half that took its place before it was built
-half_put : (d : ℕ) (T : Table) (old opened mid new : List Node) (free free1 free' m : ℕ) (name : ℕ → Place) (p : List Bool) (h : ℕ) (S S0 S1 S' : ℕ → Best) (n : Node) (x : Best) (k : ℕ) → k ≡ length old → k ≢ 0 → opened ≡ old ++ (blank ∷ []) → ((j : ℕ) → S0 j ≡ S j) → IsHeld old free name m →
-    ((name1 : ℕ → Place) (m1 : ℕ) → IsHeld opened free name1 m1 → IsBuilt d T opened mid free1 name1 p h S0 S1 n x) → new ≡ slice_set mid k n → ((j : ℕ) → S' j ≡ put_at S1 k x j) → free' ≡ free1 → HalfBuilt d T old new free' name p h S S' (link k)
-half_put d T old opened mid new free free1 free' m name p h S S0 S1 S' n x k at some is kept held built put best fr =
-    let g = new_place old opened free k (blank ∷ []) name m p some at is refl held in
-    subst (λ (o : Option ℕ). HalfBuilt d T old new free' name p h S S' o) (sym (link_some k some)) (subst (λ (y : ℕ). HalfBuilt d T old new y name p h S S' (Some k)) (sym fr)
-    (subst (λ (cs : List Node). HalfBuilt d T old cs free1 name p h S S' (Some k)) (sym put) (by_place g (built g.name' g.spares g.held))))
+put_built : (d : ℕ) (T : Table) (old mid new : List Node) (free free' : ℕ) (name : ℕ → Place) (i : ℕ) (p : List Bool) (h : ℕ) (S S1 S' : ℕ → Best) (n : Node) → name i ≡ At p → i < length old → new ≡ slice_set mid i n → ((j : ℕ) → j ≢ i → S' j ≡ S1 j) → free' ≡ free →
+    IsMade d T old mid free name p h S S1 n (S' i) → IsBuilt d T old new free' name i p h S S'
+unfolding AreBest
+put_built d T old mid new free free' name i p h S S1 S' n own inside put others fr b =
+    subst (λ (y : ℕ). IsBuilt d T old new y name i p h S S') (sym fr) (subst (λ (cs : List Node). IsBuilt d T old cs free name i p h S S') (sym put) here)
   where
-    by_place : (g : GivesPlace p old opened free name k) → IsBuilt d T opened mid free1 g.name' p h S0 S1 n x → HalfBuilt d T old (slice_set mid k n) free1 name p h S S' (Some k)
-    by_place g b =
-        let own : b.name' k ≡ At p = (b.adds.same k p g.mine).1 in
-        let inside : k < length mid = omega (arith, g.inside, b.adds.long) in
-        let u = put_built d T mid free1 b.name' p h k S1 S' n x best b.spares own inside b.held b.node b.stands b.best in
-        let one : S' k ≡ x = there d T mid free1 b.name' p h k S1 S' n x best in
-        record {
-          name' = b.name';
-          spares = b.spares;
-          held = u.2;
-          adds = record {
-            long = omega (arith, g.long, b.adds.long, length-set mid k n);
-            same = λ j q e.
-                let l : j < length old = within_it old free m j name q held e in
-                let z : j ≢ k = λ y. omega (arith, l, y, at) in
-                let v = g.same j q e in
-                let w = b.adds.same j q v.1 in
-                (get_or-set_other mid k j n blank z ∙ (w.0 ∙ v.0), w.1, others d T mid free1 b.name' p h k S1 S' n x best j z ∙ (w.2 ∙ kept j));
-          };
-          tree = u.1;
-          routes = ap (λ (w : Walks). w.routes) u.0 ∙ b.routes;
-          entries = ap (λ (w : Walks). w.entries) u.0 ∙ b.entries;
-          stands = subst (λ (y : Best). Stands d (answers_of T h) y) (sym one) b.stands;
-          best = u.3;
-        }
+    mine : b.name' i ≡ At p
+    mine = (b.adds.same i p own).1
+
+    at : (walks_at (suc d) (slice_set mid i n) i ≡ walks_by (walks_at d mid) n) × IsTree (suc d) (slice_set mid i n) b.name' i p
+    at = placed d mid i n b.name' p mine (omega (arith, inside, b.adds.long)) b.node
+
+    halves : (s : Bool) → IfHalf (λ j. AreBest d mid S' (side s (answers_of T h)) j) (half_place n s)
+    halves s = both_half (λ j. IsTree d mid b.name' j (p ++ (s ∷ []))) (λ j. AreBest d mid S1 (side s (answers_of T h)) j) (λ j. AreBest d mid S' (side s (answers_of T h)) j) (half_place n s)
+        (λ j u v. best_carry d mid mid S1 S' b.name' (side s (answers_of T h)) j (p ++ (s ∷ [])) u (λ z q w e. (refl, others z (below_it b.name' i z p q s mine w e))) v) (b.node.halves s) (b.best s)
+
+    here : IsBuilt d T old (slice_set mid i n) free name i p h S S'
+    here = record {
+      name' = b.name';
+      spares = b.spares;
+      held = (put_held mid free i b.spares n b.name' p mine b.held).0;
+      fills = record {
+        long = omega (arith, b.adds.long, length-set mid i n);
+        same = λ j q e z. let w = b.adds.same j q e in (get_or-set_other mid i j n blank z ∙ w.0, w.1, others j z ∙ w.2);
+      };
+      tree = at.1;
+      routes = ap (λ (w : Walks). w.routes) at.0 ∙ b.routes;
+      entries = ap (λ (w : Walks). w.entries) at.0 ∙ b.entries;
+      best = put_best d mid i n b.name' p S' (answers_of T h) mine (omega (arith, inside, b.adds.long)) b.node.halves b.stands halves;
+    }
+
+-- a half takes its place before it is built
+half_built : (d : ℕ) (T : Table) (old opened new : List Node) (free free' m : ℕ) (name : ℕ → Place) (p : List Bool) (h : ℕ) (S S0 S' : ℕ → Best) (k : ℕ) → k ≡ length old → k ≢ 0 → opened ≡ old ++ (blank ∷ []) → ((j : ℕ) → S0 j ≡ S j) → IsHeld old free name m →
+    ((name1 : ℕ → Place) (m1 : ℕ) → name1 k ≡ At p → k < length opened → IsHeld opened free name1 m1 → IsBuilt d T opened new free' name1 k p h S0 S') → HalfBuilt d T old new free' name p h S S' (link k)
+unfolding AreBest
+half_built d T old opened new free free' m name p h S S0 S' k at some is kept held built =
+    let g = new_place old opened free k (blank ∷ []) name m p some at is refl held in
+    subst (λ (o : Option ℕ). HalfBuilt d T old new free' name p h S S' o) (sym (link_some k some)) (by_place g (built g.name' g.spares g.mine g.inside g.held))
+  where
+    by_place : (g : GivesPlace p old opened free name k) → IsBuilt d T opened new free' g.name' k p h S0 S' → HalfBuilt d T old new free' name p h S S' (Some k)
+    by_place g b = record {
+      name' = b.name';
+      spares = b.spares;
+      held = b.held;
+      adds = record {
+        long = omega (arith, g.long, b.fills.long);
+        same = λ j q e.
+            let l : j < length old = within_it old free m j name q held e in
+            let v = g.same j q e in
+            let w = b.fills.same j q v.1 (λ y. omega (arith, l, y, at)) in
+            (w.0 ∙ v.0, w.1, w.2 ∙ kept j);
+      };
+      tree = b.tree;
+      routes = b.routes;
+      entries = b.entries;
+      stands = b.best.0;
+      best = b.best;
+    }
 
 -- ---- what is taken from the front of a list
 
-pub builds_alone : (h levels hop : ℕ) (P : Prefix) (own : Option ℕ) (cells : List Node) (free : ℕ) (S : ℕ → Best) (E R : Entries) (n : Node) (x : Best) → E ≡ of_table P.family (lift P.bits (here own)) ++ R → n ≡ retold Route own bare_cover_is bare_cover_is blank →
-    hop ≡ unwrap_or own h → x ≡ best_one hop → Builds h levels P cells cells free free S S E R n x
-builds_alone h levels hop P own cells free S E R n x front is hop_is one = record {
+pub makes_alone : (h levels hop : ℕ) (P : Prefix) (own : Option ℕ) (cells : List Node) (free : ℕ) (S : ℕ → Best) (E R : Entries) (n : Node) (x : Best) → E ≡ of_table P.family (lift P.bits (here own)) ++ R → n ≡ retold Route own bare_cover_is bare_cover_is blank →
+    hop ≡ unwrap_or own h → x ≡ best_one hop → Makes h levels P cells cells free free S S E R n x
+makes_alone h levels hop P own cells free S E R n x front is hop_is one = record {
   taken = here own;
   front = front;
-  built = λ d name m r l held. built_alone d own cells free m name r h hop S n x is hop_is one held;
+  made = λ d name m r l held. made_alone d own cells free m name r h hop S n x is hop_is one held;
 }
 
-builds_node : (h hop : ℕ) (p : code.Prefix) (own : Option ℕ) (old mid new : List Node) (free free1 free' : ℕ) (S S1 S' : ℕ → Best) (E A B R : Entries) (k n : Node) (x : Best) → p.len < width p.family →
+makes_node : (h hop : ℕ) (p : code.Prefix) (own : Option ℕ) (old mid new : List Node) (free free1 free' : ℕ) (S S1 S' : ℕ → Best) (E A B R : Entries) (k n : Node) (x : Best) → p.len < width p.family →
     E ≡ of_table p.family (lift (prefix_as p).bits (here own)) ++ A → k.entry ≡ bare_slot → n ≡ retold Route own (cover_at new Route (half_place k false)) (cover_at new Route (half_place k true)) k → hop ≡ unwrap_or own h →
     BuildsHalf hop (width p.family - p.len - 1) (half_at false (prefix_as p)) old mid free free1 S S1 A B (half_place k false) → BuildsHalf hop (width p.family - p.len - 1) (half_at true (prefix_as p)) mid new free1 free' S1 S' B R (half_place k true) →
     ((d : ℕ) (f : List Bool → ℕ) → Stands d (side false f) (best_behind S' (half_place k false) (best_one hop)) → Stands d (side true f) (best_behind S' (half_place k true) (best_one hop)) → Stands (suc d) f x) →
-    Builds h (width p.family - p.len) (prefix_as p) old new free free' S S' E R n x
-builds_node h hop p own old mid new free free1 free' S S1 S' E A B R k n x longer front bare is hop_is y z joined =
+    Makes h (width p.family - p.len) (prefix_as p) old new free free' S S' E R n x
+makes_node h hop p own old mid new free free1 free' S S1 S' E A B R k n x longer front bare is hop_is y z joined =
     let f = p.family in
     let q = (prefix_as p).bits in
     let T = y.taken in
@@ -299,38 +318,43 @@ builds_node h hop p own old mid new free free1 free' S S1 S' E A B R k n x longe
     record {
       taken = join own T U;
       front = front ∙ (ap (λ v. O ++ v) (y.front ∙ (ap (λ v. X ++ v) z.front ∙ sym (append_assoc X Y R))) ∙ (sym (append_assoc O (X ++ Y) R) ∙ ap (λ v. v ++ R) (sym whole)));
-      built = λ d name m r l held. by_depth d name m r l held;
+      made = λ d name m r l held. by_depth d name m r l held;
     }
   where
-    by_depth : (d : ℕ) (name : ℕ → Place) (m : ℕ) (r : List Bool) → width p.family - p.len ≤ d → IsHeld old free name m → IsBuilt d (join own y.taken z.taken) old new free' name r h S S' n x
+    by_depth : (d : ℕ) (name : ℕ → Place) (m : ℕ) (r : List Bool) → width p.family - p.len ≤ d → IsHeld old free name m → IsMade d (join own y.taken z.taken) old new free' name r h S S' n x
     by_depth zero name m r l held = absurd (omega (arith, l, longer))
     by_depth (suc e) name m r l held =
         let low = y.built e name m (r ++ (false ∷ [])) (omega (arith, l)) held in
         let high = z.built e low.name' low.spares (r ++ (true ∷ [])) (omega (arith, l)) low.held in
-        built_node e own y.taken z.taken old mid new free1 free' name r h hop S S1 S' k n x bare is hop_is low high joined
+        made_node e own y.taken z.taken old mid new free1 free' name r h hop S S1 S' k n x bare is hop_is low high joined
 
-pub builds_over : (h hop : ℕ) (p : code.Prefix) (own : Option ℕ) (old mid new : List Node) (free free1 free' : ℕ) (S S1 S' : ℕ → Best) (E A B R R' : Entries) (low high : ℕ) (n : Node) (x : Best) → p.len < width p.family → E ≡ of_table p.family (lift (prefix_as p).bits (here own)) ++ A →
+pub makes_over : (h hop : ℕ) (p : code.Prefix) (own : Option ℕ) (old mid new : List Node) (free free1 free' : ℕ) (S S1 S' : ℕ → Best) (E A B R : Entries) (low high : ℕ) (n : Node) (x : Best) → p.len < width p.family → E ≡ of_table p.family (lift (prefix_as p).bits (here own)) ++ A →
     n ≡ retold Route own (cover_at new Route (link low)) (cover_at new Route (link high)) (with_halves low high) → hop ≡ unwrap_or own h →
     BuildsHalf hop (width p.family - p.len - 1) (half_at false (prefix_as p)) old mid free free1 S S1 A B (link low) → BuildsHalf hop (width p.family - p.len - 1) (half_at true (prefix_as p)) mid new free1 free' S1 S' B R (link high) →
-    ((d : ℕ) (f : List Bool → ℕ) → Stands d (side false f) (best_behind S' (link low) (best_one hop)) → Stands d (side true f) (best_behind S' (link high) (best_one hop)) → Stands (suc d) f x) → R' ≡ R →
-    Builds h (width p.family - p.len) (prefix_as p) old new free free' S S' E R' n x
-builds_over h hop p own old mid new free free1 free' S S1 S' E A B R R' low high n x longer front is hop_is y z joined left =
-    subst (λ (Q : Entries). Builds h (width p.family - p.len) (prefix_as p) old new free free' S S' E Q n x) (sym left)
-    (builds_node h hop p own old mid new free free1 free' S S1 S' E A B R (with_halves low high) n x longer front refl is hop_is y z joined)
+    ((d : ℕ) (f : List Bool → ℕ) → Stands d (side false f) (best_behind S' (link low) (best_one hop)) → Stands d (side true f) (best_behind S' (link high) (best_one hop)) → Stands (suc d) f x) →
+    Makes h (width p.family - p.len) (prefix_as p) old new free free' S S' E R n x
+makes_over h hop p own old mid new free free1 free' S S1 S' E A B R low high n x longer front is hop_is y z joined = makes_node h hop p own old mid new free free1 free' S S1 S' E A B R (with_halves low high) n x longer front refl is hop_is y z joined
 
 pub builds_bare : (h levels : ℕ) (P : Prefix) (cells : List Node) (free : ℕ) (S : ℕ → Best) (E : Entries) → BuildsHalf h levels P cells cells free free S S E E None
 builds_bare h levels P cells free S E = record { taken = []; front = refl; built = λ d name m r l held. half_bare d cells free m name r h S held }
 
-pub builds_put : (h : ℕ) (p q : code.Prefix) (b : Bool) (old opened mid new : List Node) (free free0 free1 free' : ℕ) (S S0 S1 S' : ℕ → Best) (E R : Entries) (n : Node) (x : Best) (k : ℕ) → p.len < width p.family → prefix_as q ≡ half_at b (prefix_as p) →
-    k ≡ length old → k ≢ 0 → opened ≡ old ++ (blank ∷ []) → free0 ≡ free → ((j : ℕ) → S0 j ≡ S j) → Builds h (width q.family - q.len) (prefix_as q) opened mid free0 free1 S0 S1 E R n x →
-    new ≡ slice_set mid k n → ((j : ℕ) → S' j ≡ put_at S1 k x j) → free' ≡ free1 → BuildsHalf h (width p.family - p.len - 1) (half_at b (prefix_as p)) old new free free' S S' E R (link k)
-builds_put h p q b old opened mid new free free0 free1 free' S S0 S1 S' E R n x k longer half at some is as_free kept y put best fr =
+pub builds_at : (h levels : ℕ) (P : Prefix) (i : ℕ) (old mid new : List Node) (free free1 free' : ℕ) (S S1 S' : ℕ → Best) (E R : Entries) (n : Node) → new ≡ slice_set mid i n → ((j : ℕ) → j ≢ i → S' j ≡ S1 j) → free' ≡ free1 →
+    Makes h levels P old mid free free1 S S1 E R n (S' i) → Builds h levels P i old new free free' S S' E R
+builds_at h levels P i old mid new free free1 free' S S1 S' E R n put others fr y = record {
+  taken = y.taken;
+  front = y.front;
+  built = λ d name m r l own inside held. put_built d y.taken old mid new free1 free' name i r h S S1 S' n own inside put others fr (y.made d name m r l held);
+}
+
+pub builds_half : (h : ℕ) (p q : code.Prefix) (b : Bool) (old opened new : List Node) (free free0 free' : ℕ) (S S0 S' : ℕ → Best) (E R : Entries) (k : ℕ) → p.len < width p.family → prefix_as q ≡ half_at b (prefix_as p) → k ≡ length old → k ≢ 0 → opened ≡ old ++ (blank ∷ []) → free0 ≡ free → ((j : ℕ) → S0 j ≡ S j) →
+    Builds h (width q.family - q.len) (prefix_as q) k opened new free0 free' S0 S' E R → BuildsHalf h (width p.family - p.len - 1) (half_at b (prefix_as p)) old new free free' S S' E R (link k)
+builds_half h p q b old opened new free free0 free' S S0 S' E R k longer half at some is as_free kept y =
     let low : width q.family - q.len ≡ width p.family - p.len - 1 = omega (arith, longer, half_longer p q b half, ap (λ (v : Prefix). width v.family) half) in
     record {
       taken = y.taken;
       front = subst (λ (v : Prefix). E ≡ of_table v.family (lift v.bits y.taken) ++ R) half y.front;
-      built = λ d name m r l held. half_put d y.taken old opened mid new free free1 free' m name r h S S0 S1 S' n x k at some is kept held
-          (λ name1 m1 held1. y.built d name1 m1 r (omega (arith, l, low)) (subst (λ v. IsHeld opened v name1 m1) (sym as_free) held1)) put best fr;
+      built = λ d name m r l held. half_built d y.taken old opened new free free' m name r h S S0 S' k at some is kept held
+          (λ name1 m1 own inside held1. y.built d name1 m1 r (omega (arith, l, low)) own inside (subst (λ v. IsHeld opened v name1 m1) (sym as_free) held1));
     }
 
 -- ---- the whole tree
@@ -339,56 +363,48 @@ bare_routes : (d : ℕ) → (walks_at (suc d) (blank ∷ []) 0).routes ≡ []
 unfolding walks_at
 bare_routes d = refl
 
-module _ (f : Family) (p : code.Prefix) (mid : List Node) (free free' : ℕ) (S S1 S' : ℕ → Best) (n : Node) (x : Best) (is : prefix_as p ≡ record { family = f; bits = [] }) (put_is : (j : ℕ) → S' j ≡ put_at S1 0 x j) where
-  -- the root gets the node that was built for it
-  abbrev Whole : List Node
-  Whole = slice_set mid 0 n
+own_place : (e : ℕ) (cells : List Node) (name : ℕ → Place) (i : ℕ) (r : List Bool) → IsTree (suc e) cells name i r → name i ≡ At r
+unfolding IsTree
+own_place e cells name i r t = t.0
 
-  rooted : (e : ℕ) (T : Table) (old : List Node) (name : ℕ → Place) (r : List Bool) → old ≡ blank ∷ [] → IsTree (suc e) old name 0 r → IsBuilt e T old mid free' name r 0 S S1 n x → IsWoven (suc e) Route T old Whole free' name 0 r 0 S S' × AreBest (suc e) Whole S' (λ a. lpm (walks_at (suc e) Whole 0).routes a 0) 0
-  unfolding walks_at IsTree
-  rooted e T old name r bare t b =
-      let own = (b.adds.same 0 r t.0).1 in
-      let inside : 0 < length mid = omega (arith, b.adds.long, t.1) in
-      let u = put_built e T mid free' b.name' r 0 0 S1 S' n x put_is b.spares own inside b.held b.node b.stands b.best in
-      let adds : KeepsOthers r old mid name b.name' = record { long = b.adds.long; same = λ j q u out. let v = b.adds.same j q u in (v.0, v.1) } in
-      let rows : (walks_at (suc e) Whole 0).routes ≡ with_rows T [] = ap (λ (w : Walks). w.routes) u.0 ∙ b.routes in
+module _ (f : Family) (p : code.Prefix) (free free' : ℕ) (S S' : ℕ → Best) (is : prefix_as p ≡ record { family = f; bits = [] }) where
+  rooted : (e : ℕ) (T : Table) (old new : List Node) (name : ℕ → Place) (r : List Bool) → old ≡ blank ∷ [] → name 0 ≡ At r → IsBuilt e T old new free' name 0 r 0 S S' → IsWoven (suc e) Route T old new free' name 0 r 0 S S' × AreBest (suc e) new S' (λ a. lpm (walks_at (suc e) new 0).routes a 0) 0
+  unfolding walks_at
+  rooted e T old new name r bare own b =
       let none : walks_at (suc e) old 0 ≡ walks_at (suc e) (blank ∷ []) 0 = ap (λ (cs : List Node). walks_at (suc e) cs 0) bare in (
         record {
           name' = b.name';
           spares = b.spares;
-          tree = u.1;
-          held = u.2;
-          keeps = others_after r old mid Whole name b.name' b.name' adds (put_held mid free' 0 b.spares n b.name' r own b.held).1;
-          rows = rows ∙ ap (with_rows T) (sym (ap (λ (w : Walks). w.routes) none));
-          other = ap (λ (w : Walks). w.entries) u.0 ∙ b.entries ∙ sym (ap (λ (w : Walks). w.entries) none);
+          tree = b.tree;
+          held = b.held;
+          keeps = record { long = b.fills.long; same = λ j q u out. let w = b.fills.same j q u (apart name j 0 (At q) (At r) u own (outside_not r q out)) in (w.0, w.1) };
+          rows = b.routes ∙ ap (with_rows T) (sym (ap (λ (w : Walks). w.routes) none));
+          other = b.entries ∙ sym (ap (λ (w : Walks). w.entries) none);
           grown = λ u k. cc;
         },
-        best_alike (suc e) Whole S' (answers_of T 0) (λ a. lpm (walks_at (suc e) Whole 0).routes a 0) 0 (λ a u. ap (λ R. lpm R a 0) (sym rows)) u.3,
+        best_alike (suc e) new S' (answers_of T 0) (λ a. lpm (walks_at (suc e) new 0).routes a 0) 0 (λ a u. ap (λ R. lpm R a 0) (sym b.routes)) b.best,
       )
 
-  built_at : (old new : List Node) (es rs : List code_entry.Entry) → old ≡ blank ∷ [] → new ≡ Whole → IsArena f old free → Builds 0 (width p.family - p.len) (prefix_as p) old mid free free' S S1 (map entry_as es) (map entry_as rs) n x →
+  pub built_whole : (old new : List Node) (es rs : List code_entry.Entry) → old ≡ blank ∷ [] → IsArena f old free → Builds 0 (width p.family - p.len) (prefix_as p) 0 old new free free' S S' (map entry_as es) (map entry_as rs) →
       Lays f Route old new free' S S' (map entry_as es) (map entry_as rs) × KeepsBest f new S'
-  built_at old new es rs bare put a y =
+  built_whole old new es rs bare a y =
       let levels : width p.family - p.len ≤ width f = omega (arith, ap (λ (v : Prefix). width v.family) is) in
-      let b = y.built (width f) a.name a.spares [] levels a.held in
-      let w : Weaves Route 0 (width p.family - p.len) (prefix_as p) old Whole free free' S S' 0 (map entry_as es) (map entry_as rs) = record {
+      let b = y.built (width f) a.name a.spares [] levels (own_place (width f) old a.name 0 [] a.tree) inside a.held in
+      let w : Weaves Route 0 (width p.family - p.len) (prefix_as p) old new free free' S S' 0 (map entry_as es) (map entry_as rs) = record {
         taken = y.taken;
         front = y.front;
         woven = λ d name m r l t held. by_depth d name m r l t held;
-      } in
-      subst (λ (cs : List Node). Lays f Route old cs free' S S' (map entry_as es) (map entry_as rs) × KeepsBest f cs S') (sym put) (
-        lays_front f p Route old Whole free free' S S' es rs is a (in_place_nil f (whole f old).routes (no_routes bare)) w,
-        (rooted (width f) y.taken old a.name [] bare a.tree b).1,
+      } in (
+        lays_front f p Route old new free free' S S' es rs is a (in_place_nil f (whole f old).routes (no_routes bare)) w,
+        (rooted (width f) y.taken old new a.name [] bare (own_place (width f) old a.name 0 [] a.tree) b).1,
       )
     where
-      by_depth : (d : ℕ) (name : ℕ → Place) (m : ℕ) (r : List Bool) → width p.family - p.len < d → IsTree d old name 0 r → IsHeld old free name m → IsWoven d Route y.taken old Whole free' name 0 r 0 S S'
+      inside : 0 < length old
+      inside = omega (arith, ap length bare)
+
+      by_depth : (d : ℕ) (name : ℕ → Place) (m : ℕ) (r : List Bool) → width p.family - p.len < d → IsTree d old name 0 r → IsHeld old free name m → IsWoven d Route y.taken old new free' name 0 r 0 S S'
       by_depth zero name m r l t held = absurd (omega (arith, l))
-      by_depth (suc e) name m r l t held = (rooted e y.taken old name r bare t (y.built e name m r (omega (arith, l)) held)).0
+      by_depth (suc e) name m r l t held = (rooted e y.taken old new name r bare (own_place e old name 0 r t) (y.built e name m r (omega (arith, l)) (own_place e old name 0 r t) inside held)).0
 
       no_routes : old ≡ blank ∷ [] → (whole f old).routes ≡ []
       no_routes e = ap (λ (cs : List Node). (whole f cs).routes) e ∙ bare_routes (width f)
-
-  pub built_whole : (old new : List Node) (free1 : ℕ) (es rs : List code_entry.Entry) → old ≡ blank ∷ [] → new ≡ Whole → IsArena f old free → free' ≡ free1 → Builds 0 (width p.family - p.len) (prefix_as p) old mid free free1 S S1 (map entry_as es) (map entry_as rs) n x →
-      Lays f Route old new free' S S' (map entry_as es) (map entry_as rs) × KeepsBest f new S'
-  built_whole old new free1 es rs bare put a fr y =
-      built_at old new es rs bare put a (subst (λ v. Builds 0 (width p.family - p.len) (prefix_as p) old mid free v S S1 (map entry_as es) (map entry_as rs) n x) (sym fr) y)

@@ -12,7 +12,7 @@ use Rattle.orig_tree.proofs.Arena.{begins_self, below_it}
 use Rattle.orig_tree.proofs.Rooms.{apart, renamed, re_here, re_other, spare_kept, spare_not, nowhere_not, at_same}
 use Rattle.orig_tree.proofs.Standing.{both_half, best_carry}
 
-outside_not : (p q : List Bool) → begins p q ≡ false → At q ≡ At p → ⊥
+pub outside_not : (p q : List Bool) → begins p q ≡ false → At q ≡ At p → ⊥
 outside_not p q h u = let z : true ≡ false = sym (begins_self p) ∙ ap (begins p) (sym (at_same q p u)) ∙ h in cc
 
 pub others_after : (p : List Bool) (a b c : List Node) (n m k : ℕ → Place) → KeepsOthers p a b n m → KeepsOthers p b c m k → KeepsOthers p a c n k

@@ -42,8 +42,8 @@ pub told_own : (p : Prefix) (o : Option ℕ) → map (λ h. (p, h)) (option_to_l
 told_own p None = refl
 told_own p (Some g) = ap (λ z. ((let x : Prefix = record { family = p.family; bits = z } in x), g) ∷ []) (sym (append-nil p.bits))
 
-pub told_nothing : (label : Label) (p : code.Prefix) (w : Walks) → w ≡ no_walks → [] ≡ of_table p.family (lift (prefix_as p).bits (rows_of label w))
-told_nothing label p w e = sym (ap (λ z. of_table p.family (lift (prefix_as p).bits (rows_of label z))) e ∙ ap (λ z. of_table p.family (lift (prefix_as p).bits z)) (rows_nothing label))
+pub told_nothing : (label : Label) (p : Prefix) (w : Walks) → w ≡ no_walks → [] ≡ of_table p.family (lift p.bits (rows_of label w))
+told_nothing label p w e = sym (ap (λ z. of_table p.family (lift p.bits (rows_of label z))) e ∙ ap (λ z. of_table p.family (lift p.bits z)) (rows_nothing label))
 
 -- one more bit
 pub half_longer : (p q : code.Prefix) (b : Bool) → prefix_as q ≡ half_at b (prefix_as p) → q.len ≡ p.len + 1
@@ -78,20 +78,11 @@ fits_upper n o L M f = fits_down n true M (fits_back n (lift (false ∷ []) L) (
 fits_node : (n : ℕ) (label : Label) (route entry : Option ℕ) (low high node : Walks) → walks_of route entry low high ≡ node → Fits n (rows_of label node) → Fits n (join (labelled label route entry) (rows_of label low) (rows_of label high))
 fits_node n label route entry low high node w f = subst (λ (L : Table). Fits n L) (ap (rows_of label) (sym w) ∙ rows_level label route entry low high) f
 
-family_of_half : (p q : code.Prefix) (b : Bool) → prefix_as q ≡ half_at b (prefix_as p) → q.family ≡ p.family
-family_of_half p q b e = ap (λ (x : Prefix). x.family) e
+pub fits_low : (n : ℕ) (label : Label) (route entry : Option ℕ) (low high node : Walks) → walks_of route entry low high ≡ node → Fits n (rows_of label node) → Fits (n - 1) (rows_of label low)
+fits_low n label route entry low high node w f = fits_lower n (labelled label route entry) (rows_of label low) (rows_of label high) (fits_node n label route entry low high node w f)
 
-pub fits_low : (p q : code.Prefix) (label : Label) (route entry : Option ℕ) (low high node : Walks) → prefix_as q ≡ half_at false (prefix_as p) → walks_of route entry low high ≡ node
-    → Fits (width p.family - p.len) (rows_of label node) → Fits (width q.family - q.len) (rows_of label low)
-fits_low p q label route entry low high node e w f =
-    let n : width p.family - p.len - 1 ≡ width q.family - q.len = omega (arith, half_longer p q false e, ap width (family_of_half p q false e)) in
-    subst (λ (k : ℕ). Fits k (rows_of label low)) n (fits_lower (width p.family - p.len) (labelled label route entry) (rows_of label low) (rows_of label high) (fits_node (width p.family - p.len) label route entry low high node w f))
-
-pub fits_high : (p q : code.Prefix) (label : Label) (route entry : Option ℕ) (low high node : Walks) → prefix_as q ≡ half_at true (prefix_as p) → walks_of route entry low high ≡ node
-    → Fits (width p.family - p.len) (rows_of label node) → Fits (width q.family - q.len) (rows_of label high)
-fits_high p q label route entry low high node e w f =
-    let n : width p.family - p.len - 1 ≡ width q.family - q.len = omega (arith, half_longer p q true e, ap width (family_of_half p q true e)) in
-    subst (λ (k : ℕ). Fits k (rows_of label high)) n (fits_upper (width p.family - p.len) (labelled label route entry) (rows_of label low) (rows_of label high) (fits_node (width p.family - p.len) label route entry low high node w f))
+pub fits_high : (n : ℕ) (label : Label) (route entry : Option ℕ) (low high node : Walks) → walks_of route entry low high ≡ node → Fits n (rows_of label node) → Fits (n - 1) (rows_of label high)
+fits_high n label route entry low high node w f = fits_upper n (labelled label route entry) (rows_of label low) (rows_of label high) (fits_node n label route entry low high node w f)
 
 -- at the full width a node has its own entry alone
 none_below : (n : ℕ) (b : Bool) (L : Table) → n ≡ 0 → Fits n (lift (b ∷ []) L) → L ≡ []
@@ -115,27 +106,22 @@ told_end p label route entry o low high node w n f s =
     ∙ (sym (rows_level label route entry low high) ∙ ap (rows_of label) w)))
 
 -- what is told of a node: its own entry, then those of its halves
-pub told_level : (p q r : code.Prefix) (label : Label) (route entry o : Option ℕ) (low high node : Walks) → walks_of route entry low high ≡ node
-    → prefix_as q ≡ half_at false (prefix_as p) → prefix_as r ≡ half_at true (prefix_as p) → o ≡ labelled label route entry
-    → map (λ h. (prefix_as p, h)) (option_to_list o) ++ (of_table q.family (lift (prefix_as q).bits (rows_of label low)) ++ of_table r.family (lift (prefix_as r).bits (rows_of label high)))
-    ≡ of_table p.family (lift (prefix_as p).bits (rows_of label node))
-told_level p q r label route entry o low high node w e g s =
-    let k = (prefix_as p).bits in
+pub told_level : (p : Prefix) (label : Label) (route entry o : Option ℕ) (low high node : Walks) → walks_of route entry low high ≡ node → o ≡ labelled label route entry
+    → map (λ h. (p, h)) (option_to_list o) ++ (of_table p.family (lift (half_at false p).bits (rows_of label low)) ++ of_table p.family (lift (half_at true p).bits (rows_of label high))) ≡ of_table p.family (lift p.bits (rows_of label node))
+told_level p label route entry o low high node w s =
+    let k = p.bits in
     let f = p.family in
     let L = rows_of label low in
     let H = rows_of label high in
     let O = of_table f (lift k (here (labelled label route entry))) in
     let X = of_table f (lift (k ++ (false ∷ [])) L) in
     let Y = of_table f (lift (k ++ (true ∷ [])) H) in
-    let own : map (λ h. (prefix_as p, h)) (option_to_list o) ≡ O = told_own (prefix_as p) o ∙ ap (λ x. of_table f (lift k (here x))) s in
+    let own : map (λ h. (p, h)) (option_to_list o) ≡ O = told_own p o ∙ ap (λ x. of_table f (lift k (here x))) s in
     let whole : of_table f (lift k (rows_of label node)) ≡ O ++ (X ++ Y) =
     ap (λ x. of_table f (lift k x)) (ap (rows_of label) (sym w) ∙ rows_level label route entry low high)
     ∙ (ap (of_table f) (lift_join k (labelled label route entry) L H) ∙ (seen_append f (lift k (here (labelled label route entry))) (lift (k ++ (false ∷ [])) L ++ lift (k ++ (true ∷ [])) H)
     ∙ ap (λ x. O ++ x) (seen_append f (lift (k ++ (false ∷ [])) L) (lift (k ++ (true ∷ [])) H))))
-    in
-    ap (λ x. x ++ (of_table q.family (lift (prefix_as q).bits L) ++ of_table r.family (lift (prefix_as r).bits H))) own
-    ∙ (ap (λ (x : Prefix). O ++ (of_table x.family (lift x.bits L) ++ of_table r.family (lift (prefix_as r).bits H))) e
-    ∙ (ap (λ (x : Prefix). O ++ (X ++ of_table x.family (lift x.bits H))) g ∙ sym whole))
+    in ap (λ x. x ++ (X ++ Y)) own ∙ sym whole
 
 width_most : (f : Family) → width f ≤ 128
 width_most V4 = omega arith

@@ -1,11 +1,10 @@
--- Nodes that are built in one walk over routes that stand in order, each after its halves.
-use Rattle.std.specs.Prelude.{◌≡◌, ℕ, suc, ◌≤◌, List, [], ◌∷◌, ◌++◌, length, Bool, Option}
+-- Nodes that are built in one walk over routes that stand in order.
+use Rattle.std.specs.Prelude.{◌≡◌, ◌≢◌, ◌<◌, ℕ, suc, ◌≤◌, List, [], ◌++◌, length, Bool, Option}
 use Rattle.address_model.specs.Address.{Prefix}
 use Rattle.table_model.specs.Table.{Table, lpm}
 use Rattle.table_model.specs.Entries.{Entries, of_table}
 use Rattle.least_model.specs.Regions.{lift}
-use Rattle.least_model.specs.Sets.{side}
-use Rattle.orig_tree.specs.Arena.{Place, At, node_at, half_place, from_half, walks_by, walks_at, IfHalf, IsNode, IsTree, IsHeld}
+use Rattle.orig_tree.specs.Arena.{Place, At, node_at, from_half, walks_at, IfHalf, IsTree, IsHeld}
 use Rattle.orig_tree.specs.Packed.{bare_slot}
 use Rattle.orig_tree.specs.Bests.{Stands, best_one, best_behind, AreBest}
 use Rattle.orig_tree.specs.Woven.{with_rows}
@@ -17,6 +16,11 @@ pub record OnlyAdds (old new : List Node) (name name' : ℕ → Place) (kept kep
   pub long : length old ≤ length new
   pub same : (j : ℕ) (q : List Bool) → name j ≡ At q → (node_at new j ≡ node_at old j) × (name' j ≡ At q) × (kept' j ≡ kept j)
 
+-- the same, but for the node at place i
+pub record OnlyFills (i : ℕ) (old new : List Node) (name name' : ℕ → Place) (kept kept' : ℕ → Best) : Type 0 where
+  pub long : length old ≤ length new
+  pub same : (j : ℕ) (q : List Bool) → name j ≡ At q → j ≢ i → (node_at new j ≡ node_at old j) × (name' j ≡ At q) × (kept' j ≡ kept j)
+
 -- a node with halves at these places, 0 where one is no node, and no labels yet
 abbrev pub with_halves : ℕ → ℕ → Node
 with_halves low high = record { low = low; high = high; route = bare_slot; entry = bare_slot }
@@ -25,20 +29,19 @@ with_halves low high = record { low = low; high = high; route = bare_slot; entry
 abbrev pub answers_of : Table → ℕ → List Bool → ℕ
 answers_of T h a = lpm (with_rows T []) a h
 
--- The array after the region of path p, of d more bits, was built from the routes T, told from there, where it inherits h: the node n,
--- which has no place yet, stands for them, with the places below it, and x is what it is to keep.
-pub record IsBuilt (d : ℕ) (T : Table) (old new : List Node) (free : ℕ) (name : ℕ → Place) (p : List Bool) (h : ℕ) (kept kept' : ℕ → Best) (n : Node) (x : Best) : Type 0 where
+-- The array after the region of path p, of d more bits, was built from the routes T, told from there, where it inherits h: place i, which
+-- was its node's, stands for them, with the places below it, and each of these nodes keeps what stands for its region.
+pub record IsBuilt (d : ℕ) (T : Table) (old new : List Node) (free : ℕ) (name : ℕ → Place) (i : ℕ) (p : List Bool) (h : ℕ) (kept kept' : ℕ → Best) : Type 0 where
   pub name' : ℕ → Place
   pub spares : ℕ
   pub held : IsHeld new free name' spares
-  pub adds : OnlyAdds old new name name' kept kept'
-  pub node : IsNode (walks_at d new) (λ b j. IsTree d new name' j (p ++ (b ∷ []))) n
-  pub routes : (walks_by (walks_at d new) n).routes ≡ with_rows T []
-  pub entries : (walks_by (walks_at d new) n).entries ≡ []
-  pub stands : Stands d (answers_of T h) x
-  pub best : (b : Bool) → IfHalf (λ j. AreBest d new kept' (side b (answers_of T h)) j) (half_place n b)
+  pub fills : OnlyFills i old new name name' kept kept'
+  pub tree : IsTree (suc d) new name' i p
+  pub routes : (walks_at (suc d) new i).routes ≡ with_rows T []
+  pub entries : (walks_at (suc d) new i).entries ≡ []
+  pub best : AreBest (suc d) new kept' (answers_of T h) i
 
--- the same of a half of path p, which has its place, or is no node
+-- the same of a half of path p, which gets a place, or is no node
 pub record HalfBuilt (d : ℕ) (T : Table) (old new : List Node) (free : ℕ) (name : ℕ → Place) (p : List Bool) (h : ℕ) (kept kept' : ℕ → Best) (half : Option ℕ) : Type 0 where
   pub name' : ℕ → Place
   pub spares : ℕ
@@ -50,11 +53,12 @@ pub record HalfBuilt (d : ℕ) (T : Table) (old new : List Node) (free : ℕ) (n
   pub stands : Stands d (answers_of T h) (best_behind kept' half (best_one h))
   pub best : IfHalf (λ j. AreBest (suc d) new kept' (answers_of T h) j) half
 
--- a front of the routes was taken, and the region of the prefix p, with so many levels below it, was built from it; the rest is left
-pub record Builds (h levels : ℕ) (p : Prefix) (old new : List Node) (free free' : ℕ) (kept kept' : ℕ → Best) (routes rest : Entries) (n : Node) (x : Best) : Type 0 where
+-- a front of the routes was taken, and the region of the prefix p, with so many levels below it, was built from it, with its node at
+-- place i; the rest is left
+pub record Builds (h levels : ℕ) (p : Prefix) (i : ℕ) (old new : List Node) (free free' : ℕ) (kept kept' : ℕ → Best) (routes rest : Entries) : Type 0 where
   pub taken : Table
   pub front : routes ≡ of_table p.family (lift p.bits taken) ++ rest
-  pub built : (d : ℕ) (name : ℕ → Place) (m : ℕ) (r : List Bool) → levels ≤ d → IsHeld old free name m → IsBuilt d taken old new free' name r h kept kept' n x
+  pub built : (d : ℕ) (name : ℕ → Place) (m : ℕ) (r : List Bool) → levels ≤ d → name i ≡ At r → i < length old → IsHeld old free name m → IsBuilt d taken old new free' name i r h kept kept'
 
 -- the same of a half, whose prefix is p
 pub record BuildsHalf (h levels : ℕ) (p : Prefix) (old new : List Node) (free free' : ℕ) (kept kept' : ℕ → Best) (routes rest : Entries) (half : Option ℕ) : Type 0 where

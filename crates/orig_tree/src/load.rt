@@ -97,7 +97,8 @@ pub(crate) fn lay_all(
     let mut left = entries;
     while let [first, rest @ ..] = left {
         lay_one(family, nodes, bests, label, first)?;
-        left = weave(nodes, bests, 0, &root, 0, label, rest)?;
+        left = rest;
+        weave(nodes, bests, 0, &root, 0, label, &mut left)?;
     }
     Ok(())
 }

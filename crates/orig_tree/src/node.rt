@@ -4,6 +4,7 @@
 ghost use Rattle.std.specs.Prelude.{◌≡◌, ◌≤◌, ◌<◌, ◌-◌, ℕ, OnOk, OnErr, IsOk, IfOk, ◌∷◌, List, Bool, true, false, [], map, ◌++◌, slice_set, vec_len, vec_capacity, ◌+◌, ◌^◌, length, suc, Some, None};
 ghost use Rattle.std.specs.Option.{is_some};
 ghost use Rattle.address_model.specs.Bits.{bits_of};
+ghost use Rattle.address_model.specs.Regions.{half_at};
 ghost use Rattle.address_model.specs.Width.{width};
 ghost use Rattle.table_model.specs.Table.{lpm, root, half, here};
 ghost use Rattle.least_model.specs.Regions.{above, lift};
@@ -326,30 +327,32 @@ pub(crate) fn tell<S: EntrySink>(
     if prefix.len == prefix.family.width() {
         return Ok(());
     }
-    tell_half(nodes, node.half(false), label, &prefix.half(false), out)?;
-    tell_half(nodes, node.half(true), label, &prefix.half(true), out)?;
+    tell_half(nodes, node.half(false), label, prefix, false, out)?;
+    tell_half(nodes, node.half(true), label, prefix, true, out)?;
     Ok(())
 }
 
-/// The same of a half, where it is a node.
+/// The same of the half of the prefix that has this bit next, where it is a node.
 #[cycle(tell)]
 fn tell_half<S: EntrySink>(
     nodes: &Nodes,
     half: Option<usize>,
     label: Label,
     prefix: &Prefix,
+    bit: bool,
     out: &mut S,
 ) -> Result<(), AllocError>
-    requires { S.ready out.old }
+    requires longer { prefix.now.len < width prefix.now.family }
+    requires ready { S.ready out.old }
     ensures ready { OnOk result (S.ready out.new) }
-    ensures takes { (d : ℕ) → width prefix.now.family - prefix.now.len < d
-        → Fits (width prefix.now.family - prefix.now.len) (rows_of label (from_half (walks_at d (cells_of
-        nodes.now)) half)) → OnOk result (S.takes out.old (of_table prefix.now.family
-        (lift (prefix_as prefix.now).bits (rows_of label (from_half (walks_at d (cells_of nodes.now))
-        half)))) out.new) }
+    ensures takes { (d : ℕ) → width prefix.now.family - prefix.now.len ≤ d
+        → Fits (width prefix.now.family - prefix.now.len - 1) (rows_of label (from_half (walks_at d
+        (cells_of nodes.now)) half)) → OnOk result (S.takes out.old (of_table prefix.now.family
+        (lift (half_at bit (prefix_as prefix.now)).bits (rows_of label (from_half (walks_at d (cells_of
+        nodes.now)) half)))) out.new) }
 {
     if let Some(j) = half {
-        tell(nodes, j, label, prefix, out)?;
+        tell(nodes, j, label, &prefix.half(bit), out)?;
     }
     Ok(())
 }

@@ -1,6 +1,6 @@
 //! Many entries set in one walk: as long as the next one is within the region at hand, the walk goes on from there.
 
-ghost use Rattle.std.specs.Prelude.{◌≡◌, ◌≤◌, ◌<◌, ◌-◌, ℕ, List, Bool, true, IfOk, IfSome, IfNone, false, map, vec_len};
+ghost use Rattle.std.specs.Prelude.{◌≡◌, ◌≤◌, ◌<◌, ◌-◌, ℕ, List, Bool, true, IfOk, OnOk, IfSome, IfNone, false, map, vec_len};
 ghost use Rattle.address_model.specs.Regions.{half_at};
 ghost use Rattle.address_model.specs.Width.{width};
 ghost use Rattle.fib_addr.specs.Views.{entry_as, prefix_as};
@@ -34,26 +34,20 @@ pub(crate) fn next_half(entries: &[Entry], at: &Prefix) -> Option<bool>
     Some(bit_at(first.prefix.bits, at.family.width() - at.len - 1))
 }
 
-/// Sets a label of a node, which stands for the prefix, where the first entry is at that prefix, and gives those that are left.
-fn weave_own<'a>(
-    nodes: &mut Nodes,
-    i: usize,
-    at: &Prefix,
-    label: Label,
-    entries: &'a [Entry],
-) -> &'a [Entry]
+/// Sets a label of a node, which stands for the prefix, where the first entry is at that prefix, and takes that entry.
+fn weave_own(nodes: &mut Nodes, i: usize, at: &Prefix, label: Label, entries: &mut &[Entry])
     ensures len { vec_len nodes.new.halves ≡ vec_len nodes.old.halves }
     ensures woven { (h levels : ℕ) (kept : ℕ → best_view) → Weaves label h levels (prefix_as at.now)
         (cells_of nodes.old) (cells_of nodes.new) nodes.old.free nodes.new.free kept kept i
-        (map entry_as entries.now) (map entry_as result.now) }
+        (map entry_as entries.old.now) (map entry_as entries.new.now) }
 {
-    match entries {
+    match *entries {
         [first, rest @ ..] if first.prefix == *at => {
             let node = read(nodes, i);
             renew(nodes, i, node, label, Some(first.hop.0));
-            rest
+            *entries = rest;
         }
-        _ => entries,
+        _ => {}
     }
 }
 
@@ -84,53 +78,54 @@ fn open_half(
     Ok(j)
 }
 
-/// Sets a label for those of the entries, from the first on, whose prefixes are within that of a node, each in its turn, and
-/// gives those from the first other one on. The node inherits the hop from the routes. It costs the nodes on the ways to them,
-/// each once where the entries stand in the order of prefixes.
+/// Sets a label for those of the entries, from the first on, whose prefixes are within that of a node, each in its turn, and takes
+/// these; the first other one is left, and those after it. The node inherits the hop from the routes. It costs the nodes on the ways
+/// to them, each once where the entries stand in the order of prefixes.
 ///
 /// # Errors
 ///
 /// No memory, which comes too where there would be 2^31 nodes or more; then a front of the entries may be set.
 #[cycle(weave)]
-pub(crate) fn weave<'a>(
+pub(crate) fn weave(
     nodes: &mut Nodes,
     bests: &mut Bests,
     i: usize,
     at: &Prefix,
     inherited: u16,
     label: Label,
-    entries: &'a [Entry],
-) -> Result<&'a [Entry], AllocError>
+    entries: &mut &[Entry],
+) -> Result<(), AllocError>
     requires long { vec_len nodes.old.halves ≤ vec_len bests.old.halves }
     ensures long { vec_len nodes.new.halves ≤ vec_len bests.new.halves }
-    ensures woven { IfOk result (λ rest. Weaves label inherited (width at.now.family - at.now.len) (prefix_as at.now)
-        (cells_of nodes.old) (cells_of nodes.new) nodes.old.free nodes.new.free (best_in bests.old)
-        (best_in bests.new) i (map entry_as entries.now) (map entry_as rest.now)) }
+    ensures woven { OnOk result (Weaves label inherited (width at.now.family - at.now.len) (prefix_as
+        at.now) (cells_of nodes.old) (cells_of nodes.new) nodes.old.free nodes.new.free (best_in
+        bests.old) (best_in bests.new) i (map entry_as entries.old.now) (map entry_as
+        entries.new.now)) }
 {
-    let rest = weave_own(nodes, i, at, label, entries);
+    weave_own(nodes, i, at, label, entries);
     if at.len == at.family.width() {
-        return Ok(rest);
+        return Ok(());
     }
-    match next_half(rest, at) {
-        None => Ok(rest),
+    match next_half(*entries, at) {
+        None => Ok(()),
         Some(true) => {
-            let rest = weave_half(nodes, bests, i, true, at, inherited, label, rest)?;
-            Ok(rest)
+            weave_half(nodes, bests, i, true, at, inherited, label, entries)?;
+            Ok(())
         }
         Some(false) => {
-            let rest = weave_half(nodes, bests, i, false, at, inherited, label, rest)?;
-            let Some(true) = next_half(rest, at) else {
-                return Ok(rest);
+            weave_half(nodes, bests, i, false, at, inherited, label, entries)?;
+            let Some(true) = next_half(*entries, at) else {
+                return Ok(());
             };
-            let rest = weave_half(nodes, bests, i, true, at, inherited, label, rest)?;
-            Ok(rest)
+            weave_half(nodes, bests, i, true, at, inherited, label, entries)?;
+            Ok(())
         }
     }
 }
 
 /// The same of a half of the node, which is made a node if it is none.
 #[cycle(weave)]
-fn weave_half<'a>(
+fn weave_half(
     nodes: &mut Nodes,
     bests: &mut Bests,
     i: usize,
@@ -138,19 +133,20 @@ fn weave_half<'a>(
     at: &Prefix,
     inherited: u16,
     label: Label,
-    entries: &'a [Entry],
-) -> Result<&'a [Entry], AllocError>
+    entries: &mut &[Entry],
+) -> Result<(), AllocError>
     requires longer { at.now.len < width at.now.family }
     requires long { vec_len nodes.old.halves ≤ vec_len bests.old.halves }
     ensures long { vec_len nodes.new.halves ≤ vec_len bests.new.halves }
-    ensures woven { IfOk result (λ rest. Weaves label inherited (width at.now.family - at.now.len) (prefix_as at.now)
-        (cells_of nodes.old) (cells_of nodes.new) nodes.old.free nodes.new.free (best_in bests.old)
-        (best_in bests.new) i (map entry_as entries.now) (map entry_as rest.now)) }
+    ensures woven { OnOk result (Weaves label inherited (width at.now.family - at.now.len) (prefix_as
+        at.now) (cells_of nodes.old) (cells_of nodes.new) nodes.old.free nodes.new.free (best_in
+        bests.old) (best_in bests.new) i (map entry_as entries.old.now) (map entry_as
+        entries.new.now)) }
 {
     let half = at.half(bit);
     let j = open_half(nodes, bests, i, bit, inherited)?;
     let below = read(nodes, i).route.hop.unwrap_or(inherited);
-    let rest = weave(nodes, bests, j, &half, below, label, entries)?;
+    weave(nodes, bests, j, &half, below, label, entries)?;
     climb(nodes, i, label, true);
-    Ok(rest)
+    Ok(())
 }

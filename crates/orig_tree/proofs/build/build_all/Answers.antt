@@ -5,10 +5,10 @@ use Rattle.orig_tree.proofs.build.build_all.Goals as goal
 
 pub returns-clause-lays : goal.returns-clause-lays
 returns-clause-lays c =
-    (built_whole c.args.family c.whole-root.result (cells_of c.build.new.nodes) c.args.nodes.now.free c.fill.new.nodes.free (best_in c.args.bests.now) (best_in c.build.new.bests) (best_in c.fill.new.bests) c.in_ok-built.built.node c.in_ok-built.built.best c.whole-root.ensures
-    c.fill.ensures.best (cells_of c.args.nodes.now) (cells_of c.fill.new.nodes) c.build.new.nodes.free c.args.routes.now c.in_ok-built.built.rest.now c.requires.bare c.fill.ensures.node c.requires.arena c.fill.ensures.free c.in_ok-built.ensures.built).0
+    (built_whole c.args.family c.whole-root.result c.args.nodes.now.free c.build.new.nodes.free (best_in c.args.bests.now) (best_in c.build.new.bests) c.whole-root.ensures (cells_of c.args.nodes.now) (cells_of c.build.new.nodes) c.args.routes.now c.build.new.routes.now
+    c.requires.bare c.requires.arena c.in_ok-build.ensures.built).0
 
 pub returns-clause-best : goal.returns-clause-best
 returns-clause-best c =
-    (built_whole c.args.family c.whole-root.result (cells_of c.build.new.nodes) c.args.nodes.now.free c.fill.new.nodes.free (best_in c.args.bests.now) (best_in c.build.new.bests) (best_in c.fill.new.bests) c.in_ok-built.built.node c.in_ok-built.built.best c.whole-root.ensures
-    c.fill.ensures.best (cells_of c.args.nodes.now) (cells_of c.fill.new.nodes) c.build.new.nodes.free c.args.routes.now c.in_ok-built.built.rest.now c.requires.bare c.fill.ensures.node c.requires.arena c.fill.ensures.free c.in_ok-built.ensures.built).1
+    (built_whole c.args.family c.whole-root.result c.args.nodes.now.free c.build.new.nodes.free (best_in c.args.bests.now) (best_in c.build.new.bests) c.whole-root.ensures (cells_of c.args.nodes.now) (cells_of c.build.new.nodes) c.args.routes.now c.build.new.routes.now
+    c.requires.bare c.requires.arena c.in_ok-build.ensures.built).1

@@ -23,9 +23,9 @@ loop-left-preserved c =
     let C = cells_of c.lay_one.new.nodes in
     let D = cells_of c.weave.new.nodes in
     let one = subst (λ (E : Entries). Lays f l B C c.lay_one.new.nodes.free (best_in c.loop-left.bests) (best_in c.lay_one.new.bests) E (map entry_as rest)) (sym (ap (map entry_as) (first_rest left x c.in-len1-up.len_at_least c.first-item.is))) (c.in_ok-lay_one.ensures.lays (map entry_as rest)) in
-    let more = lays_front f c.whole-root.result l C D c.lay_one.new.nodes.free c.weave.new.nodes.free (best_in c.lay_one.new.bests) (best_in c.weave.new.bests) rest c.in_ok-left.left.now c.whole-root.ensures one.arena one.order c.in_ok-left.ensures.woven in
+    let more = lays_front f c.whole-root.result l C D c.lay_one.new.nodes.free c.weave.new.nodes.free (best_in c.lay_one.new.bests) (best_in c.weave.new.bests) rest c.weave.new.entries.now c.whole-root.ensures one.arena one.order c.in_ok-weave.ensures.woven in
     record {
       long = c.weave.ensures.long;
-      lays = lays_after f l A B D c.loop-left.nodes.free c.weave.new.nodes.free (best_in c.args.bests.now) (best_in c.loop-left.bests) (best_in c.weave.new.bests) (map entry_as c.args.entries.now) (map entry_as left) (map entry_as c.in_ok-left.left.now) c.loop-left.invariant.lays
-          (lays_after f l B C D c.lay_one.new.nodes.free c.weave.new.nodes.free (best_in c.loop-left.bests) (best_in c.lay_one.new.bests) (best_in c.weave.new.bests) (map entry_as left) (map entry_as rest) (map entry_as c.in_ok-left.left.now) one more);
+      lays = lays_after f l A B D c.loop-left.nodes.free c.weave.new.nodes.free (best_in c.args.bests.now) (best_in c.loop-left.bests) (best_in c.weave.new.bests) (map entry_as c.args.entries.now) (map entry_as left) (map entry_as c.weave.new.entries.now) c.loop-left.invariant.lays
+          (lays_after f l B C D c.lay_one.new.nodes.free c.weave.new.nodes.free (best_in c.loop-left.bests) (best_in c.lay_one.new.bests) (best_in c.weave.new.bests) (map entry_as left) (map entry_as rest) (map entry_as c.weave.new.entries.now) one more);
     }

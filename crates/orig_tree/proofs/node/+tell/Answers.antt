@@ -1,23 +1,24 @@
+use Rattle.std.proofs.Common.{arith, ◌∙◌}
+use Rattle.address_model.specs.Regions.{half_at}
+use Rattle.fib_addr.specs.Views.{prefix_as}
 use Rattle.orig_tree.specs.Arena.{cells_of}
-use Rattle.std.proofs.Common.{arith, sym, ◌∙◌, true, false}
 use Rattle.orig_tree.proofs.Telling.{half_longer, half_most}
-use Rattle.orig_tree.proofs.Told.{end_told, none_told, level_told}
+use Rattle.orig_tree.proofs.Told.{end_told, none_told, half_told, level_told}
 use Rattle.orig_tree.proofs.node.+tell.Goals as goal
 
 pub tell-returns-then-prefix-width-clause-takes : goal.tell-returns-then-prefix-width-clause-takes
 tell-returns-then-prefix-width-clause-takes g t c = λ d l f. end_told g.S.EntrySink.takes c.args.prefix.now c.args.label (cells_of c.args.nodes.now) c.read-node.result c.args.i c.hop.result _ _ d c.read-node.ensures (c.if-prefix-width.true ∙ c.width.ensures) c.hop.ensures c.in_ok-hand_entry.ensures.takes l f
 
-pub tell-tell_half-requires : goal.tell-tell_half-requires
-tell-tell_half-requires g t c = λ κs h. (omega (arith, half_longer c.args.prefix.now c.half-2.result false c.half-2.ensures, half_most c.half-2.result), (h, c.in_ok-hand_entry.ensures.ready))
-
-pub tell-tell_half-requires-2 : goal.tell-tell_half-requires-2
-tell-tell_half-requires-2 g t c = λ κs h. (omega (arith, half_longer c.args.prefix.now c.half-4.result true c.half-4.ensures, half_most c.half-4.result), (h, c.in_ok-tell_half.ensures.ready))
-
 pub tell-returns-clause-takes : goal.tell-returns-clause-takes
-tell-returns-clause-takes g t c = λ d l f. level_told g.S.EntrySink.takes g.met.S.EntrySink.more c.args.prefix.now c.half-2.result c.half-4.result c.args.label (cells_of c.args.nodes.now) c.read-node.result c.args.i c.hop.result c.half.result c.half-3.result
-    c.args.out.now c.hand_entry.new.out c.tell_half.new.out c.tell_half-2.new.out d
-    c.read-node.ensures (λ e. c.if-prefix-width.false (e ∙ sym c.width.ensures)) c.args.prefix.now.fits c.half-2.ensures c.half-4.ensures c.hop.ensures c.half.ensures c.half-3.ensures
+tell-returns-clause-takes g t c = λ d l f. level_told g.S.EntrySink.takes g.met.S.EntrySink.more c.args.prefix.now c.args.label (cells_of c.args.nodes.now) c.read-node.result c.args.i c.hop.result c.half.result c.half-2.result
+    c.args.out.now c.hand_entry.new.out c.tell_half.new.out c.tell_half-2.new.out d c.read-node.ensures c.hop.ensures c.half.ensures c.half-2.ensures
     c.in_ok-hand_entry.ensures.takes c.in_ok-tell_half.ensures.takes c.in_ok-tell_half-2.ensures.takes l f
 
 pub tell_half-returns-in_default-clause-takes : goal.tell_half-returns-in_default-clause-takes
-tell_half-returns-in_default-clause-takes g t c = λ d l f. none_told g.S.EntrySink.takes c.args.prefix.now c.args.label (cells_of c.args.nodes.now) c.args.half c.args.out.now d c.in_default.is (g.met.S.EntrySink.none c.args.out.now c.requires)
+tell_half-returns-in_default-clause-takes g t c = λ d l f. none_told g.S.EntrySink.takes (half_at c.args.bit (prefix_as c.args.prefix.now)) c.args.label (cells_of c.args.nodes.now) c.args.half c.args.out.now d c.in_default.is (g.met.S.EntrySink.none c.args.out.now c.requires.ready)
+
+pub tell_half-returns-in_ok-tell-clause-takes : goal.tell_half-returns-in_ok-tell-clause-takes
+tell_half-returns-in_ok-tell-clause-takes g t c = λ d l f. half_told g.S.EntrySink.takes c.args.prefix.now c.half.result c.args.bit c.args.label (cells_of c.args.nodes.now) c.in-Some.j c.args.half c.args.out.now c.tell.new.out d c.half.ensures c.in-Some.is c.in_ok-tell.ensures.takes c.requires.longer l f
+
+pub tell_half-tell-requires : goal.tell_half-tell-requires
+tell_half-tell-requires g t c = λ κs h. (omega (arith, half_longer c.args.prefix.now c.half.result c.args.bit c.half.ensures, half_most c.half.result), (h, c.requires.ready))

@@ -7,16 +7,27 @@ use Rattle.orig_tree.proofs.Telling.{half_longer, half_most}
 use Rattle.orig_tree.proofs.Weaving.{weaves_after, weaves_half}
 use Rattle.orig_tree.proofs.weave.+weave.Goals as goal
 
-pub weave-returns-in_ok-rest-in-Some-true-clause-woven : goal.weave-returns-in_ok-rest-in-Some-true-clause-woven
-weave-returns-in_ok-rest-in-Some-true-clause-woven t c =
+pub weave-returns-in_ok-weave_half-in-Some-true-clause-woven : goal.weave-returns-in_ok-weave_half-in-Some-true-clause-woven
+weave-returns-in_ok-weave_half-in-Some-true-clause-woven t c =
     let a = c.args in
     let levels = width a.at.now.family - a.at.now.len in
     let P = prefix_as a.at.now in
     let S = best_in a.bests.now in
-    let own = c.weave_own-rest.new.nodes in
-    let A = map entry_as c.weave_own-rest.result.now in
-    weaves_after a.label a.inherited levels P (cells_of a.nodes.now) (cells_of own) (cells_of c.weave_half.new.nodes) a.nodes.now.free own.free c.weave_half.new.nodes.free S S (best_in c.weave_half.new.bests) a.i (map entry_as a.entries.now) A (map entry_as c.in_ok-rest-in-Some-true.rest.now) (c.weave_own-rest.ensures.woven a.inherited levels S)
-    c.in_ok-rest-in-Some-true.ensures.woven
+    let own = c.weave_own.new.nodes in
+    let A = map entry_as c.weave_own.new.entries.now in
+    weaves_after a.label a.inherited levels P (cells_of a.nodes.now) (cells_of own) (cells_of c.weave_half.new.nodes) a.nodes.now.free own.free c.weave_half.new.nodes.free S S (best_in c.weave_half.new.bests) a.i (map entry_as a.entries.now.now) A (map entry_as c.weave_half.new.entries.now) (c.weave_own.ensures.woven a.inherited levels S)
+    c.in_ok-weave_half-in-Some-true.ensures.woven
+
+pub weave-returns-in_default-2-clause-woven : goal.weave-returns-in_default-2-clause-woven
+weave-returns-in_default-2-clause-woven t c =
+    let a = c.args in
+    let levels = width a.at.now.family - a.at.now.len in
+    let P = prefix_as a.at.now in
+    let S = best_in a.bests.now in
+    let own = c.weave_own.new.nodes in
+    let A = map entry_as c.weave_own.new.entries.now in
+    weaves_after a.label a.inherited levels P (cells_of a.nodes.now) (cells_of own) (cells_of c.weave_half-in-Some-false.new.nodes) a.nodes.now.free own.free c.weave_half-in-Some-false.new.nodes.free S S (best_in c.weave_half-in-Some-false.new.bests) a.i (map entry_as a.entries.now.now) A (map entry_as c.weave_half-in-Some-false.new.entries.now) (c.weave_own.ensures.woven a.inherited levels S)
+    c.in_ok-weave_half-in-Some-false.ensures.woven
 
 pub weave-returns-in_default-clause-woven : goal.weave-returns-in_default-clause-woven
 weave-returns-in_default-clause-woven t c =
@@ -24,24 +35,24 @@ weave-returns-in_default-clause-woven t c =
     let levels = width a.at.now.family - a.at.now.len in
     let P = prefix_as a.at.now in
     let S = best_in a.bests.now in
-    let own = c.weave_own-rest.new.nodes in
-    let A = map entry_as c.weave_own-rest.result.now in
-    weaves_after a.label a.inherited levels P (cells_of a.nodes.now) (cells_of own) (cells_of c.weave_half-in-Some-false.new.nodes) a.nodes.now.free own.free c.weave_half-in-Some-false.new.nodes.free S S (best_in c.weave_half-in-Some-false.new.bests) a.i (map entry_as a.entries.now) A (map entry_as c.in_ok-rest-in-Some-false.rest.now) (c.weave_own-rest.ensures.woven a.inherited levels S)
-    c.in_ok-rest-in-Some-false.ensures.woven
+    let own = c.weave_own.new.nodes in
+    let A = map entry_as c.weave_own.new.entries.now in
+    weaves_after a.label a.inherited levels P (cells_of a.nodes.now) (cells_of own) (cells_of c.weave_half-in-Some-false.new.nodes) a.nodes.now.free own.free c.weave_half-in-Some-false.new.nodes.free S S (best_in c.weave_half-in-Some-false.new.bests) a.i (map entry_as a.entries.now.now) A (map entry_as c.weave_half-in-Some-false.new.entries.now) (c.weave_own.ensures.woven a.inherited levels S)
+    c.in_ok-weave_half-in-Some-false.ensures.woven
 
-pub weave-returns-in_ok-rest-in-Some-false-2-clause-woven : goal.weave-returns-in_ok-rest-in-Some-false-2-clause-woven
-weave-returns-in_ok-rest-in-Some-false-2-clause-woven t c =
+pub weave-returns-in_ok-weave_half-in-Some-false-2-clause-woven : goal.weave-returns-in_ok-weave_half-in-Some-false-2-clause-woven
+weave-returns-in_ok-weave_half-in-Some-false-2-clause-woven t c =
     let a = c.args in
     let levels = width a.at.now.family - a.at.now.len in
     let P = prefix_as a.at.now in
     let S = best_in a.bests.now in
-    let own = c.weave_own-rest.new.nodes in
-    let A = map entry_as c.weave_own-rest.result.now in
+    let own = c.weave_own.new.nodes in
+    let A = map entry_as c.weave_own.new.entries.now in
     let low = c.weave_half-in-Some-false.new.nodes in
     let high = c.weave_half-in-Some-false-2.new.nodes in
-    weaves_after a.label a.inherited levels P (cells_of a.nodes.now) (cells_of own) (cells_of c.weave_half-in-Some-false-2.new.nodes) a.nodes.now.free own.free c.weave_half-in-Some-false-2.new.nodes.free S S (best_in c.weave_half-in-Some-false-2.new.bests) a.i (map entry_as a.entries.now) A (map entry_as c.in_ok-rest-in-Some-false-2.rest.now) (c.weave_own-rest.ensures.woven a.inherited levels S)
-    (weaves_after a.label a.inherited levels P (cells_of own) (cells_of low) (cells_of high) own.free low.free high.free S (best_in c.weave_half-in-Some-false.new.bests) (best_in c.weave_half-in-Some-false-2.new.bests) a.i A (map entry_as c.in_ok-rest-in-Some-false.rest.now) (map entry_as c.in_ok-rest-in-Some-false-2.rest.now)
-    c.in_ok-rest-in-Some-false.ensures.woven c.in_ok-rest-in-Some-false-2.ensures.woven)
+    weaves_after a.label a.inherited levels P (cells_of a.nodes.now) (cells_of own) (cells_of c.weave_half-in-Some-false-2.new.nodes) a.nodes.now.free own.free c.weave_half-in-Some-false-2.new.nodes.free S S (best_in c.weave_half-in-Some-false-2.new.bests) a.i (map entry_as a.entries.now.now) A (map entry_as c.weave_half-in-Some-false-2.new.entries.now) (c.weave_own.ensures.woven a.inherited levels S)
+    (weaves_after a.label a.inherited levels P (cells_of own) (cells_of low) (cells_of high) own.free low.free high.free S (best_in c.weave_half-in-Some-false.new.bests) (best_in c.weave_half-in-Some-false-2.new.bests) a.i A (map entry_as c.weave_half-in-Some-false.new.entries.now) (map entry_as c.weave_half-in-Some-false-2.new.entries.now)
+    c.in_ok-weave_half-in-Some-false.ensures.woven c.in_ok-weave_half-in-Some-false-2.ensures.woven)
 
 pub weave_half-weave-requires : goal.weave_half-weave-requires
 weave_half-weave-requires t c = (omega (arith, half_longer c.args.at.now c.half-half.result c.args.bit c.half-half.ensures, half_most c.half-half.result), c.open_half.ensures.long)
@@ -53,5 +64,5 @@ weave_half-returns-clause-woven t c =
     let below = c.weave.new.nodes in
     let new = c.climb.new.nodes in
     weaves_half a.label a.inherited c.unwrap_or-below.result a.at.now c.half-half.result a.bit c.climb.result (cells_of a.nodes.now) (cells_of mid) (cells_of below) (cells_of new) a.nodes.now.free mid.free below.free new.free
-    (best_in a.bests.now) (best_in c.open_half.new.bests) (best_in c.weave.new.bests) a.i c.in_ok-j.j (map entry_as a.entries.now) (map entry_as c.in_ok-rest.rest.now) c.requires.longer c.half-half.ensures
-    (λ d name n r l s h. c.in_ok-j.ensures.open d name n r l s h) (c.unwrap_or-below.ensures ∙ ap (λ n. unwrap_or n.route.hop a.inherited) c.read.ensures) c.in_ok-rest.ensures.woven c.climb.ensures.climbs c.climb.ensures.free
+    (best_in a.bests.now) (best_in c.open_half.new.bests) (best_in c.weave.new.bests) a.i c.in_ok-j.j (map entry_as a.entries.now.now) (map entry_as c.weave.new.entries.now) c.requires.longer c.half-half.ensures
+    (λ d name n r l s h. c.in_ok-j.ensures.open d name n r l s h) (c.unwrap_or-below.ensures ∙ ap (λ n. unwrap_or n.route.hop a.inherited) c.read.ensures) c.in_ok-weave.ensures.woven c.climb.ensures.climbs c.climb.ensures.free

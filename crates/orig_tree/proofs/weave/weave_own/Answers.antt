@@ -9,7 +9,7 @@ use Rattle.orig_tree.proofs.weave.weave_own.Goals as goal
 
 pub returns-in-len1-up-clause-woven : goal.returns-in-len1-up-clause-woven
 returns-in-len1-up-clause-woven c = λ h levels S.
-    let E = c.args.entries.now in
+    let E = c.args.entries.now.now in
     let rest = take (length E - 1) (drop 1 E) in
     let x = c.first-item.result in
     let P = prefix_as c.args.at.now in
@@ -17,5 +17,8 @@ returns-in-len1-up-clause-woven c = λ h levels S.
     subst (λ (F : Entries). Weaves c.args.label h levels P (cells_of c.args.nodes.now) (cells_of c.renew.new.nodes) c.args.nodes.now.free c.renew.new.nodes.free S S c.args.i F (map entry_as rest)) (sym is)
     (weaves_own c.args.label h levels P c.read-node.result _ (cells_of c.args.nodes.now) (cells_of c.renew.new.nodes) c.args.nodes.now.free c.renew.new.nodes.free S c.args.i x.hop.0 (map entry_as rest) c.read-node.ensures refl c.renew.ensures.cells c.renew.ensures.free)
 
-pub returns-in_default-2-clause-woven : goal.returns-in_default-2-clause-woven
-returns-in_default-2-clause-woven c = λ h levels S. weaves_none c.args.label h levels (prefix_as c.args.at.now) (cells_of c.args.nodes.now) c.args.nodes.now.free S c.args.i (map entry_as c.args.entries.now)
+pub returns-else-eq-clause-woven : goal.returns-else-eq-clause-woven
+returns-else-eq-clause-woven c = λ h levels S. weaves_none c.args.label h levels (prefix_as c.args.at.now) (cells_of c.args.nodes.now) c.args.nodes.now.free S c.args.i (map entry_as c.args.entries.now.now)
+
+pub returns-then-entries-lt1-clause-woven : goal.returns-then-entries-lt1-clause-woven
+returns-then-entries-lt1-clause-woven c = λ h levels S. weaves_none c.args.label h levels (prefix_as c.args.at.now) (cells_of c.args.nodes.now) c.args.nodes.now.free S c.args.i (map entry_as c.args.entries.now.now)
