@@ -153,17 +153,17 @@ in_one g h b S e s = e ∙ (by_bit (nat_eq g h) ∙ ap (is_in h) (sym s))
 
 -- ---- down to a path
 
+-- a step down: what is below the half is below the region
+pub below_step : (s t : Spot) (left q : ℕ) (b : Bool) → left ≢ 0 → b ≡ nat_eq (bit_at q (left - 1)) 1 → t.routes ≡ half b s.routes → t.entries ≡ half b s.entries → t.hop ≡ inherit (root s.routes) s.hop →
+    ((a : List Bool) → answers_in t (bits_of (left - 1) q ++ a) ≡ answers_in s (bits_of left q ++ a)) × (cut (bits_of (left - 1) q) t.entries ≡ cut (bits_of left q) s.entries)
+below_step s t left q b z bit routes entries hop =
+    let P = bits_of (left - 1) q in (
+      λ a. ap (λ R. lpm R (P ++ a) t.hop) routes ∙ (ap (lpm (half b s.routes) (P ++ a)) hop ∙ (sym (lpm_cut s.routes b (P ++ a) s.hop) ∙ ap (λ p. answers_in s (p ++ a)) (sym (first_bit left q b z bit)))),
+      ap (cut P) entries ∙ ap (λ p. cut p s.entries) (sym (first_bit left q b z bit)),
+    )
+
 pub below_end : (s : Spot) (left q : ℕ) → left ≡ 0 → ((a : List Bool) → answers_in s a ≡ answers_in s (bits_of left q ++ a)) × (s.entries ≡ cut (bits_of left q) s.entries)
 below_end s left q z = (λ a. ap (λ p. answers_in s (p ++ a)) (sym (no_bits left q z)), ap (λ p. cut p s.entries) (sym (no_bits left q z)))
-
-pub below_step : (s t r : Spot) (left q : ℕ) (b : Bool) → left ≢ 0 → b ≡ nat_eq (bit_at q (left - 1)) 1 → t.routes ≡ half b s.routes → t.entries ≡ half b s.entries → t.hop ≡ inherit (root s.routes) s.hop →
-    ((a : List Bool) → answers_in r a ≡ answers_in t (bits_of (left - 1) q ++ a)) → r.entries ≡ cut (bits_of (left - 1) q) t.entries →
-    ((a : List Bool) → answers_in r a ≡ answers_in s (bits_of left q ++ a)) × (r.entries ≡ cut (bits_of left q) s.entries)
-below_step s t r left q b z bit routes entries hop g e =
-    let P = bits_of (left - 1) q in (
-      λ a. g a ∙ (ap (λ R. lpm R (P ++ a) t.hop) routes ∙ (ap (lpm (half b s.routes) (P ++ a)) hop ∙ (sym (lpm_cut s.routes b (P ++ a) s.hop) ∙ ap (λ p. answers_in s (p ++ a)) (sym (first_bit left q b z bit))))),
-      e ∙ (ap (cut P) entries ∙ ap (λ p. cut p s.entries) (sym (first_bit left q b z bit))),
-    )
 
 pub whole_spot : (f : Family) (cells : List Node) (kept : ℕ → Best) (w : ℕ) → w ≡ width f → KeepsBest f cells kept → IsSpot cells kept (Some 0) w 0
 whole_spot f cells kept w e k = subst (λ (n : ℕ). IsSpot cells kept (Some 0) n 0) (sym e) k
@@ -219,8 +219,8 @@ pub no_nodes : (cells : List Node) (o : Option ℕ) (bits w hop hop' : ℕ) (b :
 no_nodes cells o bits w hop hop' b e s v p = sym (ap (λ y. nodes_in (b ∷ p) (from_half (walks_at (suc bits) cells) y).nodes) e) ∙ ap (λ (x : Spot). nodes_in (b ∷ p) x.nodes) v
 
 -- within a path
-pub below_nodes : (nodes below : List (List Bool)) (left q n : ℕ) (b : Bool) → left ≢ 0 → b ≡ nat_eq (bit_at q (left - 1)) 1 → ((p : List Bool) → nodes_in p below ≡ nodes_in (b ∷ p) nodes) → n ≡ nodes_in (bits_of (left - 1) q) below → n ≡ nodes_in (bits_of left q) nodes
-below_nodes nodes below left q n b z bit f e = e ∙ (f (bits_of (left - 1) q) ∙ ap (λ p. nodes_in p nodes) (sym (first_bit left q b z bit)))
+pub below_nodes : (nodes below : List (List Bool)) (left q : ℕ) (b : Bool) → left ≢ 0 → b ≡ nat_eq (bit_at q (left - 1)) 1 → ((p : List Bool) → nodes_in p below ≡ nodes_in (b ∷ p) nodes) → nodes_in (bits_of (left - 1) q) below ≡ nodes_in (bits_of left q) nodes
+below_nodes nodes below left q b z bit f = f (bits_of (left - 1) q) ∙ ap (λ p. nodes_in p nodes) (sym (first_bit left q b z bit))
 
 pub here_nodes : (nodes : List (List Bool)) (left q : ℕ) → left ≡ 0 → length nodes ≡ nodes_in (bits_of left q) nodes
 here_nodes nodes left q z = sym (ap (λ p. nodes_in p nodes) (no_bits left q z) ∙ all_in nodes)

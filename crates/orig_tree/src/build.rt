@@ -27,7 +27,7 @@ fn take_own(at: &Prefix, routes: &mut &[Entry]) -> Option<u16>
         at.now).bits (here result)) ++ map entry_as routes.new.now }
 {
     match *routes {
-        [first, rest @ ..] if first.prefix == *at => {
+        [first, rest @ ..] if first.prefix.len == at.len && first.prefix == *at => {
             *routes = rest;
             Some(first.hop.0)
         }

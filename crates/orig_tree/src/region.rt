@@ -144,9 +144,9 @@ impl<'a> Region<'a> {
 
 /// The region of a path of `left` bits below a region. A step is a region that is passed.
 pub(crate) fn below<'a, C: Counter>(
-    region: Region<'a>,
+    mut region: Region<'a>,
     q: u128,
-    left: u8,
+    mut left: u8,
     steps: &mut C,
 ) -> Region<'a>
     requires few { left ≤ region.bits }
@@ -158,10 +158,10 @@ pub(crate) fn below<'a, C: Counter>(
     ensures nodes { length result.nodes ≡ nodes_in (bits_of left q) region.entry.nodes }
     ensures steps { C.count steps.new ≤ C.count steps.old + left }
 {
-    if left == 0 {
-        return region;
+    while left > 0 {
+        steps.tick();
+        left -= 1;
+        region = region.half(bit_at(q, left));
     }
-    steps.tick();
-    let at = left - 1;
-    below(region.half(bit_at(q, at)), q, at, steps)
+    region
 }

@@ -42,7 +42,7 @@ fn weave_own(nodes: &mut Nodes, i: usize, at: &Prefix, label: Label, entries: &m
         (map entry_as entries.old.now) (map entry_as entries.new.now) }
 {
     match *entries {
-        [first, rest @ ..] if first.prefix == *at => {
+        [first, rest @ ..] if first.prefix.len == at.len && first.prefix == *at => {
             let node = read(nodes, i);
             renew(nodes, i, node, label, Some(first.hop.0));
             *entries = rest;

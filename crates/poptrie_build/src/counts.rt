@@ -5,7 +5,7 @@ ghost use Rattle.fib_regions.specs.Answers.{one_answer};
 ghost use Rattle.poptrie_build.specs.Need.{told, need_nodes, need_leaves, trie_nodes, trie_leaves};
 ghost use Rattle.poptrie_build.specs.Tally.{AreParts, IsWholeTally};
 
-use crate::tally::{Tally, needs_of, no_slots, with_leaves, with_node};
+use crate::tally::Tally;
 use fib_regions::Region;
 
 /// Places of nodes and of leaves; more than a u64 holds is its greatest number.
@@ -26,31 +26,33 @@ pub(crate) fn count_node<R: Region>(region: &R) -> Needs
     ensures leaves { (k : ℕ) → R.bits region.now ≤ 6 * k
         → result.leaves ≡ told (need_leaves k (R.bits region.now) (R.answers region.now)) }
 {
-    let low = tally_slots(&region.half(false), 5, no_slots());
-    let all = tally_slots(&region.half(true), 5, low);
-    needs_of(all)
+    let mut tally = Tally::new();
+    tally_slots(&region.half(false), 5, &mut tally);
+    tally_slots(&region.half(true), 5, &mut tally);
+    tally.needs()
 }
 
-/// The tally with the slots of one more part of a node's region, which `depth` more bits tell apart. A part with one answer is as
-/// many leaves at once, and of one slot that has a node the need is counted right there.
+/// Adds the slots of one more part of a node's region, which `depth` more bits tell apart. A part with one answer is as many leaves at
+/// once, and of one slot that has a node the need is counted right there.
 #[cycle(count_node)]
-fn tally_slots<R: Region>(region: &R, depth: u8, so_far: Tally) -> Tally
-    requires nodes { so_far.nodes + 2 ^ depth ≤ 64 }
-    requires leaves { so_far.leaves + 2 ^ depth ≤ 64 }
+fn tally_slots<R: Region>(region: &R, depth: u8, tally: &mut Tally)
+    requires nodes { tally.old.nodes + 2 ^ depth ≤ 64 }
+    requires leaves { tally.old.leaves + 2 ^ depth ≤ 64 }
     ensures tally { (k e v : ℕ) (r : ℕ → List Bool → ℕ) → e ≤ 6 * k
         → AreParts depth (R.bits region.now) (R.answers region.now) e r v
-        → IsWholeTally so_far k e r v → IsWholeTally result k e r (v + 2 ^ depth) }
-    ensures nodes { result.nodes ≤ so_far.nodes + 2 ^ depth }
-    ensures leaves { result.leaves ≤ so_far.leaves + 2 ^ depth }
+        → IsWholeTally tally.old k e r v → IsWholeTally tally.new k e r (v + 2 ^ depth) }
+    ensures nodes { tally.new.nodes ≤ tally.old.nodes + 2 ^ depth }
+    ensures leaves { tally.new.leaves ≤ tally.old.leaves + 2 ^ depth }
 {
     match region.only() {
-        Some(hop) => with_leaves(so_far, hop.0),
+        Some(hop) => tally.add_leaves(hop.0),
         None => {
             if depth == 0 {
-                return with_node(so_far, count_node(region));
+                tally.add_node(count_node(region));
+                return;
             }
-            let low = tally_slots(&region.half(false), depth - 1, so_far);
-            tally_slots(&region.half(true), depth - 1, low)
+            tally_slots(&region.half(false), depth - 1, tally);
+            tally_slots(&region.half(true), depth - 1, tally);
         }
     }
 }

@@ -28,5 +28,5 @@ pub use lookup::{Found, key_of};
 pub use making::{Vectors, make_vectors};
 pub use node::{Node, rank};
 pub use slots::{ask, descend};
-pub use tally::{Tally, needs_of, no_slots, with_leaves, with_node};
+pub use tally::Tally;
 pub use trie::{Trie, empty_words};

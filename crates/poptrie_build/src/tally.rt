@@ -22,63 +22,59 @@ pub struct Tally {
     pub below: Needs,
 }
 
-/// The tally of no slots.
-pub fn no_slots() -> Tally
-    ensures tally { (g : ℕ → Option ℕ) (N L : ℕ → ℕ) → IsTally result g N L 0 }
-    ensures none { (result.nodes ≡ 0) × (result.leaves ≡ 0) }
-{
-    Tally {
-        last: None,
-        nodes: 0,
-        leaves: 0,
-        below: Needs {
+impl Tally {
+    /// The tally of no slots.
+    pub fn new() -> Tally
+        ensures tally { (g : ℕ → Option ℕ) (N L : ℕ → ℕ) → IsTally result g N L 0 }
+        ensures none { (result.nodes ≡ 0) × (result.leaves ≡ 0) }
+    {
+        Tally {
+            last: None,
             nodes: 0,
             leaves: 0,
-        },
+            below: Needs {
+                nodes: 0,
+                leaves: 0,
+            },
+        }
     }
-}
 
-/// The tally with more slots, one at least, that are all leaves of this hop.
-pub fn with_leaves(so_far: Tally, hop: u16) -> Tally
-    requires { so_far.leaves < 64 }
-    ensures tally { (g : ℕ → Option ℕ) (N L : ℕ → ℕ) (v n : ℕ) → 0 < n
-        → AreLeaves hop g N L v n → IsTally so_far g N L v → IsTally result g N L (v + n) }
-    ensures few { (result.nodes ≡ so_far.nodes) × (result.leaves ≤ so_far.leaves + 1) }
-{
-    if so_far.last == Some(hop) {
-        return so_far;
+    /// Adds more slots, one at least, that are all leaves of this hop.
+    pub fn add_leaves(&mut self, hop: u16)
+        requires { self.old.leaves < 64 }
+        ensures tally { (g : ℕ → Option ℕ) (N L : ℕ → ℕ) (v n : ℕ) → 0 < n
+            → AreLeaves hop g N L v n → IsTally self.old g N L v → IsTally self.new g N L (v + n) }
+        ensures few { (self.new.nodes ≡ self.old.nodes) × (self.new.leaves ≤ self.old.leaves + 1) }
+    {
+        if self.last == Some(hop) {
+            return;
+        }
+        self.last = Some(hop);
+        self.leaves += 1;
     }
-    Tally {
-        last: Some(hop),
-        leaves: so_far.leaves + 1,
-        ..so_far
-    }
-}
 
-/// The tally with one more slot that has a node, of which this is what the arrays below it need.
-pub fn with_node(so_far: Tally, need: Needs) -> Tally
-    requires { so_far.nodes < 64 }
-    ensures tally { (g : ℕ → Option ℕ) (N L : ℕ → ℕ) (v : ℕ) → g v ≡ None
-        → IsNeed need (N v) (L v) → IsTally so_far g N L v → IsTally result g N L (v + 1) }
-    ensures few { (result.nodes ≡ so_far.nodes + 1) × (result.leaves ≡ so_far.leaves) }
-{
-    Tally {
-        nodes: so_far.nodes + 1,
-        below: Needs {
-            nodes: so_far.below.nodes.saturating_add(need.nodes),
-            leaves: so_far.below.leaves.saturating_add(need.leaves),
-        },
-        ..so_far
+    /// Adds one more slot that has a node, of which this is what the arrays below it need.
+    pub fn add_node(&mut self, need: Needs)
+        requires { self.old.nodes < 64 }
+        ensures tally { (g : ℕ → Option ℕ) (N L : ℕ → ℕ) (v : ℕ) → g v ≡ None
+            → IsNeed need (N v) (L v) → IsTally self.old g N L v → IsTally self.new g N L (v + 1) }
+        ensures few { (self.new.nodes ≡ self.old.nodes + 1) × (self.new.leaves ≡ self.old.leaves) }
+    {
+        self.nodes += 1;
+        self.below = Needs {
+            nodes: self.below.nodes.saturating_add(need.nodes),
+            leaves: self.below.leaves.saturating_add(need.leaves),
+        };
     }
-}
 
-/// What the arrays below a node need of whose slots this is the tally: the node's own, and those below its slots.
-pub fn needs_of(all: Tally) -> Needs
-    ensures { (g : ℕ → Option ℕ) (N L : ℕ → ℕ) → IsTally all g N L 64
-        → IsNeed result (up (children g) + total N 64) (up (runs g) + total L 64) }
-{
-    Needs {
-        nodes: block_size(all.nodes).saturating_add(all.below.nodes),
-        leaves: block_size(all.leaves).saturating_add(all.below.leaves),
+    /// What the arrays below a node need of whose slots this is the tally: the node's own, and those below its slots.
+    pub fn needs(&self) -> Needs
+        ensures { (g : ℕ → Option ℕ) (N L : ℕ → ℕ) → IsTally self.now g N L 64
+            → IsNeed result (up (children g) + total N 64) (up (runs g) + total L 64) }
+    {
+        Needs {
+            nodes: block_size(self.nodes).saturating_add(self.below.nodes),
+            leaves: block_size(self.leaves).saturating_add(self.below.leaves),
+        }
     }
 }

@@ -10,7 +10,7 @@ ghost use Rattle.route_tries.specs.Parts.{way_nodes, way_leaves};
 ghost use Rattle.route_tries.specs.Way.{AreOnWay, AreBeside};
 
 use fib_regions::Region;
-use poptrie_build::{Needs, Tally, needs_of, no_slots, with_leaves, with_node};
+use poptrie_build::{Needs, Tally};
 
 /// What the node of a region with two answers needs below it on the way to a path and within it: its own places, and what the
 /// slots that meet the path need there. The path is the lowest `left` bits of `q`. It costs the regions with two answers in the
@@ -26,90 +26,96 @@ pub(crate) fn count_way<R: Region>(region: &R, q: u128, left: u8) -> Needs
         → result.leaves ≡ told (way_leaves k (R.bits region.now) (R.answers region.now)
         (bits_of left q)) }
 {
-    needs_of(tally_halves(region, 6, q, left, no_slots()))
+    let mut tally = Tally::new();
+    tally_halves(region, 6, q, left, &mut tally);
+    tally.needs()
 }
 
-/// The tally with the slots of a part of a node's region with two answers, a part on the way, which `depth` more bits tell apart:
+/// Adds the slots of a part of a node's region with two answers, a part on the way, which `depth` more bits tell apart:
 /// those of its halves. The path goes on in the half of its next bit, and the other half is beside the way; where nothing is left of
 /// the path, both halves are within it.
 #[cycle(count_way)]
-fn tally_halves<R: Region>(region: &R, depth: u8, q: u128, left: u8, so_far: Tally) -> Tally
+fn tally_halves<R: Region>(region: &R, depth: u8, q: u128, left: u8, tally: &mut Tally)
     requires mixed { one_answer (R.bits region.now) (R.answers region.now) ≡ None }
     requires some { 0 < depth }
-    requires nodes { so_far.nodes + 2 ^ depth ≤ 64 }
-    requires leaves { so_far.leaves + 2 ^ depth ≤ 64 }
+    requires nodes { tally.old.nodes + 2 ^ depth ≤ 64 }
+    requires leaves { tally.old.leaves + 2 ^ depth ≤ 64 }
     requires few { left ≤ 128 }
     ensures tally { (k e v : ℕ) (r : ℕ → List Bool → ℕ) (N L : ℕ → ℕ) → e ≤ 6 * k
         → AreParts depth (R.bits region.now) (R.answers region.now) e r v
         → AreOnWay depth k e r (bits_of left q) N L v
-        → IsTally so_far (λ u. one_answer e (r u)) N L v
-        → IsTally result (λ u. one_answer e (r u)) N L (v + 2 ^ depth) }
-    ensures nodes { result.nodes ≤ so_far.nodes + 2 ^ depth }
-    ensures leaves { result.leaves ≤ so_far.leaves + 2 ^ depth }
+        → IsTally tally.old (λ u. one_answer e (r u)) N L v
+        → IsTally tally.new (λ u. one_answer e (r u)) N L (v + 2 ^ depth) }
+    ensures nodes { tally.new.nodes ≤ tally.old.nodes + 2 ^ depth }
+    ensures leaves { tally.new.leaves ≤ tally.old.leaves + 2 ^ depth }
 {
     if left == 0 {
-        let low = tally_way(&region.half(false), depth - 1, q, 0, so_far);
-        return tally_way(&region.half(true), depth - 1, q, 0, low);
+        tally_way(&region.half(false), depth - 1, q, 0, tally);
+        tally_way(&region.half(true), depth - 1, q, 0, tally);
+        return;
     }
     let rest = left - 1;
     if (q >> rest) & 1 == 1 {
-        let beside = tally_beside(&region.half(false), depth - 1, so_far);
-        return tally_way(&region.half(true), depth - 1, q, rest, beside);
+        tally_beside(&region.half(false), depth - 1, tally);
+        tally_way(&region.half(true), depth - 1, q, rest, tally);
+        return;
     }
-    let on_way = tally_way(&region.half(false), depth - 1, q, rest, so_far);
-    tally_beside(&region.half(true), depth - 1, on_way)
+    tally_way(&region.half(false), depth - 1, q, rest, tally);
+    tally_beside(&region.half(true), depth - 1, tally);
 }
 
-/// The tally with the slots of one more part of a node's region, a part on the way, which `depth` more bits tell apart. A part with
+/// Adds the slots of one more part of a node's region, a part on the way, which `depth` more bits tell apart. A part with
 /// one answer is as many leaves at once, and below a slot that has a node the need is counted right there.
 #[cycle(count_way)]
-fn tally_way<R: Region>(region: &R, depth: u8, q: u128, left: u8, so_far: Tally) -> Tally
-    requires nodes { so_far.nodes + 2 ^ depth ≤ 64 }
-    requires leaves { so_far.leaves + 2 ^ depth ≤ 64 }
+fn tally_way<R: Region>(region: &R, depth: u8, q: u128, left: u8, tally: &mut Tally)
+    requires nodes { tally.old.nodes + 2 ^ depth ≤ 64 }
+    requires leaves { tally.old.leaves + 2 ^ depth ≤ 64 }
     requires few { left ≤ 128 }
     ensures tally { (k e v : ℕ) (r : ℕ → List Bool → ℕ) (N L : ℕ → ℕ) → e ≤ 6 * k
         → AreParts depth (R.bits region.now) (R.answers region.now) e r v
         → AreOnWay depth k e r (bits_of left q) N L v
-        → IsTally so_far (λ u. one_answer e (r u)) N L v
-        → IsTally result (λ u. one_answer e (r u)) N L (v + 2 ^ depth) }
-    ensures nodes { result.nodes ≤ so_far.nodes + 2 ^ depth }
-    ensures leaves { result.leaves ≤ so_far.leaves + 2 ^ depth }
+        → IsTally tally.old (λ u. one_answer e (r u)) N L v
+        → IsTally tally.new (λ u. one_answer e (r u)) N L (v + 2 ^ depth) }
+    ensures nodes { tally.new.nodes ≤ tally.old.nodes + 2 ^ depth }
+    ensures leaves { tally.new.leaves ≤ tally.old.leaves + 2 ^ depth }
 {
     match region.only() {
-        Some(hop) => with_leaves(so_far, hop.0),
+        Some(hop) => tally.add_leaves(hop.0),
         None => {
             if depth == 0 {
-                return with_node(so_far, count_way(region, q, left));
+                tally.add_node(count_way(region, q, left));
+                return;
             }
-            tally_halves(region, depth, q, left, so_far)
+            tally_halves(region, depth, q, left, tally);
         }
     }
 }
 
 /// The same of a part beside the way: nothing is needed below its slots.
 #[cycle(tally_beside)]
-fn tally_beside<R: Region>(region: &R, depth: u8, so_far: Tally) -> Tally
-    requires nodes { so_far.nodes + 2 ^ depth ≤ 64 }
-    requires leaves { so_far.leaves + 2 ^ depth ≤ 64 }
+fn tally_beside<R: Region>(region: &R, depth: u8, tally: &mut Tally)
+    requires nodes { tally.old.nodes + 2 ^ depth ≤ 64 }
+    requires leaves { tally.old.leaves + 2 ^ depth ≤ 64 }
     ensures tally { (e v : ℕ) (r : ℕ → List Bool → ℕ) (N L : ℕ → ℕ)
         → AreParts depth (R.bits region.now) (R.answers region.now) e r v
-        → AreBeside depth N L v → IsTally so_far (λ u. one_answer e (r u)) N L v
-        → IsTally result (λ u. one_answer e (r u)) N L (v + 2 ^ depth) }
-    ensures nodes { result.nodes ≤ so_far.nodes + 2 ^ depth }
-    ensures leaves { result.leaves ≤ so_far.leaves + 2 ^ depth }
+        → AreBeside depth N L v → IsTally tally.old (λ u. one_answer e (r u)) N L v
+        → IsTally tally.new (λ u. one_answer e (r u)) N L (v + 2 ^ depth) }
+    ensures nodes { tally.new.nodes ≤ tally.old.nodes + 2 ^ depth }
+    ensures leaves { tally.new.leaves ≤ tally.old.leaves + 2 ^ depth }
 {
     match region.only() {
-        Some(hop) => with_leaves(so_far, hop.0),
+        Some(hop) => tally.add_leaves(hop.0),
         None => {
             if depth == 0 {
                 let nothing = Needs {
                     nodes: 0,
                     leaves: 0,
                 };
-                return with_node(so_far, nothing);
+                tally.add_node(nothing);
+                return;
             }
-            let low = tally_beside(&region.half(false), depth - 1, so_far);
-            tally_beside(&region.half(true), depth - 1, low)
+            tally_beside(&region.half(false), depth - 1, tally);
+            tally_beside(&region.half(true), depth - 1, tally);
         }
     }
 }

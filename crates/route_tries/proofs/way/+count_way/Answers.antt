@@ -18,9 +18,9 @@ count_way-returns g t c =
     let d = g.R.Region.bits c.args.region.now in
     let f = g.R.Region.answers c.args.region.now in
     let p = bits_of c.args.left c.args.q in
-    let need = way_end c.needs_of.result d f p c.requires.mixed
-    (λ k h. c.needs_of.ensures (slots d f) (slot_nodes k d f p) (slot_leaves k d f p)
-    (c.tally_halves.ensures.tally k (d - 6) 0 (slot d f) (slot_nodes k d f p) (slot_leaves k d f p) h (parts_start d f) (way_start k d f p) (c.no_slots.ensures.tally (slots d f) (slot_nodes k d f p) (slot_leaves k d f p))))
+    let need = way_end c.needs.result d f p c.requires.mixed
+    (λ k h. c.needs.ensures (slots d f) (slot_nodes k d f p) (slot_leaves k d f p)
+    (c.tally_halves.ensures.tally k (d - 6) 0 (slot d f) (slot_nodes k d f p) (slot_leaves k d f p) h (parts_start d f) (way_start k d f p) (c.new-tally.ensures.tally (slots d f) (slot_nodes k d f p) (slot_leaves k d f p))))
     in
     record { nodes = λ k h. (need k h).nodes; leaves = λ k h. (need k h).leaves }
 
@@ -42,10 +42,10 @@ tally_halves-returns-then-left-eq0-clause-tally g t c = λ k e v r N L h a w i.
     let some : j ≢ 0 = omega (arith, c.requires.some) in
     let none = no_bit c.args.left c.args.q c.if-left-eq0.true in
     let rest = no_bit 0 c.args.q refl in
-    let low = c.tally_way-low.ensures.tally k e v r N L h (parts_low j d e v f r some (g.R.Region.bits c.half.result) (g.R.Region.answers c.half.result) c.half.ensures.bits a c.half.ensures.answers) (within_low j k e v r N L some p (bits_of 0 c.args.q) none rest w) i in
-    let high = c.tally_way.ensures.tally k e (v + 2 ^ (j - 1)) r N L h (parts_high j d e v f r some (g.R.Region.bits c.half-then-left-eq0.result) (g.R.Region.answers c.half-then-left-eq0.result) c.half-then-left-eq0.ensures.bits a c.half-then-left-eq0.ensures.answers) (within_high j k e v r N L some p (bits_of 0 c.args.q) none rest w) low in
+    let low = c.tally_way.ensures.tally k e v r N L h (parts_low j d e v f r some (g.R.Region.bits c.half.result) (g.R.Region.answers c.half.result) c.half.ensures.bits a c.half.ensures.answers) (within_low j k e v r N L some p (bits_of 0 c.args.q) none rest w) i in
+    let high = c.tally_way-then-left-eq0.ensures.tally k e (v + 2 ^ (j - 1)) r N L h (parts_high j d e v f r some (g.R.Region.bits c.half-then-left-eq0.result) (g.R.Region.answers c.half-then-left-eq0.result) c.half-then-left-eq0.ensures.bits a c.half-then-left-eq0.ensures.answers) (within_high j k e v r N L some p (bits_of 0 c.args.q) none rest w) low in
     let all : v + 2 ^ (j - 1) + 2 ^ (j - 1) ≡ v + 2 ^ j = omega (arith, halved j some) in
-    subst (λ (x : ℕ). IsTally c.tally_way.result (λ u. one_answer e (r u)) N L x) all high
+    subst (λ (x : ℕ). IsTally c.tally_way-then-left-eq0.new.tally (λ u. one_answer e (r u)) N L x) all high
 
 pub tally_halves-returns-then-q-rest-eq1-clause-tally : goal.tally_halves-returns-then-q-rest-eq1-clause-tally
 tally_halves-returns-then-q-rest-eq1-clause-tally g t c = λ k e v r N L h a w i.
@@ -55,10 +55,10 @@ tally_halves-returns-then-q-rest-eq1-clause-tally g t c = λ k e v r N L h a w i
     let p = bits_of c.args.left c.args.q in
     let some : j ≢ 0 = omega (arith, c.requires.some) in
     let next = next_bit c.args.left c.args.q (bit_and (c.args.q / 2 ^ (c.args.left - 1)) 1) c.if-left-eq0.false refl in
-    let low = c.tally_beside-beside.ensures.tally e v r N L (parts_low j d e v f r some (g.R.Region.bits c.half-then-q-rest-eq1.result) (g.R.Region.answers c.half-then-q-rest-eq1.result) c.half-then-q-rest-eq1.ensures.bits a c.half-then-q-rest-eq1.ensures.answers) (off_low j k e v r N L some p (bits_of (c.args.left - 1) c.args.q) (nat_eq (bit_and (c.args.q / 2 ^ (c.args.left - 1)) 1) 1) next (eq-eqb (bit_and (c.args.q / 2 ^ (c.args.left - 1)) 1) 1 c.if-q-rest-eq1.true) w) i in
+    let low = c.tally_beside.ensures.tally e v r N L (parts_low j d e v f r some (g.R.Region.bits c.half-then-q-rest-eq1.result) (g.R.Region.answers c.half-then-q-rest-eq1.result) c.half-then-q-rest-eq1.ensures.bits a c.half-then-q-rest-eq1.ensures.answers) (off_low j k e v r N L some p (bits_of (c.args.left - 1) c.args.q) (nat_eq (bit_and (c.args.q / 2 ^ (c.args.left - 1)) 1) 1) next (eq-eqb (bit_and (c.args.q / 2 ^ (c.args.left - 1)) 1) 1 c.if-q-rest-eq1.true) w) i in
     let high = c.tally_way-then-q-rest-eq1.ensures.tally k e (v + 2 ^ (j - 1)) r N L h (parts_high j d e v f r some (g.R.Region.bits c.half-then-q-rest-eq1-2.result) (g.R.Region.answers c.half-then-q-rest-eq1-2.result) c.half-then-q-rest-eq1-2.ensures.bits a c.half-then-q-rest-eq1-2.ensures.answers) (on_high j k e v r N L some p (bits_of (c.args.left - 1) c.args.q) (nat_eq (bit_and (c.args.q / 2 ^ (c.args.left - 1)) 1) 1) next (eq-eqb (bit_and (c.args.q / 2 ^ (c.args.left - 1)) 1) 1 c.if-q-rest-eq1.true) w) low in
     let all : v + 2 ^ (j - 1) + 2 ^ (j - 1) ≡ v + 2 ^ j = omega (arith, halved j some) in
-    subst (λ (x : ℕ). IsTally c.tally_way-then-q-rest-eq1.result (λ u. one_answer e (r u)) N L x) all high
+    subst (λ (x : ℕ). IsTally c.tally_way-then-q-rest-eq1.new.tally (λ u. one_answer e (r u)) N L x) all high
 
 pub tally_halves-returns-clause-tally : goal.tally_halves-returns-clause-tally
 tally_halves-returns-clause-tally g t c = λ k e v r N L h a w i.
@@ -68,14 +68,14 @@ tally_halves-returns-clause-tally g t c = λ k e v r N L h a w i.
     let p = bits_of c.args.left c.args.q in
     let some : j ≢ 0 = omega (arith, c.requires.some) in
     let next = next_bit c.args.left c.args.q (bit_and (c.args.q / 2 ^ (c.args.left - 1)) 1) c.if-left-eq0.false refl in
-    let low = c.tally_way-on_way.ensures.tally k e v r N L h (parts_low j d e v f r some (g.R.Region.bits c.half-2.result) (g.R.Region.answers c.half-2.result) c.half-2.ensures.bits a c.half-2.ensures.answers) (on_low j k e v r N L some p (bits_of (c.args.left - 1) c.args.q) (nat_eq (bit_and (c.args.q / 2 ^ (c.args.left - 1)) 1) 1) next (ne_eqb (bit_and (c.args.q / 2 ^ (c.args.left - 1)) 1) 1 c.if-q-rest-eq1.false) w) i in
-    let high = c.tally_beside.ensures.tally e (v + 2 ^ (j - 1)) r N L (parts_high j d e v f r some (g.R.Region.bits c.half-3.result) (g.R.Region.answers c.half-3.result) c.half-3.ensures.bits a c.half-3.ensures.answers) (off_high j k e v r N L some p (bits_of (c.args.left - 1) c.args.q) (nat_eq (bit_and (c.args.q / 2 ^ (c.args.left - 1)) 1) 1) next (ne_eqb (bit_and (c.args.q / 2 ^ (c.args.left - 1)) 1) 1 c.if-q-rest-eq1.false) w) low in
+    let low = c.tally_way-2.ensures.tally k e v r N L h (parts_low j d e v f r some (g.R.Region.bits c.half-2.result) (g.R.Region.answers c.half-2.result) c.half-2.ensures.bits a c.half-2.ensures.answers) (on_low j k e v r N L some p (bits_of (c.args.left - 1) c.args.q) (nat_eq (bit_and (c.args.q / 2 ^ (c.args.left - 1)) 1) 1) next (ne_eqb (bit_and (c.args.q / 2 ^ (c.args.left - 1)) 1) 1 c.if-q-rest-eq1.false) w) i in
+    let high = c.tally_beside-2.ensures.tally e (v + 2 ^ (j - 1)) r N L (parts_high j d e v f r some (g.R.Region.bits c.half-3.result) (g.R.Region.answers c.half-3.result) c.half-3.ensures.bits a c.half-3.ensures.answers) (off_high j k e v r N L some p (bits_of (c.args.left - 1) c.args.q) (nat_eq (bit_and (c.args.q / 2 ^ (c.args.left - 1)) 1) 1) next (ne_eqb (bit_and (c.args.q / 2 ^ (c.args.left - 1)) 1) 1 c.if-q-rest-eq1.false) w) low in
     let all : v + 2 ^ (j - 1) + 2 ^ (j - 1) ≡ v + 2 ^ j = omega (arith, halved j some) in
-    subst (λ (x : ℕ). IsTally c.tally_beside.result (λ u. one_answer e (r u)) N L x) all high
+    subst (λ (x : ℕ). IsTally c.tally_beside-2.new.tally (λ u. one_answer e (r u)) N L x) all high
 
 pub tally_way-returns-in-Some-clause-tally : goal.tally_way-returns-in-Some-clause-tally
 tally_way-returns-in-Some-clause-tally g t c = λ k e v r N L h a w.
-    c.with_leaves.ensures.tally (λ u. one_answer e (r u)) N L v (2 ^ c.args.depth) (pow_pos c.args.depth) (uniform_on_way c.args.depth (g.R.Region.bits c.args.region.now) c.in-Some.hop.0 e v (g.R.Region.answers c.args.region.now) r N L c.in-Some.ensures.one a k (bits_of c.args.left c.args.q) w)
+    c.add_leaves.ensures.tally (λ u. one_answer e (r u)) N L v (2 ^ c.args.depth) (pow_pos c.args.depth) (uniform_on_way c.args.depth (g.R.Region.bits c.args.region.now) c.in-Some.hop.0 e v (g.R.Region.answers c.args.region.now) r N L c.in-Some.ensures.one a k (bits_of c.args.left c.args.q) w)
 
 pub tally_way-returns-then-depth-eq0-clause-tally : goal.tally_way-returns-then-depth-eq0-clause-tally
 tally_way-returns-then-depth-eq0-clause-tally g t c = λ k e v r N L h a w i.
@@ -86,4 +86,4 @@ tally_way-returns-then-depth-eq0-clause-tally g t c = λ k e v r N L h a w i.
     let enough : d ≤ 6 * k = omega (arith, h, a.bits, c.if-depth-eq0.true) in
     let below = part_need c.count_way.result (λ n x. way_nodes k n x p) (λ n x. way_leaves k n x p) c.args.depth d e v f r c.if-depth-eq0.true a (record { nodes = c.count_way.ensures.nodes k enough; leaves = c.count_way.ensures.leaves k enough }) in
     let one : v + 1 ≡ v + 2 ^ c.args.depth = ap (λ n. v + 2 ^ n) (sym c.if-depth-eq0.true) in
-    subst (λ (x : ℕ). IsTally c.with_node.result (λ u. one_answer e (r u)) N L x) one (c.with_node.ensures.tally (λ u. one_answer e (r u)) N L v none (slot_on_way c.count_way.result c.args.depth k e v r p N L c.if-depth-eq0.true below w) i)
+    subst (λ (x : ℕ). IsTally c.add_node.new.self (λ u. one_answer e (r u)) N L x) one (c.add_node.ensures.tally (λ u. one_answer e (r u)) N L v none (slot_on_way c.count_way.result c.args.depth k e v r p N L c.if-depth-eq0.true below w) i)
