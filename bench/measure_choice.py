@@ -17,6 +17,8 @@ import sys
 import tempfile
 
 ROOT = os.path.dirname(os.path.dirname(os.path.abspath(__file__)))
+sys.path.append(os.path.join(ROOT, "tools"))
+import common
 
 PROGRAM = """\
 //! Candidates in number, for time.
@@ -126,7 +128,9 @@ fn main(rt: HostRuntime) -> io::Result<()> {
 """
 
 
-def main():
+def main(_):
+    if not shutil.which("rt"):
+        raise common.Refused("the toolchain isn't in the path")
     with tempfile.TemporaryDirectory() as top:
         shutil.copytree(os.path.join(ROOT, "crates"), os.path.join(top, "crates"),
                         ignore=shutil.ignore_patterns("out"))
@@ -151,4 +155,4 @@ def main():
 
 
 if __name__ == "__main__":
-    sys.exit(main())
+    common.run(main, __doc__, most=0)

@@ -1,14 +1,19 @@
 #!/usr/bin/env python3
-"""Refuses each growth of some runs in turn: python3 bench/refuse_growths.py PROGRAM
+"""Refuses each growth of some runs in turn.
+
+Usage:  refuse_growths.py PROGRAM
 
 Every run ends with status 9 and writes nothing to standard output, or it ends as it does where memory suffices; where the growth
 is one that opening a file takes, it ends with status 3 and writes nothing. Needs a C compiler (cc) and the GNU C library;
-bench/refuse.c is what refuses."""
+bench/refuse.c is what refuses. The status is 1 where a run ends otherwise, or can't be made."""
 
 import os
 import subprocess
 import sys
 import tempfile
+
+sys.path.append(os.path.join(os.path.dirname(os.path.dirname(os.path.abspath(__file__))), "tools"))
+import common
 
 HERE = os.path.dirname(os.path.abspath(__file__))
 EXAMPLES = os.path.join(HERE, "..", "examples")
@@ -57,12 +62,12 @@ def refuse_each(program, words, library):
         if ended in told and printed == b"":
             told[ended] += 1
         elif (ended, printed) != (status, out):
-            sys.exit("growth %d of fib %s: status %d" % (number, " ".join(words), ended))
-    sys.exit("there is no end")
+            raise common.Refused("growth %d of fib %s: status %d" % (number, " ".join(words), ended))
+    raise common.Refused("there is no end")
 
 
-def main():
-    program = os.path.abspath(sys.argv[1])
+def main(words):
+    program = os.path.abspath(words[0])
     with tempfile.TemporaryDirectory() as room:
         library = os.path.join(room, "refuse.so")
         subprocess.run(
@@ -99,4 +104,5 @@ def main():
             print("fib %s: status %d; of %d growths %d end it with 9, %d with 3" % ends)
 
 
-main()
+if __name__ == "__main__":
+    common.run(main, __doc__, least=1, most=1)

@@ -4,18 +4,20 @@
 Usage:  keep_peers.py FILE                  prints a line for each peer: its address, AS number, IPv4 and IPv6 routes, records
         keep_peers.py FILE PEER.. >KEPT     writes the file with what these peers said alone, by address or AS number
 
-FILE is in MRT format (RFC 6396), also where bzip2 or gzip has compressed it.  Of a dump the peer table stays whole, and entries of
-other peers go; of updates, records of other peers' sessions go.  All else stays.  It reads record by record, so it needs no more
-memory than the longest record.
+FILE is in MRT format (RFC 6396), also where bzip2, gzip, xz or zstd has compressed it, or a pipe of such octets.  Of a dump the
+peer table stays whole, and entries of other peers go; of updates, records of other peers' sessions go.  All else stays.  An AS
+number is written 64500 or AS64500.  It reads record by record, so it needs no more memory than the longest record.  The status is
+0 where all was read, and else 1: then what was written holds a front of what is due.
 """
 
 import collections
 import ipaddress
-import struct
+import re
 import sys
 
+from common import Refused, opened, run
 from mrt import (BGP4MP, BGP4MP_ET, MESSAGES, PEER_INDEX_TABLE, RIB_FAMILY, RIBS_WITH_IDS, TABLE_DUMP_V2, address, header_fields,
-                 opened, peers, records)
+                 is_whole, peers, records)
 
 
 def entries(body, subtype):
@@ -48,6 +50,16 @@ def session(kind, subtype, body):
     return (address(octets), int.from_bytes(body[at:at + wide], "big")) if octets else None
 
 
+def whole_records(name):
+    """Type, subtype, header and body of each record of a file, none of which may be cut."""
+    with opened(name) as file:
+        for header, body in records(file):
+            if not is_whole(header, body):
+                raise IndexError
+            _, kind, subtype, _ = header_fields(header)
+            yield kind, subtype, header, body
+
+
 def list_peers(name):
     counts = {}
 
@@ -56,71 +68,70 @@ def list_peers(name):
         line[what] += what is not None
 
     table = []
-    with opened(name) as file:
-        for header, body in records(file):
-            _, kind, subtype, _ = header_fields(header)
-            if (kind, subtype) == (TABLE_DUMP_V2, PEER_INDEX_TABLE):
-                table = peers(body)
-                for peer in table:
-                    count(peer, None)
-            elif kind == TABLE_DUMP_V2 and subtype in RIB_FAMILY:
-                for index, _ in entries(body, subtype)[1]:
-                    count(table[index], RIB_FAMILY[subtype])
-            elif peer := session(kind, subtype, body):
-                count(peer, "records")
+    for kind, subtype, _, body in whole_records(name):
+        if (kind, subtype) == (TABLE_DUMP_V2, PEER_INDEX_TABLE):
+            table = peers(body)
+            for peer in table:
+                count(peer, None)
+        elif kind == TABLE_DUMP_V2 and subtype in RIB_FAMILY:
+            for index, _ in entries(body, subtype)[1]:
+                count(table[index], RIB_FAMILY[subtype])
+        elif peer := session(kind, subtype, body):
+            count(peer, "records")
     for (addr, asn), line in counts.items():
         print(f"{addr}  AS {asn}  IPv4 {line[4]}  IPv6 {line[6]}  records {line['records']}")
+    return bool(counts)
 
 
 def as_told(word):
-    """An address as the peer table's are told, however it is written; an AS number as it is."""
+    """A peer's address or AS number as those of a file are told, however it is written."""
+    if number := re.fullmatch(r"(?:AS)?([0-9]+)", word, re.IGNORECASE):
+        return str(int(number[1]))
     try:
         return address(ipaddress.ip_address(word).packed)
     except ValueError:
-        return word
-
-
-def keep(name, wanted, out):
-    """Writes what is kept, and returns those wanted that a peer table doesn't have."""
-    chosen, missing = set(), set()
-    with opened(name) as file:
-        for header, body in records(file):
-            _, kind, subtype, _ = header_fields(header)
-            if (kind, subtype) == (TABLE_DUMP_V2, PEER_INDEX_TABLE):
-                table = peers(body)
-                chosen = {index for index, peer in enumerate(table) if is_wanted(peer, wanted)}
-                missing = {word for word in wanted if not any(is_wanted(peer, [word]) for peer in table)}
-            elif kind == TABLE_DUMP_V2 and subtype in RIB_FAMILY:
-                front, found = entries(body, subtype)
-                kept = [entry for index, entry in found if index in chosen]
-                if not kept:
-                    continue
-                body = front + len(kept).to_bytes(2, "big") + b"".join(kept)
-            elif (peer := session(kind, subtype, body)) and not is_wanted(peer, wanted):
-                continue
-            out.write(header[:8] + len(body).to_bytes(4, "big") + body)
-    return missing
+        raise Refused(f"this is no address and no AS number: {word}") from None
 
 
 def is_wanted(peer, wanted):
     return peer[0] in wanted or str(peer[1]) in wanted
 
 
-def main():
-    if len(sys.argv) < 2 or sys.argv[1].startswith("-"):
-        sys.exit(__doc__)
+def keep(name, wanted, out):
+    """Writes what is kept, and says whether the file names any peers."""
+    chosen, missing, named = set(), set(), False
+    for kind, subtype, header, body in whole_records(name):
+        if (kind, subtype) == (TABLE_DUMP_V2, PEER_INDEX_TABLE):
+            table = peers(body)
+            named = True
+            chosen = {index for index, peer in enumerate(table) if is_wanted(peer, wanted)}
+            missing = {word for word in wanted if not any(is_wanted(peer, [word]) for peer in table)}
+        elif kind == TABLE_DUMP_V2 and subtype in RIB_FAMILY:
+            front, found = entries(body, subtype)
+            kept = [entry for index, entry in found if index in chosen]
+            if not kept:
+                continue
+            body = front + len(kept).to_bytes(2, "big") + b"".join(kept)
+        elif peer := session(kind, subtype, body):
+            named = True
+            if not is_wanted(peer, wanted):
+                continue
+        out.write(header[:8] + len(body).to_bytes(4, "big") + body)
+    if missing:
+        raise Refused(f"not in the peer table: {' '.join(sorted(missing))}")
+    return named
+
+
+def main(words):
+    name, *wanted = words
+    wanted = [as_told(word) for word in wanted]
     try:
-        if len(sys.argv) == 2:
-            list_peers(sys.argv[1])
-        else:
-            missing = keep(sys.argv[1], [as_told(word) for word in sys.argv[2:]], sys.stdout.buffer)
-            if missing:
-                sys.exit(f"keep_peers.py: not in the peer table: {' '.join(sorted(missing))}")
-    except (EOFError, IndexError, struct.error):
-        sys.exit("keep_peers.py: a record is cut; fib run names it, and show_record.py shows it")
-    except OSError as error:
-        sys.exit(f"keep_peers.py: {error}")
+        named = keep(name, wanted, sys.stdout.buffer) if wanted else list_peers(name)
+    except (IndexError, ValueError):
+        raise Refused(f"{name}: a record is cut or isn't MRT; fib run names it, and show_record.py shows it") from None
+    if not named:
+        raise Refused(f"{name}: it names no peers, in a peer table or in records of their sessions")
 
 
 if __name__ == "__main__":
-    main()
+    run(main, __doc__, least=1)

@@ -9,7 +9,8 @@ paragraph: of up to three cells the last is its text and the others its tag, of 
 
 import os
 import re
-import sys
+
+from common import Refused, opened_text, run
 
 DOCS = os.path.join(os.path.dirname(os.path.dirname(os.path.abspath(__file__))), "docs")
 PAGES = [
@@ -86,8 +87,10 @@ def items(lines):
 
 
 def page(name, section, document, what, also):
-    with open(os.path.join(DOCS, document)) as file:
+    with opened_text(os.path.join(DOCS, document)) as file:
         title, text = file.read().split("\n", 1)
+    if not title.startswith("# "):
+        raise ValueError
     found = list(blocks(text))
     out = [f'.TH {name.upper()} {section} "" "{name}" "{title[2:]}"', ".SH NAME", f"{name} \\- {what}"]
     if found[0][0] == "code":
@@ -111,15 +114,22 @@ def page(name, section, document, what, also):
     return "\n".join(out + [".SH SEE ALSO", f".BR {also[:3]} {also[3:]}"]) + "\n"
 
 
-def main():
-    if len(sys.argv) != 2:
-        sys.exit(__doc__)
-    for name, section, *rest in PAGES:
-        folder = os.path.join(sys.argv[1], f"man{section}")
+def pages():
+    """Each page's section, name and text."""
+    for name, section, document, *rest in PAGES:
+        try:
+            yield section, name, page(name, section, document, *rest)
+        except (IndexError, ValueError):
+            raise Refused(f"docs/{document}: it has another form than this script knows") from None
+
+
+def main(words):
+    for section, name, text in list(pages()):
+        folder = os.path.join(words[0], f"man{section}")
         os.makedirs(folder, exist_ok=True)
-        with open(os.path.join(folder, f"{name}.{section}"), "w") as file:
-            file.write(page(name, section, *rest))
+        with open(os.path.join(folder, f"{name}.{section}"), "w", encoding="utf-8") as file:
+            file.write(text)
 
 
 if __name__ == "__main__":
-    main()
+    run(main, __doc__, least=1, most=1)

@@ -1,7 +1,5 @@
 """Records of an MRT file (RFC 6396), one by one, for the scripts beside this file."""
 
-import bz2
-import gzip
 import ipaddress
 import struct
 
@@ -28,23 +26,21 @@ def kind_name(kind, subtype):
     return f"{TYPES.get(kind, f'type {kind}')}, {subtypes.get(subtype, f'subtype {subtype}')}"
 
 
-def opened(name):
-    """The file of this name, unpacked as it is read where it is compressed."""
-    with open(name, "rb") as file:
-        front = file.read(3)
-    return bz2.open(name) if front == b"BZh" else gzip.open(name) if front[:2] == b"\x1f\x8b" else open(name, "rb")
-
-
 def header_fields(header):
     """Timestamp, type, subtype and length of the body."""
     return struct.unpack(">IHHI", header)
 
 
 def records(file):
-    """Each record's header and body, as many octets of them as there are."""
-    while header := file.read(HEADER):
+    """Each record's header and body, as many octets of them as there are; one whose Length is over the most is the last."""
+    length = 0
+    while length <= MOST_BODY and (header := file.read(HEADER)):
         length = header_fields(header)[3] if len(header) == HEADER else 0
         yield header, file.read(length) if length <= MOST_BODY else b""
+
+
+def is_whole(header, body):
+    return len(header) == HEADER and header_fields(header)[3] == len(body)
 
 
 def address(octets):

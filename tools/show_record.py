@@ -4,15 +4,16 @@
 Usage:  show_record.py FILE NUMBER      the record of this number, from 0, as `fib: malformed dump record NUMBER rule R` tells
         show_record.py FILE             the first record that breaks a rule
 
-FILE is uncompressed, as fib reads it.  Each line has an octet's place in the record, the octets and what they say; a part of
-more than 16 octets is cut short.  The rules are those of docs/FORMATS.md, in its words.  The status is 1 where the record
-breaks a rule or isn't there.
+FILE is as fib reads it, or compressed by bzip2, gzip, xz or zstd; a pipe will do.  Each line has an octet's place in the record, the
+octets and what they say; a part of more than 16 octets is cut short.  The rules are those of docs/FORMATS.md, in its words.  The
+status is 1 where the record breaks a rule or isn't there.
 """
 
-import sys
+import contextlib
 
+from common import Refused, opened, run
 from mrt import (BGP4MP_ET, HEADER, MESSAGES, MESSAGES_WITH_IDS, MOST_BODY, PEER_INDEX_TABLE, RIB_FAMILY, RIBS_WITH_IDS,
-                 TABLE_DUMP_V2, address, header_fields, kind_name, peers)
+                 TABLE_DUMP_V2, address, header_fields, kind_name, peers, records)
 
 RULES = {
     1: "the input ends within a header",
@@ -305,30 +306,29 @@ def show(number, at, octets, lines, broken, skipped):
         print("it is skipped" if skipped else "it breaks no rule")
 
 
-def main():
-    if len(sys.argv) not in (2, 3):
-        sys.exit(__doc__)
-    try:
-        with open(sys.argv[1], "rb") as file:
-            data = file.read()
-    except OSError as error:
-        sys.exit(f"show_record.py: {error}")
-    wanted = int(sys.argv[2]) if len(sys.argv) == 3 else None
-    at, number, table = 0, 0, None
-    while at < len(data):
-        end = at + HEADER + int.from_bytes(data[at + 8:at + HEADER], "big")
+def number_of(word):
+    if not (word.isascii() and word.isdigit()):
+        raise Refused(f"this is no number of a record: {word}")
+    return int(word)
+
+
+def main(words):
+    wanted = number_of(words[1]) if len(words) == 2 else None
+    at, count, table = 0, 0, None
+    for number, (header, body) in enumerate(records(opened(words[0]))):
+        octets = header + body
         if wanted in (None, number):
-            octets = data[at:end]
             lines, broken, skipped = read_record(octets, table)
             if broken or wanted == number:
                 show(number, at, octets, lines, broken, skipped)
-                sys.exit(1 if broken else 0)
-        if data[at + 4:at + 8] == bytes((0, TABLE_DUMP_V2, 0, PEER_INDEX_TABLE)):
-            table = peers(data[at + HEADER:end])
-        at, number = end, number + 1
-    print(f"{number} records, none of which breaks a rule" if wanted is None else f"{number} records: none has this number")
-    sys.exit(0 if wanted is None else 1)
+                return 1 if broken else 0
+        if header[4:8] == bytes((0, TABLE_DUMP_V2, 0, PEER_INDEX_TABLE)):
+            with contextlib.suppress(IndexError, ValueError):       # a table that breaks a rule
+                table = peers(body)
+        at, count = at + len(octets), number + 1
+    print(f"{count} records, none of which breaks a rule" if wanted is None else f"{count} records: none has this number")
+    return 0 if wanted is None else 1
 
 
 if __name__ == "__main__":
-    main()
+    run(main, __doc__, least=1, most=2)

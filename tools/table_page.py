@@ -3,39 +3,56 @@
 
 Usage:  table_page.py FOLDER PRINTED..
 
-Each PRINTED is a file that `fib run` printed, called NAME.txt.  FOLDER gets README.md, with a section for each, and its pictures
-(SVG): entries by prefix length of the routes and of the least table, in each family; the least table's size as a part of the
-routes', by family; and the changes of the updates by event.  Equal texts give equal pages.
+Each PRINTED is a text that `fib run` printed, called NAME.txt, also where bzip2, gzip, xz or zstd has compressed it; a pipe will do.
+FOLDER gets README.md, with a section for each, and its pictures (SVG): entries by prefix length of the routes and of the least
+table, in each family; the least table's size as a part of the routes', by family; and the changes of the updates by event.  Equal
+texts give equal pages.  Where a text can't be read nothing is written.
 """
 
 import collections
+import html
 import os
-import sys
+import re
+import urllib.parse
+
+from common import Refused, opened_text, run
 
 WIDTH, HEIGHT, LEFT, RIGHT, TOP, BOTTOM = 720, 260, 56, 16, 34, 40
 ROUTES, LEAST = "#9ecae1", "#08519c"
 SIGNS = {"+": ("added", "#009e73"), "=": ("replaced", "#56b4e9"), "-": ("removed", "#d55e00")}
 MOST_BARS = 60
+MOST_BITS = 128
+KINDS = ("route", "change", "answer", "visits", "table", "least", "cert", "report")
 
 
 class Printed:
     """The counts of one text."""
 
     def __init__(self, name):
-        self.name = os.path.basename(name).removesuffix(".txt")
+        self.name = re.sub(r"(\.txt)?(\.(gz|bz2|xz|zst))?$", "", os.path.basename(name))
         self.lengths = {kind: {4: collections.Counter(), 6: collections.Counter()} for kind in ("route", "least")}
         self.drops, self.rows, self.changes, self.report = collections.Counter(), collections.Counter(), [], {}
-        with open(name) as text:
-            for line in text:
-                self.take(line.rstrip("\n").split(","))
+        row = []
+        for number, line in enumerate(opened_text(name), 1):
+            row = line.rstrip("\n").split(",")
+            try:
+                self.take(row)
+            except (IndexError, ValueError):
+                raise Refused(f"{name}: line {number} is no row that fib run prints") from None
+        if row[:2] != ["report", "treated"]:
+            raise Refused(f"{name}: the text is cut before its last row, report,treated")
 
     def take(self, row):
+        if row[0] not in KINDS:
+            raise ValueError
         self.rows[row[0]] += 1
         if row[0] in self.lengths:
-            family = 6 if ":" in row[1] else 4
-            self.lengths[row[0]][family][int(row[1].split("/")[1])] += 1
+            family, length = 6 if ":" in row[1] else 4, int(row[1].split("/")[1])
+            if not 0 <= length <= MOST_BITS:
+                raise ValueError
+            self.lengths[row[0]][family][length] += 1
             self.drops[family] += row[2] == "drop"
-        elif row[0] == "change" and row[1] != "0":
+        elif row[0] == "change" and int(row[1]) > 0:
             self.changes.append((int(row[1]), row[2]))
         elif row[0] == "report":
             self.report[row[1]] = int(row[2])
@@ -156,13 +173,20 @@ def figures(printed):
            f"{told or 'none'}. The certificate has {printed.rows['cert']:,} rows.")
 
 
+def plain(name):
+    """A file's name as text of a page, in which it marks nothing up."""
+    text = os.fsencode(name).decode("utf-8", "replace")
+    return html.escape(re.sub(r"[\\`*_\[\]()#!|~]", r"\\\g<0>", "".join(char if char.isprintable() else " " for char in text)))
+
+
 def section(printed, folder):
     """A text's section, and its pictures in the folder."""
     pictures = []
 
-    def picture(name, of, draw, *more):
-        pictures.append(f"![{of} of {printed.name}]({printed.name}-{name}.svg)")
-        draw(printed, *more, os.path.join(folder, f"{printed.name}-{name}.svg"))
+    def picture(kind, of, draw, *more):
+        name = f"{printed.name}-{kind}.svg"
+        pictures.append(f"![{of} of {plain(printed.name)}]({urllib.parse.quote(os.fsencode(name))})")
+        draw(printed, *more, os.path.join(folder, name))
 
     for family in printed.families():
         picture(f"lengths{family}", f"IPv{family} entries by prefix length", lengths_picture, family)
@@ -170,18 +194,19 @@ def section(printed, folder):
         picture("ratio", "Size by family", ratio_picture)
     if printed.changes:
         picture("changes", "Changes by event", changes_picture)
-    return "\n".join([f"## {printed.name}", "", *figures(printed), "", "\n\n".join(pictures)])
+    return "\n".join([f"## {plain(printed.name)}", "", *figures(printed), "", "\n\n".join(pictures)])
 
 
-def main():
-    if len(sys.argv) < 3:
-        sys.exit(__doc__)
-    folder = sys.argv[1]
+def main(words):
+    folder, *names = words
+    texts = [Printed(name) for name in names]
+    if len({text.name for text in texts}) < len(texts):
+        raise Refused("two of the texts have one name, so their pictures would too")
     os.makedirs(folder, exist_ok=True)
-    sections = [section(Printed(name), folder) for name in sys.argv[2:]]
-    with open(os.path.join(folder, "README.md"), "w") as page:
+    sections = [section(text, folder) for text in texts]
+    with open(os.path.join(folder, "README.md"), "w", encoding="utf-8") as page:
         page.write("# Tables in figures\n\n" + "\n\n".join(sections) + "\n")
 
 
 if __name__ == "__main__":
-    main()
+    run(main, __doc__, least=2)
