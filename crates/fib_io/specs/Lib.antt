@@ -5,5 +5,6 @@ pub mod Plan
 pub mod MemInputs
 pub mod MemSink
 pub mod Files
+pub mod FileInputs
 pub mod Streams
 pub mod Pieces

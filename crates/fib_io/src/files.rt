@@ -5,13 +5,18 @@
 //! first; so a pipe can be read once, in order. There is one count of faults, a `u64`, which each error raises.
 //!
 //! What a file holds no contract can say. `ByName` and `ReadSeek` say what a system may tell, and the inputs are proved
-//! over any: a read gives what stands at its place. What is trusted is the calls of the system under `SystemFiles` and
-//! `File`, which tell nothing.
+//! over any: a read gives what stands at its place, opens exactly the name given, and only if it isn't open, goes to no
+//! place where the last read ended, and hands on what one read of the reader gave. What is trusted is the calls of the
+//! system under `SystemFiles` and `File`, which tell nothing.
 
-ghost use Rattle.std.specs.Prelude.{◌≡◌, ℕ, ◌+◌, ◌≤◌, ◌<◌, List, Option, Some, None, length, IfOk, IfSome, OnOk};
+ghost use Rattle.std.specs.Prelude.{◌≡◌, ℕ, ◌+◌, ◌++◌, ◌≤◌, ◌<◌, List, [], Option, Some, None, option_map, length, slice_get, IfOk, IfSome, IsNone, OnOk};
 ghost use Rattle.std.specs.String.{string_bytes};
+ghost use Rattle.std.specs.Io.KnownBytes.{Keeps};
+ghost use Rattle.std.specs.Io.Seek.{MovesTo};
+ghost use Rattle.std.specs.List.{position};
 ghost use Rattle.std.specs.Option.{ForSome};
-ghost use Rattle.fib_io.specs.Files.{AllOpen, IsNamed, IsOpen, IsOpened, ReadsOn};
+ghost use Rattle.fib_io.specs.Files.{AllOpen, AllStand, Call, calls_met, calls_of_read, Gives, GoesTo, has_name, IsOpen, IsOpened, KeepsOpen, open_under, Opens, OpensOnce, ReadsOn, ReadsOnce, Stands, way_to, with_name};
+ghost use Rattle.fib_io.specs.Causes.{HasReadCause};
 ghost use Rattle.fib_io.specs.Octets.{AreAt};
 
 use crate::{InFault, Inputs, count_fault};
@@ -20,8 +25,17 @@ use std::fs::{self, File};
 use std::io::{self, Read, Seek, SeekFrom};
 use std::rt::Files;
 
-/// A reader that goes to any place.
+/// A reader that goes to any place. `calls` is what it was asked and did since it was opened, if the type tells it.
 pub trait ReadSeek: Read + Seek {
+    ghost calls: { Self → Option (List Call) };
+
+    /// Goes to a place, counted in octets from 0.
+    fn go_to(&mut self, at: u64) -> io::Result<()>
+        ensures moves { MovesTo (Self.stream_position self.old) (Self.stream_position self.new)
+            at result }
+        ensures same { Keeps (Self.stream_bytes self.old) (Self.stream_bytes self.new) }
+        ensures met { GoesTo at (calls self.old) (calls self.new) result };
+
     /// Reads once, from where it stands. Where it tells its octets and its place, these are the octets there, and it
     /// stands behind them then.
     fn read_on(&mut self, buf: &mut [u8]) -> io::Result<usize>
@@ -29,28 +43,43 @@ pub trait ReadSeek: Read + Seek {
         ensures told { ReadsOn (Self.stream_bytes self.old) (Self.stream_position self.old)
             (Self.stream_position self.new) buf.new result }
         ensures same { ForSome (Self.stream_bytes self.old)
-            (λ octets. Self.stream_bytes self.new ≡ Some octets) };
+            (λ octets. Self.stream_bytes self.new ≡ Some octets) }
+        ensures met { Gives (calls self.old) (calls self.new) result };
 }
 
 impl ReadSeek for File {
+    ghost calls = { λ _. None };
+
+    fn go_to(&mut self, at: u64) -> io::Result<()> {
+        self.seek(SeekFrom::Start(at))?;
+        Ok(())
+    }
+
     fn read_on(&mut self, buf: &mut [u8]) -> io::Result<usize> {
         self.read(buf)
     }
 }
 
-/// Octets that are opened by name. `content` is what each name holds, where the type tells it.
+/// Octets that are opened by name. `content` is what each name holds, and `opened` the names that were to be opened up to now,
+/// in their order, if the type tells them.
 pub trait ByName {
     type Reader: ReadSeek + Drop;
 
     ghost content: { Self → List ℕ → Option (List ℕ) };
 
-    /// A reader that stands at the beginning of what the name holds.
-    fn open(&self, name: &str) -> io::Result<Self::Reader>
-        ensures { IfOk result (λ reader. IsOpened (content self.now name.now)
-            (Self.Reader.stream_bytes reader) (Self.Reader.stream_position reader)) };
+    ghost opened: { Self → Option (List (List ℕ)) };
+
+    /// A reader that stands at the beginning of what the name holds, and met no call.
+    fn open(&mut self, name: &str) -> io::Result<Self::Reader>
+        ensures reads { IfOk result (λ reader. IsOpened (content self.old name.now)
+            (Self.Reader.stream_bytes reader) (Self.Reader.stream_position reader)) }
+        ensures fresh { IfOk result (λ reader. IfSome (Self.Reader.calls reader)
+            (λ met. met ≡ [])) }
+        ensures opened { opened self.new ≡ with_name name.now (opened self.old) }
+        ensures same { content self.new ≡ content self.old };
 }
 
-/// The files of a runtime. They tell no content.
+/// The files of a runtime. They tell neither what they hold nor what was opened.
 #[derive(Drop)]
 pub struct SystemFiles<'r, R: Files<File = File>> {
     rt: &'r R,
@@ -61,7 +90,9 @@ impl<R: Files<File = File>> ByName for SystemFiles<'_, R> {
 
     ghost content = { λ _ _. None };
 
-    fn open(&self, name: &str) -> io::Result<File> {
+    ghost opened = { λ _. None };
+
+    fn open(&mut self, name: &str) -> io::Result<File> {
         fs::open(self.rt, name)
     }
 }
@@ -101,9 +132,14 @@ impl<R: ReadSeek + Drop> OpenInput<R> {
             → IsOpen content (R.stream_bytes self.old.reader) (R.stream_position self.old.reader) self.old.place
             → IsOpen content (R.stream_bytes self.new.reader) (R.stream_position self.new.reader) self.new.place }
         ensures at { OnOk result (self.new.place ≡ Some at) }
+        ensures stands { Stands (R.calls self.old.reader) self.old.place
+            → Stands (R.calls self.new.reader) self.new.place }
+        ensures met { Stands (R.calls self.old.reader) self.old.place → OnOk result
+            (R.calls self.new.reader
+            ≡ option_map (λ met. met ++ way_to at met) (R.calls self.old.reader)) }
     {
         if self.place != Some(at) {
-            self.reader.seek(SeekFrom::Start(at))?;
+            self.reader.go_to(at)?;
             self.place = Some(at);
         }
         Ok(())
@@ -119,6 +155,11 @@ impl<R: ReadSeek + Drop> OpenInput<R> {
         ensures told { (octets : List ℕ)
             → IsOpen (Some octets) (R.stream_bytes self.old.reader) (R.stream_position self.old.reader) self.old.place
             → IfOk result (λ n. AreAt octets at buf.new n) }
+        ensures stands { Stands (R.calls self.old.reader) self.old.place
+            → Stands (R.calls self.new.reader) self.new.place }
+        ensures met { Stands (R.calls self.old.reader) self.old.place → IfOk result
+            (λ n. R.calls self.new.reader ≡ option_map
+            (λ met. met ++ calls_of_read at n met) (R.calls self.old.reader)) }
     {
         self.go_to(at)?;
         let n = self.reader.read_on(buf)?;
@@ -129,14 +170,9 @@ impl<R: ReadSeek + Drop> OpenInput<R> {
 
 /// The place of the input of this name, if it is open.
 fn place_of<R: ReadSeek + Drop>(inputs: &[OpenInput<R>], name: &str) -> Option<usize>
-    ensures { IfSome result (λ i. IsNamed inputs.now i name.now) }
+    ensures { result ≡ position (has_name name.now) inputs.now }
 {
-    for (i, input) in inputs.iter().enumerate() {
-        if input.name.as_str() == name {
-            return Some(i);
-        }
-    }
-    None
+    inputs.iter().position(|input| input.name.as_str() == name)
 }
 
 /// Files by name. A file that can't be opened, sought or read is a fault, whatever the cause, an interrupted call and want
@@ -149,6 +185,7 @@ pub struct FileInputs<N: ByName + Drop> {
     inputs: Vec<OpenInput<N::Reader>>,
     faults: u64,
     ghost reading: { AllOpen (N.content files) N.Reader.stream_bytes N.Reader.stream_position inputs.items },
+    ghost standing: { AllStand N.Reader.calls inputs.items },
 }
 
 impl<'r, R: Files<File = File>> FileInputs<SystemFiles<'r, R>> {
@@ -168,12 +205,16 @@ impl<'r, R: Files<File = File>> FileInputs<SystemFiles<'r, R>> {
 /// Opens what the name holds.
 fn open_input<N: ByName>(
     alloc: Global,
-    files: &N,
+    files: &mut N,
     name: &str,
 ) -> Result<OpenInput<N::Reader>, InFault>
     ensures named { IfOk result (λ input. string_bytes input.name ≡ name.now) }
-    ensures reads { IfOk result (λ input. IsOpen (N.content files.now name.now)
+    ensures reads { IfOk result (λ input. IsOpen (N.content files.old name.now)
         (N.Reader.stream_bytes input.reader) (N.Reader.stream_position input.reader) input.place) }
+    ensures fresh { IfOk result (λ input. IfSome (N.Reader.calls input.reader) (λ met. met ≡ [])) }
+    ensures start { IfOk result (λ input. input.place ≡ Some 0) }
+    ensures opened { Opens name.now (N.opened files.old) (N.opened files.new) result }
+    ensures same { N.content files.new ≡ N.content files.old }
 {
     Ok(OpenInput {
         name: String::from_str(alloc, name)?,
@@ -185,16 +226,23 @@ fn open_input<N: ByName>(
 impl<N: ByName + Drop> FileInputs<N> {
     /// Opens the name, if it isn't open yet, and gives its place among the open inputs.
     fn open_named(&mut self, name: &str) -> Result<usize, InFault>
-        ensures files { self.new.files ≡ self.old.files }
+        ensures content { N.content self.new.files ≡ N.content self.old.files }
         ensures faults { self.new.faults ≡ self.old.faults }
-        ensures named { IfOk result (λ i. IsNamed self.new.inputs.items i name.now) }
+        ensures named { IfOk result
+            (λ i. position (has_name name.now) self.new.inputs.items ≡ Some i) }
+        ensures opened { OpensOnce (open_under name.now self.old.inputs.items) name.now
+            (N.opened self.old.files) (N.opened self.new.files) result }
+        ensures met { calls_met N.Reader.calls (open_under name.now self.new.inputs.items)
+            ≡ calls_met N.Reader.calls (open_under name.now self.old.inputs.items) }
+        ensures kept { KeepsOpen name.now self.old.inputs.items self.new.inputs.items }
     {
         if let Some(i) = place_of(&self.inputs, name) {
             return Ok(i);
         }
-        let input = open_input(self.alloc, &self.files, name)?;
+        self.inputs.reserve(1)?;
+        let input = open_input(self.alloc, &mut self.files, name)?;
         let i = self.inputs.len();
-        self.inputs.push(input)?;
+        self.inputs.push_reserved(input);
         Ok(i)
     }
 
@@ -203,8 +251,14 @@ impl<N: ByName + Drop> FileInputs<N> {
         ensures most { IfOk result (λ n. n ≤ length buf.new) }
         ensures told { IfOk result
             (λ n. IfSome (N.content self.old.files name.now) (λ octets. AreAt octets at buf.new n)) }
-        ensures files { self.new.files ≡ self.old.files }
+        ensures content { N.content self.new.files ≡ N.content self.old.files }
         ensures faults { self.new.faults ≡ self.old.faults }
+        ensures opened { OpensOnce (open_under name.now self.old.inputs.items) name.now
+            (N.opened self.old.files) (N.opened self.new.files) result }
+        ensures once { IfOk result
+            (λ n. ReadsOnce N.Reader.calls (open_under name.now self.old.inputs.items)
+            (open_under name.now self.new.inputs.items) at n) }
+        ensures kept { KeepsOpen name.now self.old.inputs.items self.new.inputs.items }
     {
         let i = self.open_named(name)?;
         Ok(self.inputs[i].read_at(at, buf)?)
@@ -212,11 +266,30 @@ impl<N: ByName + Drop> FileInputs<N> {
 }
 
 impl<N: ByName + Drop> Inputs for FileInputs<N> {
+    ghost use Rattle.fib_io.specs.FileInputs.{files_of, inputs_of};
+
     ghost content = { λ s. N.content s.files };
 
     ghost faults = { λ s _. s.faults };
 
-    fn read(&mut self, name: &str, at: u64, buf: &mut [u8]) -> Result<usize, InFault> {
+    /// Opens the name unless it is open, goes to the place unless the last read ended there, and reads once. What the reader gave
+    /// is handed on as it is.
+    fn read(&mut self, name: &str, at: u64, buf: &mut [u8]) -> Result<usize, InFault>
+        ensures most { IfOk result (λ n. n ≤ length buf.new) }
+        ensures told { IfOk result
+            (λ n. IfSome (⟦<FileInputs<N> as Inputs>⟧.content self.old name.now)
+            (λ octets. AreAt octets at buf.new n)) }
+        ensures same { ⟦<FileInputs<N> as Inputs>⟧.content self.new
+            ≡ ⟦<FileInputs<N> as Inputs>⟧.content self.old }
+        ensures cause { HasReadCause (⟦<FileInputs<N> as Inputs>⟧.faults self.old)
+            (⟦<FileInputs<N> as Inputs>⟧.faults self.new) name.now result }
+        ensures opened { OpensOnce (open_under name.now (inputs_of self.old)) name.now
+            (N.opened (files_of self.old)) (N.opened (files_of self.new)) result }
+        ensures once { IfOk result
+            (λ n. ReadsOnce N.Reader.calls (open_under name.now (inputs_of self.old))
+            (open_under name.now (inputs_of self.new)) at n) }
+        ensures kept { KeepsOpen name.now (inputs_of self.old) (inputs_of self.new) }
+    {
         let result = self.read_named(name, at, buf);
         if result.is_err() {
             count_fault(&mut self.faults);
