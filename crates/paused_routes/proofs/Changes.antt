@@ -1,21 +1,21 @@
 -- The words that an update stores, and the slots at which an address gets another answer.
 use Rattle.std.proofs.Common.{◌≡◌, ℕ, zero, suc, ◌-◌, ◌^◌, ◌<◌, ◌≤◌, List, [], ◌∷◌, ◌++◌, Bool, true, false, Some, take, drop, map, length, nat_eq, length-append, refl, sym, ap, ◌∙◌, arith, subst, mod-eq_of_lt, inl, inr}
-use Rattle.std.specs.Prelude.{◌⊎◌, ◌≢◌, ◌||◌, ◌↔◌}
-use Rattle.std.specs.List.{list_any}
+use Rattle.std.specs.Prelude.{◌⊎◌, ◌≢◌, ◌||◌, ◌↔◌, slice_index}
+use Rattle.std.specs.List.{list_any, AllByRecursion}
 use Rattle.std.proofs.Math.Seq.{take-append_seam}
-use Rattle.std.proofs.lemmas.Bool.{cases_eq}
+use Rattle.std.proofs.lemmas.Bool.{cases_eq, ne_eqb}
 use Rattle.std.proofs.lemmas.List.{take-append-drop, length-take-le, length-drop}
 use Rattle.address_model.specs.Address.{Address, IsAddress, Prefix}
 use Rattle.address_model.specs.Bits.{bits_of, value_of}
 use Rattle.address_model.specs.Width.{width}
 use Rattle.address_model.specs.declared.family.Family.{Family}
 use Rattle.address_model.specs.declared.family.Family.TheVariants.{V4, V6}
-use Rattle.address_model.proofs.BitLaws.{length-bits_of, value-bits_of, bits_from_value}
+use Rattle.address_model.proofs.BitLaws.{length-bits_of, value-bits_of, value-lt, bits_from_value}
 use Rattle.fib_regions.specs.Answers.{all_answers, part, side}
 use Rattle.poptrie_build.specs.Tries.{rest}
-use Rattle.poptrie_set.specs.Lives.{Store, covers}
+use Rattle.poptrie_set.specs.Lives.{Store, covers, ShowsIn}
 use Rattle.poptrie_set.specs.Prepares.{SameAt, AreInOrder, StoresJust}
-use Rattle.poptrie_update.specs.Lives.{Living, is_selecting}
+use Rattle.poptrie_update.specs.Lives.{Living, Shows, ShowsBy, is_selecting}
 use Rattle.poptrie_update.specs.Pendings.{IsTokenBy, IsSelectorOf}
 use Rattle.poptrie_update.specs.Prepares.{StoresBy}
 use Rattle.poptrie_update.specs.declared.live.Other.{Other}
@@ -60,6 +60,10 @@ wide V4 = omega arith
 wide V6 = omega arith
 
 -- ---- the slots that differ
+-- each is at a slot below the number
+abbrev AreBelow : ℕ → List Store → Type 0
+AreBelow n stores = AllByRecursion (λ (x : Store). x.0 < n) stores
+
 module _ (w : World) (n : ℕ) (f : Family) (few : w.direct ≤ 18) where
   in_slot : (a : Address) (v : ℕ) → IsAddress a → slot_of w a ≡ v → v < 2 ^ w.direct → take w.direct a.bits ≡ bits_of w.direct v
   in_slot a v is at below =
@@ -89,9 +93,23 @@ module _ (w : World) (n : ℕ) (f : Family) (few : w.direct ≤ 18) where
   not_same : (v : ℕ) → v < 2 ^ w.direct → Differs w n f v → SameAt f w.direct (w.routes n) (w.routes (suc n)) v → ⊥
   not_same v below d same = d.4 (sym (same d.0 d.1 d.2 (in_slot d.0 v d.1 d.3 below)))
 
-  changed : (stores : List Store) → StoresJust f w.direct (w.routes n) (w.routes (suc n)) stores → (v : ℕ) → v < 2 ^ w.direct → (b : Bool) → covers stores v ≡ b → (b ≡ true) ↔ Differs w n f v
-  changed stores just v below true e = ((λ q. differs v below (λ same. let z : covers stores v ≡ false = (just.just v below).1 same in absurd (cc))), (λ d. refl))
-  changed stores just v below false e = ((λ q. absurd (cc)), (λ d. absurd (not_same v below d ((just.just v below).0 e))))
+  in_range : (v : ℕ) → Differs w n f v → v < 2 ^ w.direct
+  in_range v d =
+      let long : w.direct ≤ length d.0.bits = omega (arith, few, d.1, wide d.0.family) in
+      subst (λ (k : ℕ). v < 2 ^ k) (length-take-le w.direct d.0.bits long) (subst (λ (u : ℕ). u < 2 ^ length (take w.direct d.0.bits)) d.3 (value-lt (take w.direct d.0.bits)))
+
+  covered_below : (stores : List Store) → AreBelow (2 ^ w.direct) stores → (v : ℕ) → covers stores v ≡ true → v < 2 ^ w.direct
+  covered_below [] below v e = absurd (cc)
+  covered_below (x ∷ stores) below v e = elim (cases_eq x.0 v) [
+    | inl q ↦ subst (λ (u : ℕ). u < 2 ^ w.direct) q below.0
+    | inr q ↦ covered_below stores below.1 v (sym (ap (λ (b : Bool). b || covers stores v) (ne_eqb x.0 v q)) ∙ e)
+  ]
+
+  changed : (stores : List Store) → AreBelow (2 ^ w.direct) stores → StoresJust f w.direct (w.routes n) (w.routes (suc n)) stores → (v : ℕ) → (b : Bool) → covers stores v ≡ b → (b ≡ true) ↔ Differs w n f v
+  changed stores below just v true e =
+      let low : v < 2 ^ w.direct = covered_below stores below v e in
+      ((λ q. differs v low (λ same. let z : covers stores v ≡ false = (just.just v low).1 same in absurd (cc))), (λ d. refl))
+  changed stores below just v false e = ((λ q. absurd (cc)), (λ d. let low : v < 2 ^ w.direct = in_range v d in absurd (not_same v low d ((just.just v low).0 e))))
 
 -- ---- in the order of slots
 ascends : (stores : List Store) → AreInOrder stores → Ascends (map (λ (x : ℕ × ℕ). x.0) stores)
@@ -104,19 +122,26 @@ covers_all : (stores : List Store) (v : ℕ) → covers stores v ≡ list_any (n
 covers_all [] v = refl
 covers_all (x ∷ stores) v = ap (λ (b : Bool). b || covers stores v) (eq_comm x.0 v) ∙ ap (λ (b : Bool). nat_eq v x.0 || b) (covers_all stores v)
 
-pub are_changes : (w : World) (n : ℕ) (f : Family) (stores : List Store) → w.direct ≤ 18 → StoresJust f w.direct (w.routes n) (w.routes (suc n)) stores → AreChanges w n f (map (λ (x : ℕ × ℕ). x.0) stores)
-are_changes w n f stores few just = (ascends stores just.in_order, (λ v below. subst (λ (b : Bool). (b ≡ true) ↔ Differs w n f v) (covers_all stores v) (changed w n f few stores just v below (covers stores v) refl)))
+pub are_changes : (w : World) (n : ℕ) (f : Family) (stores : List Store) → w.direct ≤ 18 → AreBelow (2 ^ w.direct) stores → StoresJust f w.direct (w.routes n) (w.routes (suc n)) stores → AreChanges w n f (map (λ (x : ℕ × ℕ). x.0) stores)
+are_changes w n f stores few below just = (ascends stores just.in_order, (λ v. subst (λ (b : Bool). (b ≡ true) ↔ Differs w n f v) (covers_all stores v) (changed w n f few stores below just v (covers stores v) refl)))
 
 -- ---- as the token tells
-module _ (w : World) (n : ℕ) (f : Family) (few : w.direct ≤ 18) (p : Prefix) (fam : p.family ≡ f) (l : Living) (family : l.selected.family ≡ f) (direct : l.selected.direct_bits ≡ w.direct) where
-  just_words : StoresJust l.selected.family l.selected.direct_bits (w.routes n) (w.routes (suc n)) l.selected.stores → MayStore w n (Some p) (words (map (λ (x : ℕ × ℕ). x.0) l.selected.stores))
-  just_words just = subst (λ (g : Family). AreChanges w n g (map (λ (x : ℕ × ℕ). x.0) l.selected.stores)) (sym fam) (are_changes w n f l.selected.stores few (subst (λ (s : ℕ). StoresJust f s (w.routes n) (w.routes (suc n)) l.selected.stores) direct (subst (λ (g : Family). StoresJust g l.selected.direct_bits (w.routes n) (w.routes (suc n)) l.selected.stores) family just)))
+due_below : (n : ℕ) (new : List ℕ) (stores : List Store) → AllByRecursion (λ (x : Store). (x.0 < n) × (slice_index new x.0 ≡ x.1)) stores → AreBelow n stores
+due_below n new [] due = tt
+due_below n new (x ∷ stores) due = (due.0.0, due_below n new stores due.1)
 
-  by_words : (o : Other) → is_selecting o ≡ false → StoresJust l.selected.family l.selected.direct_bits (w.routes n) (w.routes (suc n)) l.selected.stores → MayStore w n (Some p) (stores_in o l.selected)
-  by_words other.Free e just = just_words just
-  by_words (other.Retired end) e just = just_words just
-  by_words other.Built e just = absurd (cc)
-  by_words other.Replaced e just = absurd (cc)
+module _ (w : World) (n : ℕ) (f : Family) (few : w.direct ≤ 18) (p : Prefix) (fam : p.family ≡ f) (l : Living) (family : l.selected.family ≡ f) (direct : l.selected.direct_bits ≡ w.direct) where
+  below_in : ShowsIn l.selected (w.routes n) (w.routes (suc n)) → AreBelow (2 ^ w.direct) l.selected.stores
+  below_in shows = subst (λ (s : ℕ). AreBelow (2 ^ s) l.selected.stores) direct (due_below (2 ^ l.selected.direct_bits) shows.1 l.selected.stores shows.2.due)
+
+  just_words : ShowsIn l.selected (w.routes n) (w.routes (suc n)) → StoresJust l.selected.family l.selected.direct_bits (w.routes n) (w.routes (suc n)) l.selected.stores → MayStore w n (Some p) (words (map (λ (x : ℕ × ℕ). x.0) l.selected.stores))
+  just_words shows just = subst (λ (g : Family). AreChanges w n g (map (λ (x : ℕ × ℕ). x.0) l.selected.stores)) (sym fam) (are_changes w n f l.selected.stores few (below_in shows) (subst (λ (s : ℕ). StoresJust f s (w.routes n) (w.routes (suc n)) l.selected.stores) direct (subst (λ (g : Family). StoresJust g l.selected.direct_bits (w.routes n) (w.routes (suc n)) l.selected.stores) family just)))
+
+  by_words : (o : Other) → is_selecting o ≡ false → ShowsBy o l.selected l.other (w.routes n) (w.routes (suc n)) → StoresJust l.selected.family l.selected.direct_bits (w.routes n) (w.routes (suc n)) l.selected.stores → MayStore w n (Some p) (stores_in o l.selected)
+  by_words other.Free e shows just = just_words shows just
+  by_words (other.Retired end) e shows just = just_words shows just
+  by_words other.Built e shows just = absurd (cc)
+  by_words other.Replaced e shows just = absurd (cc)
 
   by_selector : (o : Other) (stored : Bool) → IsSelectorOf stored o → MayStore w n (Some p) (stores_in o l.selected)
   by_selector other.Free stored t = absurd t
@@ -124,6 +149,6 @@ module _ (w : World) (n : ℕ) (f : Family) (few : w.direct ≤ 18) (p : Prefix)
   by_selector other.Built stored t = tt
   by_selector other.Replaced stored t = tt
 
-  pub may_store : (x : code_stores.Stores) → IsTokenBy x l → StoresBy x l (w.routes n) (w.routes (suc n)) → MayStore w n (Some p) (stores_in l.state l.selected)
-  may_store (stores.Words t) token just = by_words l.state token.1 just
-  may_store (stores.Selector stored) token just = by_selector l.state stored token
+  pub may_store : (x : code_stores.Stores) → IsTokenBy x l → Shows l (w.routes n) (w.routes (suc n)) → StoresBy x l (w.routes n) (w.routes (suc n)) → MayStore w n (Some p) (stores_in l.state l.selected)
+  may_store (stores.Words t) token shows just = by_words l.state token.1 shows just
+  may_store (stores.Selector stored) token shows just = by_selector l.state stored token

@@ -78,9 +78,9 @@ Ascends [] = Unit {0}
 Ascends (v ∷ []) = Unit {0}
 Ascends (v ∷ u ∷ more) = (v < u) × Ascends (u ∷ more)
 
--- the slots, in ascending order, at which some address gets another answer
+-- just the slots at which some address gets another answer, in ascending order
 abbrev pub AreChanges : World → ℕ → Family → List ℕ → Type 0
-AreChanges w n f slots = Ascends slots × ((v : ℕ) → v < 2 ^ w.direct → (list_any (nat_eq v) slots ≡ true) ↔ Differs w n f v)
+AreChanges w n f slots = Ascends slots × ((v : ℕ) → (list_any (nat_eq v) slots ≡ true) ↔ Differs w n f v)
 
 -- what the next event stores: nothing where it changes no chosen hop, else these words or the selector
 abbrev pub MayStore : World → ℕ → Option Prefix → Stores → Type 0

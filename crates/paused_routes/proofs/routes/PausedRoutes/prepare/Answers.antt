@@ -23,7 +23,7 @@ returns-in-Ok-clause-begun c = λ w f s at next.
     let alike = agree w f s p at.0 h to c.args.hop.0 next fam in
     let r = c.prepare.new.self in
     let what = stores_in r.state r.selected in
-    let may = may_store w s.ended f h.trie.few to fam r (c.prepare.ensures.shape.0 ∙ h.trie.family) (c.prepare.ensures.shape.1 ∙ h.trie.direct) c.in-Ok.pending.stores c.in-Ok.ensures.token.0 (c.in-Ok.ensures.changes _ _ was region alike) in (
+    let may = may_store w s.ended f h.trie.few to fam r (c.prepare.ensures.shape.0 ∙ h.trie.family) (c.prepare.ensures.shape.1 ∙ h.trie.direct) c.in-Ok.pending.stores c.in-Ok.ensures.token.0 (c.in-Ok.ensures.shows _ _ was region alike) (c.in-Ok.ensures.changes _ _ was region alike) in (
       what,
       subst (λ (x : Option Prefix). MayStore w s.ended x what) (sym next.changed) may,
       (
