@@ -18,6 +18,7 @@ use Rattle.cert_model.proofs.Postorder.{have_bound, few}
 use Rattle.orig_tree.proofs.Telling.{whole_len}
 use Rattle.orig_tree.specs.Spots.{Spot, answers_in}
 use Rattle.least_model.proofs.Cost.{set_alike, k_alike}
+use Rattle.least_model.proofs.Laws.{bound_law}
 use Rattle.ortc.proofs.Alike.{rows_alike, two_answers, some_bit, half_answers}
 
 -- the rows of a region with one answer
@@ -100,5 +101,8 @@ module _ {S : Type 0} (Takes : S → List CertRow → S → Type 0) where
         subst (λ xs. Takes X xs Z) (fresh_proved f p R s all e b g (ap (λ x. region_rows s.bits (answers_in s) (prefix_as p) ++ bound_row p.family x ∷ []) is)) (joins X Y Z (region_rows s.bits (answers_in s) (prefix_as p)) (bound_row p.family n ∷ []) rows bound)
 
 -- they prove a least table least
+as_many : (f : Family) (R T : Entries) → Least (width f) (of_family f R) (of_family f T) → length (of_family f T) ≡ bound (width f) (of_family f R)
+as_many f R T l = omega (arith, few R T f l, bound_law (width f) (of_family f R) (of_family f T) l.0)
+
 pub certified : (f : Family) (R T : Entries) (rows : List CertRow) → rows ≡ family_rows f R → Least (width f) (of_family f R) (of_family f T) → ProveLeast f R T rows
-certified f R T rows e l = (l.0, region_rows (width f) (answers (of_family f R) []) (whole_prefix f), bound (width f) (of_family f R), e, have_bound R f, few R T f l)
+certified f R T rows e l = (l.0, region_rows (width f) (answers (of_family f R) []) (whole_prefix f), bound (width f) (of_family f R), e, have_bound R f, as_many f R T l)
