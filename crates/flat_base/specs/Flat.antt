@@ -1,5 +1,5 @@
 -- What the flat candidates stand for.
-use Rattle.std.specs.Prelude.{cond, ◌≡◌, ◌≢◌, ◌<◌, ◌≤◌, ◌⊎◌, ℕ, suc, List, [], ◌∷◌, ◌++◌, Bool, true, false, ◌||◌, ◌&&◌, ◌==◌, drop, length, slice_get, Option, Some, None, option_map, is_some}
+use Rattle.std.specs.Prelude.{cond, ◌≡◌, ◌≢◌, ◌-◌, ◌^◌, ◌<◌, ◌≤◌, ◌⊎◌, ℕ, suc, List, [], ◌∷◌, ◌++◌, Bool, true, false, ◌&&◌, length, slice_get, Option, Some, None, option_map, is_some}
 use Rattle.std.specs.List.{list_any}
 use Rattle.std.specs.Ordering.{is_eq}
 use Rattle.std.specs.Map.{lookup}
@@ -12,7 +12,6 @@ use Rattle.fib_addr.specs.declared.addr.Addr.{Addr}
 use Rattle.fib_prefix.specs.declared.event.Peer.{Peer}
 use Rattle.fib_prefix.specs.declared.event.Via.{Via}
 use Rattle.fib_addr.specs.declared.prefix.Prefix as code
-use Rattle.route_model.specs.Events as model
 use Rattle.route_model.specs.Events.{same_peer}
 use Rattle.flat_base.specs.declared.keys.Seat.{Seat}
 use Rattle.flat_base.specs.declared.keys.Offer.{Offer}
@@ -89,6 +88,13 @@ pub record AreFlat (rows : List Row) (slots : List Slot) (peers : List Peer) (ho
 
 abbrev pub IsFlat : Flat → Type 0
 IsFlat b = AreFlat b.rows.items b.slots.items b.peers.keys b.hops.keys b.ends.items
+
+-- a row, a slot, a peer and a hop more have numbers: rows and slots below 2^32 - 1, so that 1 more than a slot's place is a number too
+pub record HasNumbers (b : Flat) : Type 0 where
+  pub rows : length b.rows.items < 2 ^ 32 - 1
+  pub slots : length b.slots.items < 2 ^ 32 - 1
+  pub peers : length b.peers.keys < no_peer
+  pub hops : length b.hops.keys < no_hop
 
 -- what is numbered stays so
 abbrev pub IsGrown : {X : Type 0} → List X → List X → Type 0

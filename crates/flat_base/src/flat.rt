@@ -1,13 +1,13 @@
 //! The flat base: what comes in the order of prefixes, in runs of slots.
 
-ghost use Rattle.std.specs.Prelude.{◌||◌, ◌≡◌, ◌≢◌, ◌≤◌, ◌<◌, ◌+◌, ◌-◌, ℕ, [], suc, true, false, None, Some, MatchOption, IfOk, OnOk, OnErr, IfSome, IfNone, length, option_map, slice_get, slice_set, slice_index_or, ◌++◌, ◌∷◌};
+ghost use Rattle.std.specs.Prelude.{◌||◌, ◌≡◌, ◌≢◌, ◌≤◌, ◌<◌, ◌+◌, ◌-◌, ◌^◌, ℕ, [], suc, true, false, None, Some, MatchOption, IfOk, OnOk, OnErr, IfSome, IfNone, length, option_map, slice_get, slice_set, slice_index_or, ◌++◌, ◌∷◌};
 ghost use Rattle.std.specs.declared.cmp.Ordering.TheVariants.{Less, Equal};
 ghost use Rattle.std.specs.Map.{lookup};
 ghost use Rattle.std.specs.BTreeMap.{is_at};
 ghost use Rattle.flat_base.specs.Orders.{seat_cmp};
 ghost use Rattle.flat_base.specs.Seats.{Seats};
 ghost use Rattle.flat_base.specs.Chains.{no_peer, end_of as chain_end};
-ghost use Rattle.flat_base.specs.Flat.{IsFlat, IsRow, HasNoRow, IsSlot, HasNoSlot, HasNoSeat, IsNumber, HasNoNumber, IsGrown, IsRun, IsBehind, IsLastRow, IsNext, IsHop, HasHop, Puts, AreNumbers, AreApart, Offers, Thins, NoSeatComes, IsLastFree, Grows, IsSlotOf, live_on, is_seat, is_among, is_offered_by, with_offer, emptied, offer_by, seats_on, no_slot, flat_seats, offer_on, via_on, no_hop, both};
+ghost use Rattle.flat_base.specs.Flat.{IsFlat, IsRow, HasNoRow, IsSlot, HasNoSlot, HasNoSeat, IsNumber, HasNoNumber, HasNumbers, IsGrown, IsRun, IsBehind, IsLastRow, IsNext, IsHop, HasHop, Puts, AreNumbers, AreApart, Offers, Thins, NoSeatComes, IsLastFree, Grows, IsSlotOf, live_on, is_seat, is_among, is_offered_by, with_offer, emptied, offer_by, seats_on, no_slot, flat_seats, offer_on, via_on, no_hop, both};
 ghost use Rattle.flat_base.specs.Bests.{IsBest, better_on, best_step, better_one as better};
 
 use crate::keys::{Candidate, Offer, Seat};
@@ -20,6 +20,9 @@ use std::collections::BTreeSet;
 
 /// The hop number of a slot that offers nothing.
 const NO_HOP: u32 = u32::MAX;
+
+/// The most rows, and the most slots: their numbers and their places, and one more than these, have 32 bits.
+const MOST: usize = u32::MAX as usize;
 
 /// The most slots of a row.
 const RUN: usize = 64;
@@ -221,8 +224,7 @@ impl Flat {
             return Err(AllocError);
         }
         let (at, _) = self.hops.insert_full(*hop)?;
-        let number = u32::try_from(at).map_err(|_| AllocError)?;
-        Ok(number)
+        Ok(at as u32)
     }
 
     /// The number of a hop that a peer's route has, which it gets if it has none.
@@ -247,24 +249,22 @@ impl Flat {
 
     /// A peer's number, which it gets if it has none.
     fn number_peer(&mut self, peer: &Peer) -> Result<u32, AllocError>
-        requires { IsFlat self.old }
+        requires flat { IsFlat self.old }
+        requires few { length self.old.peers.keys < no_peer }
         ensures peer { IfOk result (IsNumber self.new.peers.keys peer.now) }
         ensures flat { IsFlat self.new }
         ensures seats { flat_seats self.new ≡ flat_seats self.old }
         ensures rows { self.new.rows.items ≡ self.old.rows.items }
+        ensures slots { self.new.slots.items ≡ self.old.slots.items }
         ensures hops { self.new.hops.keys ≡ self.old.hops.keys }
         ensures grows { Grows self.old self.new }
     {
         if let Some(number) = self.number_near(peer) {
             return Ok(number);
         }
-        if self.peers.len() >= NO_PEER as usize {
-            return Err(AllocError);
-        }
         self.add_end()?;
         let (at, _) = self.peers.insert_full(*peer)?;
-        let number = u32::try_from(at).map_err(|_| AllocError)?;
-        Ok(number)
+        Ok(at as u32)
     }
 
     /// Makes room for one more peer's chain.
@@ -311,6 +311,7 @@ impl Flat {
     fn push_row(&mut self, prefix: &Prefix) -> Result<u32, AllocError>
         requires flat { IsFlat self.old }
         requires behind { IsBehind self.old.rows.items prefix.now }
+        requires numbers { HasNumbers self.old }
         ensures row { IfOk result (IsLastRow self.new.rows.items prefix.now) }
         ensures flat { IsFlat self.new }
         ensures seats { flat_seats self.new ≡ flat_seats self.old }
@@ -320,8 +321,8 @@ impl Flat {
         ensures ends { self.new.ends.items ≡ self.old.ends.items }
         ensures grows { Grows self.old self.new }
     {
-        let row = u32::try_from(self.rows.len()).map_err(|_| AllocError)?;
-        let off = u32::try_from(self.slots.len()).map_err(|_| AllocError)?;
+        let row = self.rows.len() as u32;
+        let off = self.slots.len() as u32;
         self.rows.push(Row::new(prefix, off))?;
         Ok(row)
     }
@@ -330,13 +331,14 @@ impl Flat {
     fn push_slot(&mut self, slot: Slot) -> Result<(), AllocError>
         requires flat { IsFlat self.old }
         requires next { IsNext self.old slot }
+        requires few { length self.old.slots.items < 2 ^ 32 - 1 }
         ensures flat { IsFlat self.new }
         ensures ok { OnOk result (flat_seats self.new ≡ flat_seats self.old
             ++ seats_on self.old.rows.items self.old.peers.keys self.old.hops.keys (slot ∷ [])) }
         ensures err { OnErr result (flat_seats self.new ≡ flat_seats self.old) }
         ensures grows { Grows self.old self.new }
     {
-        let end = u32::try_from(self.slots.len().saturating_add(1)).map_err(|_| AllocError)?;
+        let end = self.slots.len() as u32 + 1;
         self.slots.push(slot)?;
         self.ends[slot.peer as usize] = end;
         Ok(())
@@ -357,6 +359,8 @@ impl Flat {
         requires flat { IsFlat self.old }
         requires row { IsLastRow self.old.rows.items seat.now.prefix row }
         requires new { HasNoSeat self.old seat.now }
+        requires peers { length self.old.peers.keys < no_peer }
+        requires slots { length self.old.slots.items < 2 ^ 32 - 1 }
         ensures flat { IsFlat self.new }
         ensures ok { OnOk result (Puts (flat_seats self.old) (flat_seats self.new) seat.now (Some offer.now)) }
         ensures err { OnErr result (flat_seats self.new ≡ flat_seats self.old) }
@@ -380,10 +384,13 @@ impl Flat {
 
     /// The last row's number, where it is this prefix's and its run isn't long, or that of a new row behind it.
     fn row_behind(&mut self, prefix: &Prefix) -> Result<Option<u32>, AllocError>
-        requires { IsFlat self.old }
+        requires flat { IsFlat self.old }
+        requires numbers { HasNumbers self.old }
         ensures row { IfOk result (λ row. IfSome row (IsLastRow self.new.rows.items prefix.now)) }
         ensures flat { IsFlat self.new }
         ensures seats { flat_seats self.new ≡ flat_seats self.old }
+        ensures slots { self.new.slots.items ≡ self.old.slots.items }
+        ensures peers { self.new.peers.keys ≡ self.old.peers.keys }
         ensures grows { Grows self.old self.new }
     {
         match self.order_last(prefix) {
@@ -406,7 +413,17 @@ impl Flat {
         Some(row)
     }
 
-    /// Puts an offer behind all others, if its place is there.
+    /// Whether there are numbers for a row, a slot, a peer and a hop more.
+    fn has_numbers(&self) -> bool
+        ensures { result ≡ true → HasNumbers self.now }
+    {
+        self.rows.len() < MOST
+            && self.slots.len() < MOST
+            && self.peers.len() < NO_PEER as usize
+            && self.hops.len() < NO_HOP as usize
+    }
+
+    /// Puts an offer behind all others, if its place is there and numbers are left.
     pub fn append(&mut self, seat: &Seat, offer: &Offer) -> Result<bool, AllocError>
         requires flat { IsFlat self.old }
         requires new { HasNoSeat self.old seat.now }
@@ -416,6 +433,9 @@ impl Flat {
         ensures err { OnErr result (flat_seats self.new ≡ flat_seats self.old) }
         ensures grows { Grows self.old self.new }
     {
+        if !self.has_numbers() {
+            return Ok(false);
+        }
         match self.row_behind(&seat.prefix())? {
             Some(row) => {
                 self.append_to(row, seat, offer)?;

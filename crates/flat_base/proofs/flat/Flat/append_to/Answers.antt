@@ -1,8 +1,8 @@
-use Rattle.std.proofs.Common.{ap, sym, subst, ◌∙◌, ◌≡◌, None}
+use Rattle.std.proofs.Common.{sym, subst, ◌∙◌, ◌≡◌, None}
 use Rattle.std.specs.Map.{lookup}
 use Rattle.std.specs.BTreeMap.{is_at}
 use Rattle.flat_base.specs.Orders.{seat_cmp}
-use Rattle.flat_base.specs.Flat.{IsFlat, IsLastRow, IsNumber, HasNoSeat, flat_seats}
+use Rattle.flat_base.specs.Flat.{IsFlat, IsLastRow, IsNumber, flat_seats}
 use Rattle.flat_base.proofs.Flats.{next_slot, appended, grows_more}
 use Rattle.flat_base.proofs.flat.Flat.append_to.Goals as goal
 

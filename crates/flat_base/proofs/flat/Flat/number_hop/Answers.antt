@@ -1,5 +1,4 @@
-use Rattle.std.proofs.Common.{ap, sym, ◌∙◌, ◌≡◌, ◌≤◌, length, Some, rules}
-use Rattle.std.specs.Prelude.{slice_get}
+use Rattle.std.proofs.Common.{ap, sym, ◌∙◌, ◌≤◌, length, Some, rules}
 use Rattle.flat_base.proofs.Places.{grown_key}
 use Rattle.flat_base.proofs.Flats.{addr_same, more_hops, grown_seats}
 use Rattle.flat_base.specs.Flat.{no_hop}
@@ -8,8 +7,7 @@ use Rattle.flat_base.proofs.flat.Flat.number_hop.Goals as goal
 pub returns-clause-hop : goal.returns-clause-hop
 returns-clause-hop c =
     let s = c.in_ok-at.ensures.stored in
-    let n : c.in_ok-number.number ≡ c.in_ok-at.at = search rules in
-    ap (slice_get _) n ∙ (s.1 ∙ ap Some (sym (addr_same c.args.hop.now s.0 s.2)))
+    s.1 ∙ ap Some (sym (addr_same c.args.hop.now s.0 s.2))
 
 pub returns-clause-grown : goal.returns-clause-grown
 returns-clause-grown c = grown_key _ c.args.self.now.hops.keys c.args.hop.now _ c.in_ok-at.ensures.keys

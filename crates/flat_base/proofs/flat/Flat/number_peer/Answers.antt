@@ -1,14 +1,12 @@
-use Rattle.std.proofs.Common.{sym, subst, ◌≡◌, ◌<◌, length, rules}
+use Rattle.std.proofs.Common.{sym, subst, ◌<◌, length, rules}
 use Rattle.flat_base.specs.Chains.{no_peer}
-use Rattle.flat_base.specs.Flat.{IsNumber}
 use Rattle.flat_base.proofs.Flats.{number_stored, numbered_flat, numbered_seats}
 use Rattle.flat_base.proofs.flat.Flat.number_peer.Goals as goal
 
 pub returns-clause-peer : goal.returns-clause-peer
 returns-clause-peer c =
     let s = c.in_ok-at.ensures.stored in
-    let n : c.in_ok-number.number ≡ c.in_ok-at.at = search rules in
-    subst (IsNumber _ c.args.peer.now) (sym n) (number_stored c.args.peer.now _ c.in_ok-at.at s.0 s.1 s.2)
+    number_stored c.args.peer.now _ c.in_ok-at.at s.0 s.1 s.2
 
 pub returns-clause-flat : goal.returns-clause-flat
 returns-clause-flat c =
@@ -17,15 +15,5 @@ returns-clause-flat c =
 
 pub returns-clause-seats : goal.returns-clause-seats
 returns-clause-seats c =
-    let few : length c.add_end.new.self.peers.keys < no_peer = subst (λ keys. length keys < no_peer) (sym c.add_end.ensures.peers) (search rules) in
-    numbered_seats c.args.self.now c.add_end.new.self c.args.peer.now c.insert_full.new.self.keys c.add_end.ensures.flat c.in_ok-add_end.ensures.room few c.in_ok-at.ensures.keys c.add_end.ensures.rows c.add_end.ensures.slots c.add_end.ensures.peers c.add_end.ensures.hops
-
-pub returns-in_err-number-clause-flat : goal.returns-in_err-number-clause-flat
-returns-in_err-number-clause-flat c =
-    let few : length c.add_end.new.self.peers.keys < no_peer = subst (λ keys. length keys < no_peer) (sym c.add_end.ensures.peers) (search rules) in
-    numbered_flat c.args.self.now c.add_end.new.self c.args.peer.now c.insert_full.new.self.keys c.add_end.ensures.flat c.in_ok-add_end.ensures.room few c.in_ok-at.ensures.keys
-
-pub returns-in_err-number-clause-seats : goal.returns-in_err-number-clause-seats
-returns-in_err-number-clause-seats c =
     let few : length c.add_end.new.self.peers.keys < no_peer = subst (λ keys. length keys < no_peer) (sym c.add_end.ensures.peers) (search rules) in
     numbered_seats c.args.self.now c.add_end.new.self c.args.peer.now c.insert_full.new.self.keys c.add_end.ensures.flat c.in_ok-add_end.ensures.room few c.in_ok-at.ensures.keys c.add_end.ensures.rows c.add_end.ensures.slots c.add_end.ensures.peers c.add_end.ensures.hops
