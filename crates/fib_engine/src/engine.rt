@@ -417,7 +417,8 @@ impl Engine {
         (settled, self.hops)
     }
 
-    /// What each elementary event from now on does to the routes, computed in advance: the tables are let go.
+    /// What each elementary event after the load does to the routes, computed in advance, where none came yet: the tables are let
+    /// go.
     pub fn turns(self) -> Turns
         ensures { (load : List model_elem) → Stands load [] self → AreTurnsOf load [] result }
     {
