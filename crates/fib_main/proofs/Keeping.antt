@@ -1,21 +1,27 @@
 -- What the changes of a kept table come to on the way.
-use Rattle.std.proofs.Common.{◌≡◌, ℕ, suc, ◌+◌, ◌<◌, ◌≤◌, List, [], ◌∷◌, ◌++◌, Bool, true, false, cond, Some, None, length, refl, sym, ap, subst, ◌∙◌, arith, append_assoc, append-nil}
-use Rattle.std.specs.Prelude.{nat_le, if◌then◌else◌}
+use Rattle.std.proofs.Common.{◌≡◌, ℕ, zero, suc, ◌+◌, ◌<◌, ◌≤◌, List, [], ◌∷◌, ◌++◌, Bool, true, false, cond, Option, Some, None, length, refl, sym, ap, subst, ◌∙◌, arith, append_assoc, append-nil}
+use Rattle.std.specs.Prelude.{nat_le, not, slice_index_or, if◌then◌else◌}
 use Rattle.std.specs.List.{AllByRecursion, filter}
+use Rattle.std.specs.List.Sorted.{IsNonDecreasingBy}
+use Rattle.std.specs.Option.{option_and_then}
 use Rattle.std.proofs.lemmas.Bool.{le-leb, lt-leb}
 use Rattle.address_model.specs.Address.{Address, Prefix, IsPrefix}
+use Rattle.address_model.specs.Order.{prefix_cmp}
+use Rattle.address_model.specs.Regions.{is_within}
 use Rattle.address_model.specs.Width.{width}
 use Rattle.table_model.specs.Entries.{Entries, AlikeInBoth, of_family}
 use Rattle.table_model.specs.Changes.{Change, sum_of}
 use Rattle.table_model.specs.Table.{Alike}
 use Rattle.least_model.specs.Regions.{SameOutside}
 use Rattle.least_model.specs.Both.{LeastInBoth}
-use Rattle.delta_model.specs.Between.{AreEntries, between}
+use Rattle.delta_model.specs.Between.{AreEntries, between, hop_at}
 use Rattle.delta_model.proofs.Held.{Placed}
-use Rattle.kept_model.specs.Patched.{after_repair, patch_of}
-use Rattle.kept_model.proofs.Patches.{family_table, patched_least}
+use Rattle.kept_model.specs.Patched.{after_repair, entries_outside, patch_of, region_aggregate}
+use Rattle.kept_model.proofs.Patches.{family_table, hop_patched, patched_least, placed_patched}
 use Rattle.route_model.specs.Events.{Elem, elem_prefix}
 use Rattle.route_model.specs.Choice.{AreCandidates, Candidates, IsElem, after_elem, after_elems, chosen_for}
+use Rattle.route_model.proofs.Keyed.{all_filter, lookup-filter, same_entries, sorted_filter}
+use Rattle.route_model.proofs.Places.{prefix_key}
 use Rattle.feed_model.specs.Feed.{at_event, changes_in, entries_of, hops_after}
 use Rattle.feed_model.proofs.Tables.{at_prefix}
 use Rattle.kept_feed.specs.Kept.{AreNumberedAlong, changed_at, changes_by, is_due, is_other, kept_at_load, kept_by, kept_changes_from, kept_from, kept_load_changes, repaired_by, snapshot_if}
@@ -24,7 +30,7 @@ use Rattle.kept_feed.proofs.Sums.{all, by_placed, renewed_placed, snapshot_place
 use Rattle.kept_feed.proofs.Stays.{kept_changes_stay, kept_stays, load_stays}
 use Rattle.kept_feed.proofs.Steps.{changes_step, numbered_along, numbered_later}
 use Rattle.fib_main.specs.Due.{changes_of, kept_of}
-use Rattle.fib_main.specs.Keeps.{changes_to, has_snapshot}
+use Rattle.fib_main.specs.Keeps.{changes_to, entries_besides, has_snapshot}
 
 -- ---- one list of elementary events after another
 
@@ -88,6 +94,43 @@ numbers_to every hops n m held T (x ∷ elems) le =
     (event_is (λ (c : ℕ × Change). c.0 ≤ m) n (changes_by every hops n held T x) (λ c. here))
     (numbers_to every hops (n + 1) m (after_elem held x) M elems (omega arith))
 
+-- each is at most those after it
+abbrev Rises : Numbered → Type 0
+Rises [] = Unit {0}
+Rises (c ∷ cs) = AllByRecursion (λ (d : ℕ × Change). c.0 ≤ d.0) cs × Rises cs
+
+all_at : (P : ℕ × Change → Type 0) (cs : Numbered) (j : ℕ) (d : ℕ × Change) → AllByRecursion P cs → j < length cs → P (slice_index_or cs j d)
+all_at P [] j d a lt = absurd (omega (arith, lt))
+all_at P (c ∷ cs) zero d a lt = a.0
+all_at P (c ∷ cs) (suc j) d a lt = all_at P cs j d a.1 (omega (arith, lt))
+
+rises_at : (cs : Numbered) (i j : ℕ) (d : ℕ × Change) → Rises cs → i ≤ j → j < length cs → (slice_index_or cs i d).0 ≤ (slice_index_or cs j d).0
+rises_at [] i j d r le lt = absurd (omega (arith, lt))
+rises_at (c ∷ cs) zero zero d r le lt = omega arith
+rises_at (c ∷ cs) zero (suc j) d r le lt = all_at (λ (e : ℕ × Change). c.0 ≤ e.0) cs j d r.0 (omega (arith, lt))
+rises_at (c ∷ cs) (suc i) zero d r le lt = absurd (omega (arith, le))
+rises_at (c ∷ cs) (suc i) (suc j) d r le lt = rises_at cs i j d r.1 (omega (arith, le)) (omega (arith, lt))
+
+rises_both : (n : ℕ) (xs ys : Numbered) → Rises xs → Rises ys → AllByRecursion (λ (c : ℕ × Change). c.0 ≤ n) xs → AllByRecursion (λ (c : ℕ × Change). n ≤ c.0) ys → Rises (xs ++ ys)
+rises_both n [] ys r s a b = s
+rises_both n (x ∷ xs) ys r s a b =
+    let le : x.0 ≤ n = a.0 in
+    (all_both (λ (c : ℕ × Change). x.0 ≤ c.0) xs ys r.0 (all_weaker (λ (c : ℕ × Change). n ≤ c.0) (λ (c : ℕ × Change). x.0 ≤ c.0) ys (λ c ge. omega (arith, le, ge)) b), rises_both n xs ys r.1 s a.1 b)
+
+event_rises : (n : ℕ) (cs : List Change) → Rises (at_event n cs)
+event_rises n [] = tt
+event_rises n (c ∷ cs) = (event_is (λ (d : ℕ × Change). n ≤ d.0) n cs (λ d. omega arith), event_rises n cs)
+
+rises_from : (every : ℕ) (hops : List Address) (n : ℕ) (held : Candidates) (T : Entries) (elems : List Elem) → Rises (kept_changes_from every hops n held T elems)
+unfolding kept_changes_from
+rises_from every hops n held T [] = tt
+rises_from every hops n held T (x ∷ elems) =
+    let M = kept_by every hops n held T x in
+    let later = kept_changes_from every hops (n + 1) (after_elem held x) M elems in
+    rises_both n (at_event n (changes_by every hops n held T x)) later (event_rises n (changes_by every hops n held T x)) (rises_from every hops (n + 1) (after_elem held x) M elems)
+    (event_is (λ (c : ℕ × Change). c.0 ≤ n) n (changes_by every hops n held T x) (λ c. omega arith))
+    (all_weaker (λ (c : ℕ × Change). n + 1 ≤ c.0) (λ (c : ℕ × Change). n ≤ c.0) later (λ c le. omega (arith, le)) (numbers_from every hops (n + 1) (after_elem held x) M elems))
+
 abbrev is_to : ℕ → ℕ × Change → Bool
 is_to m c = nat_le c.0 m
 
@@ -135,8 +178,27 @@ module _ (every : ℕ) (hops : List Address) (held : Candidates) where
   same_some T U e = cc
 
   -- what the changes so far add up to is the kept table
+  pub sum_is : (done rest : List Elem) → AllByRecursion IsElem done → sum_of (changes_to (length done) (all_changes (done ++ rest))) ≡ Some (table_after done)
+  sum_is done rest p = ap (λ cs. sum_of (changes_in cs)) (changes_are done rest) ∙ all every hops held done p
+
   pub table_is : (done rest : List Elem) (T : Entries) → AllByRecursion IsElem done → sum_of (changes_to (length done) (all_changes (done ++ rest))) ≡ Some T → T ≡ table_after done
-  table_is done rest T p e = same_some T (table_after done) (sym e ∙ (ap (λ cs. sum_of (changes_in cs)) (changes_are done rest) ∙ all every hops held done p))
+  table_is done rest T p e = same_some T (table_after done) (sym e ∙ sum_is done rest p)
+
+  pub in_order : (elems : List Elem) → IsNonDecreasingBy (λ (c : ℕ × Change). c.0) (all_changes elems)
+  in_order elems =
+      let later = kept_changes_from every hops 1 held (kept_at_load hops held) elems in
+      let rises : Rises (all_changes elems) =
+      rises_both 0 (kept_load_changes hops held) later (event_rises 0 _) (rises_from every hops 1 held (kept_at_load hops held) elems)
+      (event_is (λ (c : ℕ × Change). c.0 ≤ 0) 0 _ (λ c. omega arith))
+      (all_weaker (λ (c : ℕ × Change). 1 ≤ c.0) (λ (c : ℕ × Change). 0 ≤ c.0) later (λ c le. omega arith) (numbers_from every hops 1 held (kept_at_load hops held) elems))
+      in
+      λ i j d le lt. rises_at (all_changes elems) i j d rises le lt
+
+  pub none_past : (elems : List Elem) → AllByRecursion (λ (c : ℕ × Change). c.0 ≤ length elems) (all_changes elems)
+  none_past elems =
+      all_both (λ (c : ℕ × Change). c.0 ≤ length elems) (kept_load_changes hops held) (kept_changes_from every hops 1 held (kept_at_load hops held) elems)
+      (event_is (λ (c : ℕ × Change). c.0 ≤ length elems) 0 _ (λ c. omega arith))
+      (numbers_to every hops 1 (length elems) held (kept_at_load hops held) elems (omega arith))
 
 -- every kept table is in order
 pub kept_placed : (every : ℕ) (hops : List Address) (n : ℕ) (held : Candidates) (T : Entries) (elems : List Elem) → AllByRecursion IsElem elems → Placed T → Placed (kept_from every hops n held T elems)
@@ -188,6 +250,43 @@ fewest_by every hops n held T L elem q e t c l a o =
     let repaired : repaired_by hops held T elem ≡ patch_of R q T = ap (λ at. after_repair R at T) c in
     subst (λ (N : Entries). length (of_family q.family (snapshot_if (is_due every n) R N)) ≤ length (of_family q.family L)) (sym repaired)
     (by_fewest (is_due every n) R T L q (subst IsPrefix same (at_prefix elem e)) t l a o)
+
+-- ---- outside the repair
+
+pub none_due : (every n : ℕ) → has_snapshot every (n + 1) ≡ false → is_due every (n + 1) ≡ false
+none_due every n none =
+    let next : n + 1 ≡ suc n = omega arith in
+    subst (λ m. is_due every m ≡ false) (sym next) (subst (λ m. has_snapshot every m ≡ false) next none)
+
+changed_prefix : (held : Candidates) (elem : Elem) (q : Prefix) → IsElem elem → changed_at held elem ≡ Some q → IsPrefix q
+changed_prefix held elem q e c = subst IsPrefix (changed_is (is_other (chosen_for held (elem_prefix elem)) (chosen_for (after_elem held elem) (elem_prefix elem))) (elem_prefix elem) q c) (at_prefix elem e)
+
+patched_outside : (R T : Entries) (p : Prefix) → IsPrefix p → Placed T → entries_outside p (patch_of R p T) ≡ entries_outside p T
+patched_outside R T p x t =
+    let N = patch_of R p T in
+    let n : Placed N = placed_patched R T p x t in
+    same_entries prefix_key (entries_outside p N) (entries_outside p T) (sorted_filter prefix_cmp (is_out) N n.1) (sorted_filter prefix_cmp (is_out) T t.1) (all_filter (is_out) IsPrefix N n.0) (all_filter (is_out) IsPrefix T t.0)
+    (λ q. lookup-filter prefix_key (is_out) q N n.1 ∙ (by_test q (is_within q p) (hop_at q (region_aggregate R p T)) (hop_at q T) (hop_at q N) (hop_patched R T p q x t) ∙ sym (lookup-filter prefix_key (is_out) q T t.1)))
+  where
+    is_out : Prefix × ℕ → Bool
+    is_out e = not (is_within e.0 p)
+
+    none_left : (o : Option ℕ) → option_and_then (λ (v : ℕ). cond false (Some v) None) o ≡ None
+    none_left None = refl
+    none_left (Some h) = refl
+
+    by_test : (q : Prefix) (b : Bool) (new old now : Option ℕ) → now ≡ cond b new old → option_and_then (λ (v : ℕ). cond (not b) (Some v) None) now ≡ option_and_then (λ (v : ℕ). cond (not b) (Some v) None) old
+    by_test q true new old now e = none_left now ∙ sym (none_left old)
+    by_test q false new old now e = ap (option_and_then (λ (v : ℕ). cond true (Some v) None)) e
+
+repaired_outside : (R T : Entries) (at : Option Prefix) → ((q : Prefix) → at ≡ Some q → IsPrefix q) → Placed T → entries_besides at (after_repair R at T) ≡ entries_besides at T
+repaired_outside R T None is t = refl
+repaired_outside R T (Some q) is t = patched_outside R T q (is q refl) t
+
+pub outside_by : (every : ℕ) (hops : List Address) (n : ℕ) (held : Candidates) (T : Entries) (elem : Elem) → IsElem elem → Placed T → is_due every n ≡ false → entries_besides (changed_at held elem) (kept_by every hops n held T elem) ≡ entries_besides (changed_at held elem) T
+outside_by every hops n held T elem e t none =
+    let R = entries_of hops (after_elem held elem) in
+    ap (λ b. entries_besides (changed_at held elem) (snapshot_if b R (repaired_by hops held T elem))) none ∙ repaired_outside R T (changed_at held elem) (λ q c. changed_prefix held elem q e c) t
 
 -- ---- one elementary event more
 

@@ -1,10 +1,11 @@
 -- What holds of all that a run may print.
-use Rattle.std.proofs.Common.{◌≡◌, ℕ, ◌+◌, ◌≤◌, List, [], ◌∷◌, ◌++◌, Option, Some, None, Result, Ok, Err, length, refl, sym, ap, ◌∙◌, subst, append_assoc, length-append}
+use Rattle.std.proofs.Common.{◌≡◌, ℕ, ◌+◌, ◌≤◌, List, [], ◌∷◌, ◌++◌, Option, Some, None, Result, Ok, Err, length, take, drop, refl, sym, ap, ◌∙◌, subst, append_assoc, length-append}
+use Rattle.std.proofs.lemmas.List.{length-take-le, take-append-drop}
 use Rattle.std.proofs.lemmas.List.Sums.{fold-append}
 use Rattle.std.specs.List.{AllByRecursion}
 use Rattle.octet_fields.specs.Field.{◌>>=◌}
 use Rattle.address_model.specs.Address.{Address}
-use Rattle.table_model.specs.Changes.{sum_of}
+use Rattle.table_model.specs.Changes.{Change, sum_of}
 use Rattle.table_model.specs.Entries.{AlikeInBoth, Entries, match_in, of_family}
 use Rattle.route_model.specs.Events.{Elem}
 use Rattle.route_model.specs.Choice.{AreCandidates, Candidates, IsElem, after_elem, after_elems}
@@ -19,7 +20,7 @@ use Rattle.least_model.specs.Both.{LeastInBoth}
 use Rattle.delta_model.proofs.Held.{Placed}
 use Rattle.feed_model.specs.Feed.{hops_after, entries_of}
 use Rattle.feed_model.proofs.Tables.{entries_sorted}
-use Rattle.kept_feed.specs.Kept.{kept_at_load, kept_by}
+use Rattle.kept_feed.specs.Kept.{changed_at, kept_at_load, kept_by}
 use Rattle.kept_feed.proofs.Steps.{kept_step}
 use Rattle.kept_feed.proofs.Sums.{all}
 use Rattle.fib_words.specs.Commands.{Named, Asked, Run, Check, Make, Steps, command_of}
@@ -38,10 +39,10 @@ use Rattle.step_run.specs.Stepping.{Stepping}
 use Rattle.fib_main.specs.Due.{Feed, Printed, stepped, stepping_at, printed, asks_at, feed_at, feeds_at, limits_of, load_at, made, made_at, sizes_of, feed_of, feed_in, elems_in, read_part, changes_of, kept_of, told_at, run_at, used_at, output_at, ran, checked, due, usage, answers_to}
 use Rattle.fib_main.specs.Proves.{IfRan}
 use Rattle.fib_main.specs.Runs.{IfDue, SumsUp, Forwards, Answers, HasLeast, HasAggregate, Certified, InPrefixOrder, IsInOrder, HasHops}
-use Rattle.fib_main.specs.Keeps.{Follows, HasTable, RenewsLeast, RepairsFewest, changes_to}
+use Rattle.fib_main.specs.Keeps.{Follows, HasTable, KeepsTables, RenewsLeast, RepairsFewest, RepairsWithin, changes_to, entries_besides}
 use Rattle.fib_main.proofs.Addressed.{has_hops}
 use Rattle.fib_main.proofs.Certifying.{certified_least, least_in_both}
-use Rattle.fib_main.proofs.Keeping.{alike_after, fewest_by, kept_placed, least_after, loaded_placed, table_is}
+use Rattle.fib_main.proofs.Keeping.{alike_after, fewest_by, in_order, kept_placed, least_after, loaded_placed, none_due, none_past, outside_by, sum_is, table_is}
 
 -- ---- what an input brings is of prefixes and peers that there are
 
@@ -222,6 +223,26 @@ table_at limits load updates asks done rest T q e h =
 proper_front : (updates : Feed) (done rest : List Elem) → AllByRecursion IsElem updates.elems → updates.elems ≡ done ++ rest → AllByRecursion IsElem done
 proper_front updates done rest q e = front_of done rest (subst (AllByRecursion IsElem) e q)
 
+pub kept : (words : Words) (content : Content) → IfRan (due words content) KeepsTables
+kept = each_due KeepsTables (λ limits load updates asks p q.
+    let hops : List Address = hops_after [] (load.elems ++ updates.elems) in
+    let held : Candidates = after_elems [] load.elems in
+    let changes : List Elem → List (ℕ × Change) = λ elems. changes_of limits.every hops load.elems elems in
+    record {
+      in_order = in_order limits.every hops held updates.elems;
+      none_past = none_past limits.every hops held updates.elems;
+      tables = λ n le.
+          let done = take n updates.elems in
+          let rest = drop n updates.elems in
+          let all_of : done ++ rest ≡ updates.elems = take-append-drop n updates.elems in
+          let T = kept_of limits.every hops load.elems done in (
+            T,
+            subst (λ elems. sum_of (changes_to n (changes elems)) ≡ Some T) all_of
+                (subst (λ m. sum_of (changes_to m (changes (done ++ rest))) ≡ Some T) (length-take-le n updates.elems le)
+                (sum_is limits.every hops held done rest (proper_front updates done rest q (sym all_of)))),
+          );
+    })
+
 pub follows : (words : Words) (content : Content) → IfRan (due words content) Follows
 follows = each_due Follows (λ limits load updates asks p q done rest T e h.
     let hops : List Address = hops_after [] (load.elems ++ updates.elems) in
@@ -234,16 +255,40 @@ renewed = each_due RenewsLeast (λ limits load updates asks p q done rest T e sn
     let held : Candidates = after_elems [] load.elems in
     subst (λ L. LeastInBoth (entries_of hops (after_elems held done)) L) (sym (table_at limits load updates asks done rest T q e h)) (least_after limits.every hops held done snapshot))
 
+-- the table after one event more is what the event makes of the one before, which is in order
+module _ (limits : Limits) (load updates : Feed) (asks : List Address) (done rest : List Elem) (elem : Elem) (T U : Entries) (q : AllByRecursion IsElem updates.elems) (e : updates.elems ≡ done ++ elem ∷ rest) (h : HasTable (printed limits load updates asks) (length done) T) where
+  before_is : T ≡ kept_of limits.every (hops_after [] (load.elems ++ updates.elems)) load.elems done
+  before_is = table_at limits load updates asks done (elem ∷ rest) T q e h
+
+  step_is : HasTable (printed limits load updates asks) (length done + 1) U → U ≡ kept_by limits.every (hops_after [] (load.elems ++ updates.elems)) (length done + 1) (after_elems (after_elems [] load.elems) done) T elem
+  step_is k =
+      let hops : List Address = hops_after [] (load.elems ++ updates.elems) in
+      let held : Candidates = after_elems [] load.elems in
+      let all_one : updates.elems ≡ (done ++ elem ∷ []) ++ rest = e ∙ sym (append_assoc done (elem ∷ []) rest) in
+      let counted : length done + 1 ≡ length (done ++ elem ∷ []) = sym (length-append done (elem ∷ [])) in
+      let after : U ≡ kept_of limits.every hops load.elems (done ++ elem ∷ []) = table_at limits load updates asks (done ++ elem ∷ []) rest U q all_one (subst (λ n. sum_of (changes_to n (changes_of limits.every hops load.elems updates.elems)) ≡ Some U) counted k) in
+      after ∙ (kept_step limits.every hops elem held (kept_at_load hops held) done ∙ ap (λ K. kept_by limits.every hops (length done + 1) (after_elems held done) K elem) (sym before_is))
+
+  before_placed : Placed T
+  before_placed =
+      let hops : List Address = hops_after [] (load.elems ++ updates.elems) in
+      let held : Candidates = after_elems [] load.elems in
+      subst Placed (sym before_is) (kept_placed limits.every hops 1 held (kept_at_load hops held) done (proper_front updates done (elem ∷ rest) q e) (loaded_placed hops held))
+
+  elem_is : IsElem elem
+  elem_is = one_of done elem rest (subst (AllByRecursion IsElem) e q)
+
 pub fewest : (words : Words) (content : Content) → IfRan (due words content) RepairsFewest
 fewest = each_due RepairsFewest (λ limits load updates asks p q done rest elem at T U L e changed h k d.
     let hops : List Address = hops_after [] (load.elems ++ updates.elems) in
     let held : Candidates = after_elems [] load.elems in
-    let before : T ≡ kept_of limits.every hops load.elems done = table_at limits load updates asks done (elem ∷ rest) T q e h in
-    let all_one : updates.elems ≡ (done ++ elem ∷ []) ++ rest = e ∙ sym (append_assoc done (elem ∷ []) rest) in
-    let counted : length done + 1 ≡ length (done ++ elem ∷ []) = sym (length-append done (elem ∷ [])) in
-    let after : U ≡ kept_of limits.every hops load.elems (done ++ elem ∷ []) = table_at limits load updates asks (done ++ elem ∷ []) rest U q all_one (subst (λ n. sum_of (changes_to n (changes_of limits.every hops load.elems updates.elems)) ≡ Some U) counted k) in
-    let step : U ≡ kept_by limits.every hops (length done + 1) (after_elems held done) T elem = after ∙ (kept_step limits.every hops elem held (kept_at_load hops held) done ∙ ap (λ K. kept_by limits.every hops (length done + 1) (after_elems held done) K elem) (sym before)) in
-    let placed : Placed T = subst Placed (sym before) (kept_placed limits.every hops 1 held (kept_at_load hops held) done (proper_front updates done (elem ∷ rest) q e) (loaded_placed hops held)) in
     let alike : Alike (width at.family) (of_family at.family (entries_of hops (after_elem (after_elems held done) elem))) (of_family at.family L) = subst (λ c. Alike (width at.family) (of_family at.family (entries_of hops c)) (of_family at.family L)) (fold-append after_elem held done (elem ∷ [])) d.alike in
-    subst (λ K. length (of_family at.family K) ≤ length (of_family at.family L)) (sym step)
-    (fewest_by limits.every hops (length done + 1) (after_elems held done) T L elem at (one_of done elem rest (subst (AllByRecursion IsElem) e q)) placed changed d.entries alike d.outside))
+    subst (λ K. length (of_family at.family K) ≤ length (of_family at.family L)) (sym (step_is limits load updates asks done rest elem T U q e h k))
+    (fewest_by limits.every hops (length done + 1) (after_elems held done) T L elem at (elem_is limits load updates asks done rest elem T U q e h) (before_placed limits load updates asks done rest elem T U q e h) changed d.entries alike d.outside))
+
+pub outside : (words : Words) (content : Content) → IfRan (due words content) RepairsWithin
+outside = each_due RepairsWithin (λ limits load updates asks p q done rest elem T U e none h k.
+    let hops : List Address = hops_after [] (load.elems ++ updates.elems) in
+    let held : Candidates = after_elems (after_elems [] load.elems) done in
+    subst (λ K. entries_besides (changed_at held elem) K ≡ entries_besides (changed_at held elem) T) (sym (step_is limits load updates asks done rest elem T U q e h k))
+    (outside_by limits.every hops (length done + 1) held T elem (elem_is limits load updates asks done rest elem T U q e h) (before_placed limits load updates asks done rest elem T U q e h) (none_due limits.every (length done) none)))

@@ -1,6 +1,7 @@
 -- What the printed changes come to on the way, event by event: the load is event 0, and the elementary events of the updates are numbered from 1.
-use Rattle.std.specs.Prelude.{◌≡◌, ◌≤◌, ℕ, zero, suc, ◌+◌, List, [], ◌∷◌, ◌++◌, Bool, true, Some, length, nat_le}
-use Rattle.std.specs.List.{filter}
+use Rattle.std.specs.Prelude.{◌≡◌, ◌≤◌, ℕ, zero, suc, ◌+◌, List, [], ◌∷◌, ◌++◌, Bool, true, false, Option, Some, None, length, nat_le}
+use Rattle.std.specs.List.{AllByRecursion, filter}
+use Rattle.std.specs.List.Sorted.{IsNonDecreasingBy}
 use Rattle.address_model.specs.Address.{Prefix}
 use Rattle.address_model.specs.Width.{width}
 use Rattle.table_model.specs.Table.{Alike}
@@ -9,6 +10,7 @@ use Rattle.table_model.specs.Changes.{Change, sum_of}
 use Rattle.least_model.specs.Regions.{SameOutside}
 use Rattle.least_model.specs.Both.{LeastInBoth}
 use Rattle.delta_model.specs.Between.{AreEntries}
+use Rattle.kept_model.specs.Patched.{entries_outside}
 use Rattle.route_model.specs.Events.{Elem}
 use Rattle.route_model.specs.Choice.{Candidates, after_elems}
 use Rattle.feed_model.specs.Feed.{changes_in, entries_of}
@@ -22,6 +24,12 @@ changes_to n changes = changes_in (filter (λ c. nat_le c.0 n) changes)
 -- T is what the changes up to the event of this number add up to, begun at the empty table
 abbrev pub HasTable : Printed → ℕ → Entries → Type 0
 HasTable p n T = sum_of (changes_to n p.told.changes) ≡ Some T
+
+-- The changes stand in the order of their events, none is of an event past the last one, and up to each event they add up to a table.
+pub record KeepsTables (p : Printed) : Type 0 where
+  pub in_order : IsNonDecreasingBy (λ (c : ℕ × Change). c.0) p.told.changes
+  pub none_past : AllByRecursion (λ (c : ℕ × Change). c.0 ≤ length p.updates) p.told.changes
+  pub tables : (n : ℕ) → n ≤ length p.updates → (T : Entries) × HasTable p n T
 
 -- the candidates after the load and these elementary events
 abbrev pub held_after : Printed → List Elem → Candidates
@@ -56,3 +64,15 @@ RepairsFewest p =
     (done rest : List Elem) (elem : Elem) (q : Prefix) (T U L : Entries) → p.updates ≡ done ++ elem ∷ rest → changed_at (held_after p done) elem ≡ Some q
     → HasTable p (length done) T → HasTable p (length done + 1) U → DoesWithin q (routes_after p (done ++ elem ∷ [])) T L
     → length (of_family q.family U) ≤ length (of_family q.family L)
+
+-- the entries that aren't within the prefix, if there is one
+abbrev pub entries_besides : Option Prefix → Entries → Entries
+entries_besides None T = T
+entries_besides (Some q) T = entries_outside q T
+
+-- After each event that no snapshot follows, the table has the entries that it had before, but for those within the prefix of which the event changes the chosen hop, if it does.
+abbrev pub RepairsWithin : Printed → Type 0
+RepairsWithin p =
+    (done rest : List Elem) (elem : Elem) (T U : Entries) → p.updates ≡ done ++ elem ∷ rest → has_snapshot p.limits.every (length done + 1) ≡ false
+    → HasTable p (length done) T → HasTable p (length done + 1) U
+    → entries_besides (changed_at (held_after p done) elem) U ≡ entries_besides (changed_at (held_after p done) elem) T

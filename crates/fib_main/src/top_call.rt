@@ -4,7 +4,7 @@ ghost use Rattle.std.specs.Prelude.{◌≡◌, ℕ, ◌<◌, List, option_map};
 ghost use Rattle.fib_io.specs.Causes.{Rose};
 ghost use Rattle.cert_check.specs.Views.{no_as};
 ghost use Rattle.fib_main.specs.Ends.{Completes, EndsBy, Meets, OneRose, ReadsFrom, TellsOf, text_due, Writes, WritesBy};
-ghost use Rattle.fib_main.specs.Keeps.{Follows, RenewsLeast, RepairsFewest};
+ghost use Rattle.fib_main.specs.Keeps.{Follows, KeepsTables, RenewsLeast, RepairsFewest, RepairsWithin};
 ghost use Rattle.fib_main.specs.Owned.{IsOf};
 ghost use Rattle.fib_main.specs.Proves.{AddsFrontOfYes, AddsYes, Decides, IfChecked, IfRan, IsRun, PrintsYes, YesProves};
 ghost use Rattle.fib_main.specs.Runs.{Answers, Certified, Forwards, HasAggregate, HasHops, HasLeast, IfDue, IsInOrder, SumsUp};
@@ -121,7 +121,7 @@ fn run_and_tell<I: Inputs, O: Sink, E: Sink>(
 /// table with its tree and its changes, and the whole text. A check keeps the printed text until it is read, its routes, least
 /// table and certificate, and then the runs of both tables. A run in steps keeps its script, the events of the updates and what
 /// they do, each family's routes with two sets of arenas, and its rows and their text.
-#[tactic(auto, using(crate::proofs::Completing::completes, crate::proofs::Running::sums_up, crate::proofs::Running::forwards, crate::proofs::Running::answers, crate::proofs::Running::least, crate::proofs::Running::follows, crate::proofs::Running::renewed, crate::proofs::Running::fewest, crate::proofs::Running::aggregated, crate::proofs::Running::sorted, crate::proofs::Running::certified, crate::proofs::Running::addressed, crate::proofs::Replies::decides, crate::proofs::Replies::yes_proves))]
+#[tactic(auto, using(crate::proofs::Completing::completes, crate::proofs::Running::sums_up, crate::proofs::Running::forwards, crate::proofs::Running::answers, crate::proofs::Running::least, crate::proofs::Running::follows, crate::proofs::Running::renewed, crate::proofs::Running::fewest, crate::proofs::Running::kept, crate::proofs::Running::outside, crate::proofs::Running::aggregated, crate::proofs::Running::sorted, crate::proofs::Running::certified, crate::proofs::Running::addressed, crate::proofs::Replies::decides, crate::proofs::Replies::yes_proves))]
 pub fn run_fib<I: Inputs, O: Sink, E: Sink>(
     alloc: Global,
     words: &[String],
@@ -182,12 +182,15 @@ pub fn run_fib<I: Inputs, O: Sink, E: Sink>(
     ensures answers { IfRan (due_by words.now (I.content inputs.old)) Answers }
     ensures least { IfDue (due_by words.now (I.content inputs.old)) HasLeast }
 
-    // On the way: what the changes add up to after each event sends every address where the routes send it then, after the load
-    // and after each snapshot it is a least table, and after any other event that changes a chosen hop no table that differs
-    // from the one before only within the prefix has fewer entries.
+    // On the way: the changes stand in the order of their events, and up to each event add up to a table. It sends every address
+    // where the routes send it then, and after the load and after each snapshot it is a least table. After any other event it
+    // has the entries that it had before, but for those within the prefix of which the event changes the chosen hop, and no
+    // table that differs from the one before only there has fewer entries.
+    ensures kept { IfRan (due_by words.now (I.content inputs.old)) KeepsTables }
     ensures follows { IfRan (due_by words.now (I.content inputs.old)) Follows }
     ensures renewed { IfRan (due_by words.now (I.content inputs.old)) RenewsLeast }
     ensures fewest { IfRan (due_by words.now (I.content inputs.old)) RepairsFewest }
+    ensures outside { IfRan (due_by words.now (I.content inputs.old)) RepairsWithin }
 
     // Of the least tables it is the one that the best hops fix, with the kept table as the old one, whatever finds them; and all
     // tables stand in the order of prefixes.
