@@ -9,7 +9,7 @@ use Rattle.address_model.specs.Bits.{bits_of}
 use Rattle.address_model.proofs.BitLaws.{length-bits_of}
 use Rattle.made_model.specs.Draws.{state_after, draw}
 use Rattle.made_model.specs.Drawn.{Route, Offer, route, offer, entry_route, update_state, is_withdrawal, update_route, update_offer}
-use Rattle.made_model.specs.Octets.{record_octets}
+use Rattle.written_model.specs.Octets.{record_octets}
 use Rattle.made_model.specs.Files.{message_octets, session_body, update_body, update_record, updates_octets}
 use Rattle.made_model.proofs.Bounds.{IsRoute, IsOffer}
 use Rattle.made_input.specs.Views.{route_as, offer_as, next_update}

@@ -7,10 +7,10 @@ use Rattle.address_model.specs.declared.family.Family.TheVariants.{V4}
 use Rattle.address_model.specs.Address.{Prefix, first_bits}
 use Rattle.address_model.specs.Bits.{bits_of}
 use Rattle.address_model.proofs.BitLaws.{length-bits_of}
-use Rattle.made_model.proofs.Prefixes.{length-prefix}
+use Rattle.written_model.proofs.Prefixes.{length-prefix}
 use Rattle.made_model.specs.Drawn.{Route, Offer, peer_octets, peer_as}
-use Rattle.made_model.specs.Octets.{number_octets, prefix_octets}
-use Rattle.made_model.specs.Files.{behind_length, offer_attributes, peer_entry, peer_table_body, rib_body, message_octets, session_body, update_body}
+use Rattle.written_model.specs.Octets.{number_octets, behind_length, prefix_octets}
+use Rattle.made_model.specs.Files.{offer_attributes, peer_entry, peer_table_body, rib_body, message_octets, session_body, update_body}
 use Rattle.made_model.proofs.Attributes.{length-attributes}
 
 -- the piece of one more number

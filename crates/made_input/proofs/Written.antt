@@ -1,46 +1,27 @@
 -- Parts that were put one behind the other are what they are to be.
-use Rattle.std.proofs.Common.{◌≡◌, ℕ, zero, suc, ◌+◌, ◌-◌, ◌*◌, ◌/◌, ◌%◌, ◌^◌, ◌<◌, ◌≤◌, min, List, [], ◌∷◌, ◌++◌, false, length, take, replicate, refl, sym, ap, ◌∙◌, append_assoc, append-nil, mod-eq_of_lt, add-one, subst, arith}
-use Rattle.std.specs.Prelude.{flat_map, Result, Ok, Err, is_ok, OnOk, if◌then◌else◌}
+use Rattle.std.proofs.Common.{◌≡◌, ℕ, ◌+◌, ◌-◌, ◌*◌, ◌/◌, ◌%◌, ◌^◌, ◌<◌, ◌≤◌, List, [], ◌∷◌, ◌++◌, false, length, take, replicate, refl, sym, ap, ◌∙◌, append_assoc, mod-eq_of_lt, subst, arith}
+use Rattle.std.specs.Prelude.{Result, Ok, Err, OnOk}
 use Rattle.std.specs.Int.{bytes_high_first}
 use Rattle.std.proofs.lemmas.List.{length-take-le, length-replicate}
-use Rattle.std.proofs.lemmas.Nat.{mod_below, shr_split, shr_below}
+use Rattle.std.proofs.lemmas.Nat.{shr_split, shr_below}
 use Rattle.address_model.specs.declared.family.Family.TheVariants.{V4}
 use Rattle.address_model.specs.Address.{first_bits}
 use Rattle.address_model.specs.Bits.{bits_of, value_of}
 use Rattle.address_model.specs.Order.{filled}
 use Rattle.address_model.proofs.BitLaws.{length-bits_of, value-bits_of, value-append, value-zeros, bits_take}
 use Rattle.wire_model.specs.Wire.{octets_for}
-use Rattle.made_model.specs.Octets.{number_octets, prefix_octets, attribute_octets, as_path_octets}
-use Rattle.made_model.proofs.Attributes.{length-as_path}
+use Rattle.written_model.specs.Octets.{number_octets, prefix_octets, attribute_octets, as_path_octets}
+use Rattle.written_model.proofs.Attributes.{length-as_path}
 
 -- ---- a path
 
-abbrev pub as_numbers : ℕ → ℕ → List ℕ
-as_numbers asn n = flat_map (number_octets 4) (replicate n asn)
-
--- one AS number more, at the end
-pub numbers_more : (asn n : ℕ) → as_numbers asn (n + 1) ≡ as_numbers asn n ++ number_octets 4 asn
-numbers_more asn n = rw add-one (behind n)
-  where
-    behind : (n : ℕ) → number_octets 4 asn ++ as_numbers asn n ≡ as_numbers asn n ++ number_octets 4 asn
-    behind zero = append-nil (number_octets 4 asn)
-    behind (suc n) = ap (λ (xs : List ℕ). number_octets 4 asn ++ xs) (behind n) ∙ sym (append_assoc (number_octets 4 asn) (as_numbers asn n) (number_octets 4 asn))
-
-abbrev pub path_front : ℕ → List ℕ
-path_front n = 64 ∷ 2 ∷ (2 + 4 * n) ∷ 2 ∷ n ∷ []
-
-pub path_written : (asn n : ℕ) → path_front n ++ as_numbers asn n ≡ attribute_octets 2 (as_path_octets asn n)
-unfolding attribute_octets as_path_octets
-path_written asn n = ap (λ (k : ℕ). 64 ∷ 2 ∷ k ∷ 2 ∷ n ∷ as_numbers asn n) (sym (length-as_path asn n))
+pub path_put : (before after new : List ℕ) (asn n : ℕ) → after ≡ before ++ 64 ∷ 2 ∷ (2 + 4 * n) ∷ [] → new ≡ after ++ as_path_octets asn n → new ≡ before ++ attribute_octets 2 (as_path_octets asn n)
+unfolding attribute_octets
+path_put before after new asn n e h =
+    h ∙ (ap (λ (xs : List ℕ). xs ++ as_path_octets asn n) e ∙ (append_assoc before (64 ∷ 2 ∷ (2 + 4 * n) ∷ []) (as_path_octets asn n)
+    ∙ ap (λ (k : ℕ). before ++ 64 ∷ 2 ∷ k ∷ as_path_octets asn n) (sym (length-as_path asn n))))
 
 -- ---- a prefix
-
-ceiling : (n : ℕ) → n / 8 + min 1 (n % 8) ≡ octets_for n
-ceiling n = by_rest (n % 8) (mod_below n 8 (omega arith)) refl
-  where
-    by_rest : (r : ℕ) → r < 8 → n % 8 ≡ r → n / 8 + min 1 r ≡ (n + 7) / 8
-    by_rest zero h e = omega arith
-    by_rest (suc r) h e = let one : min 1 (suc r) ≡ 1 = omega arith in omega arith
 
 -- the least address of a prefix of an address whose other bits are cleared
 filled_is : (address len : ℕ) → len ≤ 32 → address < 2 ^ 32 → address % 2 ^ (32 - len) ≡ 0 → filled (first_bits len (record { family = V4; bits = bits_of 32 address })) ≡ address
@@ -64,27 +45,13 @@ prefix_written address len fits below cleared =
     let long : length (take len (bits_of 32 address)) ≡ len = length-take-le len (bits_of 32 address) (omega (arith, length-bits_of 32 address)) in
     rw (filled_is address len fits below cleared, long) refl
 
--- ---- one part behind others
+pub prefix_put : (before octets : List ℕ) (address len : ℕ) → len ≤ 24 → address < 2 ^ 32 → address % 2 ^ (32 - len) ≡ 0 → octets ≡ bytes_high_first 4 address → before ++ len ∷ take (octets_for len) octets ≡ before ++ prefix_octets (first_bits len (record { family = V4; bits = bits_of 32 address }))
+prefix_put before octets address len few below cleared h =
+    ap (λ (xs : List ℕ). before ++ len ∷ take (octets_for len) xs) h ∙ ap (λ (xs : List ℕ). before ++ xs) (prefix_written address len (omega arith) below cleared)
 
--- one AS number more is put
-pub number_put : (before after front : List ℕ) (new : List ℕ) (asn n : ℕ) → after ≡ before ++ front ++ as_numbers asn n → new ≡ after ++ number_octets 4 asn → new ≡ before ++ front ++ as_numbers asn (n + 1)
-number_put before after front new asn n e h =
-    h ∙ (ap (λ (xs : List ℕ). xs ++ number_octets 4 asn) e ∙ (append_assoc (before ++ front) (as_numbers asn n) (number_octets 4 asn) ∙ ap (λ (xs : List ℕ). before ++ front ++ xs) (sym (numbers_more asn n))))
+-- ---- memory
 
--- what holds holds where there was memory
+-- what holds holds if there was memory
 pub whenever : {X E P : Type 0} (r : Result X E) → P → OnOk r P
 whenever (Ok x) p = p
 whenever (Err d) p = tt
-
--- what the last part leaves, where there was memory for it
-pub last_put : {X E : Type 0} (r : Result X E) (new old part whole : List ℕ) → new ≡ (if is_ok r then old ++ part else old) → old ++ part ≡ whole → OnOk r (new ≡ whole)
-last_put (Ok x) new old part whole e h = e ∙ h
-last_put (Err d) new old part whole e h = tt
-
--- a length and the octets that hold so many bits are a prefix
-pub prefix_put : (before after octets : List ℕ) (address len n : ℕ) → len ≤ 24 → address < 2 ^ 32 → address % 2 ^ (32 - len) ≡ 0 → after ≡ before ++ len ∷ [] → octets ≡ bytes_high_first 4 address → n ≡ len / 8 + min 1 (len % 8) → after ++ take n octets ≡ before ++ prefix_octets (first_bits len (record { family = V4; bits = bits_of 32 address }))
-prefix_put before after octets address len n few below cleared e h k =
-    let count : n ≡ octets_for len = k ∙ ceiling len in
-    ap (λ (xs : List ℕ). xs ++ take n octets) e ∙ (append_assoc before (len ∷ []) (take n octets)
-    ∙ (ap (λ (xs : List ℕ). before ++ len ∷ take n xs) h ∙ (ap (λ (m : ℕ). before ++ len ∷ take m (bytes_high_first 4 address)) count
-    ∙ ap (λ (xs : List ℕ). before ++ xs) (prefix_written address len (omega arith) below cleared))))

@@ -2,12 +2,12 @@
 
 ghost use Rattle.std.specs.Prelude.{◌≡◌, ◌<◌, ◌≤◌, ◌+◌, ◌++◌, ◌∷◌, [], length, OnOk};
 ghost use Rattle.made_model.specs.Drawn as drawn;
-ghost use Rattle.made_model.specs.Octets.{attribute_octets, as_path_octets};
+ghost use Rattle.written_model.specs.Octets.{attribute_octets, as_path_octets};
 ghost use Rattle.made_model.specs.Files.{offer_attributes};
 ghost use Rattle.made_input.specs.Views.{offer_as};
 
-use crate::field::put_u32;
 use crate::route::Offer;
+use octet_put::put_sequence;
 use std::alloc::AllocError;
 
 /// The flags of a well-known attribute: it is transitive (RFC 4271, section 4.3).
@@ -19,9 +19,6 @@ const ORIGIN: u8 = 1;
 const AS_PATH: u8 = 2;
 
 const NEXT_HOP: u8 = 3;
-
-/// The segment type of an AS_SEQUENCE (RFC 4271, section 4.3).
-const AS_SEQUENCE: u8 = 2;
 
 /// The AS of a peer, one of those for documentation (RFC 5398, section 4).
 pub fn peer_as(peer: u8) -> u32
@@ -61,11 +58,8 @@ fn put_as_path(asn: u32, count: u8, out: &mut Vec<u8>) -> Result<(), AllocError>
     ensures { OnOk result (out.new.items ≡ out.old.items
         ++ attribute_octets 2 (as_path_octets asn count)) }
 {
-    out.extend_from_slice(&[WELL_KNOWN, AS_PATH, 2 + 4 * count, AS_SEQUENCE, count])?;
-    for _ in 0..count {
-        put_u32(asn, out)?;
-    }
-    Ok(())
+    out.extend_from_slice(&[WELL_KNOWN, AS_PATH, 2 + 4 * count])?;
+    put_sequence(asn, count, out)
 }
 
 /// Puts the attributes of an offer by a peer: ORIGIN, which is IGP, AS_PATH, NEXT_HOP.

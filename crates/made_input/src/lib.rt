@@ -6,9 +6,9 @@
 
 mod attribute;
 mod dump;
-mod field;
 mod generator;
 mod make;
+mod prefix;
 mod route;
 mod scratch;
 mod updates;

@@ -8,10 +8,11 @@ ghost use Rattle.made_model.specs.Files.{message_octets, session_body, update_bo
 ghost use Rattle.made_input.specs.Views.{route_as, offer_as, next_update};
 
 use crate::attribute::{peer_as, peer_octets, put_attributes};
-use crate::field::{put_behind_length, put_prefix, put_record, put_u16, put_u32};
 use crate::generator::Generator;
+use crate::prefix::put_prefix;
 use crate::route::{Offer, Route};
 use crate::scratch::Scratch;
+use octet_put::{put_behind_length, put_record, put_u16, put_u32};
 use std::alloc::{AllocError, Global};
 
 /// The type of the updates' records, BGP4MP.

@@ -11,10 +11,10 @@ use Rattle.wire_model.specs.declared.place.Place.TheVariants.{Rib}
 use Rattle.wire_model.specs.Wire.{address_at}
 use Rattle.reading_model.specs.Rib.{peer_at, peer_table, rib_entry_at, rib}
 use Rattle.made_model.specs.Drawn.{ipv4, peer_octets, peer_as, made_peer, made_peers, Route, Offer, announcement}
-use Rattle.made_model.specs.Octets.{number_octets, prefix_octets}
+use Rattle.written_model.specs.Octets.{number_octets, prefix_octets}
 use Rattle.made_model.specs.Files.{peer_entry, peer_table_body, offer_attributes, rib_body}
-use Rattle.made_model.proofs.Fields.{length-number_octets, octets_read, octets_all, number_read, nothing_read, no_octets_read}
-use Rattle.made_model.proofs.Prefixes.{v4_read}
+use Rattle.written_model.proofs.Fields.{length-number_octets, octets_read, octets_all, number_read, nothing_read, no_octets_read}
+use Rattle.written_model.proofs.Prefixes.{v4_read}
 use Rattle.made_model.proofs.Attributes.{length-attributes, attributes_read}
 use Rattle.made_model.proofs.Bounds.{IsRoute, IsOffer}
 

@@ -1,8 +1,5 @@
-pub mod Fields
-pub mod Prefixes
 pub mod Attributes
 pub mod Bounds
-pub mod Records
 pub mod Dump
 pub mod Updates
 pub mod Reading

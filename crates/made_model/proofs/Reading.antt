@@ -9,13 +9,13 @@ use Rattle.reading_model.specs.Input.{start, record_in, counted, read_record, in
 use Rattle.reading_model.proofs.Reading.{shortens}
 use Rattle.made_model.specs.Drawn.{peer_as, made_peers, Route, Offer, announcement, entry_route, entry_offer, entry_state, update_route, update_offer, is_withdrawal, dump_events, update_events}
 use Rattle.made_model.specs.Draws.{state_after}
-use Rattle.made_model.specs.Octets.{number_octets, prefix_octets, record_octets}
+use Rattle.written_model.specs.Octets.{number_octets, prefix_octets, record_octets}
 use Rattle.made_model.specs.Files.{peer_entry, peer_table_body, offer_attributes, rib_body, dump_octets, session_body, message_octets, update_body, update_record, updates_octets}
-use Rattle.made_model.proofs.Fields.{length-number_octets}
-use Rattle.made_model.proofs.Prefixes.{length-prefix}
+use Rattle.written_model.proofs.Fields.{length-number_octets}
+use Rattle.written_model.proofs.Prefixes.{length-prefix}
 use Rattle.made_model.proofs.Attributes.{length-attributes}
 use Rattle.made_model.proofs.Bounds.{IsRoute, IsOffer, route_is, offer_is}
-use Rattle.made_model.proofs.Records.{length-record, record_read, read_so, records_read}
+use Rattle.written_model.proofs.Records.{length-record, record_read, read_so, records_read}
 use Rattle.made_model.proofs.Dump.{table_read, rib_read}
 use Rattle.made_model.proofs.Updates.{told_of, length-message, length-session, length-update, update_told}
 

@@ -15,10 +15,10 @@ use Rattle.wire_model.specs.Wire.{nlris}
 use Rattle.wire_model.specs.Attribute.{nothing_found, listed, attributes}
 use Rattle.reading_model.specs.Update.{Said, said, update, message, session_behind, session_in, bgp4mp}
 use Rattle.made_model.specs.Drawn.{peer_octets, peer_as, made_peer, Route, Offer, announcement, withdrawal}
-use Rattle.made_model.specs.Octets.{number_octets, prefix_octets}
+use Rattle.written_model.specs.Octets.{number_octets, prefix_octets}
 use Rattle.made_model.specs.Files.{offer_attributes, update_body, message_octets, session_body}
-use Rattle.made_model.proofs.Fields.{length-number_octets, octets_read, number_read, no_octets_read}
-use Rattle.made_model.proofs.Prefixes.{length-prefix, nlri_read}
+use Rattle.written_model.proofs.Fields.{length-number_octets, octets_read, number_read, no_octets_read}
+use Rattle.written_model.proofs.Prefixes.{length-prefix, nlri_read}
 use Rattle.made_model.proofs.Attributes.{length-attributes, attributes_read}
 use Rattle.made_model.proofs.Bounds.{IsRoute, IsOffer}
 use Rattle.made_model.proofs.Dump.{address_read}

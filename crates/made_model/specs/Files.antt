@@ -2,7 +2,7 @@
 use Rattle.std.specs.Prelude.{ℕ, ◌+◌, ◌/◌, Bool, true, false, List, [], ◌∷◌, ◌++◌, length, replicate, flat_map}
 use Rattle.std.specs.List.{range_with_len}
 use Rattle.made_model.specs.Drawn.{peer_octets, peer_as, hop_octets, Route, Offer, entry_route, entry_offer, update_route, is_withdrawal, update_offer}
-use Rattle.made_model.specs.Octets.{number_octets, prefix_octets, attribute_octets, as_path_octets, record_octets}
+use Rattle.written_model.specs.Octets.{number_octets, behind_length, prefix_octets, attribute_octets, as_path_octets, record_octets}
 
 -- ---- the dump (RFC 6396, 4.3)
 
@@ -17,10 +17,6 @@ peer_table_body = number_octets 4 0 ++ number_octets 2 0 ++ number_octets 2 8 ++
 -- ORIGIN (1), which is IGP, AS_PATH (2) of the peer's AS alone, NEXT_HOP (3) (RFC 4271, 5.1.1 to 5.1.3)
 unfoldable pub offer_attributes : ℕ → Offer → List ℕ
 offer_attributes peer o = attribute_octets 1 (0 ∷ []) ++ attribute_octets 2 (as_path_octets (peer_as peer) o.path) ++ attribute_octets 3 (hop_octets o.hop)
-
--- octets behind their number in two octets
-abbrev pub behind_length : List ℕ → List ℕ
-behind_length octets = number_octets 2 (length octets) ++ octets
 
 -- Sequence, prefix, one entry: Peer Index, Originated Time 0, attributes
 unfoldable pub rib_body : ℕ → Route → Offer → List ℕ

@@ -3,7 +3,7 @@ use Rattle.std.specs.Prelude.{map, flat_map}
 use Rattle.std.specs.List.{range_with_len}
 use Rattle.made_model.specs.Draws.{state_after}
 use Rattle.made_model.specs.Drawn.{entry_route}
-use Rattle.made_model.specs.Octets.{record_octets}
+use Rattle.written_model.specs.Octets.{record_octets}
 use Rattle.made_model.specs.Files.{peer_table_body}
 use Rattle.made_model.proofs.Reading.{rib_record}
 use Rattle.made_input.specs.Views.{route_as}

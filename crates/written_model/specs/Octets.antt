@@ -1,7 +1,8 @@
--- How what was drawn is written: numbers, prefixes, attributes and records as octets.
+-- How numbers, addresses, prefixes, attributes and records are written as octets.
 use Rattle.std.specs.Prelude.{ℕ, List, ◌∷◌, ◌++◌, length, take, replicate, flat_map}
 use Rattle.std.specs.Int.{bytes_high_first}
-use Rattle.address_model.specs.Address.{Prefix}
+use Rattle.address_model.specs.Address.{Address, Prefix}
+use Rattle.address_model.specs.Bits.{value_of}
 use Rattle.address_model.specs.Order.{filled}
 use Rattle.address_model.specs.Width.{width}
 use Rattle.wire_model.specs.Wire.{octets_for}
@@ -9,6 +10,14 @@ use Rattle.wire_model.specs.Wire.{octets_for}
 -- a number in so many octets, the highest first (RFC 6396, 2; RFC 4271, 4)
 unfoldable pub number_octets : ℕ → ℕ → List ℕ
 number_octets k n = bytes_high_first k n
+
+-- octets behind their number in two octets
+abbrev pub behind_length : List ℕ → List ℕ
+behind_length octets = number_octets 2 (length octets) ++ octets
+
+-- the octets of an address
+abbrev pub address_octets : Address → List ℕ
+address_octets a = number_octets (octets_for (width a.family)) (value_of a.bits)
 
 -- A prefix (RFC 4271, 4.3): the length in bits, then the octets that hold them; bits past the length are 0.
 unfoldable pub prefix_octets : Prefix → List ℕ

@@ -1,7 +1,7 @@
 use Rattle.std.proofs.Common.{rules, append_assoc}
 use Rattle.std.proofs.lemmas.Result.{IfOk-equal}
-use Rattle.made_model.specs.Octets.{record_octets}
-use Rattle.made_input.proofs.field.put_record.Goals as goal
+use Rattle.written_model.specs.Octets.{record_octets}
+use Rattle.octet_put.proofs.field.put_record.Goals as goal
 
 pub returns : goal.returns
 unfolding record_octets

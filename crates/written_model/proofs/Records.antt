@@ -11,8 +11,8 @@ use Rattle.wire_model.proofs.More.{until_end_next}
 use Rattle.reading_model.specs.Update.{Said, said}
 use Rattle.reading_model.specs.Input.{Progress, record_in, counted, read_record}
 use Rattle.reading_model.proofs.Reading.{shortens}
-use Rattle.made_model.specs.Octets.{number_octets, record_octets}
-use Rattle.made_model.proofs.Fields.{length-number_octets, octets_read, number_read}
+use Rattle.written_model.specs.Octets.{number_octets, record_octets}
+use Rattle.written_model.proofs.Fields.{length-number_octets, octets_read, number_read}
 
 pub length-record : (kind subtype : ℕ) (body : List ℕ) → length (record_octets kind subtype body) ≡ 12 + length body
 unfolding record_octets
@@ -31,7 +31,7 @@ long_enough kind subtype len rest =
     let l = number_octets 4 len in
     omega (arith, length-append time (k ++ (s ++ (l ++ rest))), length-append k (s ++ (l ++ rest)), length-append s (l ++ rest), length-append l rest, length-number_octets 4 0, length-number_octets 2 kind, length-number_octets 2 subtype, length-number_octets 4 len)
 
-record_found : (kind subtype : ℕ) (body rest : List ℕ) → kind < 256 ^ 2 → subtype < 256 ^ 2 → length body ≤ most_length → record_at (record_octets kind subtype body ++ rest) ≡ Ok (record { kind = kind; subtype = subtype; body = body }, rest)
+pub record_found : (kind subtype : ℕ) (body rest : List ℕ) → kind < 256 ^ 2 → subtype < 256 ^ 2 → length body ≤ most_length → record_at (record_octets kind subtype body ++ rest) ≡ Ok (record { kind = kind; subtype = subtype; body = body }, rest)
 unfolding record_at record_octets
 record_found kind subtype body rest k s few =
     let time = number_octets 4 0 in

@@ -10,7 +10,7 @@ use Rattle.address_model.specs.Bits.{number}
 use Rattle.octet_fields.specs.Field.{octets_at, number_at, until_end}
 use Rattle.octet_fields.proofs.Numbers.{number_of_all}
 use Rattle.octet_fields.proofs.Steps.{left_at_start, left_after, left_at_end}
-use Rattle.made_model.specs.Octets.{number_octets}
+use Rattle.written_model.specs.Octets.{number_octets}
 
 pub length-number_octets : (k n : ℕ) → length (number_octets k n) ≡ k
 unfolding number_octets

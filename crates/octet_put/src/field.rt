@@ -1,12 +1,13 @@
 //! Fields, each put behind what was written before it.
 
-ghost use Rattle.std.specs.Prelude.{◌≡◌, ◌<◌, ◌≤◌, ◌++◌, ◌∷◌, [], ◌^◌, length, OnOk};
-ghost use Rattle.made_model.specs.Octets.{number_octets, prefix_octets, record_octets};
-ghost use Rattle.made_model.specs.Files.{behind_length};
-ghost use Rattle.made_input.specs.Views.{route_as};
+ghost use Rattle.std.specs.Prelude.{◌≡◌, ◌<◌, ◌≤◌, ◌++◌, ◌∷◌, ◌^◌, length, take, OnOk};
+ghost use Rattle.wire_model.specs.Wire.{octets_for};
+ghost use Rattle.written_model.specs.Octets.{number_octets, behind_length, as_path_octets, record_octets};
 
-use crate::route::Route;
 use std::alloc::AllocError;
+
+/// The segment type of an AS_SEQUENCE (RFC 4271, section 4.3).
+const AS_SEQUENCE: u8 = 2;
 
 /// Puts a number in two octets.
 pub fn put_u16(number: u16, out: &mut Vec<u8>) -> Result<(), AllocError>
@@ -31,14 +32,25 @@ pub fn put_behind_length(part: &[u8], out: &mut Vec<u8>) -> Result<(), AllocErro
     out.extend_from_slice(part)
 }
 
-/// Puts the route's prefix: its length in bits and the octets that hold them (RFC 4271, section 4.3).
-pub fn put_prefix(route: &Route, out: &mut Vec<u8>) -> Result<(), AllocError>
-    ensures { OnOk result (out.new.items ≡ out.old.items
-        ++ prefix_octets (route_as route.now).prefix) }
+/// Puts a prefix of so many bits: the length, then the octets of its address that hold them (RFC 4271, section 4.3).
+pub fn put_bits(len: u8, address: &[u8], out: &mut Vec<u8>) -> Result<(), AllocError>
+    requires { octets_for len ≤ length address.now }
+    ensures { OnOk result (out.new.items
+        ≡ out.old.items ++ len ∷ take (octets_for len) address.now) }
 {
-    let octets = usize::from(route.len.div_ceil(8));
-    out.push(route.len)?;
-    out.extend_from_slice(&route.address.to_be_bytes()[..octets])
+    out.push(len)?;
+    out.extend_from_slice(&address[..usize::from(len.div_ceil(8))])
+}
+
+/// Puts an AS_SEQUENCE that has one AS so many times, each in four octets (RFC 4271, section 4.3).
+pub fn put_sequence(asn: u32, count: u8, out: &mut Vec<u8>) -> Result<(), AllocError>
+    ensures { OnOk result (out.new.items ≡ out.old.items ++ as_path_octets asn count) }
+{
+    out.extend_from_slice(&[AS_SEQUENCE, count])?;
+    for _ in 0..count {
+        put_u32(asn, out)?;
+    }
+    Ok(())
 }
 
 /// Puts an MRT record of time 0 (RFC 6396, section 2).

@@ -1,0 +1,5 @@
+pub mod Fields
+pub mod Addresses
+pub mod Prefixes
+pub mod Attributes
+pub mod Records

@@ -1,0 +1,16 @@
+use Rattle.std.proofs.Common.{arith}
+use Rattle.written_model.proofs.Fields.{number_read}
+use Rattle.written_model.proofs.Addresses.{address_read}
+use Rattle.written_model.proofs.Prefixes.{prefix_read}
+use Rattle.written_model.proofs.Attributes.{path_read}
+use Rattle.written_model.proofs.Records.{record_found}
+use Rattle.written_model.proofs.reading_law.Goals as goal
+
+pub returns : goal.returns
+returns c = record {
+  number = number_read;
+  address = address_read;
+  prefix = prefix_read;
+  path = path_read;
+  mrt_record = λ kind subtype body rest k s few. record_found kind subtype body rest (omega arith) (omega arith) few;
+}
