@@ -1,10 +1,9 @@
 //! The text of addresses, prefixes and numbers, what lies within a prefix, and the numbers of hops up to the last.
 
 use fib_addr::{
-    Addr, Family, Hop, HopError, HopTable, HopsFull, MOST_TEXT, Prefix, addr_text, bit_at,
-    prefix_text, read_addr, read_number, read_prefix,
+    Addr, Hop, HopError, HopTable, HopsFull, MOST_TEXT, Prefix, addr_text, bit_at, prefix_text,
+    read_addr, read_number, read_prefix,
 };
-use std::test::Fail;
 
 /// Texts of addresses, and the number of each address's bits.
 const DOTTED: [(&str, Option<u32>); 33] = [
@@ -173,14 +172,6 @@ fn reads_and_writes_text(rt: HostRuntime) {
     }
 }
 
-/// The prefix that this text stands for.
-fn prefix_of(text: &str) -> Result<Prefix, Fail> {
-    match read_prefix(text.as_bytes()) {
-        Some(prefix) => Ok(prefix),
-        None => Err(Fail::new("no prefix")),
-    }
-}
-
 #[test]
 fn reads_numbers(rt: HostRuntime) {
     for (text, number) in [
@@ -198,46 +189,65 @@ fn reads_numbers(rt: HostRuntime) {
     ] {
         assert_eq!(rt; read_number(text.as_bytes(), u64::MAX), number, "{text}");
     }
-    assert_eq!(rt; read_number(b"128", 128), Some(128));
-    assert_eq!(rt; read_number(b"129", 128), None);
+    for (text, number) in [("128", Some(128)), ("129", None)] {
+        assert_eq!(rt; read_number(text.as_bytes(), 128), number, "{text}");
+    }
 }
 
 #[test]
-fn lends_text(rt: HostRuntime) -> Result<(), Fail> {
+fn lends_text(rt: HostRuntime) {
     let mut buffer = [0; MOST_TEXT];
     assert!(rt; addr_text(&mut buffer, &Addr::v6(1)) == b"::1".as_slice());
-    let ten = prefix_of("10.0.0.0/8")?;
-    assert!(rt; prefix_text(&mut buffer, &ten) == b"10.0.0.0/8".as_slice());
-    Ok(())
+}
+
+/// A prefix, an address, and whether it is in the prefix.
+const ADDRESSES: [(&str, &str, bool); 10] = [
+    ("10.0.0.0/8", "10.0.0.0", true),
+    ("10.0.0.0/8", "10.255.255.255", true),
+    ("10.0.0.0/8", "11.0.0.0", false),
+    ("10.0.0.0/8", "9.255.255.255", false),
+    ("10.0.0.0/8", "::aff:ffff", false),
+    ("10.0.0.0/8", "a00::", false),
+    ("::/0", "ffff:ffff:ffff:ffff:ffff:ffff:ffff:ffff", true),
+    ("::/0", "0.0.0.0", false),
+    ("::1/128", "::1", true),
+    ("::1/128", "::", false),
+];
+
+/// Two prefixes, and whether the first is within the second.
+const NESTED: [(&str, &str, bool); 5] = [
+    ("10.128.0.0/9", "10.0.0.0/8", true),
+    ("10.0.0.0/8", "10.128.0.0/9", false),
+    ("10.0.0.0/8", "10.0.0.0/8", true),
+    ("::1/128", "::/0", true),
+    ("10.0.0.0/8", "::/0", false),
+];
+
+/// Whether the prefix contains the address, if both are read.
+fn contains(prefix: &str, addr: &str) -> Option<bool> {
+    let addr = read_addr(addr.as_bytes())?;
+    Some(read_prefix(prefix.as_bytes())?.contains(&addr))
+}
+
+/// Whether the first prefix is within the second, if both are read.
+fn is_within(inner: &str, outer: &str) -> Option<bool> {
+    let outer = read_prefix(outer.as_bytes())?;
+    Some(read_prefix(inner.as_bytes())?.is_within(&outer))
 }
 
 #[test]
-fn tells_what_is_within_a_prefix(rt: HostRuntime) -> Result<(), Fail> {
-    let ten = prefix_of("10.0.0.0/8")?;
-    assert!(rt; ten.contains(&Addr::v4(0x0a00_0000)));
-    assert!(rt; ten.contains(&Addr::v4(0x0aff_ffff)));
-    assert!(rt; !ten.contains(&Addr::v4(0x0b00_0000)));
-    assert!(rt; !ten.contains(&Addr::v4(0x09ff_ffff)));
-    assert!(rt; !ten.contains(&Addr::v6(0x0aff_ffff)));
-    assert!(rt; !ten.contains(&Addr::v6(0x0a << 120)));
-    let all = Prefix::whole(Family::V6);
-    let one = prefix_of("::1/128")?;
-    assert!(rt; all.contains(&Addr::v6(u128::MAX)));
-    assert!(rt; !all.contains(&Addr::v4(0)));
-    assert!(rt; one.contains(&Addr::v6(1)));
-    assert!(rt; !one.contains(&Addr::v6(0)));
-
-    let narrow = prefix_of("10.128.0.0/9")?;
-    assert!(rt; narrow.is_within(&ten));
-    assert!(rt; !ten.is_within(&narrow));
-    assert!(rt; ten.is_within(&ten));
-    assert!(rt; one.is_within(&all));
-    assert!(rt; !ten.is_within(&all));
-    Ok(())
+fn tells_what_is_within_a_prefix(rt: HostRuntime) {
+    for (prefix, addr, due) in ADDRESSES {
+        assert_eq!(rt; contains(prefix, addr), Some(due), "{addr} in {prefix}");
+    }
+    for (inner, outer, due) in NESTED {
+        assert_eq!(rt; is_within(inner, outer), Some(due), "{inner} in {outer}");
+    }
 }
 
-/// The halves of the prefix, where it has any.
-fn halves_of(prefix: &Prefix) -> Option<(Prefix, Prefix)> {
+/// The halves of the prefix, if it is read and has any.
+fn halves_of(text: &str) -> Option<(Prefix, Prefix)> {
+    let prefix = read_prefix(text.as_bytes())?;
     if prefix.len < prefix.family.width() {
         Some((prefix.half(false), prefix.half(true)))
     } else {
@@ -245,42 +255,62 @@ fn halves_of(prefix: &Prefix) -> Option<(Prefix, Prefix)> {
     }
 }
 
-#[test]
-fn halves_prefixes(rt: HostRuntime) -> Result<(), Fail> {
-    let all = Prefix::whole(Family::V4);
-    assert_eq!(rt; prefix_of("0.0.0.0/0")?, all);
-    let halves = (prefix_of("0.0.0.0/1")?, prefix_of("128.0.0.0/1")?);
-    assert_eq!(rt; halves_of(&all), Some(halves));
-    let last = (prefix_of("::2/128")?, prefix_of("::3/128")?);
-    assert_eq!(rt; halves_of(&prefix_of("::2/127")?), Some(last));
-    assert!(rt; bit_at(2, 1));
-    assert!(rt; !bit_at(2, 0));
-    assert!(rt; bit_at(1 << 127, 127));
-    Ok(())
+/// Whether the prefix has these halves.
+fn has_halves(text: &str, low: &str, high: &str) -> bool {
+    match halves_of(text) {
+        Some(halves) => is_written_as(&halves.0, low) && is_written_as(&halves.1, high),
+        None => false,
+    }
 }
 
 #[test]
-fn numbers_hops_up_to_the_last(rt: HostRuntime) -> Result<(), Fail> {
+fn halves_prefixes(rt: HostRuntime) {
+    for (text, low, high) in [
+        ("0.0.0.0/0", "0.0.0.0/1", "128.0.0.0/1"),
+        ("::2/127", "::2/128", "::3/128"),
+    ] {
+        assert!(rt; has_halves(text, low, high), "{text}");
+    }
+    assert_eq!(rt; halves_of("::2/128"), None);
+    for (bits, place, due) in [(2, 1, true), (2, 0, false), (1 << 127, 127, true)] {
+        assert_eq!(rt; bit_at(bits, place), due);
+    }
+}
+
+#[test]
+fn numbers_hops_in_the_order_of_their_first_use(rt: HostRuntime) {
     let mut hops = HopTable::new(rt.alloc());
     for (bits, number) in [(9, 1), (7, 2), (9, 1), (8, 3), (7, 2)] {
         assert_eq!(rt; hops.number(&Addr::v4(bits)), Ok(Hop(number)), "{bits}");
     }
-    assert_eq!(rt; hops.find(&Addr::v4(8)), Some(Hop(3)));
-    assert_eq!(rt; hops.find(&Addr::v4(1)), None);
-    assert_eq!(rt; hops.addr(Hop(2)), Some(Addr::v4(7)));
-    assert_eq!(rt; hops.addr(Hop(4)), None);
-    assert_eq!(rt; hops.addr(Hop::NONE), None);
-    assert_eq!(rt; hops.next(&Addr::v6(8)), Ok(Hop(4)));
-    assert_eq!(rt; hops.next(&Addr::v4(8)), Ok(Hop(3)));
+    // what is found of it, and the number that it has or would get
+    for (addr, found, next) in [
+        (Addr::v4(8), Some(Hop(3)), Hop(3)),
+        (Addr::v4(1), None, Hop(4)),
+        (Addr::v6(8), None, Hop(4)),
+    ] {
+        assert_eq!(rt; hops.find(&addr), found);
+        assert_eq!(rt; hops.next(&addr), Ok(next));
+    }
+    for (hop, addr) in [
+        (Hop(2), Some(Addr::v4(7))),
+        (Hop(4), None),
+        (Hop::NONE, None),
+    ] {
+        assert_eq!(rt; hops.addr(hop), addr);
+    }
     assert_eq!(rt; hops.room(), Ok(()));
+}
 
+#[test]
+fn numbers_hops_up_to_the_last(rt: HostRuntime) {
     let mut hops = HopTable::new(rt.alloc());
     for number in 1..=65_534 {
         assert_eq!(rt; hops.number(&Addr::v4(u32::from(number))), Ok(Hop(number)));
     }
-    assert_eq!(rt; hops.number(&Addr::v4(65_535)), Err(HopError::HopsFull));
+    for (bits, number) in [(65_535, Err(HopError::HopsFull)), (65_534, Ok(Hop(65_534)))] {
+        assert_eq!(rt; hops.number(&Addr::v4(bits)), number);
+    }
     assert_eq!(rt; hops.next(&Addr::v4(65_535)), Err(HopsFull));
     assert_eq!(rt; hops.find(&Addr::v4(65_535)), None);
-    assert_eq!(rt; hops.number(&Addr::v4(65_534)), Ok(Hop(65_534)));
-    Ok(())
 }

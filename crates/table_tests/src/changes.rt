@@ -9,26 +9,21 @@ fn a_router_takes_changes(rt: HostRuntime) -> Result<(), ApplyError> {
     let mut table = Table::new(rt.alloc());
     let tens = prefix(0x0a00_0000, 8);
     let elevens = prefix(0x0b00_0000, 8);
-    table.apply(&Change::Add(tens, Hop(1)))?;
-    assert_eq!(rt;
-        table.apply(&Change::Add(tens, Hop(1))),
-        Err(ApplyError::Already)
-    );
-    assert_eq!(rt;
-        table.apply(&Change::Remove(elevens)),
-        Err(ApplyError::NotThere)
-    );
-    assert_eq!(rt;
-        table.apply(&Change::Replace(elevens, Hop(2))),
-        Err(ApplyError::NotThere)
-    );
+    for (change, due) in [
+        (Change::Add(tens, Hop(1)), Ok(())),
+        (Change::Add(tens, Hop(1)), Err(ApplyError::Already)),
+        (Change::Remove(elevens), Err(ApplyError::NotThere)),
+        (Change::Replace(elevens, Hop(2)), Err(ApplyError::NotThere)),
+        (Change::Replace(tens, Hop(2)), Ok(())),
+        (Change::Add(elevens, Hop(3)), Ok(())),
+        (Change::Remove(elevens), Ok(())),
+    ] {
+        assert_eq!(rt; table.apply(&change), due);
+    }
     let held = [Entry {
         prefix: tens,
-        hop: Hop(1),
+        hop: Hop(2),
     }];
     assert_eq!(rt; table.entries()?.as_slice(), held.as_slice());
-    table.apply(&Change::Replace(tens, Hop(2)))?;
-    table.apply(&Change::Remove(tens))?;
-    assert_eq!(rt; table.entries()?.len(), 0);
     Ok(())
 }

@@ -17,34 +17,45 @@ fn set_of(alloc: Global, hops: &[u16]) -> Result<HopSet, AllocError> {
     Ok(set)
 }
 
+/// Whether a set and its copy have these of the hops below 8, and no other.
+fn has(alloc: Global, set: &HopSet, hops: &[u16]) -> Result<bool, AllocError> {
+    let copy = set.copied(alloc)?;
+    for hop in 0..8 {
+        let is_in = hops.contains(&hop);
+        if set.contains(hop) != is_in || copy.contains(hop) != is_in {
+            return Ok(false);
+        }
+    }
+    Ok(true)
+}
+
 #[test]
 fn sets_are_put_together(rt: HostRuntime) -> Result<(), AllocError> {
-    let low = set_of(rt.alloc(), &[1, 3, 5])?;
-    let high = set_of(rt.alloc(), &[2, 3, 5, 6])?;
-    let both = HopSet::joint(rt.alloc(), &low, &high)?;
-    for (hop, is_in) in [
-        (1, false),
-        (2, false),
-        (3, true),
-        (4, false),
-        (5, true),
-        (6, false),
+    let alloc = rt.alloc();
+    // two sets, what they come to, and whether they are apart
+    let cases: [(&[u16], &[u16], &[u16], bool); 3] = [
+        (&[1, 3, 5], &[2, 3, 5, 6], &[3, 5], false),
+        (&[1, 4], &[2, 3, 5], &[1, 2, 3, 4, 5], true),
+        (&[1], &[1], &[1], false),
+    ];
+    for (low, high, due, apart) in cases {
+        let joint = HopSet::joint(alloc, &set_of(alloc, low)?, &set_of(alloc, high)?)?;
+        assert_eq!(rt; joint.apart, apart);
+        assert!(rt; has(alloc, &joint.set, due)?);
+    }
+    Ok(())
+}
+
+#[test]
+fn a_region_has_an_entry_of_its_own(rt: HostRuntime) -> Result<(), AllocError> {
+    let set = set_of(rt.alloc(), &[1, 2, 3, 4, 5])?;
+    // the old entry's hop and the inherited one
+    for (old, inherited, own) in [
+        (Some(4), 3, None),
+        (Some(4), 7, Some(4)),
+        (Some(8), 7, Some(1)),
     ] {
-        assert_eq!(rt; both.set.contains(hop), is_in);
+        assert_eq!(rt; set.own(old, inherited), own);
     }
-    assert!(rt; !both.apart);
-    let low = set_of(rt.alloc(), &[1, 4])?;
-    let high = set_of(rt.alloc(), &[2, 3, 5])?;
-    let all = HopSet::joint(rt.alloc(), &low, &high)?;
-    assert!(rt; all.apart);
-    assert_eq!(rt; all.set.least(), 1);
-    for hop in 1..6 {
-        assert!(rt; all.set.contains(hop));
-    }
-    assert!(rt; !all.set.contains(6));
-    assert!(rt; all.set.copied(rt.alloc())?.contains(4));
-    assert_eq!(rt; all.set.own(Some(4), 3), None);
-    assert_eq!(rt; all.set.own(Some(4), 7), Some(4));
-    assert_eq!(rt; all.set.own(Some(8), 7), Some(1));
     Ok(())
 }
