@@ -157,3 +157,11 @@ fn most_hops(rt: HostRuntime) -> Result<(), Fail> {
     assert_eq!(rt; read_printed(rt.alloc(), &text).err(), Some(bad));
     Ok(())
 }
+
+#[test]
+fn a_refusal_has_its_numbers_in_place(rt: HostRuntime) -> Result<(), Fail> {
+    let alloc = rt.alloc();
+    let bad = PrintedError::BadRow(BadRow { line: 3, why: 5 });
+    assert_eq!(rt; format!(in alloc; "{bad}")?.as_str(), "bad line 3 why 5");
+    Ok(())
+}

@@ -1,10 +1,9 @@
-//! Whole texts, written out by hand.
+//! A whole text, written out by hand.
 
-use cert_rows::{Row, RowSink};
-use entry_rows::EntrySink;
+use cert_rows::Row;
 use fib_addr::{Addr, Entry, Family, Hop, HopTable, Prefix};
 use fib_delta::Change;
-use fib_report::{Answer, Report, Run, RunText, Section, report_text, write_run};
+use fib_report::{Answer, Report, Run, report_text, write_run};
 use std::test::Fail;
 
 #[test]
@@ -79,51 +78,5 @@ report,treated,3
     let report = report_text(rt.alloc(), &run.report)?;
     assert!(rt; want.as_bytes().ends_with(&report));
     assert!(rt; report.starts_with(b"report,records,2\n"));
-    Ok(())
-}
-
-#[test]
-fn rows_one_by_one(rt: HostRuntime) -> Result<(), Fail> {
-    let hops = HopTable::new(rt.alloc());
-    let mut text = RunText::new(rt.alloc(), &hops);
-    let all = Prefix::new(&Addr::v4(0), 0);
-    text.put(Row::Leaf(all, Hop::NONE))?;
-    text.put(Row::Bound(Family::V4, 0))?;
-    let want = b"cert,leaf,0.0.0.0/0,none\ncert,bound,4,0\n";
-    assert_eq!(rt; text.finish()?.as_slice(), want.as_slice());
-    Ok(())
-}
-
-#[test]
-fn entries_one_by_one(rt: HostRuntime) -> Result<(), Fail> {
-    let mut hops = HopTable::new(rt.alloc());
-    let hop = hops.number(&Addr::v4(0xc000_0201))?;
-    let ten = Entry {
-        prefix: Prefix::new(&Addr::v4(0x0a00_0000), 8),
-        hop,
-    };
-    let all = Entry {
-        prefix: Prefix::new(&Addr::v4(0), 0),
-        hop: Hop::NONE,
-    };
-    let mut routes = RunText::new(rt.alloc(), &hops).section(Section::Routes);
-    routes.put(all)?;
-    routes.put(ten)?;
-    let (text, count) = routes.end();
-    assert_eq!(rt; count, 2);
-    let mut added = text.section(Section::Added);
-    added.put(all)?;
-    let (mut text, count) = added.end();
-    assert_eq!(rt; count, 1);
-    text.entries(Section::Table, &[all, ten])?;
-    text.entries(Section::Least, &[ten])?;
-    let want = "\
-route,10.0.0.0/8,192.0.2.1
-change,0,+,0.0.0.0/0,drop
-table,0.0.0.0/0,drop
-table,10.0.0.0/8,192.0.2.1
-least,10.0.0.0/8,192.0.2.1
-";
-    assert_eq!(rt; text.finish()?.as_slice(), want.as_bytes());
     Ok(())
 }

@@ -59,32 +59,26 @@ fn reads_by_name_and_place(rt: HostRuntime) -> Result<(), Fail> {
     let alloc = rt.alloc();
     let mut inputs = MemInputs::new(names_of(alloc)?, vec![in alloc; 2]?);
     let mut buf = [0u8; 4];
-    assert!(rt; inputs.read("dump", 0, &mut buf) == Ok(4));
-    assert!(rt; &buf == b"hell");
-    assert!(rt;
-        inputs.read("dump", 4, &mut buf) == Err(InFault),
-        "the second read"
-    );
-    assert!(rt; inputs.read("dump", 4, &mut buf) == Ok(1));
-    assert!(rt; &buf == b"oell");
-    assert!(rt; inputs.read("dump", 5, &mut buf) == Ok(0), "the end");
-    assert!(rt;
-        inputs.read("dump", u64::MAX, &mut buf) == Ok(0),
-        "past the end"
-    );
-    assert!(rt;
-        inputs.read("asks", 0, &mut buf) == Err(InFault),
-        "no such name"
-    );
-
+    for (case, name, at, due, held) in [
+        ("the front", "dump", 0, Ok(4), b"hell"),
+        ("the second read", "dump", 4, Err(InFault), b"hell"),
+        ("the last octet", "dump", 4, Ok(1), b"oell"),
+        ("the end", "dump", 5, Ok(0), b"oell"),
+        ("past the end", "dump", u64::MAX, Ok(0), b"oell"),
+        ("no such name", "asks", 0, Err(InFault), b"oell"),
+    ] {
+        assert!(rt; inputs.read(name, at, &mut buf) == due, "{case}");
+        assert!(rt; &buf == held, "{case}");
+    }
     inputs.at_most(3);
     assert!(rt; inputs.read("dump", 1, &mut buf) == Ok(3));
     assert!(rt; &buf == b"elll", "three octets and no more");
 
     let mut sure = SureInputs::new(names_of(alloc)?);
-    assert!(rt; sure.read("dump", 1, &mut buf) == Ok(4));
-    assert!(rt; &buf == b"ello");
-    assert!(rt; sure.read("asks", 0, &mut buf) == Ok(0));
+    for (name, at, due) in [("dump", 1, Ok(4)), ("asks", 0, Ok(0))] {
+        assert!(rt; sure.read(name, at, &mut buf) == due, "{name}");
+        assert!(rt; &buf == b"ello", "{name}");
+    }
     Ok(())
 }
 
@@ -92,22 +86,31 @@ fn reads_by_name_and_place(rt: HostRuntime) -> Result<(), Fail> {
 fn writes_what_fits(rt: HostRuntime) -> Result<(), Fail> {
     let alloc = rt.alloc();
     let mut sink = MemSink::new(alloc, 4, vec![in alloc; 2]?)?;
-    assert!(rt; sink.write(b"ab") == Ok(2));
-    assert!(rt; sink.write(b"xy") == Err(OutFault), "the second write");
-    assert!(rt; sink.write(b"cdef") == Ok(2), "two octets fit");
-    assert!(rt; sink.write(b"") == Ok(0));
-    assert!(rt; sink.write(b"ef") == Err(OutFault), "no room");
-    assert!(rt; sink.written() == b"abcd".as_slice());
-
-    let mut sink = MemSink::new(alloc, 4, Vec::new(alloc))?;
-    sink.at_most(1);
-    assert!(rt; sink.write(b"abcdef") == Ok(1));
-
-    let mut sink = MemSink::new(alloc, 4, Vec::new(alloc))?;
-    sink.at_most(3);
-    assert!(rt; write_all(&mut sink, b"abcdef") == Err(OutFault));
+    let writes: [(&str, &[u8], Result<usize, OutFault>); 5] = [
+        ("all of it", b"ab", Ok(2)),
+        ("the second write", b"xy", Err(OutFault)),
+        ("two octets fit", b"cdef", Ok(2)),
+        ("nothing", b"", Ok(0)),
+        ("no room", b"ef", Err(OutFault)),
+    ];
+    for (case, piece, due) in writes {
+        assert!(rt; sink.write(piece) == due, "{case}");
+    }
     assert!(rt; sink.written() == b"abcd".as_slice());
     assert!(rt; write_all(&mut SureSink::new(), b"abcdef") == Ok(()));
+    Ok(())
+}
+
+#[test]
+fn writes_on_after_a_part(rt: HostRuntime) -> Result<(), Fail> {
+    let alloc = rt.alloc();
+    for (most, taken) in [(1, 1), (3, 3)] {
+        let mut sink = MemSink::new(alloc, 4, Vec::new(alloc))?;
+        sink.at_most(most);
+        assert!(rt; sink.write(b"abcdef") == Ok(taken));
+        assert!(rt; write_all(&mut sink, b"bcdef") == Err(OutFault));
+        assert_eq!(rt; sink.written().len(), 4);
+    }
     Ok(())
 }
 
@@ -122,15 +125,15 @@ fn adapters_keep_files_open_and_count_faults(rt: HostRuntime) -> Result<(), Fail
     // another file takes its place under that name
     fs::write(&rt, "other.txt", "other")?;
     fs::rename(&rt, "other.txt", "hello.txt")?;
-    assert!(rt; inputs.read("hello.txt", 0, &mut buf) == Ok(4));
-    assert!(rt; &buf == b"hell", "the file that was opened");
-    assert!(rt; inputs.read("hello.txt", 5, &mut buf) == Ok(0), "the end");
-    fs::remove_file(&rt, "hello.txt")?;
-    assert!(rt;
-        inputs.read("other.txt", 0, &mut buf) == Err(InFault),
-        "no such file"
-    );
-    assert!(rt; inputs.read("/", 0, &mut buf) == Err(InFault), "a folder");
+    for (case, name, at, due, held) in [
+        ("the file that was opened", "hello.txt", 0, Ok(4), b"hell"),
+        ("the end", "hello.txt", 5, Ok(0), b"hell"),
+        ("no such file", "other.txt", 0, Err(InFault), b"hell"),
+        ("a folder", "/", 0, Err(InFault), b"hell"),
+    ] {
+        assert!(rt; inputs.read(name, at, &mut buf) == due, "{case}");
+        assert!(rt; &buf == held, "{case}");
+    }
 
     for (most, is_broken, due, octets) in [
         (4, false, Ok(()), 6),

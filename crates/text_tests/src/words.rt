@@ -4,134 +4,180 @@ use fib_words::{CommandWords, WordsError, read_words};
 use std::alloc::Global;
 use std::test::Fail;
 
-/// The words, and the names of the dump, the updates and the asks that they ask for and how many events a snapshot follows, if
-/// they are a command.
-type Case<'a> = (
-    &'a [&'a str],
-    Option<(&'a str, Option<&'a str>, Option<&'a str>, u32)>,
-);
+/// What words ask for.
+#[derive(Clone, Copy, Debug, PartialEq, Eq)]
+enum Asked<'a> {
+    /// They aren't a command.
+    Nothing,
+    /// The names of the dump, the updates and the asks, how many events a snapshot follows, and the sizes: direct bits, and the
+    /// orders of the arenas of nodes and of leaves.
+    Run(&'a str, Option<&'a str>, Option<&'a str>, u32, [u8; 3]),
+    Check(&'a str),
+    /// How many routes, and the seed.
+    Make(u32, u64),
+    /// The names of the dump, the updates and the script, and the sizes.
+    Steps(&'a str, &'a str, &'a str, [u8; 3]),
+}
 
-const CASES: [Case<'static>; 32] = [
-    (&["fib", "run", "D"], Some(("D", None, None, 0))),
+/// Words, and what they ask for.
+type Case<'a> = (&'a [&'a str], Asked<'a>);
+
+/// The sizes if the words name none.
+const USUAL: [u8; 3] = [16, 16, 18];
+
+/// Runs and checks, and words that are no command.
+const COMMANDS: &[Case<'static>] = &[
+    (&["fib", "run", "D"], Asked::Run("D", None, None, 0, USUAL)),
     (
         &["fib", "run", "D", "--ask", "A"],
-        Some(("D", None, Some("A"), 0)),
+        Asked::Run("D", None, Some("A"), 0, USUAL),
     ),
     (
         &["fib", "run", "D", "--ask=A"],
-        Some(("D", None, Some("A"), 0)),
+        Asked::Run("D", None, Some("A"), 0, USUAL),
     ),
     (
         &["fib", "run", "--ask", "A", "D"],
-        Some(("D", None, Some("A"), 0)),
+        Asked::Run("D", None, Some("A"), 0, USUAL),
     ),
     (
         &["any", "run", "D", "--updates", "U"],
-        Some(("D", Some("U"), None, 0)),
+        Asked::Run("D", Some("U"), None, 0, USUAL),
     ),
     (
         &["fib", "run", "--ask", "A", "--updates", "U", "D"],
-        Some(("D", Some("U"), Some("A"), 0)),
+        Asked::Run("D", Some("U"), Some("A"), 0, USUAL),
     ),
-    (&["fib", "run", "--", "-D"], Some(("-D", None, None, 0))),
-    (&["fib", "run", "-"], Some(("-", None, None, 0))),
+    (
+        &["fib", "run", "--", "-D"],
+        Asked::Run("-D", None, None, 0, USUAL),
+    ),
+    (&["fib", "run", "-"], Asked::Run("-", None, None, 0, USUAL)),
     (
         &["fib", "run", "D", "--ask", "-"],
-        Some(("D", None, Some("-"), 0)),
+        Asked::Run("D", None, Some("-"), 0, USUAL),
     ),
-    (&["fib", "run", "help"], Some(("help", None, None, 0))),
+    (
+        &["fib", "run", "help"],
+        Asked::Run("help", None, None, 0, USUAL),
+    ),
     (
         &["fib", "run", "D", "--every", "1000"],
-        Some(("D", None, None, 1000)),
+        Asked::Run("D", None, None, 1000, USUAL),
     ),
     (
         &["fib", "run", "--every=4294967295", "D", "--ask", "A"],
-        Some(("D", None, Some("A"), 4_294_967_295)),
+        Asked::Run("D", None, Some("A"), 4_294_967_295, USUAL),
     ),
     (
         &["fib", "run", "D", "--every", "0"],
-        Some(("D", None, None, 0)),
+        Asked::Run("D", None, None, 0, USUAL),
     ),
-    (&["fib", "run", "D", "--every", "4294967296"], None),
-    (&["fib", "run", "D", "--every", "01"], None),
-    (&["fib", "run", "D", "--every", "+1"], None),
-    (&["fib", "run", "D", "--every", ""], None),
-    (&["fib", "run", "D", "--every"], None),
-    (&[], None),
-    (&["fib"], None),
-    (&["fib", "run"], None),
-    (&["fib", "run", "-D"], None),
-    (&["fib", "run", "D", "E"], None),
-    (&["fib", "run", "D", "--ask"], None),
-    (&["fib", "run", "D", "--ask", "-A"], None),
-    (&["fib", "run", "D", "--ask", "A", "--ask", "A"], None),
-    (&["fib", "run", "--help"], None),
-    (&["fib", "--help"], None),
-    (&["fib", "--version"], None),
-    (&["fib", "help"], None),
-    (&["fib", "check"], None),
-    (&["fib", "check", "P", "--ask", "A"], None),
-];
-
-/// Words, and the numbers that they ask for: how many events a snapshot follows, the direct bits, and the orders of the arenas
-/// of nodes and of leaves.
-type SizeCase<'a> = (&'a [&'a str], Option<(u32, u8, u8, u8)>);
-
-const SIZES: [SizeCase<'static>; 17] = [
-    (&[], Some((0, 16, 16, 18))),
-    (&["--direct", "0"], Some((0, 0, 16, 18))),
-    (&["--direct", "18"], Some((0, 18, 16, 18))),
-    (&["--nodes=24", "--leaves=26"], Some((0, 16, 24, 26))),
-    (&["--nodes", "0", "--leaves", "0"], Some((0, 16, 0, 0))),
     (
-        &["--leaves", "9", "--every", "3", "--direct", "8"],
-        Some((3, 8, 16, 9)),
+        &["fib", "run", "D", "--every", "4294967296"],
+        Asked::Nothing,
     ),
-    (&["--direct", "19"], None),
-    (&["--nodes", "25"], None),
-    (&["--leaves", "27"], None),
-    (&["--direct", "05"], None),
-    (&["--direct", "+5"], None),
-    (&["--direct", "-1"], None),
-    (&["--nodes", "00"], None),
-    (&["--leaves", "256"], None),
-    (&["--leaves", "18446744073709551634"], None),
-    (&["--direct", ""], None),
-    (&["--direct", "8", "--direct", "8"], None),
+    (&["fib", "run", "D", "--every", "01"], Asked::Nothing),
+    (&["fib", "run", "D", "--every", "+1"], Asked::Nothing),
+    (&["fib", "run", "D", "--every", ""], Asked::Nothing),
+    (&["fib", "run", "D", "--every"], Asked::Nothing),
+    (&[], Asked::Nothing),
+    (&["fib"], Asked::Nothing),
+    (&["fib", "run"], Asked::Nothing),
+    (&["fib", "run", "-D"], Asked::Nothing),
+    (&["fib", "run", "D", "E"], Asked::Nothing),
+    (&["fib", "run", "D", "--ask"], Asked::Nothing),
+    (&["fib", "run", "D", "--ask", "-A"], Asked::Nothing),
+    (
+        &["fib", "run", "D", "--ask", "A", "--ask", "A"],
+        Asked::Nothing,
+    ),
+    (&["fib", "run", "--help"], Asked::Nothing),
+    (&["fib", "--help"], Asked::Nothing),
+    (&["fib", "--version"], Asked::Nothing),
+    (&["fib", "help"], Asked::Nothing),
+    (&["fib", "check", "P"], Asked::Check("P")),
+    (&["fib", "check"], Asked::Nothing),
+    (&["fib", "check", "P", "--ask", "A"], Asked::Nothing),
 ];
 
-/// Words, and how many routes are to be made from which seed, if the words ask for any.
-type MakeCase<'a> = (&'a [&'a str], Option<(u32, u64)>);
+/// Numbers are plain and in their ranges.
+const NUMBERS: &[Case<'static>] = &[
+    (&["fib", "run", "D"], Asked::Run("D", None, None, 0, USUAL)),
+    (
+        &["fib", "run", "D", "--direct", "0"],
+        Asked::Run("D", None, None, 0, [0, 16, 18]),
+    ),
+    (
+        &["fib", "run", "D", "--direct", "18"],
+        Asked::Run("D", None, None, 0, [18, 16, 18]),
+    ),
+    (
+        &["fib", "run", "D", "--nodes=24", "--leaves=26"],
+        Asked::Run("D", None, None, 0, [16, 24, 26]),
+    ),
+    (
+        &["fib", "run", "D", "--nodes", "0", "--leaves", "0"],
+        Asked::Run("D", None, None, 0, [16, 0, 0]),
+    ),
+    (
+        &[
+            "fib", "run", "D", "--leaves", "9", "--every", "3", "--direct", "8",
+        ],
+        Asked::Run("D", None, None, 3, [8, 16, 9]),
+    ),
+    (&["fib", "run", "D", "--direct", "19"], Asked::Nothing),
+    (&["fib", "run", "D", "--nodes", "25"], Asked::Nothing),
+    (&["fib", "run", "D", "--leaves", "27"], Asked::Nothing),
+    (&["fib", "run", "D", "--direct", "05"], Asked::Nothing),
+    (&["fib", "run", "D", "--direct", "+5"], Asked::Nothing),
+    (&["fib", "run", "D", "--direct", "-1"], Asked::Nothing),
+    (&["fib", "run", "D", "--nodes", "00"], Asked::Nothing),
+    (&["fib", "run", "D", "--leaves", "256"], Asked::Nothing),
+    (
+        &["fib", "run", "D", "--leaves", "18446744073709551634"],
+        Asked::Nothing,
+    ),
+    (&["fib", "run", "D", "--direct", ""], Asked::Nothing),
+    (
+        &["fib", "run", "D", "--direct", "8", "--direct", "8"],
+        Asked::Nothing,
+    ),
+];
 
-const MAKES: [MakeCase<'static>; 12] = [
-    (&["fib", "make", "1", "--seed", "0"], Some((1, 0))),
-    (&["fib", "make", "--seed=7", "200000"], Some((200_000, 7))),
+/// Routes are made from a seed.
+const MADE: &[Case<'static>] = &[
+    (&["fib", "make", "1", "--seed", "0"], Asked::Make(1, 0)),
+    (
+        &["fib", "make", "--seed=7", "200000"],
+        Asked::Make(200_000, 7),
+    ),
     (
         &["fib", "make", "200", "--seed", "18446744073709551615"],
-        Some((200, u64::MAX)),
+        Asked::Make(200, u64::MAX),
     ),
-    (&["fib", "make", "0", "--seed", "1"], None),
-    (&["fib", "make", "200001", "--seed", "1"], None),
-    (&["fib", "make", "01", "--seed", "1"], None),
+    (&["fib", "make", "0", "--seed", "1"], Asked::Nothing),
+    (&["fib", "make", "200001", "--seed", "1"], Asked::Nothing),
+    (&["fib", "make", "01", "--seed", "1"], Asked::Nothing),
     (
         &["fib", "make", "1", "--seed", "18446744073709551616"],
-        None,
+        Asked::Nothing,
     ),
-    (&["fib", "make", "1", "--seed", "+1"], None),
-    (&["fib", "make", "1", "--seed", "00"], None),
-    (&["fib", "make", "1"], None),
-    (&["fib", "make", "--seed", "1"], None),
-    (&["fib", "make", "1", "--seed", "1", "--every", "1"], None),
+    (&["fib", "make", "1", "--seed", "+1"], Asked::Nothing),
+    (&["fib", "make", "1", "--seed", "00"], Asked::Nothing),
+    (&["fib", "make", "1"], Asked::Nothing),
+    (&["fib", "make", "--seed", "1"], Asked::Nothing),
+    (
+        &["fib", "make", "1", "--seed", "1", "--every", "1"],
+        Asked::Nothing,
+    ),
 ];
 
-/// Words, and the names of the dump, the updates and the script that they ask for, the direct bits, and the orders of the arenas of
-/// nodes and of leaves, if they ask for a run in steps.
-type StepsCase<'a> = (&'a [&'a str], Option<([&'a str; 3], [u8; 3])>);
-
-const STEPS: [StepsCase<'static>; 11] = [
+/// Runs in steps name three inputs.
+const IN_STEPS: &[Case<'static>] = &[
     (
         &["fib", "steps", "D", "U", "S"],
-        Some((["D", "U", "S"], [16, 16, 18])),
+        Asked::Steps("D", "U", "S", USUAL),
     ),
     (
         &[
@@ -146,20 +192,35 @@ const STEPS: [StepsCase<'static>; 11] = [
             "--leaves",
             "26",
         ],
-        Some((["D", "U", "S"], [0, 24, 26])),
+        Asked::Steps("D", "U", "S", [0, 24, 26]),
     ),
     (
         &["fib", "steps", "--direct=18", "--", "D", "-U", "S"],
-        Some((["D", "-U", "S"], [18, 16, 18])),
+        Asked::Steps("D", "-U", "S", [18, 16, 18]),
     ),
-    (&["fib", "steps", "D", "U"], None),
-    (&["fib", "steps", "D", "U", "S", "T"], None),
-    (&["fib", "steps", "D", "--updates", "U", "S"], None),
-    (&["fib", "steps", "D", "U", "S", "--every", "1"], None),
-    (&["fib", "steps", "D", "U", "S", "--direct", "19"], None),
-    (&["fib", "steps", "D", "U", "S", "--nodes", "024"], None),
-    (&["fib", "steps", "D", "U", "S", "--leaves", "27"], None),
-    (&["fib", "steps", "--help"], None),
+    (&["fib", "steps", "D", "U"], Asked::Nothing),
+    (&["fib", "steps", "D", "U", "S", "T"], Asked::Nothing),
+    (
+        &["fib", "steps", "D", "--updates", "U", "S"],
+        Asked::Nothing,
+    ),
+    (
+        &["fib", "steps", "D", "U", "S", "--every", "1"],
+        Asked::Nothing,
+    ),
+    (
+        &["fib", "steps", "D", "U", "S", "--direct", "19"],
+        Asked::Nothing,
+    ),
+    (
+        &["fib", "steps", "D", "U", "S", "--nodes", "024"],
+        Asked::Nothing,
+    ),
+    (
+        &["fib", "steps", "D", "U", "S", "--leaves", "27"],
+        Asked::Nothing,
+    ),
+    (&["fib", "steps", "--help"], Asked::Nothing),
 ];
 
 /// The words, in memory.
@@ -171,86 +232,36 @@ fn words_of(alloc: Global, texts: &[&str]) -> Result<Vec<String>, Fail> {
     Ok(words)
 }
 
+/// Whether the words ask for this.
+fn ask_for(alloc: Global, texts: &[&str], due: Asked<'_>) -> Result<bool, Fail> {
+    let words = words_of(alloc, texts)?;
+    let asked = match read_words(alloc, &words) {
+        Ok(CommandWords::Run(run)) => {
+            let sizes = [run.direct, run.nodes, run.leaves];
+            Asked::Run(run.dump, run.updates, run.asks, run.every, sizes)
+        }
+        Ok(CommandWords::Check(name)) => Asked::Check(name),
+        Ok(CommandWords::Make(made)) => Asked::Make(made.routes, made.seed),
+        Ok(CommandWords::Steps(steps)) => {
+            let sizes = [steps.direct, steps.nodes, steps.leaves];
+            Asked::Steps(steps.dump, steps.updates, steps.script, sizes)
+        }
+        Err(WordsError::Usage) => Asked::Nothing,
+        Err(WordsError::NoMemory) => return Ok(false),
+    };
+    Ok(asked == due)
+}
+
 #[test]
 fn takes_what_the_definition_takes(rt: HostRuntime) -> Result<(), Fail> {
-    let alloc = rt.alloc();
-    for (texts, expected) in CASES {
-        let words = words_of(alloc, texts)?;
-        match read_words(alloc, &words) {
-            Ok(CommandWords::Run(run)) => {
-                assert_eq!(rt;
-                    Some((run.dump, run.updates, run.asks, run.every)),
-                    expected
-                );
-            }
-            Ok(_) => assert!(rt; false, "a run is asked for"),
-            Err(error) => {
-                assert_eq!(rt; error, WordsError::Usage);
-                assert_eq!(rt; expected, None);
-            }
-        }
-    }
-    let words = words_of(alloc, &["fib", "check", "P"])?;
-    assert!(rt; matches!(read_words(alloc, &words), Ok(CommandWords::Check("P"))));
-    Ok(())
-}
-
-#[test]
-fn numbers_are_plain_and_in_their_ranges(rt: HostRuntime) -> Result<(), Fail> {
-    let alloc = rt.alloc();
-    for (options, expected) in SIZES {
-        let mut words = words_of(alloc, &["fib", "run", "D"])?;
-        words.append(&mut words_of(alloc, options)?)?;
-        match read_words(alloc, &words) {
-            Ok(CommandWords::Run(run)) => {
-                let numbers = (run.every, run.direct, run.nodes, run.leaves);
-                assert_eq!(rt; Some(numbers), expected);
-            }
-            Ok(_) => assert!(rt; false, "a run is asked for"),
-            Err(error) => {
-                assert_eq!(rt; error, WordsError::Usage);
-                assert_eq!(rt; expected, None);
-            }
-        }
-    }
-    Ok(())
-}
-
-#[test]
-fn routes_are_made_from_a_seed(rt: HostRuntime) -> Result<(), Fail> {
-    let alloc = rt.alloc();
-    for (texts, expected) in MAKES {
-        let words = words_of(alloc, texts)?;
-        match read_words(alloc, &words) {
-            Ok(CommandWords::Make(made)) => {
-                assert_eq!(rt; Some((made.routes, made.seed)), expected);
-            }
-            Ok(_) => assert!(rt; false, "routes are to be made"),
-            Err(error) => {
-                assert_eq!(rt; error, WordsError::Usage);
-                assert_eq!(rt; expected, None);
-            }
-        }
-    }
-    Ok(())
-}
-
-#[test]
-fn steps_name_three_inputs(rt: HostRuntime) -> Result<(), Fail> {
-    let alloc = rt.alloc();
-    for (texts, expected) in STEPS {
-        let words = words_of(alloc, texts)?;
-        match read_words(alloc, &words) {
-            Ok(CommandWords::Steps(steps)) => {
-                let names = [steps.dump, steps.updates, steps.script];
-                let sizes = [steps.direct, steps.nodes, steps.leaves];
-                assert_eq!(rt; Some((names, sizes)), expected);
-            }
-            Ok(_) => assert!(rt; false, "a run in steps is asked for"),
-            Err(error) => {
-                assert_eq!(rt; error, WordsError::Usage);
-                assert_eq!(rt; expected, None);
-            }
+    for (table, cases) in [
+        ("commands", COMMANDS),
+        ("numbers", NUMBERS),
+        ("made", MADE),
+        ("steps", IN_STEPS),
+    ] {
+        for (place, (texts, due)) in cases.iter().enumerate() {
+            assert!(rt; ask_for(rt.alloc(), texts, *due)?, "{table}, case {place}");
         }
     }
     Ok(())
