@@ -20,7 +20,7 @@ pub record Piece : Type 0 where
   pub prefix : Prefix
   pub candidates : Candidates
 
--- whether entries have path identifiers: where any candidate has one other than 0
+-- whether entries have path identifiers: they do if any candidate has one other than 0
 abbrev pub has_ids : Candidates → Bool
 has_ids held = list_any (λ c. not (c.0.via.id == 0)) held
 

@@ -24,7 +24,7 @@ table_peer q = peer_type q.addr.family ∷ (number_octets 4 0 ++ address_octets 
 unfoldable pub path_octets : ℕ → ℕ → List ℕ
 path_octets asn n = flat_map (as_path_octets asn) (replicate (n / 255) 255) ++ (if n % 255 == 0 then [] else as_path_octets asn (n % 255))
 
--- AS_PATH (2): none for a path of length 0; its length takes two octets where it doesn't fit into one (RFC 4271, 4.3)
+-- AS_PATH (2): none for a path of length 0; its length takes two octets if it doesn't fit into one (RFC 4271, 4.3)
 unfoldable pub path_attribute : ℕ → ℕ → List ℕ
 path_attribute asn n =
     if n == 0 then [] else (
@@ -48,7 +48,7 @@ attributes_of c = path_attribute c.0.via.peer.asn c.1.path ++ hop_attribute c.1.
 abbrev pub peer_index : List Peer → Peer → ℕ
 peer_index peers q = unwrap_or (position (same_peer q) peers) 0
 
--- Path Identifier, where entries have one (RFC 8050, 4)
+-- Path Identifier, if entries have one (RFC 8050, 4)
 abbrev pub id_octets : Bool → ℕ → List ℕ
 id_octets ids id = number_octets (if ids then 4 else 0) id
 

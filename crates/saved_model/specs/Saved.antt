@@ -21,7 +21,7 @@ piece_of c = record { prefix = c.0.prefix; candidates = c ∷ [] }
 abbrev pub with_candidate : Piece → Place × Offer → Piece
 with_candidate p c = record { prefix = p.prefix; candidates = p.candidates ++ c ∷ [] }
 
--- A record takes a further candidate of its prefix where its entries then are at most 65,535, and its body is no longer than one that is read.
+-- A record takes a further candidate of its prefix if its entries are then at most 65,535, and its body is no longer than one that is read.
 unfoldable pub has_place : List Peer → Bool → Piece → Place × Offer → Bool
 has_place peers ids p c = same_prefix p.prefix c.0.prefix && (nat_lt (length p.candidates) most_entries && not (nat_lt most_length (length (piece_body peers ids 0 (with_candidate p c)))))
 
@@ -38,7 +38,7 @@ pieces_of peers ids (c ∷ held) = pieces_from peers ids (piece_of c) held
 abbrev pub saved : Candidates → List ℕ
 saved held = checkpoint (peers_with_candidates held) (has_ids held) (pieces_of (peers_with_candidates held) (has_ids held) held)
 
--- ---- where there is none
+-- ---- what is refused
 
 -- the most peers of a table, a number of two octets, and the longest path that is written
 abbrev pub most_peers : ℕ

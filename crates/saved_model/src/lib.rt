@@ -26,7 +26,7 @@ pub fn reading_law()
         }) }
 {}
 
-/// The checkpoint of candidates is read as exactly these, where no more than 65,535 peers have one and no path is longer than
+/// The checkpoint of candidates is read as exactly these, if no more than 65,535 peers have one and no path is longer than
 /// 15,000.
 pub fn saved_law()
     ensures { (held : Candidates) → AreCandidates held → AllByRecursion IsCode held

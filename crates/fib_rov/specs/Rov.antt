@@ -1,0 +1,35 @@
+-- Route origin validation (RFC 6811, 2).
+use Rattle.std.specs.Prelude.{ℕ, Bool, false, not, ◌&&◌, ◌==◌, List, length, nat_lt, position, Option, Some, None}
+use Rattle.address_model.specs.Address.{Prefix}
+use Rattle.address_model.specs.Regions.{is_within}
+use Rattle.fib_rov.specs.declared.state.State.{State}
+use Rattle.fib_rov.specs.declared.state.State.TheVariants.{Valid, Invalid, NotFound}
+
+-- A validated ROA payload: the AS may announce the prefix, and prefixes within it of at most so many bits.
+pub record Vrp : Type 0 where
+  pub prefix : Prefix
+  pub maxlen : ℕ
+  pub asn : ℕ
+
+-- it covers a route if its prefix contains the route's
+abbrev pub covers_route : Prefix → Vrp → Bool
+covers_route p v = is_within p v.prefix
+
+-- whether a route has this AS as its origin: no route does if it has no origin or the AS is 0 (RFC 6811, 2; RFC 7607, 2)
+abbrev pub is_from : Option ℕ → ℕ → Bool
+is_from (Some origin) asn = origin == asn && not (asn == 0)
+is_from None asn = false
+
+-- It matches a route that it covers, if the route has at most `maxlen` bits and the AS is its origin.
+abbrev pub matches : Prefix → Option ℕ → Vrp → Bool
+matches p origin v = covers_route p v && (not (nat_lt v.maxlen (length p.bits)) && is_from origin v.asn)
+
+-- Valid if one matches, Invalid if one covers and none matches, else NotFound; with the number of the first such VRP
+abbrev pub decided : Option ℕ → Option ℕ → State
+decided (Some n) cover = Valid n
+decided None (Some n) = Invalid n
+decided None None = NotFound
+
+-- the state of a route of the prefix with this origin
+abbrev pub state_of : List Vrp → Prefix → Option ℕ → State
+state_of vrps p origin = decided (position (matches p origin) vrps) (position (covers_route p) vrps)

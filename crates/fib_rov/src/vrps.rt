@@ -1,0 +1,159 @@
+//! Lists of VRPs.
+
+ghost use Rattle.std.specs.Prelude.{◌≡◌, ◌+◌, ◌≤◌, ◌&&◌, length, map, option_map, slice_get, unwrap_or, IfOk};
+ghost use Rattle.std.specs.List.{position_or_len};
+ghost use Rattle.indexmap.specs.IndexMap.{get};
+ghost use Rattle.fib_addr.specs.Views.{prefix_as};
+ghost use Rattle.fib_rov.specs.Rov.{decided, state_of};
+ghost use Rattle.fib_rov.specs.Views.{vrp_as, allows};
+ghost use Rattle.fib_rov.specs.Index.{AreChained, IsIndex, first_from, has_prefix, prefix_test, place_at};
+
+use crate::state::State;
+use crate::vrp::Vrp;
+use fib_addr::Prefix;
+use indexmap::IndexMap;
+use std::alloc::{AllocError, Global};
+use std::marker::Model;
+
+/// A list of VRPs with its index. Contracts see the plain list.
+#[derive(Drop)]
+pub struct Vrps {
+    list: Vec<Vrp>,
+    // for each VRP the number of the next one of its prefix, or how many VRPs there are
+    next: Vec<usize>,
+    // the number of the first VRP of a prefix
+    first: IndexMap<Prefix, usize>,
+}
+
+impl Model for Vrps {
+    ghost use Rattle.std.specs.Prelude.{List, map};
+    ghost use Rattle.fib_rov.specs.Rov.{Vrp};
+    ghost use Rattle.fib_rov.specs.Views.{vrp_as};
+    ghost use Rattle.fib_rov.specs.Index.{IsIndex};
+
+    ghost Value = { List Vrp };
+
+    ghost view = { λ v. map vrp_as v.list.items };
+
+    ghost invariant = { λ v. IsIndex v.list.items v.next.items v.first };
+}
+
+/// The links from each VRP to the next one of its prefix, and the first one of each prefix. They are made from the last VRP to the
+/// first, so that each new one goes before those of its prefix.
+fn index_of(
+    alloc: Global,
+    list: &[Vrp],
+) -> Result<(Vec<usize>, IndexMap<Prefix, usize>), AllocError>
+    ensures { IfOk result (λ x. IsIndex list.now x.0.items x.1) }
+{
+    let count = list.len();
+    let mut next = vec![in alloc; count; count]?;
+    let mut first = IndexMap::new(alloc);
+    let mut number = count;
+    while number > 0 {
+        number -= 1;
+        let behind = first.insert(list[number].prefix, number)?;
+        next[number] = behind.unwrap_or(count);
+    }
+    Ok((next, first))
+}
+
+/// The number of the first VRP of a prefix, or the count if there is none.
+fn first_at(first: &IndexMap<Prefix, usize>, prefix: &Prefix, count: usize) -> usize
+    ensures { result ≡ unwrap_or (get prefix_test first.now prefix.now) count }
+{
+    match first.get(prefix) {
+        Some(number) => *number,
+        None => count,
+    }
+}
+
+/// The number of the first VRP of a prefix that matches a route of so many bits with this origin, or the count if none does. `at` is the
+/// number of the first VRP of that prefix.
+fn first_allowing(
+    list: &[Vrp],
+    next: &[usize],
+    wider: &Prefix,
+    at: usize,
+    len: u8,
+    origin: Option<u32>,
+) -> usize
+    requires chained { AreChained 0 list.now next.now }
+    requires many { length next.now ≡ length list.now }
+    requires at { at ≡ first_from list.now 0 wider.now }
+    ensures { result ≡ position_or_len (λ v. has_prefix wider.now v && allows len origin v) list.now }
+{
+    let mut number = at;
+    while number < list.len() && !list[number].allows(len, origin) {
+        number = next[number];
+    }
+    number
+}
+
+/// The state of a route, by the prefixes that contain its own, the shortest first.
+fn decide(
+    list: &[Vrp],
+    next: &[usize],
+    first: &IndexMap<Prefix, usize>,
+    prefix: &Prefix,
+    origin: Option<u32>,
+) -> State
+    requires { IsIndex list.now next.now first.now }
+    ensures { result ≡ state_of (map vrp_as list.now) (prefix_as prefix.now) origin }
+{
+    let count = list.len();
+    let mut covering = count;
+    let mut matching = count;
+    let address = prefix.first_addr();
+    for len in 0..prefix.len + 1 {
+        let wider = Prefix::new(&address, len);
+        let at = first_at(first, &wider, count);
+        covering = covering.min(at);
+        let allowing = first_allowing(list, next, &wider, at, prefix.len, origin);
+        matching = matching.min(allowing);
+    }
+    state(matching, covering, count)
+}
+
+/// The state by the number of the first VRP that matches and of the first that covers, each of which is the count if there is none.
+fn state(matching: usize, covering: usize, count: usize) -> State
+    ensures { result ≡ decided (place_at matching count) (place_at covering count) }
+{
+    if matching < count {
+        State::Valid(matching as u64)
+    } else if covering < count {
+        State::Invalid(covering as u64)
+    } else {
+        State::NotFound
+    }
+}
+
+impl Vrps {
+    /// The list with its index, which takes a word for each VRP and a place in a map for each prefix.
+    ///
+    /// # Errors
+    ///
+    /// No memory.
+    pub fn new(alloc: Global, list: Vec<Vrp>) -> Result<Vrps, AllocError>
+        ensures { IfOk result (λ v. v ≡ map vrp_as list.items) }
+    {
+        let (next, first) = index_of(alloc, &list)?;
+        Ok(Vrps { list, next, first })
+    }
+
+    /// The VRP of this number, from 0, if the list has one.
+    pub fn get(&self, number: u64) -> Option<&Vrp>
+        ensures { option_map (λ v. vrp_as v.now) result ≡ slice_get self.now number }
+    {
+        let number = usize::try_from(number).ok()?;
+        self.list.get(number)
+    }
+
+    /// The state of a route of the prefix with this origin. It costs a look-up for each prefix that contains the route's, and a step for
+    /// each VRP of these prefixes. It takes no memory.
+    pub fn state(&self, prefix: &Prefix, origin: Option<u32>) -> State
+        ensures { result ≡ state_of self.now (prefix_as prefix.now) origin }
+    {
+        decide(&self.list, &self.next, &self.first, prefix, origin)
+    }
+}

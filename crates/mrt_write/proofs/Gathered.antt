@@ -1,0 +1,53 @@
+-- The peers of candidates, in the code and in the model.
+use Rattle.std.proofs.Common.{◌≡◌, ℕ, ◌+◌, ◌<◌, List, [], ◌∷◌, ◌++◌, length, map, drop, get_or, refl, sym, ap, ◌∙◌, ◌≤◌, append_assoc, append-nil}
+use Rattle.std.specs.Prelude.{fold, flat_map}
+use Rattle.std.proofs.lemmas.List.{drop_more}
+use Rattle.std.proofs.Math.ListN.{drop_of_length-le}
+use Rattle.written_model.specs.Octets.{number_octets}
+use Rattle.saved_model.specs.Entries.{table_peer}
+use Rattle.saved_model.specs.Checkpoint.{table_body}
+use Rattle.saved_model.specs.Saved.{peers_with_candidates}
+use Rattle.mrt_write.specs.Views.{cand_as}
+use Rattle.mrt_write.specs.declared.entry.Cand as code_cand
+use Rattle.std.specs.BTreeSet.{insert_key}
+use Rattle.std.specs.Ordering.{match_ordering}
+use Rattle.std.specs.declared.cmp.Ordering.{Ordering}
+use Rattle.std.specs.declared.cmp.Ordering.TheVariants.{Less, Equal, Greater}
+use Rattle.route_model.specs.Events.{Peer, peer_cmp}
+use Rattle.route_model.specs.Choice.{Candidates}
+use Rattle.fib_prefix.specs.Views.{peer_as}
+use Rattle.fib_prefix.specs.Order.{code_peer_cmp}
+use Rattle.fib_prefix.specs.declared.event.Peer as code
+use Rattle.fib_prefix.proofs.Peers.{peer_is}
+
+pub inserted_as : (keys : List code.Peer) (k : code.Peer) → map peer_as (insert_key code_peer_cmp keys k) ≡ insert_key peer_cmp (map peer_as keys) (peer_as k)
+inserted_as [] k = refl
+inserted_as (x ∷ keys) k = by_order (code_peer_cmp k x) (inserted_as keys k) ∙ ap (λ o. match_ordering o (peer_as k ∷ peer_as x ∷ map peer_as keys) (peer_as x ∷ map peer_as keys) (peer_as x ∷ insert_key peer_cmp (map peer_as keys) (peer_as k))) (peer_is k x)
+  where
+    by_order : (o : Ordering) → map peer_as (insert_key code_peer_cmp keys k) ≡ insert_key peer_cmp (map peer_as keys) (peer_as k)
+        → map peer_as (match_ordering o (k ∷ x ∷ keys) (x ∷ keys) (x ∷ insert_key code_peer_cmp keys k)) ≡ match_ordering o (peer_as k ∷ peer_as x ∷ map peer_as keys) (peer_as x ∷ map peer_as keys) (peer_as x ∷ insert_key peer_cmp (map peer_as keys) (peer_as k))
+    by_order Less ih = refl
+    by_order Equal ih = refl
+    by_order Greater ih = ap (λ xs. peer_as x ∷ xs) ih
+
+-- the peers with those of further candidates
+abbrev pub gathered : List Peer → Candidates → List Peer
+gathered peers held = fold (λ ps c. insert_key peer_cmp ps c.0.via.peer) peers held
+
+pub gather_start : (keys : List code.Peer) (cs : List code_cand.Cand) → keys ≡ [] → gathered (map peer_as keys) (map cand_as (drop 0 cs)) ≡ peers_with_candidates (map cand_as cs)
+unfolding peers_with_candidates
+gather_start keys cs e = ap (λ ks. gathered (map peer_as ks) (map cand_as cs)) e
+
+pub gather_more : (keys new : List code.Peer) (cs : List code_cand.Cand) (i : ℕ) (c : code_cand.Cand) (all : List Peer) → i < length cs → c ≡ get_or cs i c → new ≡ insert_key code_peer_cmp keys c.via.peer → gathered (map peer_as keys) (map cand_as (drop i cs)) ≡ all → gathered (map peer_as new) (map cand_as (drop (i + 1) cs)) ≡ all
+gather_more keys new cs i c all some at e h =
+    let front : drop i cs ≡ c ∷ drop (i + 1) cs = drop_more cs i c some ∙ ap (λ x. x ∷ drop (i + 1) cs) (sym at) in
+    let one : map peer_as new ≡ insert_key peer_cmp (map peer_as keys) (peer_as c.via.peer) = ap (map peer_as) e ∙ inserted_as keys c.via.peer in
+    ap (λ ps. gathered ps (map cand_as (drop (i + 1) cs))) one ∙ (sym (ap (λ xs. gathered (map peer_as keys) (map cand_as xs)) front) ∙ h)
+
+pub table_put : (before a b c out octets : List ℕ) (n : ℕ) (peers : List Peer) → a ≡ before ++ number_octets 4 0 → b ≡ a ++ number_octets 2 0 → c ≡ b ++ number_octets 2 n → n ≡ length peers → out ≡ c ++ flat_map table_peer peers → out ≡ before ++ table_body peers
+unfolding table_body
+table_put before a b c out octets n peers e f g m h = rw (h, g, m, f, e) (simp append_assoc refl)
+
+-- all peers were put
+pub table_ended : (out start : List ℕ) (peers : List code.Peer) (i : ℕ) → length peers ≤ i → out ++ flat_map table_peer (map peer_as (drop i peers)) ≡ start ++ flat_map table_peer (map peer_as peers) → out ≡ start ++ flat_map table_peer (map peer_as peers)
+table_ended out start peers i h e = sym (append-nil out) ∙ (ap (λ ys. out ++ flat_map table_peer (map peer_as ys)) (sym (drop_of_length-le peers h)) ∙ e)

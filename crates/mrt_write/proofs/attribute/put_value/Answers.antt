@@ -1,0 +1,15 @@
+use Rattle.std.proofs.Common.{◌++◌, ap, ◌∙◌, arith}
+use Rattle.written_model.specs.Octets.{behind_length}
+use Rattle.octet_put.proofs.Written.{last_put, after_put}
+use Rattle.mrt_write.proofs.Written.{value_short, value_long}
+use Rattle.mrt_write.proofs.attribute.put_value.Goals as goal
+
+pub returns-in_ok-extend_from_slice : goal.returns-in_ok-extend_from_slice
+returns-in_ok-extend_from_slice c =
+    last_put c.extend_from_slice-then-value-lt256.result c.extend_from_slice-then-value-lt256.new.self.items c.extend_from_slice.new.self.items c.args.value.now _ c.extend_from_slice-then-value-lt256.ensures.items
+    (ap (λ xs. xs ++ c.args.value.now) c.in_ok-extend_from_slice.ensures.items ∙ value_short c.args.out.now.items c.args.value.now (omega arith))
+
+pub returns-in_ok-extend_from_slice-2 : goal.returns-in_ok-extend_from_slice-2
+returns-in_ok-extend_from_slice-2 c =
+    after_put c.put_behind_length.result c.put_behind_length.new.out.items c.extend_from_slice-else-value-lt256.new.self.items (behind_length c.args.value.now) _ c.put_behind_length.ensures
+    (ap (λ xs. xs ++ behind_length c.args.value.now) c.in_ok-extend_from_slice-2.ensures.items ∙ value_long c.args.out.now.items c.args.value.now (omega arith))

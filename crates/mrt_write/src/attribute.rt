@@ -1,0 +1,69 @@
+//! The path attributes of a candidate.
+
+ghost use Rattle.std.specs.Prelude.{◌≡◌, ◌≤◌, ◌<◌, ◌+◌, ◌*◌, ◌^◌, ◌++◌, ◌∷◌, [], length, flat_map, replicate, OnOk};
+ghost use Rattle.written_model.specs.Octets.{number_octets, as_path_octets};
+ghost use Rattle.fib_addr.specs.Views.{addr_as};
+ghost use Rattle.mrt_write.specs.Views.{as_path_of};
+ghost use Rattle.saved_model.specs.Entries.{path_octets, path_attribute, hop_attribute};
+
+use crate::field::put_addr;
+use fib_addr::{Addr, Family};
+use octet_put::{put_behind_length, put_sequence};
+use std::alloc::AllocError;
+
+/// Puts so many sequences of 255, and one of the rest.
+fn put_path(asn: u32, path: u32, out: &mut Vec<u8>) -> Result<(), AllocError>
+    ensures { OnOk result (out.new.items ≡ out.old.items ++ path_octets asn path) }
+{
+    for _ in 0..path / 255 {
+        put_sequence(asn, 255, out)?;
+    }
+    let rest = path % 255;
+    if rest == 0 {
+        return Ok(());
+    }
+    put_sequence(asn, rest as u8, out)
+}
+
+/// Puts an AS_PATH of this value, whose length takes two octets if it doesn't fit into one.
+fn put_value(value: &[u8], out: &mut Vec<u8>) -> Result<(), AllocError>
+    requires { length value.now < 2 ^ 16 }
+    ensures { OnOk result (out.new.items ≡ out.old.items ++ as_path_of value.now) }
+{
+    if value.len() < 256 {
+        out.extend_from_slice(&[0x40, 2, value.len() as u8])?;
+        out.extend_from_slice(value)
+    } else {
+        out.extend_from_slice(&[0x50, 2])?;
+        put_behind_length(value, out)
+    }
+}
+
+/// Puts AS_PATH, none of a path of length 0. There is `value` to put the value.
+pub fn put_as_path(
+    asn: u32,
+    path: u32,
+    value: &mut Vec<u8>,
+    out: &mut Vec<u8>,
+) -> Result<(), AllocError>
+    requires { path ≤ 15000 }
+    ensures { OnOk result (out.new.items ≡ out.old.items ++ path_attribute asn path) }
+{
+    if path == 0 {
+        return Ok(());
+    }
+    value.clear();
+    put_path(asn, path, value)?;
+    put_value(value, out)
+}
+
+/// Puts NEXT_HOP, or for an IPv6 next hop MP_REACH_NLRI in its short form (RFC 6396, section 4.3.4).
+pub fn put_hop(hop: &Addr, out: &mut Vec<u8>) -> Result<(), AllocError>
+    ensures { OnOk result (out.new.items ≡ out.old.items ++ hop_attribute (addr_as hop.now)) }
+{
+    match hop.family {
+        Family::V4 => out.extend_from_slice(&[0x40, 3, 4])?,
+        Family::V6 => out.extend_from_slice(&[0x80, 14, 17, 16])?,
+    }
+    put_addr(hop, out)
+}

@@ -1,0 +1,72 @@
+//! Peers of a table.
+
+ghost use Rattle.std.specs.Prelude.{◌≡◌, ◌≤◌, ◌++◌, length, map, IfOk, OnOk};
+ghost use Rattle.fib_prefix.specs.Views.{peer_as};
+ghost use Rattle.saved_model.specs.Entries.{table_peer};
+ghost use Rattle.saved_model.specs.Checkpoint.{table_body};
+ghost use Rattle.saved_model.specs.Saved.{peers_with_candidates};
+ghost use Rattle.mrt_write.specs.Views.{cand_as};
+
+use crate::entry::Cand;
+use crate::field::put_addr;
+use fib_prefix::{Family, Peer};
+use octet_put::{put_u16, put_u32};
+use std::alloc::{AllocError, Global};
+use std::collections::BTreeSet;
+
+/// Puts a peer: its type, by which the AS has four octets, BGP ID 0, its address and its AS (RFC 6396, section 4.3.1).
+pub fn put_peer(peer: &Peer, out: &mut Vec<u8>) -> Result<(), AllocError>
+    ensures { OnOk result (out.new.items ≡ out.old.items ++ table_peer (peer_as peer.now)) }
+{
+    out.push(match peer.addr.family {
+        Family::V4 => 2,
+        Family::V6 => 3,
+    })?;
+    put_u32(0, out)?;
+    put_addr(&peer.addr, out)?;
+    put_u32(peer.asn, out)
+}
+
+/// The peers of candidates, each once.
+fn peer_set(alloc: Global, cands: &[Cand]) -> Result<BTreeSet<Peer>, AllocError>
+    ensures { IfOk result (λ set. map peer_as set.keys ≡ peers_with_candidates (map cand_as cands.now)) }
+{
+    let mut set = BTreeSet::new(alloc);
+    for cand in cands {
+        set.insert(cand.via.peer)?;
+    }
+    Ok(set)
+}
+
+/// They, in a list.
+fn listed(alloc: Global, set: &BTreeSet<Peer>) -> Result<Vec<Peer>, AllocError>
+    ensures { IfOk result (λ list. list.items ≡ set.now.keys) }
+{
+    let mut list = Vec::new(alloc);
+    for peer in set.iter() {
+        list.push(*peer)?;
+    }
+    Ok(list)
+}
+
+/// The peers that have a candidate, in their order.
+pub fn peers_with_candidates(alloc: Global, cands: &[Cand]) -> Result<Vec<Peer>, AllocError>
+    ensures { IfOk result (λ list. map peer_as list.items ≡ peers_with_candidates (map cand_as cands.now)) }
+{
+    let set = peer_set(alloc, cands)?;
+    listed(alloc, &set)
+}
+
+/// Puts the body of a peer table: Collector BGP ID, an empty View Name, Peer Count, the peers.
+pub fn put_table(peers: &[Peer], out: &mut Vec<u8>) -> Result<(), AllocError>
+    requires { length peers.now ≤ 65535 }
+    ensures { OnOk result (out.new.items ≡ out.old.items ++ table_body (map peer_as peers.now)) }
+{
+    put_u32(0, out)?;
+    put_u16(0, out)?;
+    put_u16(peers.len() as u16, out)?;
+    for peer in peers {
+        put_peer(peer, out)?;
+    }
+    Ok(())
+}

@@ -1,0 +1,84 @@
+//! The records of candidates.
+
+ghost use Rattle.std.specs.Prelude.{◌≡◌, ◌≤◌, ◌<◌, ◌+◌, ◌^◌, ◌++◌, ◌∷◌, ℕ, Bool, true, List, length, map, get_or, OnOk, IfErr};
+ghost use Rattle.std.specs.List.{list_any};
+ghost use Rattle.route_model.specs.Events.{same_peer};
+ghost use Rattle.fib_prefix.specs.Views.{peer_as};
+ghost use Rattle.saved_model.specs.Entries.{peer_index};
+ghost use Rattle.saved_model.specs.Checkpoint.{piece_records};
+ghost use Rattle.saved_model.specs.Saved.{pieces_of};
+ghost use Rattle.mrt_write.specs.Views.{cand_as};
+ghost use Rattle.mrt_write.specs.Holds.{AreIn, AreShort};
+
+use crate::entry::{Cand, Scratch, put_entry};
+use crate::growing::Open;
+use crate::record::put_rib;
+use fib_prefix::Peer;
+use std::alloc::{AllocError, Global};
+
+/// The place of a peer in a list that has it.
+fn index_of(list: &[Peer], peer: &Peer) -> u16
+    requires there { list_any (same_peer (peer_as peer.now)) (map peer_as list.now) ≡ true }
+    requires few { length list.now ≤ 65535 }
+    ensures { result ≡ peer_index (map peer_as list.now) (peer_as peer.now) }
+{
+    let mut place = 0;
+    while place < list.len() && !list[place].cmp(peer).is_eq() {
+        place += 1;
+    }
+    place as u16
+}
+
+/// Puts the records of candidates, of which these are the first and the others, behind an open record of none.
+pub fn put_pieces(
+    alloc: Global,
+    peers: &[Peer],
+    ids: bool,
+    first: &Cand,
+    others: &[Cand],
+    out: &mut Vec<u8>,
+) -> Result<(), AllocError>
+    requires few { length peers.now ≤ 65535 }
+    requires there { AreIn (map peer_as peers.now) (first.now ∷ others.now) }
+    requires short { AreShort (first.now ∷ others.now) }
+    requires many { length others.now < 2 ^ 60 }
+    ensures { OnOk result (out.new.items ≡ out.old.items ++ piece_records (map peer_as peers.now) ids 0
+        (pieces_of (map peer_as peers.now) ids (map cand_as (first.now ∷ others.now)))) }
+{
+    let mut scratch = Scratch::new(alloc);
+    let mut entry = Vec::new(alloc);
+    let mut body = Vec::new(alloc);
+    let mut open = Open {
+        number: 0,
+        prefix: first.prefix,
+        count: 1,
+        entries: Vec::new(alloc),
+    };
+    put_entry(
+        index_of(peers, &first.via.peer),
+        ids,
+        first,
+        &mut scratch,
+        &mut open.entries,
+    )?;
+    for cand in others {
+        entry.clear();
+        put_entry(
+            index_of(peers, &cand.via.peer),
+            ids,
+            cand,
+            &mut scratch,
+            &mut entry,
+        )?;
+        open.take(ids, cand, &entry, &mut body, out)?;
+    }
+    put_rib(
+        open.number,
+        ids,
+        &open.prefix,
+        open.count,
+        &open.entries,
+        &mut body,
+        out,
+    )
+}
