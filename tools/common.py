@@ -13,6 +13,9 @@ import threading
 import zlib
 
 
+PIECE = 1 << 16
+
+
 class Refused(Exception):
     """Why a script can't go on, in one line."""
 
@@ -71,7 +74,7 @@ class Input(io.RawIOBase):
             file = open(name, "rb")
             front = file.read(max(map(len, UNPACK)))
             magic = next(magic for magic in UNPACK if front.startswith(magic))
-            self.file = UNPACK[magic](io.BufferedReader(Rejoined(front, file)))
+            self.file = UNPACK[magic](io.BufferedReader(Rejoined(front, file), PIECE))
 
     @contextlib.contextmanager
     def refusing(self):
@@ -90,7 +93,7 @@ class Input(io.RawIOBase):
 
 def opened(name):
     """An input, read once from its front: unpacked where its first octets are those of bzip2, gzip, xz or zstd."""
-    return io.BufferedReader(Input(name))
+    return io.BufferedReader(Input(name), PIECE)
 
 
 def opened_text(name):

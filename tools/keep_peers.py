@@ -16,8 +16,8 @@ import re
 import sys
 
 from common import Refused, opened, run
-from mrt import (BGP4MP, BGP4MP_ET, MESSAGES, PEER_INDEX_TABLE, RIB_FAMILY, RIBS_WITH_IDS, TABLE_DUMP_V2, address, header_fields,
-                 is_whole, peers, records)
+from mrt import (BGP4MP, BGP4MP_ET, HEADER, MESSAGES, PEER_INDEX_TABLE, RIB_FAMILY, RIBS_WITH_IDS, TABLE_DUMP_V2, address,
+                 header_fields, peers, records)
 
 
 def entries(body, subtype):
@@ -54,9 +54,11 @@ def whole_records(name):
     """Type, subtype, header and body of each record of a file, none of which may be cut."""
     with opened(name) as file:
         for header, body in records(file):
-            if not is_whole(header, body):
+            if len(header) < HEADER:
                 raise IndexError
-            _, kind, subtype, _ = header_fields(header)
+            _, kind, subtype, length = header_fields(header)
+            if len(body) < length:
+                raise IndexError
             yield kind, subtype, header, body
 
 

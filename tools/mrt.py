@@ -39,10 +39,6 @@ def records(file):
         yield header, file.read(length) if length <= MOST_BODY else b""
 
 
-def is_whole(header, body):
-    return len(header) == HEADER and header_fields(header)[3] == len(body)
-
-
 def address(octets):
     """An address as fib prints it: IPv6 by RFC 5952 without a dotted part."""
     if len(octets) == 4:

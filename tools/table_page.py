@@ -22,7 +22,7 @@ ROUTES, LEAST = "#9ecae1", "#08519c"
 SIGNS = {"+": ("added", "#009e73"), "=": ("replaced", "#56b4e9"), "-": ("removed", "#d55e00")}
 MOST_BARS = 60
 MOST_BITS = 128
-KINDS = ("route", "change", "answer", "visits", "table", "least", "cert", "report")
+KINDS = {"route", "change", "answer", "visits", "table", "least", "cert", "report"}
 
 
 class Printed:
