@@ -3,13 +3,14 @@
 
 Usage:  what_it_takes.py PROGRAM [PEERS]
 
-Makes whole tables of make_whole.py of one peer, four and PEERS (60 where nothing is said: 5 GB of disk
-and some 5 GB of memory), tables of single addresses, and updates in which the default route comes
-and goes; runs the program on each three times, with room for whole tables, with its output to a file, and prints Markdown: the
-least processor time of user and system, and the peak of memory. So it may run beside other work. No
-time and no memory is judged.
+Makes whole tables of make_whole.py of one peer, four and PEERS (60 if nothing is said: 4.5 GB of disk
+and 3 GB of memory), tables of single addresses, and updates in which the default route comes and
+goes; runs the program on each three times, with its output to a file and room for whole tables, and
+prints Markdown: the least processor time of user and system, and the peak of memory. So it may run
+beside other work. No time and no memory is judged.
 """
 
+import argparse
 import os
 import random
 import shutil
@@ -97,10 +98,11 @@ def singles(program, family, count, folder, what):
 
 
 def main():
-    if len(sys.argv) not in (2, 3):
-        sys.exit(__doc__)
-    program = shutil.which(os.path.abspath(sys.argv[1])) or sys.exit("no such program: " + sys.argv[1])
-    peers = int(sys.argv[2]) if len(sys.argv) == 3 else 60
+    parser = argparse.ArgumentParser(description=__doc__.splitlines()[0])
+    parser.add_argument("program", metavar="PROGRAM")
+    parser.add_argument("peers", metavar="PEERS", nargs="?", type=int, default=60)
+    args = parser.parse_args()
+    program = shutil.which(os.path.abspath(args.program)) or sys.exit("no such program: " + args.program)
     with tempfile.TemporaryDirectory() as folder:
         row("Dump", "Routes", "Candidates", "Seconds", "MiB", "MiB of text", "us a candidate", "Octets a candidate",
             "Octets of text a route", "Rows of the certificate a route")
@@ -116,7 +118,7 @@ def main():
         flapped = Run([program, "run", path, "--updates", updates, *ROOM], out)
         changes = flapped.rows["change"] - one.rows["change"]
         whole(program, FOUR, SIX, 4, folder, "both, four peers")
-        whole(program, FOUR, SIX, peers, folder, "both, %d peers" % peers)
+        whole(program, FOUR, SIX, args.peers, folder, "both, %d peers" % args.peers)
         singles(program, 4, 100_000, folder, "single IPv4 addresses (/32)")
         singles(program, 6, 20_000, folder, "single IPv6 addresses (/128)")
         print()
