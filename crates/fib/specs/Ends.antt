@@ -1,27 +1,67 @@
 -- How the program ends.
-use Rattle.std.specs.Prelude.{ℕ, List, [], take, Option, Result, Ok, Err}
+use Rattle.std.specs.Prelude.{◌≡◌, ℕ, ◌<◌, List, take, Option, IfSome}
 use Rattle.std.specs.Vec.Iter.{into_iter_items, into_iter_len}
 use Rattle.std.specs.declared.vec.IntoIter.{IntoIter}
-use Rattle.std.specs.declared.string.String.{String}
-use Rattle.std.specs.declared.vec.Vec.{Vec}
+use Rattle.fib_io.specs.Causes.{Rose}
 use Rattle.fib_words.specs.Commands.{command_of}
 use Rattle.fib_main.specs.declared.outcome.Outcome.{Outcome}
+use Rattle.fib_main.specs.declared.outcome.Outcome.TheVariants.{Done, ReadFault, WriteFault}
 use Rattle.fib_main.specs.Due.{due}
-use Rattle.fib_main.specs.Ends.{Meets, Writes, text_due}
+use Rattle.fib_main.specs.Ends.{Completes, Meets, OneRose, reads, ReadsFrom, status_of, TellsOf, text_due, Writes, WritesBy}
 use Rattle.fib_main.specs.Owned.{IsOf}
-use Rattle.fib_main.specs.Words.{texts_of}
+use Rattle.fib_main.specs.Proves.{AddsFrontOfYes, AddsYes, IfRan, IsRun, PrintsYes}
+use Rattle.fib_main.specs.Stepped.{FitsSteps}
+use Rattle.fib_main.specs.Untold.{FitsSome}
 
 -- the words that are still to come
 abbrev pub words_left : {X Z : Type 0} → IntoIter X Z → List X
 words_left words = take (into_iter_len words) (into_iter_items words)
 
--- the words of the command line; none where they couldn't be read
-abbrev pub words_in : {A X E : Type 0} → Result (Vec (String A) X) E → List (List ℕ)
-words_in (Ok words) = texts_of words.items
-words_in (Err e) = []
+-- what inputs, output and standard error tell at a moment: what each name holds and how many of its reads failed, and what was written and how many writes failed
+pub record Moment : Type 0 where
+  pub content : List ℕ → Option (List ℕ)
+  pub read_faults : List ℕ → ℕ
+  pub out : Option (List ℕ)
+  pub out_faults : ℕ
+  pub err : Option (List ℕ)
+  pub err_faults : ℕ
 
--- the outcome is one of these words, and the due one; out has what is due
-pub record ProgramEndsBy (words : List (List ℕ)) (content : List ℕ → Option (List ℕ)) (old new : Option (List ℕ)) (outcome : Outcome) : Type 0 where
-  pub exact : Meets (due words content) outcome
+abbrev pub moment : (List ℕ → Option (List ℕ)) → (List ℕ → ℕ) → Option (List ℕ) → ℕ → Option (List ℕ) → ℕ → Moment
+moment content read_faults out out_faults err err_faults = record {
+  content = content;
+  read_faults = read_faults;
+  out = out;
+  out_faults = out_faults;
+  err = err;
+  err_faults = err_faults;
+}
+
+-- All that the top call says of these words, between two moments. The outcome is the due one, but for faults and want of memory, and it is one of these words. Faults have their causes, and where a count rose the outcome says so; where none did, the due outcome comes or memory ran out. No content changes, output has the text due, and standard error has the outcome's line. At Done of a run the output has a text more to which a check says yes.
+pub record Ends (words : List (List ℕ)) (old new : Moment) (outcome : Outcome) : Type 0 where
+  pub exact : Meets (due words old.content) outcome
   pub own : IsOf (command_of words) outcome
-  pub writes : Writes (text_due (due words content)) old new outcome
+  pub read : ReadsFrom (reads words old.content) old.read_faults new.read_faults outcome
+  pub write : WritesBy old.out_faults new.out_faults outcome
+  pub out : Writes (text_due (due words old.content)) old.out new.out outcome
+  pub err : TellsOf outcome old.err new.err old.err_faults new.err_faults
+  pub some : FitsSome old.content (command_of words) old.out new.out outcome
+  pub steps : FitsSteps old.content (command_of words) old.out new.out outcome
+  pub same : new.content ≡ old.content
+  pub risen_input : (name : List ℕ) → old.read_faults name < new.read_faults name → outcome ≡ ReadFault
+  pub risen_out : old.out_faults < new.out_faults → outcome ≡ WriteFault
+  pub complete : Completes (due words old.content) (OneRose (reads words old.content) old.read_faults new.read_faults) (Rose old.out_faults new.out_faults) outcome
+  pub printed : outcome ≡ Done → IsRun (command_of words) → AddsYes old.out new.out
+  pub front : outcome ≡ WriteFault → IsRun (command_of words) → AddsFrontOfYes old.out new.out
+  pub due_yes : outcome ≡ Done → IfRan (due words old.content) PrintsYes
+
+-- So it ends of a command line: with this outcome of some words, which are those of the command line, where it tells them.
+pub record EndsOf (told : Option (List (List ℕ))) (old new : Moment) (outcome : Outcome) : Type 0 where
+  pub words : List (List ℕ)
+  pub are_told : IfSome told (λ given. words ≡ given)
+  pub ends : Ends words old new outcome
+
+-- and the program's status is that of the outcome
+pub record EndsWith (told : Option (List (List ℕ))) (old new : Moment) (status : ℕ) : Type 0 where
+  pub outcome : Outcome
+  pub ends : EndsOf told old new outcome
+  pub is_status : status ≡ status_of outcome

@@ -1,0 +1,57 @@
+-- How the program ends where memory runs out for its words.
+use Rattle.std.proofs.Common.{◌≡◌, refl, ℕ, ◌<◌, List, Option, Some, None, Ok, Err, inl, inr, arith}
+use Rattle.std.specs.Prelude.{IfSome, [], unwrap_or}
+use Rattle.fib_words.specs.Commands.{Asked, Run, Check, Make, Steps, command_of}
+use Rattle.fib_main.specs.declared.outcome.Outcome.TheVariants.{NoMemory}
+use Rattle.fib_main.specs.Ends.{TellsOf}
+use Rattle.fib_main.specs.Owned.{IsOf}
+use Rattle.fib_main.specs.Stepped.{EndsRun, FitsSteps, IfStepping}
+use Rattle.fib_main.specs.Due.{stepping_at}
+use Rattle.fib_main.specs.Untold.{FitsSome}
+use Rattle.fib.specs.Ends.{Ends, moment}
+
+owned : (asked : Option Asked) → IsOf asked NoMemory
+owned None = tt
+owned (Some asked) = tt
+
+fits_some : (content : List ℕ → Option (List ℕ)) (asked : Option Asked) (out : Option (List ℕ)) → FitsSome content asked out out NoMemory
+fits_some content None out = tt
+fits_some content (Some (Run named)) out = inl tt
+fits_some content (Some (Check name)) out = inl tt
+fits_some content (Some (Make routes seed)) out = (tt, refl)
+fits_some content (Some (Steps named)) out = inl tt
+
+fits_steps : (content : List ℕ → Option (List ℕ)) (asked : Option Asked) (out : Option (List ℕ)) → FitsSteps content asked out out NoMemory
+fits_steps content None out = tt
+fits_steps content (Some (Run named)) out = tt
+fits_steps content (Some (Check name)) out = tt
+fits_steps content (Some (Make routes seed)) out = tt
+fits_steps content (Some (Steps named)) out = elim (stepping_at content named) as (λ d. IfStepping d (λ s. EndsRun s out out NoMemory)) [ Ok s ↦ tt | Err stop ↦ tt ]
+
+not_more : {P : Type 0} (n : ℕ) → n < n → P
+not_more n h = absurd (omega (arith, h))
+
+-- nothing was read or written, and standard error has the line
+pub no_memory : (words : List (List ℕ)) (content : List ℕ → Option (List ℕ)) (faults : List ℕ → ℕ) (out : Option (List ℕ)) (out_faults : ℕ) (old new : Option (List ℕ)) (before now : ℕ) → TellsOf NoMemory old new before now → Ends words (moment content faults out out_faults old before) (moment content faults out out_faults new now) NoMemory
+no_memory words content faults out out_faults old new before now told = record {
+  exact = tt;
+  own = owned (command_of words);
+  read = refl;
+  write = refl;
+  out = refl;
+  err = told;
+  some = fits_some content (command_of words) out;
+  steps = fits_steps content (command_of words) out;
+  same = refl;
+  risen_input = λ name h. not_more (faults name) h;
+  risen_out = λ h. not_more out_faults h;
+  complete = λ _ _. inr refl;
+  printed = λ e. absurd (cc);
+  front = λ e. absurd (cc);
+  due_yes = λ e. absurd (cc);
+}
+
+-- the words that a command line tells, if it does
+pub are_told : (told : Option (List (List ℕ))) → IfSome told (λ given. unwrap_or told [] ≡ given)
+are_told None = tt
+are_told (Some given) = refl
