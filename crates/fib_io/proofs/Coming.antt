@@ -47,6 +47,9 @@ pub read_first : (o : Option (List ℕ)) (xs : List ℕ) → xs ≡ [] → IfSom
 read_first None xs e = tt
 read_first (Some c) xs e = rw e refl
 
+pub longer_by : (xs ys room : List ℕ) (n : ℕ) → n ≤ length room → ys ≡ xs ++ take n room → length ys ≡ length xs + n
+longer_by xs ys room n h e = omega (arith, ap length e, length-append xs (take n room), length-take n room)
+
 pub read_more : (o : Option (List ℕ)) (xs ys room : List ℕ) (at n : ℕ) → at ≡ length xs → n ≤ length room → ys ≡ xs ++ take n room → IfSome o (λ c. ComeNext c at room n) → IfSome o (ReadOn xs) → IfSome o (ReadOn ys)
 read_more None xs ys room at n is h e next on = tt
 read_more (Some c) xs ys room at n is h e next on =

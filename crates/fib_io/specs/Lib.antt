@@ -1,8 +1,10 @@
 pub mod Causes
 pub mod Octets
 pub mod Held
+pub mod Reads
 pub mod Plan
 pub mod MemInputs
+pub mod LoggedInputs
 pub mod MemSink
 pub mod Files
 pub mod FileInputs

@@ -18,6 +18,7 @@ ghost use Rattle.std.specs.Option.{ForSome};
 ghost use Rattle.fib_io.specs.Files.{AllOpen, AllStand, Call, calls_met, calls_of_read, Gives, GoesTo, has_name, IsOpen, IsOpened, KeepsOpen, open_under, Opens, OpensOnce, ReadsOn, ReadsOnce, Stands, way_to, with_name};
 ghost use Rattle.fib_io.specs.Causes.{HasReadCause};
 ghost use Rattle.fib_io.specs.Octets.{AreAt};
+ghost use Rattle.fib_io.specs.Reads.{IsRead, Makes};
 
 use crate::{InFault, Inputs, count_fault};
 use std::alloc::{AllocError, AllocFailed, Global};
@@ -272,6 +273,8 @@ impl<N: ByName + Drop> Inputs for FileInputs<N> {
 
     ghost faults = { λ s _. s.faults };
 
+    ghost reads = { λ _. None };
+
     /// Opens the name unless it is open, goes to the place unless the last read ended there, and reads once. What the reader gave
     /// is handed on as it is.
     fn read(&mut self, name: &str, at: u64, buf: &mut [u8]) -> Result<usize, InFault>
@@ -283,6 +286,8 @@ impl<N: ByName + Drop> Inputs for FileInputs<N> {
             ≡ ⟦<FileInputs<N> as Inputs>⟧.content self.old }
         ensures cause { HasReadCause (⟦<FileInputs<N> as Inputs>⟧.faults self.old)
             (⟦<FileInputs<N> as Inputs>⟧.faults self.new) name.now result }
+        ensures made { Makes (⟦<FileInputs<N> as Inputs>⟧.reads self.old)
+            (⟦<FileInputs<N> as Inputs>⟧.reads self.new) (IsRead name.now at result) }
         ensures opened { OpensOnce (open_under name.now (inputs_of self.old)) name.now
             (N.opened (files_of self.old)) (N.opened (files_of self.new)) result }
         ensures once { IfOk result

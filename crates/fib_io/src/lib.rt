@@ -13,10 +13,12 @@
 ghost use Rattle.std.specs.Prelude.{◌≡◌, ℕ, ◌≤◌, ◌<◌, ◌+◌, ◌^◌, ◌-◌, min, Option, List, length, OnOk, OnErr, IfOk, IfSome};
 ghost use Rattle.fib_io.specs.Causes.{HasCause, HasReadCause};
 ghost use Rattle.fib_io.specs.Octets.{Adds, AddsFront, AddsSome, AreAt};
+ghost use Rattle.fib_io.specs.Reads.{IsRead, Makes, Read};
 
 use thiserror::Error;
 
 mod files;
+mod logged_inputs;
 mod memory_inputs;
 mod memory_sinks;
 mod pieces;
@@ -24,6 +26,7 @@ mod plan;
 mod streams;
 
 pub use files::{ByName, FileInputs, ReadSeek, SystemFiles};
+pub use logged_inputs::{LoggedInputs, LoggedRead};
 pub use memory_inputs::{MemInputs, SureInputs};
 pub use memory_sinks::{MemSink, SureSink};
 pub use pieces::{MOST_OCTETS, ReadError, piece_room, read_piece, read_whole};
@@ -42,11 +45,13 @@ pub struct OutFault;
 /// Octets that are read by name and place.
 ///
 /// `content` is what each name holds, where the type tells it. `faults` counts the faults of each name; a type may
-/// give all names one count.
+/// give all names one count. `reads` is all reads that were made, in their order, if the type tells them.
 pub trait Inputs {
     ghost content: { Self → List ℕ → Option (List ℕ) };
 
     ghost faults: { Self → List ℕ → ℕ };
+
+    ghost reads: { Self → Option (List Read) };
 
     /// Reads octets of `name` from the place `at` on, counted in octets from 0, into the front of `buf`.
     ///
@@ -57,7 +62,8 @@ pub trait Inputs {
         ensures told { IfOk result (λ n. IfSome (content self.old name.now)
             (λ octets. AreAt octets at buf.new n)) }
         ensures same { content self.new ≡ content self.old }
-        ensures cause { HasReadCause (faults self.old) (faults self.new) name.now result };
+        ensures cause { HasReadCause (faults self.old) (faults self.new) name.now result }
+        ensures made { Makes (reads self.old) (reads self.new) (IsRead name.now at result) };
 }
 
 /// Octets that are written one after another.

@@ -2,10 +2,11 @@
 //!
 //! A read goes over the pairs up to the first with that name, copies what fits, and takes no memory.
 
-ghost use Rattle.std.specs.Prelude.{◌≡◌, ◌≤◌, ◌-◌, ◌^◌, ◌||◌, min, Some, unwrap_or, [], length, option_map, is_err, is_none, IfOk, IfSome};
+ghost use Rattle.std.specs.Prelude.{◌≡◌, ◌≤◌, ◌-◌, ◌^◌, ◌||◌, min, None, Some, unwrap_or, [], length, option_map, is_err, is_none, IfOk, IfSome};
 ghost use Rattle.fib_io.specs.Causes.{HasReadCause};
 ghost use Rattle.fib_io.specs.Held.{held_under};
 ghost use Rattle.fib_io.specs.Octets.{AreAt};
+ghost use Rattle.fib_io.specs.Reads.{IsRead, Makes};
 
 use crate::plan::Plan;
 use crate::{InFault, Inputs, count_fault};
@@ -96,6 +97,8 @@ impl Inputs for MemInputs {
 
     ghost faults = { λ s _. s.faults };
 
+    ghost reads = { λ _. None };
+
     /// Gives all octets from the place on that there are, that fit and that `at_most` allows. It fails exactly where the plan says so or
     /// the name isn't held.
     fn read(&mut self, name: &str, at: u64, buf: &mut [u8]) -> Result<usize, InFault>
@@ -106,6 +109,8 @@ impl Inputs for MemInputs {
             ≡ ⟦<MemInputs as Inputs>⟧.content self.old }
         ensures cause { HasReadCause (⟦<MemInputs as Inputs>⟧.faults self.old)
             (⟦<MemInputs as Inputs>⟧.faults self.new) name.now result }
+        ensures made { Makes (⟦<MemInputs as Inputs>⟧.reads self.old)
+            (⟦<MemInputs as Inputs>⟧.reads self.new) (IsRead name.now at result) }
         ensures fit { IfOk result (λ n. IfSome (⟦<MemInputs as Inputs>⟧.content self.old name.now)
             (λ octets. n ≡ min (length octets - at) (min (read_most self.old) (length buf.new)))) }
         ensures kept { read_most self.new ≡ read_most self.old }
@@ -144,6 +149,8 @@ impl Inputs for SureInputs {
     ghost content = { λ s name. Some (unwrap_or (held_under s.names.items name) []) };
 
     ghost faults = { λ _ _. 0 };
+
+    ghost reads = { λ _. None };
 
     fn read(&mut self, name: &str, at: u64, buf: &mut [u8]) -> Result<usize, InFault> {
         match find_octets(&self.names, name) {

@@ -4,6 +4,7 @@ ghost use Rattle.std.specs.Prelude.{◌≡◌, ◌≤◌, ◌<◌, ◌+◌, leng
 ghost use Rattle.fib_io.specs.Causes.{HasReadCause};
 ghost use Rattle.fib_io.specs.Octets.{AreAt};
 ghost use Rattle.fib_io.specs.Pieces.{ComeNext, IsEnd, IsLarge, IsReadOf};
+ghost use Rattle.fib_io.specs.Reads.{IsPieceRead, IsRead, Makes, Pass, whole_end};
 ghost use Rattle.fib_io.specs.declared.pieces.ReadError.TheVariants.{Fault, NoMemory};
 
 use crate::{InFault, Inputs};
@@ -77,6 +78,7 @@ fn read_within<I: Inputs>(
     ensures some { 0 < length buf.new }
     ensures same { I.content inputs.new ≡ I.content inputs.old }
     ensures cause { HasReadCause (I.faults inputs.old) (I.faults inputs.new) name.now result }
+    ensures made { Makes (I.reads inputs.old) (I.reads inputs.new) (IsRead name.now at result) }
 {
     let left = MOST_OCTETS - at;
     if 0 < left && left < buf.len() as u64 {
@@ -111,6 +113,8 @@ pub fn read_piece<I: Inputs>(
     ensures memory { IsErrOf result ReadError.NoMemory → ⊥ }
     ensures same { I.content inputs.new ≡ I.content inputs.old }
     ensures cause { IsReadOf (I.faults inputs.old) (I.faults inputs.new) name.now result }
+    ensures made { Makes (I.reads inputs.old) (I.reads inputs.new)
+        (IsPieceRead name.now at result) }
 {
     let n = read_within(inputs, name, at, room)?;
     if 0 < n && at == MOST_OCTETS {
@@ -134,6 +138,8 @@ fn read_through<I: Inputs>(
         (λ octets. MOST_OCTETS < length octets) }
     ensures same { I.content inputs.new ≡ I.content inputs.old }
     ensures cause { IsReadOf (I.faults inputs.old) (I.faults inputs.new) name.now result }
+    ensures made { Makes (I.reads inputs.old) (I.reads inputs.new)
+        (Pass (whole_end result) name.now) }
 {
     let mut octets = Vec::new(alloc);
     loop {
@@ -159,6 +165,8 @@ pub fn read_whole<I: Inputs>(
         (λ octets. MOST_OCTETS < length octets) }
     ensures same { I.content inputs.new ≡ I.content inputs.old }
     ensures cause { IsReadOf (I.faults inputs.old) (I.faults inputs.new) name.now result }
+    ensures made { Makes (I.reads inputs.old) (I.reads inputs.new)
+        (Pass (whole_end result) name.now) }
 {
     let mut room = piece_room(alloc)?;
     read_through(alloc, inputs, name, &mut room)

@@ -9,6 +9,9 @@ use Rattle.bstr.specs.Find.{NoneAfter, Nowhere, Passes, is_byte}
 use Rattle.address_model.specs.Address.{Address}
 use Rattle.fib_addr.specs.Views.{addr_as}
 use Rattle.fib_addr.specs.declared.addr.Addr.{Addr}
+use Rattle.fib_io.specs.Reads.{Anywhere, AtEnd, Makes, Pass, Read}
+use Rattle.fib_io.proofs.Passing.{pass_stops_at_end}
+use Rattle.fib_main.specs.Passes.{ask_end, asks_end}
 use Rattle.fib_io.specs.Pieces.{octets_read, octets_from, ComeNext, IsEnd, IsLarge}
 use Rattle.fib_io.specs.declared.pieces.ReadError.{ReadError}
 use Rattle.fib_io.specs.declared.pieces.ReadError.TheVariants as pieces
@@ -255,3 +258,18 @@ cause_of_feed {X = X} before now name content old new room at n error result is 
     by_error NoMemory fails = kept
     by_error Fault fails = absurd (fails s.fed s.stands)
     by_error TooLarge fails = kept
+
+-- ---- where the pass over the input ends
+
+pub reads_of_end : {X : Type 0} (before now : Option (List Read)) (name : List ℕ) (content : Option (List ℕ)) (reader : AskReader) (at : ℕ) (result : Result (Vec Addr X) AskError) → Asking content reader at → ((fed : List ℕ) → AsksStand fed reader → IsList (λ (asks : Vec Addr X). map addr_as asks.items) result (asks_in fed)) → Makes before now (Pass AtEnd name) → Makes before now (Pass (ask_end result) name)
+reads_of_end before now name content reader at (Ok asks) s gives made = made
+reads_of_end before now name content reader at (Err (BadLine line)) s gives made = pass_stops_at_end before now name made
+reads_of_end before now name content reader at (Err NoMemory) s gives made = pass_stops_at_end before now name made
+reads_of_end before now name content reader at (Err Fault) s gives made = absurd (gives s.fed s.stands)
+reads_of_end before now name content reader at (Err TooLarge) s gives made = absurd (gives s.fed s.stands)
+
+pub reads_of_feed : (before now : Option (List Read)) (name : List ℕ) (content : Option (List ℕ)) (old new : AskReader) (room : List ℕ) (at n : ℕ) (error : AskError) → Asking content old at → ((fed : List ℕ) → AsksStand fed old → AsksFed {T = Unit {0}} (fed ++ take n room) (Err error) new) → Makes before now (Pass Anywhere name) → Makes before now (Pass (asks_end error) name)
+reads_of_feed before now name content old new room at n (BadLine line) s fails made = made
+reads_of_feed before now name content old new room at n NoMemory s fails made = made
+reads_of_feed before now name content old new room at n Fault s fails made = absurd (fails s.fed s.stands)
+reads_of_feed before now name content old new room at n TooLarge s fails made = absurd (fails s.fed s.stands)

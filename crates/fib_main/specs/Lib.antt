@@ -18,3 +18,4 @@ pub mod Words
 pub mod Stepped
 pub mod Stepping
 pub mod Loaded
+pub mod Passes

@@ -1,9 +1,11 @@
 //! What an input of records brings.
 
-ghost use Rattle.std.specs.Prelude.{◌≡◌, List, [], ◌^◌, ◌<◌, ◌≤◌, length, IfOk, Some};
+ghost use Rattle.std.specs.Prelude.{◌≡◌, List, [], ◌^◌, ◌<◌, ◌≤◌, length, IfErr, IfOk, Some};
 ghost use Rattle.route_model.specs.Events.{Elem};
 ghost use Rattle.fib_main.specs.Counts.{AreFew};
+ghost use Rattle.fib_io.specs.Reads.{Makes, Pass};
 ghost use Rattle.fib_main.specs.Due.{feed_at};
+ghost use Rattle.fib_main.specs.Passes.{IsNumbered, feed_end};
 ghost use Rattle.fib_main.specs.Refusals.{Limits};
 ghost use Rattle.fib_main.specs.Standing.{FeedsFrom, IsReady, StateBrings, StateStands};
 
@@ -47,6 +49,9 @@ fn feed_through<I: Inputs>(
         counts state.new.engine.candidates) }
     ensures same { I.content inputs.new ≡ I.content inputs.old }
     ensures cause { FeedsFrom (I.faults inputs.old) (I.faults inputs.new) name.now result }
+    ensures reads { Makes (I.reads inputs.old) (I.reads inputs.new)
+        (Pass (feed_end result) name.now) }
+    ensures numbered { IfErr result (IsNumbered which) }
 {
     let mut reader = Reader::new(alloc);
     let mut more = Vec::new(alloc);
@@ -90,6 +95,9 @@ pub fn feed<I: Inputs>(
         counts state.new.engine.candidates) }
     ensures same { I.content inputs.new ≡ I.content inputs.old }
     ensures cause { FeedsFrom (I.faults inputs.old) (I.faults inputs.new) name.now result }
+    ensures reads { Makes (I.reads inputs.old) (I.reads inputs.new)
+        (Pass (feed_end result) name.now) }
+    ensures numbered { IfErr result (IsNumbered which) }
 {
     let mut room = piece_room(alloc)?;
     feed_through(alloc, inputs, state, which, name, &mut room)

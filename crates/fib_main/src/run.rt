@@ -1,12 +1,14 @@
 //! From the words and the inputs to the text that is due.
 
-ghost use Rattle.std.specs.Prelude.{◌≡◌, ◌≤◌, ◌^◌, List, [], Some, None, length, map, IfErr, IfOk, IsSome, OnErr, OnOk, option_to_list, true};
+ghost use Rattle.std.specs.Prelude.{◌≡◌, ◌≤◌, ◌^◌, ◌∷◌, List, [], Some, None, length, map, IfErr, IfOk, IsSome, OnErr, OnOk, option_to_list, true};
 ghost use Rattle.fib_addr.specs.Views.{addr_as};
 ghost use Rattle.fib_main.specs.Asking.{ask_refusal};
 ghost use Rattle.fib_main.specs.Counts.{AddUp, AreFew};
 ghost use Rattle.fib_main.specs.Due.{asks_at, checked, feed_at, input_at, limits_of, made_at, made_named, output_at, reply_at, run_at, told_at, used_at, with_counts, with_reply, with_text};
 ghost use Rattle.fib_main.specs.Ends.{feeds_named, reads_asked, reads_named, ReadsName, ReadsNames};
+ghost use Rattle.fib_io.specs.Reads.{Makes};
 ghost use Rattle.fib_main.specs.Owned.{IsOf, Owns, StopsAt, StopsIn};
+ghost use Rattle.fib_main.specs.Passes.{ReadsAsked, ReadsOf, check_inputs, feed_inputs, input_for, run_inputs};
 ghost use Rattle.fib_main.specs.Proves.{ChecksYes, IfRan, IsRun, PrintsYes};
 ghost use Rattle.fib_main.specs.Views.{limits_as, reply_as};
 ghost use Rattle.fib_main.specs.Standing.{FeedsBoth, HoldsMade, IsReady, StateFeeds, refusal_of, StateStands};
@@ -37,7 +39,7 @@ use std::alloc::{AllocError, Global};
 const NO_ADDRESS: u8 = 1;
 
 /// The octets of an input.
-#[tactic(auto, unfolding(crate::specs::Due::input_at, crate::specs::Stops::sized))]
+#[tactic(auto, using(crate::proofs::Passes::input_begun, crate::proofs::Passes::input_fails, crate::proofs::Passes::input_large, crate::proofs::Passes::input_read), unfolding(crate::specs::Due::input_at, crate::specs::Stops::sized))]
 pub(crate) fn octets_of<I: Inputs>(
     alloc: Global,
     inputs: &mut I,
@@ -49,6 +51,8 @@ pub(crate) fn octets_of<I: Inputs>(
     ensures most { IfOk result (λ v. length v.items ≤ 2 ^ 36) }
     ensures same { I.content inputs.new ≡ I.content inputs.old }
     ensures cause { ReadsName name.now (I.faults inputs.old) (I.faults inputs.new) result }
+    ensures reads { Makes (I.reads inputs.old) (I.reads inputs.new)
+        (ReadsOf ((which, name.now) ∷ []) result) }
 {
     match read_whole(alloc, inputs, name) {
         Ok(octets) => Ok(octets),
@@ -75,7 +79,7 @@ fn outcome_of_asks(error: AskError) -> Outcome
 }
 
 /// The addresses that are asked for, none where no asks are named.
-#[tactic(auto, unfolding(crate::specs::Due::asks_at))]
+#[tactic(auto, using(crate::proofs::Passes::asks_stop, crate::proofs::Passes::input_read, crate::proofs::Passes::none_read), unfolding(crate::specs::Due::asks_at))]
 fn asks_of<I: Inputs>(
     alloc: Global,
     inputs: &mut I,
@@ -88,6 +92,8 @@ fn asks_of<I: Inputs>(
     ensures same { I.content inputs.new ≡ I.content inputs.old }
     ensures cause { ReadsNames (option_to_list (named_as command.now).asks) (I.faults inputs.old)
         (I.faults inputs.new) result }
+    ensures reads { Makes (I.reads inputs.old) (I.reads inputs.new)
+        (ReadsOf (input_for Which.Asks (named_as command.now).asks) result) }
 {
     let Some(name) = command.asks else {
         return Ok(Vec::new(alloc));
@@ -133,6 +139,7 @@ pub(crate) fn outcome_of_refusal(which: MrtInput, error: FeedError) -> Outcome
 }
 
 /// Takes what an input brings. The candidates of the inputs before it are few enough: 2^40 at most.
+#[tactic(auto, using(crate::proofs::Passes::feeds_stop, crate::proofs::Passes::input_read))]
 pub(crate) fn feed_of<I: Inputs>(
     alloc: Global,
     inputs: &mut I,
@@ -151,12 +158,14 @@ pub(crate) fn feed_of<I: Inputs>(
         counts state.new.engine.candidates) }
     ensures same { I.content inputs.new ≡ I.content inputs.old }
     ensures cause { ReadsName name.now (I.faults inputs.old) (I.faults inputs.new) result }
+    ensures reads { Makes (I.reads inputs.old) (I.reads inputs.new)
+        (ReadsOf ((input_of which, name.now) ∷ []) result) }
 {
     feed(alloc, inputs, state, which, name).map_err(|error| outcome_of_refusal(which, error))
 }
 
 /// Takes what the updates bring, if any are named.
-#[tactic(auto, unfolding(crate::specs::Due::feed_at))]
+#[tactic(auto, using(crate::proofs::Passes::none_read), unfolding(crate::specs::Due::feed_at))]
 fn updates_of<I: Inputs>(
     alloc: Global,
     inputs: &mut I,
@@ -177,6 +186,8 @@ fn updates_of<I: Inputs>(
     ensures same { I.content inputs.new ≡ I.content inputs.old }
     ensures cause { ReadsNames (option_to_list (named_as command.now).updates) (I.faults inputs.old)
         (I.faults inputs.new) result }
+    ensures reads { Makes (I.reads inputs.old) (I.reads inputs.new)
+        (ReadsOf (input_for Which.Updates (named_as command.now).updates) result) }
 {
     match command.updates {
         Some(name) => feed_of(alloc, inputs, state, MrtInput::Updates, name),
@@ -223,6 +234,8 @@ fn feed_both<I: Inputs>(
     ensures cause { StateStands MrtInput.Dump (limits_of (named_as command.now)) [] [] state.old
         → ReadsNames (feeds_named (I.content inputs.old) (named_as command.now))
         (I.faults inputs.old) (I.faults inputs.new) result }
+    ensures reads { Makes (I.reads inputs.old) (I.reads inputs.new)
+        (ReadsOf (feed_inputs (named_as command.now)) result) }
 {
     let load = feed_of(alloc, inputs, state, MrtInput::Dump, command.dump)?;
     if let Err(error) = state.finish_load() {
@@ -248,6 +261,8 @@ fn text_of<I: Inputs>(
     ensures same { I.content inputs.new ≡ I.content inputs.old }
     ensures cause { ReadsNames (feeds_named (I.content inputs.old) (named_as command.now))
         (I.faults inputs.old) (I.faults inputs.new) result }
+    ensures reads { Makes (I.reads inputs.old) (I.reads inputs.new)
+        (ReadsOf (feed_inputs (named_as command.now)) result) }
 {
     let mut state = State::new(alloc, limits_of(command));
     let fed = feed_both(alloc, inputs, &mut state, command)?;
@@ -335,6 +350,8 @@ fn run_for<I: Inputs>(
     ensures same { I.content inputs.new ≡ I.content inputs.old }
     ensures cause { ReadsNames (reads_named (I.content inputs.old) (named_as command.now))
         (I.faults inputs.old) (I.faults inputs.new) result }
+    ensures reads { Makes (I.reads inputs.old) (I.reads inputs.new)
+        (ReadsOf (run_inputs (named_as command.now)) result) }
 {
     let asks = asks_of(alloc, inputs, command)?;
     text_of(alloc, inputs, command, &asks)
@@ -349,6 +366,8 @@ fn check_for<I: Inputs>(alloc: Global, inputs: &mut I, name: &str) -> Result<Rep
     ensures stops { IfErr result (StopsAt Which.Printed) }
     ensures same { I.content inputs.new ≡ I.content inputs.old }
     ensures cause { ReadsName name.now (I.faults inputs.old) (I.faults inputs.new) result }
+    ensures reads { Makes (I.reads inputs.old) (I.reads inputs.new)
+        (ReadsOf (check_inputs name.now) result) }
 {
     let octets = octets_of(alloc, inputs, name, Which::Printed)?;
     match check_text(alloc, octets) {
@@ -390,6 +409,8 @@ fn reply_to<I: Inputs>(
     ensures same { I.content inputs.new ≡ I.content inputs.old }
     ensures cause { ReadsNames (reads_asked (I.content inputs.old) (Some (asked_as command.now)))
         (I.faults inputs.old) (I.faults inputs.new) result }
+    ensures reads { Makes (I.reads inputs.old) (I.reads inputs.new)
+        (ReadsAsked (Some (asked_as command.now)) result) }
 {
     match command {
         CommandWords::Run(run) => {
@@ -425,6 +446,8 @@ pub fn reply_for<I: Inputs>(
     ensures same { I.content inputs.new ≡ I.content inputs.old }
     ensures cause { ReadsNames (read_by words.now (I.content inputs.old)) (I.faults inputs.old)
         (I.faults inputs.new) result }
+    ensures reads { Makes (I.reads inputs.old) (I.reads inputs.new)
+        (ReadsAsked (asked_by words.now) result) }
 {
     let command = match read_words(alloc, words) {
         Ok(command) => command,

@@ -7,6 +7,7 @@ ghost use Rattle.route_model.specs.Events.{Elem as model_elem, Event as model_ev
 ghost use Rattle.route_model.specs.Choice.{Candidates, after_elem, elems_of};
 ghost use Rattle.feed_model.specs.Feed.{at_event};
 ghost use Rattle.fib_main.specs.Counts.{CountsFit, CountsOn};
+ghost use Rattle.fib_main.specs.Passes.{IsNumbered};
 ghost use Rattle.fib_main.specs.Refusals.{Limits as ends};
 ghost use Rattle.fib_main.specs.Standing.{EndsShort, IsOfLoad, IsReady, of_input, of_read, refusal_at, StateStands, StateTakes, StateTakesAll};
 ghost use Rattle.fib_main.specs.Views.{changes_as, limits_as};
@@ -177,6 +178,7 @@ fn step(state: &mut State, which: MrtInput, event: u64, elem: &Elem) -> Result<(
     ensures candidates { OnOk result (state.new.engine.candidates
         ≡ after_elem state.old.engine.candidates (elem_as elem.now)) }
     ensures ready { OnOk result (IsReady which event state.new.engine) }
+    ensures numbered { IfErr result (IsNumbered which) }
 {
     match which {
         MrtInput::Dump => match state.engine.load(elem) {
@@ -218,6 +220,7 @@ fn take_elems(
         ≡ elems_of state.old.engine.candidates event
         → StateTakesAll which before (event ∷ []) state.old result state.new }
     ensures ready { IfOk result (λ after. IsReady which after state.new.engine) }
+    ensures numbered { IfErr result (IsNumbered which) }
     ensures counts { IfOk result (λ after. (event : model_event) → map elem_as elems.now
         ≡ elems_of state.old.engine.candidates event
         → CountsOn state.old.engine.candidates (event ∷ []) before after state.new.engine.candidates) }
@@ -242,6 +245,7 @@ fn take_event(
     ensures takes { StateTakesAll which before (event_as event.now ∷ [])
         state.old result state.new }
     ensures ready { IfOk result (λ after. IsReady which after state.new.engine) }
+    ensures numbered { IfErr result (IsNumbered which) }
     ensures counts { IfOk result (λ after. CountsOn state.old.engine.candidates
         (event_as event.now ∷ []) before after state.new.engine.candidates) }
 {
@@ -266,6 +270,7 @@ pub fn take_events(
     ensures takes { StateTakesAll which before (map event_as events.now)
         state.old result state.new }
     ensures ready { IfOk result (λ after. IsReady which after state.new.engine) }
+    ensures numbered { IfErr result (IsNumbered which) }
     ensures counts { IfOk result (λ after. CountsOn state.old.engine.candidates
         (map event_as events.now) before after state.new.engine.candidates) }
 {

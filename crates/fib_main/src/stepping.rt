@@ -10,7 +10,9 @@ ghost use Rattle.fib_main.specs.Due.{load_at, script_at, stepping_at, steps_size
 ghost use Rattle.fib_main.specs.Ends.{after, reads_steps, ReadsName, ReadsNames};
 ghost use Rattle.fib_main.specs.Loaded.{GivesLoad, of_step};
 ghost use Rattle.fib_main.specs.Stepped.{arena_of};
+ghost use Rattle.fib_io.specs.Reads.{Makes};
 ghost use Rattle.fib_main.specs.Owned.{StopsAt, StopsIn};
+ghost use Rattle.fib_main.specs.Passes.{ReadsOf, load_inputs, steps_inputs};
 ghost use Rattle.fib_main.specs.Stepping.{events_at, refusal_of_whole};
 ghost use Rattle.fib_main.specs.Stops.{GivesDue};
 ghost use Rattle.fib_main.specs.Untold.{GivesText, StepsOfSome};
@@ -29,7 +31,7 @@ use step_script::{ScriptError, Step, read_script};
 use whole_input::{WholeError, read_all_events};
 
 /// The steps of the script.
-#[tactic(auto, using(crate::proofs::Scripts::script_printed), unfolding(crate::specs::Due::script_at))]
+#[tactic(auto, using(crate::proofs::Passes::out_of_memory, crate::proofs::Passes::text_refused, crate::proofs::Scripts::script_printed), unfolding(crate::specs::Due::script_at))]
 fn script_of<I: Inputs>(alloc: Global, inputs: &mut I, name: &str) -> Result<Vec<Step>, Outcome>
     ensures due { GivesDue (λ v. map step_as v.items) result
         (script_at (I.content inputs.old) name.now) }
@@ -37,6 +39,8 @@ fn script_of<I: Inputs>(alloc: Global, inputs: &mut I, name: &str) -> Result<Vec
     ensures stops { IfErr result (StopsAt Which.Script) }
     ensures same { I.content inputs.new ≡ I.content inputs.old }
     ensures cause { ReadsName name.now (I.faults inputs.old) (I.faults inputs.new) result }
+    ensures reads { Makes (I.reads inputs.old) (I.reads inputs.new)
+        (ReadsOf ((Which.Script, name.now) ∷ []) result) }
 {
     let octets = octets_of(alloc, inputs, name, Which::Script)?;
     match read_script(alloc, &octets) {
@@ -75,6 +79,8 @@ fn load_of<I: Inputs>(
     ensures same { I.content inputs.new ≡ I.content inputs.old }
     ensures cause { ReadsName (steps_as command.now).dump (I.faults inputs.old)
         (I.faults inputs.new) result }
+    ensures reads { Makes (I.reads inputs.old) (I.reads inputs.new)
+        (ReadsOf ((Which.Dump, (steps_as command.now).dump) ∷ []) result) }
 {
     let mut state = State::new(
         alloc,
@@ -110,13 +116,15 @@ fn outcome_of_whole(error: WholeError) -> Outcome
 }
 
 /// The events of the updates, which are read to their end.
-#[tactic(auto, using(crate::proofs::Whole::whole_due, crate::proofs::Whole::whole_fails))]
+#[tactic(auto, using(crate::proofs::Passes::events_stop, crate::proofs::Passes::input_read, crate::proofs::Whole::whole_due, crate::proofs::Whole::whole_fails))]
 fn events_of<I: Inputs>(alloc: Global, inputs: &mut I, name: &str) -> Result<Vec<Event>, Outcome>
     ensures due { GivesDue (λ v. map event_as v.items) result
         (events_at (I.content inputs.old) name.now) }
     ensures stops { IfErr result (StopsAt Which.Updates) }
     ensures same { I.content inputs.new ≡ I.content inputs.old }
     ensures cause { ReadsName name.now (I.faults inputs.old) (I.faults inputs.new) result }
+    ensures reads { Makes (I.reads inputs.old) (I.reads inputs.new)
+        (ReadsOf ((Which.Updates, name.now) ∷ []) result) }
 {
     read_all_events(alloc, inputs, name).map_err(outcome_of_whole)
 }
@@ -166,6 +174,8 @@ fn rows_of<I: Inputs>(
     ensures cause { ReadsNames ((steps_as command.now).dump ∷ after (load_at
         (steps_sizes (steps_as command.now)) (I.content inputs.old) (steps_as command.now).dump)
         ((steps_as command.now).updates ∷ [])) (I.faults inputs.old) (I.faults inputs.new) result }
+    ensures reads { Makes (I.reads inputs.old) (I.reads inputs.new)
+        (ReadsOf (load_inputs (steps_as command.now)) result) }
 {
     let engine = load_of(alloc, inputs, command)?;
     let events = events_of(alloc, inputs, command.updates)?;
@@ -189,6 +199,8 @@ pub fn steps_for<I: Inputs>(
     ensures same { I.content inputs.new ≡ I.content inputs.old }
     ensures cause { ReadsNames (reads_steps (I.content inputs.old) (steps_as command.now))
         (I.faults inputs.old) (I.faults inputs.new) result }
+    ensures reads { Makes (I.reads inputs.old) (I.reads inputs.new)
+        (ReadsOf (steps_inputs (steps_as command.now)) result) }
 {
     let script = script_of(alloc, inputs, command.script)?;
     let text = rows_of(alloc, inputs, command, &script)?;

@@ -5,7 +5,9 @@ ghost use Rattle.fib_io.specs.Causes.{Rose};
 ghost use Rattle.cert_check.specs.Views.{no_as};
 ghost use Rattle.fib_main.specs.Ends.{Completes, EndsBy, Meets, OneRose, ReadsFrom, TellsOf, text_due, Writes, WritesBy};
 ghost use Rattle.fib_main.specs.Keeps.{Follows, KeepsTables, RenewsLeast, RepairsFewest, RepairsWithin};
+ghost use Rattle.fib_io.specs.Reads.{Makes};
 ghost use Rattle.fib_main.specs.Owned.{IsOf};
+ghost use Rattle.fib_main.specs.Passes.{ReadsAt};
 ghost use Rattle.fib_main.specs.Proves.{AddsFrontOfYes, AddsYes, Decides, IfChecked, IfRan, IsRun, PrintsYes, YesProves};
 ghost use Rattle.fib_main.specs.Runs.{Answers, Certified, Forwards, HasAggregate, HasHops, HasLeast, IfDue, IsInOrder, SumsUp};
 ghost use Rattle.fib_main.specs.Stepped.{FitsSteps};
@@ -29,7 +31,7 @@ fn end_of(no: Option<No>) -> Outcome
 }
 
 /// The outcome, with nothing told of it yet.
-#[tactic(auto, using(crate::proofs::Untold::own_end, crate::proofs::Untold::own_fault, crate::proofs::Untold::some_ends, crate::proofs::Untold::some_fault, crate::proofs::Untold::some_stop, crate::proofs::Untold::steps_end, crate::proofs::Untold::steps_fault, crate::proofs::Untold::steps_stop), unfolding(crate::specs::Due::reply_at))]
+#[tactic(auto, using(crate::proofs::Passes::reads_ended, crate::proofs::Passes::reads_refused, crate::proofs::Passes::reads_unwritten, crate::proofs::Untold::own_end, crate::proofs::Untold::own_fault, crate::proofs::Untold::some_ends, crate::proofs::Untold::some_fault, crate::proofs::Untold::some_stop, crate::proofs::Untold::steps_end, crate::proofs::Untold::steps_fault, crate::proofs::Untold::steps_stop), unfolding(crate::specs::Due::reply_at))]
 fn outcome_of<I: Inputs, O: Sink>(
     alloc: Global,
     words: &[String],
@@ -39,6 +41,8 @@ fn outcome_of<I: Inputs, O: Sink>(
     ensures exact { Meets (due_by words.now (I.content inputs.old)) result }
     ensures read { ReadsFrom (read_by words.now (I.content inputs.old)) (I.faults inputs.old)
         (I.faults inputs.new) result }
+    ensures reads { Makes (I.reads inputs.old) (I.reads inputs.new)
+        (ReadsAt (asked_by words.now) result) }
     ensures write { WritesBy (O.faults out.old) (O.faults out.new) result }
     ensures out { Writes (text_due (due_by words.now (I.content inputs.old))) (O.written out.old)
         (O.written out.new) result }
@@ -85,6 +89,8 @@ fn run_and_tell<I: Inputs, O: Sink, E: Sink>(
     ensures exact { Meets (due_by words.now (I.content inputs.old)) result }
     ensures read { ReadsFrom (read_by words.now (I.content inputs.old)) (I.faults inputs.old)
         (I.faults inputs.new) result }
+    ensures reads { Makes (I.reads inputs.old) (I.reads inputs.new)
+        (ReadsAt (asked_by words.now) result) }
     ensures write { WritesBy (O.faults out.old) (O.faults out.new) result }
     ensures out { Writes (text_due (due_by words.now (I.content inputs.old))) (O.written out.old)
         (O.written out.new) result }
@@ -135,6 +141,12 @@ pub fn run_fib<I: Inputs, O: Sink, E: Sink>(
     // A fault of reading has its cause in an input that was to be read, and nothing else leaves a count risen.
     ensures read { ReadsFrom (read_by words.now (I.content inputs.old)) (I.faults inputs.old)
         (I.faults inputs.new) result }
+
+    // Each input that the words name is read in order from its first octet on, each place once, and nothing is read after it failed
+    // or ended: asks or a script, then the dump, then the updates, each to its end before the next; and nothing after the input
+    // that is refused. A name that stands for two inputs is read for each. So each of them may be a pipe.
+    ensures reads { Makes (I.reads inputs.old) (I.reads inputs.new)
+        (ReadsAt (asked_by words.now) result) }
 
     // A fault of writing has its cause in out.
     ensures write { WritesBy (O.faults out.old) (O.faults out.new) result }

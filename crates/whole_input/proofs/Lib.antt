@@ -1,3 +1,4 @@
 pub mod Arriving
 pub mod Cutting
 pub mod Gathering
+pub mod Passes

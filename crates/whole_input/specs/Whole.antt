@@ -4,6 +4,7 @@ use Rattle.route_model.specs.Events.{Event}
 use Rattle.reading_model.specs.Input.{Progress, Stopped, input}
 use Rattle.fib_io.specs.Causes.{Rose}
 use Rattle.fib_io.specs.Pieces.{octets_read}
+use Rattle.fib_io.specs.Reads.{PassEnd, AtEnd, AtFault, PastMost, Anywhere}
 use Rattle.fib_io.specs.declared.pieces.ReadError.{ReadError}
 use Rattle.fib_io.specs.declared.pieces.ReadError.TheVariants as pieces
 use Rattle.mrt_frame.specs.declared.Malformed as code_malformed
@@ -49,6 +50,18 @@ IsRefused Fault octets = Unit {0}
 abbrev pub FaultRose : {T : Type 0} → (List ℕ → ℕ) → (List ℕ → ℕ) → List ℕ → Result T WholeError → Type 0
 FaultRose before now name (Err Fault) = Rose (before name) (now name)
 FaultRose before now name result = now ≡ before
+
+-- where the pass over an input ends that isn't read to its end
+abbrev pub end_by : WholeError → PassEnd
+end_by Fault = AtFault
+end_by TooLarge = PastMost
+end_by (Malformed malformed) = Anywhere
+end_by NoMemory = Anywhere
+
+-- where the pass over the input ends
+abbrev pub end_of : {T : Type 0} → Result T WholeError → PassEnd
+end_of (Ok x) = AtEnd
+end_of (Err error) = end_by error
 
 -- a refusal of what is read
 abbrev pub of_input : ReadError → WholeError

@@ -1,8 +1,11 @@
-use Rattle.std.proofs.Common.{◌∙◌, Err, ap, arith, refl}
+use Rattle.std.proofs.Common.{◌+◌, ◌∙◌, Err, ap, arith, refl}
+use Rattle.std.proofs.lemmas.Grind.{common_steps}
 use Rattle.std.proofs.lemmas.Result.{err_from_is_err_and}
 use Rattle.fib_io.specs.Pieces.{ComeNext, IsEnd, IsLarge}
+use Rattle.fib_io.proofs.Passing.{pass_begins, pass_ends, pass_goes_on, pass_refused, pass_stops}
 use Rattle.whole_input.proofs.Arriving.{told_before}
-use Rattle.fib_main.proofs.AskReading.{asking_feeds, asking_start, brings_all, cause_of_end, cause_of_feed, feed_fits, finish_fits, refused_feed, refused_piece}
+use Rattle.fib_main.proofs.AskReading.{asking_feeds, asking_start, brings_all, cause_of_end, cause_of_feed, feed_fits, finish_fits, reads_of_end, reads_of_feed, refused_feed, refused_piece}
+use Rattle.fib_main.proofs.Passes.{asks_end_of_input}
 use Rattle.fib_main.proofs.asks.read_through.Goals as goal
 
 pub loop-reader-init : goal.loop-reader-init
@@ -12,6 +15,7 @@ loop-reader-init g c = record {
   stands = asking_start _ _ c.new-reader.ensures;
   same = refl;
   kept = refl;
+  made = pass_begins _ c.args.name.now;
 }
 
 pub returns-in_err-n-clause-brings : goal.returns-in_err-n-clause-brings
@@ -51,4 +55,21 @@ loop-reader-preserved g c =
       stands = asking_feeds _ _ _ c.read_piece.new.room c.loop-reader.at c.in_ok-n.n c.in_ok-n.ensures.most next c.loop-reader.invariant.stands c.in_ok-feed.ensures;
       same = c.in_ok-n.ensures.same ∙ c.loop-reader.invariant.same;
       kept = c.in_ok-n.ensures.cause ∙ c.loop-reader.invariant.kept;
+      made = pass_goes_on _ _ _ c.args.name.now c.loop-reader.at c.loop-reader.at _ c.in_ok-n.n refl refl (grind (arith, common_steps)) c.loop-reader.invariant.made c.in_ok-n.ensures.made;
     }
+
+pub returns-in_err-n-clause-reads : goal.returns-in_err-n-clause-reads
+returns-in_err-n-clause-reads g c =
+    let p = err_from_is_err_and c.from_residual.result c.from_residual.ensures.1 in
+    rw (p.1, p.2, asks_end_of_input c.in_err-n.field-0.0) (pass_refused _ _ _ c.args.name.now c.loop-reader.at c.loop-reader.at c.in_err-n.field-0.0 refl c.loop-reader.invariant.within c.loop-reader.invariant.made c.in_err-n.ensures.made)
+
+pub returns-then-n-eq0-clause-reads : goal.returns-then-n-eq0-clause-reads
+returns-then-n-eq0-clause-reads g c = reads_of_end _ _ c.args.name.now _ _ _ _ c.loop-reader.invariant.stands c.finish.ensures
+    (pass_ends _ _ _ c.args.name.now c.loop-reader.at c.loop-reader.at c.in_ok-n.n refl c.loop-reader.invariant.within c.if-n-eq0.true c.loop-reader.invariant.made c.in_ok-n.ensures.made)
+
+pub returns-in_err-feed-clause-reads : goal.returns-in_err-feed-clause-reads
+returns-in_err-feed-clause-reads g c =
+    let p = err_from_is_err_and c.from_residual-in_err-feed.result c.from_residual-in_err-feed.ensures.1 in
+    rw (p.1, p.2) (reads_of_feed _ _ c.args.name.now _ _ _ c.read_piece.new.room c.loop-reader.at c.in_ok-n.n c.in_err-feed.field-0.0 c.loop-reader.invariant.stands c.in_err-feed.ensures
+    (pass_stops _ _ c.args.name.now (c.loop-reader.at + c.in_ok-n.n) c.in_ok-n.ensures.within
+    (pass_goes_on _ _ _ c.args.name.now c.loop-reader.at c.loop-reader.at (c.loop-reader.at + c.in_ok-n.n) c.in_ok-n.n refl refl (grind (arith, common_steps)) c.loop-reader.invariant.made c.in_ok-n.ensures.made)))

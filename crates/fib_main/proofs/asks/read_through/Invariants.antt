@@ -1,4 +1,5 @@
 use Rattle.std.proofs.Common.{◌≡◌, ◌+◌, ◌-◌, ◌^◌, ◌<◌, ◌≤◌, length}
+use Rattle.fib_io.specs.Reads.{Leads, Makes}
 use Rattle.fib_main.proofs.AskReading.{Asking}
 use Rattle.fib_main.proofs.asks.read_through.Given as goal
 
@@ -9,6 +10,7 @@ invariant-loop-reader g l = record {
   stands : Asking (g.I.Inputs.content l.fn.inputs l.name) l.reader l.at;
   same : g.I.Inputs.content l.inputs ≡ g.I.Inputs.content l.fn.inputs;
   kept : g.I.Inputs.faults l.inputs ≡ g.I.Inputs.faults l.fn.inputs;
+  made : Makes (g.I.Inputs.reads l.fn.inputs) (g.I.Inputs.reads l.inputs) (Leads l.name 0 l.at);
 }
 
 abbrev pub decreases-loop-reader : goal.decreases-loop-reader

@@ -1,4 +1,5 @@
 use Rattle.std.proofs.Common.{◌≡◌, ◌+◌, ◌-◌, ◌^◌, ◌<◌, ◌≤◌, length}
+use Rattle.fib_io.specs.Reads.{Leads, Makes}
 use Rattle.mrt_read.specs.Standing.{reader_left}
 use Rattle.fib_main.specs.Standing.{IsReady}
 use Rattle.whole_input.proofs.Cutting.{IsCutNow}
@@ -14,6 +15,7 @@ invariant-loop-more g l = record {
   cut : IsCutNow l.reader;
   same : g.I.Inputs.content l.inputs ≡ g.I.Inputs.content l.fn.inputs;
   kept : g.I.Inputs.faults l.inputs ≡ g.I.Inputs.faults l.fn.inputs;
+  made : Makes (g.I.Inputs.reads l.fn.inputs) (g.I.Inputs.reads l.inputs) (Leads l.name 0 l.at);
 }
 
 abbrev pub decreases-loop-more : goal.decreases-loop-more
@@ -27,6 +29,7 @@ invariant-loop-more-2 g l = record {
   stands : Streaming l.fn.which (g.I.Inputs.content l.fn.inputs l.name) l.fn.state l.reader l.state l.at l.events;
   same : g.I.Inputs.content l.inputs ≡ g.I.Inputs.content l.fn.inputs;
   kept : g.I.Inputs.faults l.inputs ≡ g.I.Inputs.faults l.fn.inputs;
+  made : Makes (g.I.Inputs.reads l.fn.inputs) (g.I.Inputs.reads l.inputs) (Leads l.name 0 l.at);
 }
 
 abbrev pub decreases-loop-more-2 : goal.decreases-loop-more-2

@@ -1,9 +1,13 @@
-use Rattle.std.proofs.Common.{[], sym, subst}
+use Rattle.std.proofs.Common.{[], ◌∷◌, sym, subst}
 use Rattle.std.proofs.lemmas.Result.{err_from_is_err_and}
 use Rattle.fib_words.specs.Commands.{named_as}
 use Rattle.fib_main.specs.Due.{feeds_at, limits_of}
 use Rattle.fib_main.specs.Stops.{FailsDue}
 use Rattle.fib_main.proofs.Due.{dump_fails, end_fails, fed_all, feeds_due, load_fits, load_has_room, updates_fail, updates_read}
+use Rattle.fib_main.specs.declared.outcome.Which.TheVariants as which
+use Rattle.fib_main.specs.Passes.{StopsReading, feed_inputs, input_for}
+use Rattle.fib_io.specs.Reads.{Makes}
+use Rattle.fib_main.proofs.Passes.{all_next, load_stops, stopped_first, stopped_next}
 use Rattle.fib_main.proofs.run.feed_both.Goals as goal
 
 pub returns-in_err-load-clause-due : goal.returns-in_err-load-clause-due
@@ -43,3 +47,26 @@ returns-clause-due g c = λ s.
     let updates = c.in_ok-updates.ensures.due (limits_of named) load.0.elems stands in
     let is = rw c.in_ok-load.ensures.same at updates.2 in
     ((load.0, updates.0), fed_all (limits_of named) load.0 updates.0 _ _ _ load.1 updates.1, feeds_due _ named load.0 updates.0 (load_fits _ named load.0 load.2 (load_has_room (limits_of named) load.0 _ stands)) is)
+
+pub returns-in_err-load-clause-reads : goal.returns-in_err-load-clause-reads
+returns-in_err-load-clause-reads g c =
+    let p = err_from_is_err_and c.from_residual.result c.from_residual.ensures.1 in
+    let named = named_as c.args.command.now in
+    rw (p.1, p.2) (stopped_first _ _ ((which.Dump, named.dump) ∷ []) (input_for which.Updates named.updates) _ c.in_err-load.ensures.reads)
+
+pub returns-in-Err-clause-reads : goal.returns-in-Err-clause-reads
+returns-in-Err-clause-reads g c =
+    let named = named_as c.args.command.now in
+    subst (λ o. Makes (g.I.Inputs.reads c.args.inputs.now) (g.I.Inputs.reads c.feed_of.new.inputs) (StopsReading (feed_inputs named) o)) (sym c.outcome_of_refusal.ensures)
+    (stopped_first _ _ ((which.Dump, named.dump) ∷ []) (input_for which.Updates named.updates) _ (load_stops _ _ named.dump c.in-Err.error c.in-Err.ensures.kinds c.in_ok-load.ensures.reads))
+
+pub returns-in_err-updates-clause-reads : goal.returns-in_err-updates-clause-reads
+returns-in_err-updates-clause-reads g c =
+    let p = err_from_is_err_and c.from_residual-in_err-updates.result c.from_residual-in_err-updates.ensures.1 in
+    let named = named_as c.args.command.now in
+    rw (p.1, p.2) (stopped_next _ _ _ ((which.Dump, named.dump) ∷ []) (input_for which.Updates named.updates) _ c.in_ok-load.ensures.reads c.in_err-updates.ensures.reads)
+
+pub returns-clause-reads : goal.returns-clause-reads
+returns-clause-reads g c =
+    let named = named_as c.args.command.now in
+    all_next _ _ _ ((which.Dump, named.dump) ∷ []) (input_for which.Updates named.updates) c.in_ok-load.ensures.reads c.in_ok-updates.ensures.reads

@@ -4,6 +4,7 @@ use Rattle.feed_model.specs.Feed.{at_event}
 use Rattle.fib_addr.specs.Views.{entry_as}
 use Rattle.fib_delta.specs.Views.{change_as}
 use Rattle.fib_main.specs.Views.{changes_as}
+use Rattle.fib_main.proofs.Passes.{load_numbered, update_numbered}
 use Rattle.fib_main.proofs.Steps.{loads_one, not_loaded, not_taken, takes_one, took_it}
 use Rattle.fib_main.proofs.state.step.Goals as goal
 
@@ -25,3 +26,9 @@ pub returns-in-Err-apply-clause-takes : goal.returns-in-Err-apply-clause-takes
 returns-in-Err-apply-clause-takes c =
     let no = c.in-Err-apply.ensures in
     not_taken c.args.which c.args.event _ c.args.state.now _ c.in-Err-apply.error c.refusal_at-in-Err-apply.result c.in-Updates.is c.refusal_at-in-Err-apply.ensures no.full.0 no.full.1 no.short
+
+pub returns-in-Err-clause-numbered : goal.returns-in-Err-clause-numbered
+returns-in-Err-clause-numbered c = load_numbered c.args.which c.args.event c.in-Err.error c.refusal_at.result c.refusal_at.ensures c.requires.first c.in-Err.ensures.fits
+
+pub returns-in-Err-apply-clause-numbered : goal.returns-in-Err-apply-clause-numbered
+returns-in-Err-apply-clause-numbered c = update_numbered c.args.which c.args.event c.in-Err-apply.error c.refusal_at-in-Err-apply.result c.in-Updates.is c.refusal_at-in-Err-apply.ensures c.requires.first

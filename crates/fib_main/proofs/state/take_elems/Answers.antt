@@ -50,3 +50,8 @@ overflow_add-count c =
     let items = c.args.elems.now in
     let fits : c.loop-elem.count + 1 < 2 ^ 64 = fits_in_all elem_as items (map elem_as (take c.loop-elem.elem-index items)) (map elem_as (drop (suc c.loop-elem.elem-index) items)) (elem_as c.elem-item.result) _ _ c.requires.few (one_of_more elem_as items c.loop-elem.elem-index _ [] c.loop-elem-test.true c.elem-item.is) c.loop-elem.invariant.counted in
     omega (arith, fits)
+
+pub returns-in_err-step-clause-numbered : goal.returns-in_err-step-clause-numbered
+returns-in_err-step-clause-numbered c =
+    let p = err_from_is_err_and c.from_residual.result c.from_residual.ensures.1 in
+    rw (p.1, p.2) c.in_err-step.ensures.numbered

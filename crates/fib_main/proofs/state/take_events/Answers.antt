@@ -54,3 +54,8 @@ returns-clause-takes c = λ limits before done counted s.
 
 pub take_event-requires-clause-few : goal.take_event-requires-clause-few
 take_event-requires-clause-few c = fits_next _ _ (map event_as (take c.loop-event.event-index c.args.events.now)) (event_as c.event-item.result ∷ []) _ _ _ _ c.requires.few c.loop-event.invariant.counts (one_of_more event_as c.args.events.now c.loop-event.event-index _ [] c.loop-event-test.true c.event-item.is)
+
+pub returns-in_err-count-clause-numbered : goal.returns-in_err-count-clause-numbered
+returns-in_err-count-clause-numbered c =
+    let p = err_from_is_err_and c.from_residual.result c.from_residual.ensures.1 in
+    rw (p.1, p.2) c.in_err-count.ensures.numbered

@@ -1,4 +1,4 @@
-use Rattle.std.proofs.Common.{[], sym, subst}
+use Rattle.std.proofs.Common.{[], ◌∷◌, sym, subst}
 use Rattle.std.proofs.lemmas.Result.{err_from_is_err_and}
 use Rattle.fib_words.specs.Commands.{steps_as}
 use Rattle.fib_main.specs.declared.outcome.MrtInput.TheVariants.{Dump}
@@ -10,6 +10,9 @@ use Rattle.fib_main.specs.Owned.{StopsAt}
 use Rattle.fib_main.specs.Due.{load_at, steps_sizes}
 use Rattle.fib_main.specs.Standing.{StateStands}
 use Rattle.fib_main.proofs.Due.{dump_stops, end_reads, load_due, load_ends, load_has_room, load_refused}
+use Rattle.fib_io.specs.Reads.{Makes}
+use Rattle.fib_main.specs.Passes.{StopsReading}
+use Rattle.fib_main.proofs.Passes.{load_stops}
 use Rattle.fib_main.proofs.stepping.load_of.Goals as goal
 
 pub returns-in_err-feed_of-clause-due : goal.returns-in_err-feed_of-clause-due
@@ -52,3 +55,14 @@ returns-clause-due g c =
     let load = c.in_ok-feed_of.ensures.due (record { every = 0; sizes = z }) [] stands in
     let ended = c.in_default.ensures.stands (record { every = 0; sizes = z }) load.0.elems load.1.stands in
     (load.0, ended.engine, ended.sizes_are, load_due z _ _ load.0 load.2 (load_has_room (record { every = 0; sizes = z }) load.0 _ ended))
+
+pub returns-in_err-feed_of-clause-reads : goal.returns-in_err-feed_of-clause-reads
+returns-in_err-feed_of-clause-reads g c =
+    let p = err_from_is_err_and c.from_residual.result c.from_residual.ensures.1 in
+    rw (p.1, p.2) c.in_err-feed_of.ensures.reads
+
+pub returns-in-Err-clause-reads : goal.returns-in-Err-clause-reads
+returns-in-Err-clause-reads g c =
+    let name = (steps_as c.args.command.now).dump in
+    subst (λ o. Makes (g.I.Inputs.reads c.args.inputs.now) (g.I.Inputs.reads c.feed_of.new.inputs) (StopsReading ((which.Dump, name) ∷ []) o)) (sym c.outcome_of_refusal.ensures)
+    (load_stops _ _ name c.in-Err.error c.in-Err.ensures.kinds c.in_ok-feed_of.ensures.reads)

@@ -1,10 +1,12 @@
-use Rattle.std.proofs.Common.{ℕ, Ok, Err, map, inl, inr}
+use Rattle.std.proofs.Common.{ℕ, Ok, Err, [], ◌∷◌, map, inl, inr}
 use Rattle.std.proofs.lemmas.Result.{err_from_is_err_and}
 use Rattle.step_script.specs.Steps.{step_as}
 use Rattle.fib_words.specs.Commands.{steps_as}
 use Rattle.fib_main.specs.declared.outcome.Which.TheVariants as which
 use Rattle.fib_main.specs.Due.{script_at}
 use Rattle.fib_main.proofs.Stepped.{first_read, later_read, script_gives, script_stops}
+use Rattle.fib_main.specs.Passes.{load_inputs}
+use Rattle.fib_main.proofs.Passes.{all_next, stopped_first, stopped_next}
 use Rattle.fib_main.proofs.stepping.steps_for.Goals as goal
 
 pub returns-in_err-script-clause-gives : goal.returns-in_err-script-clause-gives
@@ -63,3 +65,20 @@ pub returns-clause-some : goal.returns-clause-some
 returns-clause-some g c =
     let gives = rw (c.deref.ensures.value, c.in_ok-script.ensures.same) at c.in_ok-text.ensures.gives in
     inr (map step_as c.in_ok-script.script.items, gives)
+
+pub returns-in_err-script-clause-reads : goal.returns-in_err-script-clause-reads
+returns-in_err-script-clause-reads g c =
+    let p = err_from_is_err_and c.from_residual.result c.from_residual.ensures.1 in
+    let named = steps_as c.args.command.now in
+    rw (p.1, p.2) (stopped_first _ _ ((which.Script, named.script) ∷ []) (load_inputs named) _ c.in_err-script.ensures.reads)
+
+pub returns-in_err-text-clause-reads : goal.returns-in_err-text-clause-reads
+returns-in_err-text-clause-reads g c =
+    let p = err_from_is_err_and c.from_residual-in_err-text.result c.from_residual-in_err-text.ensures.1 in
+    let named = steps_as c.args.command.now in
+    rw (p.1, p.2) (stopped_next _ _ _ ((which.Script, named.script) ∷ []) (load_inputs named) _ c.in_ok-script.ensures.reads c.in_err-text.ensures.reads)
+
+pub returns-clause-reads : goal.returns-clause-reads
+returns-clause-reads g c =
+    let named = steps_as c.args.command.now in
+    all_next _ _ _ ((which.Script, named.script) ∷ []) (load_inputs named) c.in_ok-script.ensures.reads c.in_ok-text.ensures.reads

@@ -1,0 +1,77 @@
+-- Reads that are made of inputs, in their order.
+use Rattle.std.specs.Prelude.{◌≡◌, ℕ, ◌+◌, ◌^◌, ◌≤◌, ◌<◌, List, [], ◌∷◌, ◌++◌, Option, Some, None, Result, Ok, Err, IfSome, ◌⊎◌}
+use Rattle.fib_io.specs.declared.pieces.ReadError.{ReadError}
+use Rattle.fib_io.specs.declared.pieces.ReadError.TheVariants as read
+
+-- a read that was made: of which name, from which place on in octets from 0, and how many octets it gave; None if it failed
+pub record Read : Type 0 where
+  pub name : List ℕ
+  pub at : ℕ
+  pub gave : Option ℕ
+
+abbrev pub read_of : List ℕ → ℕ → Option ℕ → Read
+read_of name at gave = record { name = name; at = at; gave = gave }
+
+-- how many octets a read gave
+abbrev pub given : {E : Type 0} → Result ℕ E → Option ℕ
+given (Ok n) = Some n
+given (Err e) = None
+
+-- if all reads up to now are told, they are those that were told before, and then such reads
+abbrev pub Makes : Option (List Read) → Option (List Read) → (List Read → Type 0) → Type 0
+Makes before now Such = IfSome now (λ all. (old made : List Read) × (before ≡ Some old) × (all ≡ old ++ made) × Such made)
+
+-- one read, with this answer
+abbrev pub IsRead : {E : Type 0} → List ℕ → ℕ → Result ℕ E → List Read → Type 0
+IsRead name at result reads = reads ≡ read_of name at (given result) ∷ []
+
+-- ---- passes
+
+-- the reads of this name lead from one place to another: each begins where the last one ended, and gave some octets
+abbrev pub Leads : List ℕ → ℕ → ℕ → List Read → Type 0
+Leads name from to [] = from ≡ to
+Leads name from to (read ∷ reads) = (n : ℕ) × (0 < n) × (read ≡ read_of name from (Some n)) × Leads name (from + n) to reads
+
+-- how a pass over an input ends: at the input's end, behind the last octet that is read of an input, where a read failed, or anywhere
+pub data PassEnd : Type 0 where
+  AtEnd : PassEnd
+  PastMost : PassEnd
+  AtFault : PassEnd
+  Anywhere : PassEnd
+
+-- the reads of a pass after those that gave the octets up to this place: at the input's end one that gave nothing, behind the last octet that is read one that gave some, or one that failed
+abbrev pub EndsPass : PassEnd → List ℕ → ℕ → List Read → Type 0
+EndsPass AtEnd name at reads = reads ≡ read_of name at (Some 0) ∷ []
+EndsPass PastMost name at reads = (n : ℕ) × (0 < n) × (at ≡ 2 ^ 36) × (reads ≡ read_of name at (Some n) ∷ [])
+EndsPass AtFault name at reads = reads ≡ read_of name at None ∷ []
+EndsPass Anywhere name at reads = (reads ≡ []) ⊎ (reads ≡ read_of name at (Some 0) ∷ [])
+
+-- One pass over the input of this name: its reads give the octets in order from octet 0 on, each place once, up to a place that isn't past octet 2^36, and there the pass ends. Nothing follows a read that gave nothing or failed.
+pub record Pass (end : PassEnd) (name : List ℕ) (reads : List Read) : Type 0 where
+  pub at : ℕ
+  pub within : at ≤ 2 ^ 36
+  pub front : List Read
+  pub leads : Leads name 0 at front
+  pub last : List Read
+  pub ends : EndsPass end name at last
+  pub all : reads ≡ front ++ last
+
+-- ---- what the calls read
+
+-- a piece takes one read, which gave it
+abbrev pub IsPieceRead : List ℕ → ℕ → Result ℕ ReadError → List Read → Type 0
+IsPieceRead name at (Ok n) reads = reads ≡ read_of name at (Some n) ∷ []
+IsPieceRead name at (Err read.Fault) reads = EndsPass AtFault name at reads
+IsPieceRead name at (Err read.TooLarge) reads = EndsPass PastMost name at reads
+IsPieceRead name at (Err read.NoMemory) reads = ⊥
+
+-- a refusal ends the pass
+abbrev pub end_by : ReadError → PassEnd
+end_by read.Fault = AtFault
+end_by read.TooLarge = PastMost
+end_by read.NoMemory = Anywhere
+
+-- where the pass ends that a whole input takes
+abbrev pub whole_end : {T : Type 0} → Result T ReadError → PassEnd
+whole_end (Ok x) = AtEnd
+whole_end (Err error) = end_by error

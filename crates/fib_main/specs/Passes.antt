@@ -1,0 +1,160 @@
+-- Which reads are made of the inputs that words name.
+use Rattle.std.specs.Prelude.{◌≡◌, ◌≤◌, ℕ, zero, suc, List, [], ◌∷◌, ◌++◌, map, Option, Some, None, option_to_list, Result, Ok, Err}
+use Rattle.fib_io.specs.Reads.{Anywhere, AtEnd, AtFault, Pass, PassEnd, PastMost, Read}
+use Rattle.fib_words.specs.Commands.{Asked, Check, Make, Named, NamedSteps, Run, Steps}
+use Rattle.fib_main.specs.declared.asks.AskError.{AskError}
+use Rattle.fib_main.specs.declared.asks.AskError.TheVariants as ask
+use Rattle.fib_main.specs.declared.outcome.MrtInput.{MrtInput}
+use Rattle.fib_main.specs.declared.outcome.MrtInput.TheVariants.{Updates as OfUpdates}
+use Rattle.fib_main.specs.declared.outcome.Outcome.{Outcome}
+use Rattle.fib_main.specs.declared.outcome.Outcome.TheVariants.{Done, CheckNo, Usage, ReadFault, WriteFault, NoMemory, TooLarge, Malformed, HopsFull, TrieFull, BadLine}
+use Rattle.fib_main.specs.declared.outcome.Which.{Which}
+use Rattle.fib_main.specs.declared.outcome.Which.TheVariants.{Asks, Dump, Updates, Printed, Script}
+use Rattle.fib_main.specs.declared.state.FeedError.{FeedError}
+use Rattle.fib_main.specs.declared.state.FeedError.TheVariants as feed
+
+-- an input, by what it is for, and its name
+abbrev pub Input : Type 0
+Input = Which × List ℕ
+
+-- the input for this, if one is named
+abbrev pub input_for : Which → Option (List ℕ) → List Input
+input_for which name = map (λ n. (which, n)) (option_to_list name)
+
+-- the dump, and then the updates
+abbrev pub feed_inputs : Named → List Input
+feed_inputs named = (Dump, named.dump) ∷ input_for Updates named.updates
+
+-- The inputs of a run, in the order in which they are read: the asks, the dump, the updates. A name that stands in two words is two inputs.
+abbrev pub run_inputs : Named → List Input
+run_inputs named = input_for Asks named.asks ++ feed_inputs named
+
+-- those of a check
+abbrev pub check_inputs : List ℕ → List Input
+check_inputs name = (Printed, name) ∷ []
+
+-- those of a run in steps: the script, the dump, the updates
+abbrev pub load_inputs : NamedSteps → List Input
+load_inputs named = (Dump, named.dump) ∷ (Updates, named.updates) ∷ []
+
+abbrev pub steps_inputs : NamedSteps → List Input
+steps_inputs named = (Script, named.script) ∷ load_inputs named
+
+-- one pass over each of these inputs, one after another, each to the input's end
+abbrev pub AllRead : List Input → List Read → Type 0
+AllRead [] reads = reads ≡ []
+AllRead (input ∷ inputs) reads = (first rest : List Read) × (reads ≡ first ++ rest) × Pass AtEnd input.1 first × AllRead inputs rest
+
+-- the inputs before this one are read, each to its end, then this one by a pass that ends so, and none after it
+pub record ReadUpTo (inputs : List Input) (which : Which) (end : PassEnd) (reads : List Read) : Type 0 where
+  pub before : List Input
+  pub name : List ℕ
+  pub after : List Input
+  pub order : inputs ≡ before ++ (which, name) ∷ after
+  pub first : List Read
+  pub whole : AllRead before first
+  pub last : List Read
+  pub pass : Pass end name last
+  pub all : reads ≡ first ++ last
+
+-- the first of these inputs may be begun, and none after it
+abbrev pub MayBegin : List Input → List Read → Type 0
+MayBegin [] reads = reads ≡ []
+MayBegin (input ∷ inputs) reads = Pass Anywhere input.1 reads
+
+-- some of the inputs are read, each to its end, in their order, and the next may be begun
+pub record ReadInPart (inputs : List Input) (reads : List Read) : Type 0 where
+  pub before : List Input
+  pub after : List Input
+  pub order : inputs ≡ before ++ after
+  pub first : List Read
+  pub whole : AllRead before first
+  pub last : List Read
+  pub begun : MayBegin after last
+  pub all : reads ≡ first ++ last
+
+-- lines that are wrong: those of asks are judged as they come, all others once their input was read to its end
+abbrev pub lines_end : Which → PassEnd
+lines_end Asks = Anywhere
+lines_end which = AtEnd
+
+-- The reads up to a refusal are those of the inputs before the one that is refused, and of this one. A fault of reading is that of the last read. An input is too large if a read behind the last octet that is read gave some. Events that aren't taken are those of the updates, and event 0 is the load: its tries are asked for room once it was read to its end.
+abbrev pub StopsReading : List Input → Outcome → List Read → Type 0
+StopsReading inputs ReadFault reads = (which : Which) × ReadUpTo inputs which AtFault reads
+StopsReading inputs NoMemory reads = ReadInPart inputs reads
+StopsReading inputs (TooLarge which) reads = ReadUpTo inputs which PastMost reads
+StopsReading inputs (Malformed which number rule) reads = ReadUpTo inputs which Anywhere reads
+StopsReading inputs (BadLine which line why) reads = ReadUpTo inputs which (lines_end which) reads
+StopsReading inputs (HopsFull zero) reads = ReadUpTo inputs Dump Anywhere reads
+StopsReading inputs (HopsFull (suc event)) reads = ReadUpTo inputs Updates Anywhere reads
+StopsReading inputs (TrieFull zero need have arena) reads = ReadUpTo inputs Dump AtEnd reads
+StopsReading inputs (TrieFull (suc event) need have arena) reads = ReadUpTo inputs Updates Anywhere reads
+StopsReading inputs Done reads = ⊥
+StopsReading inputs (CheckNo x) reads = ⊥
+StopsReading inputs WriteFault reads = ⊥
+StopsReading inputs Usage reads = ⊥
+
+-- the reads of a call: all of its inputs, or those up to the refusal
+abbrev pub ReadsOf : {X : Type 0} → List Input → Result X Outcome → List Read → Type 0
+ReadsOf inputs (Ok x) reads = AllRead inputs reads
+ReadsOf inputs (Err o) reads = StopsReading inputs o reads
+
+-- The reads of inputs with this outcome. Each is read to its end at Done, where a check says no and at a fault of writing; else they are read up to the refusal.
+abbrev pub ReadsTo : List Input → Outcome → List Read → Type 0
+ReadsTo inputs Done reads = AllRead inputs reads
+ReadsTo inputs (CheckNo x) reads = AllRead inputs reads
+ReadsTo inputs WriteFault reads = AllRead inputs reads
+ReadsTo inputs o reads = StopsReading inputs o reads
+
+-- The reads of what words ask for: those of the inputs that they name. Words that are no command read nothing, and what is made of a number isn't read.
+abbrev pub ReadsAt : Option Asked → Outcome → List Read → Type 0
+ReadsAt None o reads = reads ≡ []
+ReadsAt (Some (Run named)) o reads = ReadsTo (run_inputs named) o reads
+ReadsAt (Some (Check name)) o reads = ReadsTo (check_inputs name) o reads
+ReadsAt (Some (Make routes seed)) o reads = reads ≡ []
+ReadsAt (Some (Steps named)) o reads = ReadsTo (steps_inputs named) o reads
+
+-- the same of a call that gives something
+abbrev pub ReadsAsked : {X : Type 0} → Option Asked → Result X Outcome → List Read → Type 0
+ReadsAsked None r reads = reads ≡ []
+ReadsAsked (Some (Run named)) r reads = ReadsOf (run_inputs named) r reads
+ReadsAsked (Some (Check name)) r reads = ReadsOf (check_inputs name) r reads
+ReadsAsked (Some (Make routes seed)) r reads = reads ≡ []
+ReadsAsked (Some (Steps named)) r reads = ReadsOf (steps_inputs named) r reads
+
+-- ---- the parts
+
+-- where a pass over asks ends that brings none
+abbrev pub asks_end : AskError → PassEnd
+asks_end (ask.BadLine line) = Anywhere
+asks_end ask.NoMemory = Anywhere
+asks_end ask.Fault = AtFault
+asks_end ask.TooLarge = PastMost
+
+-- where a pass over asks ends
+abbrev pub ask_end : {T : Type 0} → Result T AskError → PassEnd
+ask_end (Ok x) = AtEnd
+ask_end (Err error) = asks_end error
+
+-- where a pass over records ends that brings nothing
+abbrev pub feeds_end : FeedError → PassEnd
+feeds_end feed.Fault = AtFault
+feeds_end feed.TooLarge = PastMost
+feeds_end feed.NoMemory = Anywhere
+feeds_end (feed.Malformed malformed) = Anywhere
+feeds_end (feed.HopsFull event) = Anywhere
+feeds_end (feed.TrieFull event full) = Anywhere
+
+-- where a pass over records ends
+abbrev pub feed_end : {T : Type 0} → Result T FeedError → PassEnd
+feed_end (Ok x) = AtEnd
+feed_end (Err error) = feeds_end error
+
+-- elementary events are numbered from 1, and none of a dump is refused for want of room in tries
+abbrev pub IsNumbered : MrtInput → FeedError → Type 0
+IsNumbered which (feed.HopsFull event) = 1 ≤ event
+IsNumbered which (feed.TrieFull event full) = (which ≡ OfUpdates) × (1 ≤ event)
+IsNumbered which feed.Fault = Unit {0}
+IsNumbered which feed.TooLarge = Unit {0}
+IsNumbered which feed.NoMemory = Unit {0}
+IsNumbered which (feed.Malformed malformed) = Unit {0}
