@@ -119,7 +119,7 @@ pub struct Framer {
 
 impl Framer {
     ghost use Rattle.std.specs.Borrow.{sem};
-    ghost use Rattle.mrt_frame.specs.Framing.{framer_end, FramerFeeds, HasTaken, FramerIsUnchanged, FramerIsUsedUp, framer_left, LendsNext, framer_next, framer_refusal, FramerStands, LetsGo, TakesBack, FramerTells};
+    ghost use Rattle.mrt_frame.specs.Framing.{framer_count, framer_end, FramerFeeds, HasTaken, FramerIsUnchanged, FramerIsUsedUp, framer_left, LendsNext, framer_next, framer_refusal, FramerStands, LetsGo, TakesBack, FramerTells};
 
     /// A framer that was fed nothing.
     pub fn new(alloc: Global) -> Framer
@@ -136,15 +136,13 @@ impl Framer {
         }
     }
 
-    /// Adds the piece to what was fed. Where memory runs out, the framer is as it was; so it is where the records taken, the
-    /// octets held and those of the piece are 2^64 or more together.
+    /// Adds the piece to what was fed. The records taken, the octets held and those of the piece are fewer than 2^64 together: so
+    /// the records can be counted. If memory runs out, the framer is as it was.
     pub fn feed(&mut self, piece: &[u8]) -> Result<(), AllocError>
+        requires few { framer_count self.old + length (framer_left self.old) + length piece.now < 2 ^ 64 }
         ensures ok { OnOk result (FramerFeeds self.old piece.now self.new) }
         ensures err { OnErr result (FramerIsUnchanged self.old self.new) }
     {
-        if u64::MAX - self.number - self.held() < piece.len() as u64 {
-            return Err(AllocError);
-        }
         self.kept.extend_from_slice(piece)?;
         self.last = self.at;
         Ok(())

@@ -74,7 +74,7 @@ takes_events old new told events none still r n k w = record {
 pub went_on : (old new : next.Source) (events : List Event) (given : Option RecordTold) (told : RecordTold) → given ≡ Some told → next.NextGoes old (Ok given) events new → next.ReadsRecord old told events new
 went_on old new events given told is goes = rw is at goes
 
-pub went_wrong : (old new : next.Source) (why : Refusal) (rule : Rule) → why ≡ Broken rule → next.NextFails old why new → next.BreaksRule old rule × (new.table ≡ old.table)
+pub went_wrong : (old new : next.Source) (why : Refusal) (rule : Rule) → why ≡ Broken rule → next.NextFails old why new → next.BreaksRule old rule × (new.table ≡ old.table) × next.TakesAtMostOne old new
 went_wrong old new why rule is fails = rw is at fails
 
 -- ---- a rule is broken

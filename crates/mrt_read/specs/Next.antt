@@ -1,5 +1,5 @@
 -- One record of a framer, read behind a peer table.
-use Rattle.std.specs.Prelude.{◌≡◌, ℕ, ◌+◌, ◌<◌, ◌⊎◌, List, [], length, Option, Some, None, Result, Ok, Err}
+use Rattle.std.specs.Prelude.{◌≡◌, ℕ, ◌+◌, ◌<◌, ◌≤◌, ◌⊎◌, List, [], length, Option, Some, None, Result, Ok, Err}
 use Rattle.route_model.specs.Events.{Event}
 use Rattle.wire_model.specs.declared.rule.Rule.{Rule}
 use Rattle.wire_model.specs.declared.rule.Rule.TheVariants.{HeaderCut, BodyCut, TooLong}
@@ -40,9 +40,13 @@ pub record Stays (old new : Source) : Type 0 where
 abbrev pub BreaksRule : Source → Rule → Type 0
 BreaksRule old rule = ((record_at (framer_left old.framer) ≡ Err TooLong) × (rule ≡ TooLong)) ⊎ ((read : Record) × (after : List ℕ) × (record_at (framer_left old.framer) ≡ Ok (read, after)) × (record_in (peers_in old.table) read ≡ Err rule))
 
+-- at most one record more was taken
+abbrev pub TakesAtMostOne : Source → Source → Type 0
+TakesAtMostOne old new = framer_count new.framer ≤ framer_count old.framer + 1
+
 -- why nothing was read
 abbrev pub NextFails : Source → Refusal → Source → Type 0
-NextFails old (Broken rule) new = BreaksRule old rule × (new.table ≡ old.table)
+NextFails old (Broken rule) new = BreaksRule old rule × (new.table ≡ old.table) × TakesAtMostOne old new
 NextFails old NoMemory new = Stays old new
 
 -- what was read of the source, and how it stands then

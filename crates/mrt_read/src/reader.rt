@@ -1,6 +1,6 @@
 //! The reader of an input that comes in pieces.
 
-ghost use Rattle.std.specs.Prelude.{◌≡◌, ◌≤◌, None, OnErr, OnOk, [], map};
+ghost use Rattle.std.specs.Prelude.{◌≡◌, ◌+◌, ◌-◌, ◌^◌, ◌≤◌, ◌<◌, None, OnErr, OnOk, [], length, map};
 ghost use Rattle.fib_prefix.specs.Views.{event_as};
 ghost use Rattle.mrt_read.specs.Views as views;
 ghost use Rattle.std.specs.Option.{ForNone};
@@ -86,6 +86,7 @@ pub struct Reader {
     skipped: u64,
     treated: u64,
     ghost going: { ForNone refused ((framing.framer_refusal framer ≡ None) × (framer_count framer ≡ records)) },
+    ghost taken: { framer_count framer ≤ records + 1 },
     ghost counted: { (skipped ≤ records) × (treated ≤ records) },
 }
 
@@ -110,8 +111,10 @@ impl Reader {
         }
     }
 
-    /// Adds the piece to what was fed; where memory runs out, the reader is as it was.
+    /// Adds the piece to what was fed; if memory runs out, the reader is as it was. The records read, the octets left and those of the
+    /// piece are fewer than 2^64 - 1 together: so the records can be counted, the refused one too.
     pub fn feed(&mut self, piece: &[u8]) -> Result<(), AllocError>
+        requires few { reader_records self.old + length (reader_left self.old) + length piece.now < 2 ^ 64 - 1 }
         ensures ok { OnOk result (ReaderFeeds self.old piece.now self.new) }
         ensures err { OnErr result (ReaderIsUnchanged self.old self.new) }
     {

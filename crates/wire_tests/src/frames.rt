@@ -1,9 +1,10 @@
 //! Two records in pieces of several sizes, a record that is given back, and inputs that are cut or have a Length over the
 //! limit.
-ghost use Rattle.std.specs.Prelude.{OnOk};
-ghost use Rattle.mrt_frame.specs.Framing.{FramerIsUsedUp};
+ghost use Rattle.std.specs.Prelude.{◌+◌, ◌<◌, ◌≤◌, length, OnOk};
+ghost use Rattle.mrt_frame.specs.Framing.{FramerIsUsedUp, framer_count, framer_left};
 
 use mrt_frame::{Framer, Malformed};
+use std::alloc::Global;
 use std::test::Fail;
 use wire_model::Rule;
 
@@ -28,13 +29,36 @@ const LONG: [u8; 12] = [
 
 /// Takes the whole records: their subtypes, and their bodies one after another.
 fn take_whole(framer: &mut Framer, subs: &mut Vec<u16>, bodies: &mut Vec<u8>) -> Result<(), Fail>
-    ensures { OnOk result (FramerIsUsedUp framer.new) }
+    ensures used { OnOk result (FramerIsUsedUp framer.new) }
+    ensures few { OnOk result (framer_count framer.new + length (framer_left framer.new)
+        ≤ framer_count framer.old + length (framer_left framer.old)) }
 {
     while let Some(framed) = framer.next()? {
         subs.push(framed.sub)?;
         bodies.extend_from_slice(framed.body)?;
     }
     Ok(())
+}
+
+/// A framer that was fed the input in pieces of this size, of which the whole records were taken.
+fn take_in_pieces(
+    alloc: Global,
+    input: &[u8],
+    size: usize,
+    subs: &mut Vec<u16>,
+    bodies: &mut Vec<u8>,
+) -> Result<Framer, Fail>
+    requires { 0 < size }
+{
+    let mut framer = Framer::new(alloc);
+    let mut at = 0;
+    while at < input.len() {
+        let n = size.min(input.len() - at);
+        framer.feed(&input[at..at + n])?;
+        take_whole(&mut framer, subs, bodies)?;
+        at += n;
+    }
+    Ok(framer)
 }
 
 /// Takes a record, gives it back and takes it anew: both times its Subtype and the length of its body.
@@ -65,13 +89,9 @@ fn takes_the_same_records_from_pieces_of_any_size(rt: HostRuntime) -> Result<(),
     let mut expected = Vec::from_slice(rt.alloc(), &PEERS[12..])?;
     expected.extend_from_slice(&ROUTES[12..])?;
     for size in [1, 2, 3, 7, 64] {
-        let mut framer = Framer::new(rt.alloc());
         let mut subs = Vec::new(rt.alloc());
         let mut bodies = Vec::new(rt.alloc());
-        for piece in input.chunks(size) {
-            framer.feed(piece)?;
-            take_whole(&mut framer, &mut subs, &mut bodies)?;
-        }
+        let mut framer = take_in_pieces(rt.alloc(), &input, size, &mut subs, &mut bodies)?;
         assert_eq!(rt; subs.as_slice(), [1, 2].as_slice(), "in pieces of {size}");
         assert_eq!(rt;
             bodies.as_slice(),

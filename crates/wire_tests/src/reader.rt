@@ -1,9 +1,10 @@
 //! An input of six records in pieces of several sizes, and inputs that end or break off wrongly.
-ghost use Rattle.std.specs.Prelude.{OnOk};
-ghost use Rattle.mrt_read.specs.Standing.{ReaderIsUsedUp};
+ghost use Rattle.std.specs.Prelude.{◌+◌, ◌<◌, ◌≤◌, length, OnOk};
+ghost use Rattle.mrt_read.specs.Standing.{ReaderIsUsedUp, reader_left, reader_records};
 
 use fib_prefix::{Addr, Event, Family, Peer, Prefix, Via};
 use mrt_read::{EventsError, Malformed, Reader};
+use std::alloc::Global;
 use std::test::Fail;
 use wire_model::Rule;
 
@@ -42,12 +43,34 @@ const CUT: &[u8] = b"\x00\x00\x00\x00\x00\x0d\x00\x02\x00\x00\x00\x11\
 
 /// Takes the events of all whole records.
 fn take_all(reader: &mut Reader, events: &mut Vec<Event>) -> Result<(), Fail>
-    ensures { OnOk result (ReaderIsUsedUp reader.new) }
+    ensures used { OnOk result (ReaderIsUsedUp reader.new) }
+    ensures few { OnOk result (reader_records reader.new + length (reader_left reader.new)
+        ≤ reader_records reader.old + length (reader_left reader.old)) }
 {
     while let Some(more) = reader.take_events()? {
         events.extend_from_slice(&more)?;
     }
     Ok(())
+}
+
+/// A reader that was fed the input in pieces of this size, of which the events were taken.
+fn take_in_pieces(
+    alloc: Global,
+    input: &[u8],
+    size: usize,
+    events: &mut Vec<Event>,
+) -> Result<Reader, Fail>
+    requires { 0 < size }
+{
+    let mut reader = Reader::new(alloc);
+    let mut at = 0;
+    while at < input.len() {
+        let n = size.min(input.len() - at);
+        reader.feed(&input[at..at + n])?;
+        take_all(&mut reader, events)?;
+        at += n;
+    }
+    Ok(reader)
 }
 
 /// What is said of the input's end, once the events of all whole records are taken.
@@ -80,12 +103,8 @@ fn tells_the_same_from_pieces_of_any_size(rt: HostRuntime) -> Result<(), Fail> {
         input.extend_from_slice(record)?;
     }
     for size in [1, 2, 3, 7, 64, 1000] {
-        let mut reader = Reader::new(rt.alloc());
         let mut events = Vec::new(rt.alloc());
-        for piece in input.chunks(size) {
-            reader.feed(piece)?;
-            take_all(&mut reader, &mut events)?;
-        }
+        let mut reader = take_in_pieces(rt.alloc(), &input, size, &mut events)?;
         take_all(&mut reader, &mut events)?;
         assert_eq!(rt; reader.finish(), Ok(()), "in pieces of {size}");
         assert_eq!(rt;
@@ -96,7 +115,7 @@ fn tells_the_same_from_pieces_of_any_size(rt: HostRuntime) -> Result<(), Fail> {
         assert_eq!(rt; reader.records(), 6, "in pieces of {size}");
         assert_eq!(rt; reader.skipped(), 2, "in pieces of {size}");
     }
-    for (name, pieces, number, rule) in [
+    for (name, [first, second], number, rule) in [
         (
             "a route before the peers",
             [ROUTE, PEERS],
@@ -124,9 +143,8 @@ fn tells_the_same_from_pieces_of_any_size(rt: HostRuntime) -> Result<(), Fail> {
         ),
     ] {
         let mut reader = Reader::new(rt.alloc());
-        for piece in pieces {
-            reader.feed(piece)?;
-        }
+        reader.feed(first)?;
+        reader.feed(second)?;
         let refused = Err(EventsError::Malformed(Malformed { number, rule }));
         assert_eq!(rt; end_of(&mut reader), refused, "{name}");
         assert_eq!(rt; end_of(&mut reader), refused, "{name}, asked again");

@@ -1,5 +1,6 @@
 use Rattle.std.proofs.Common.{◌≡◌, ◌+◌, ◌-◌, ◌^◌, ◌<◌, ◌≤◌, length}
 use Rattle.fib_io.specs.Reads.{Leads, Makes}
+use Rattle.mrt_read.proofs.Fed.{IsFed}
 use Rattle.mrt_read.specs.Standing.{reader_left}
 use Rattle.fib_main.specs.Standing.{IsReady}
 use Rattle.whole_input.proofs.Cutting.{IsCutNow}
@@ -10,6 +11,7 @@ abbrev pub invariant-loop-more : goal.invariant-loop-more
 invariant-loop-more g l = record {
   some : 0 < length l.room;
   within : l.at ≤ 2 ^ 36;
+  fed : IsFed l.reader l.at;
   ready : IsReady l.fn.which l.events l.state.engine;
   stands : Streaming l.fn.which (g.I.Inputs.content l.fn.inputs l.name) l.fn.state l.reader l.state l.at l.events;
   cut : IsCutNow l.reader;
@@ -25,6 +27,7 @@ abbrev pub invariant-loop-more-2 : goal.invariant-loop-more-2
 invariant-loop-more-2 g l = record {
   some : 0 < length l.room;
   within : l.at ≤ 2 ^ 36;
+  fed : IsFed l.reader l.at;
   ready : IsReady l.fn.which l.events l.state.engine;
   stands : Streaming l.fn.which (g.I.Inputs.content l.fn.inputs l.name) l.fn.state l.reader l.state l.at l.events;
   same : g.I.Inputs.content l.inputs ≡ g.I.Inputs.content l.fn.inputs;

@@ -3,6 +3,7 @@ use Rattle.std.specs.Prelude.{min}
 use Rattle.std.proofs.lemmas.List.{length-map}
 use Rattle.std.proofs.lemmas.Result.{err_from_is_err_and}
 use Rattle.fib_prefix.specs.Views.{event_as}
+use Rattle.mrt_read.proofs.Fed.{fed_at_start, fed_more, fed_takes}
 use Rattle.fib_io.specs.Pieces.{ComeNext, IsEnd, IsLarge}
 use Rattle.whole_input.proofs.Arriving.{told_before}
 use Rattle.read_count.proofs.Counting.{counted_all, counting_feeds, counting_start, counting_takes, refused_end, refused_piece, refused_read, used_at_start}
@@ -12,6 +13,7 @@ pub loop-more-init : goal.loop-more-init
 loop-more-init g c = record {
   some = c.requires;
   within = omega arith;
+  fed = fed_at_start c.new-reader.result c.new-reader.ensures.nothing c.new-reader.ensures.stands;
   stands = counting_start _ _ c.new-reader.ensures.stands;
   used = used_at_start c.new-reader.result c.new-reader.ensures.nothing c.new-reader.ensures.going;
   same = refl;
@@ -35,6 +37,7 @@ pub loop-more-2-init : goal.loop-more-2-init
 loop-more-2-init g c = record {
   some = c.in_ok-n.ensures.some;
   within = c.in_ok-n.ensures.within;
+  fed = fed_more _ _ _ _ _ c.loop-more.invariant.fed c.in_ok-feed.ensures.ok (search rules);
   stands = counting_feeds _ _ _ c.read_piece.new.room _ c.in_ok-n.n _ (told_before _ _ c.args.name.now (λ o. ComeNext o c.loop-more.at c.read_piece.new.room c.in_ok-n.n) c.loop-more.invariant.same c.in_ok-n.ensures.comes) c.loop-more.invariant.stands c.in_ok-feed.ensures.ok;
   same = c.in_ok-n.ensures.same ∙ c.loop-more.invariant.same;
   kept = c.in_ok-n.ensures.cause ∙ c.loop-more.invariant.kept;
@@ -53,6 +56,7 @@ loop-more-2-preserved g c =
     record {
       some = c.loop-more-2.invariant.some;
       within = c.loop-more-2.invariant.within;
+      fed = fed_takes _ _ _ _ c.loop-more-2.invariant.fed took;
       stands = counting_takes _ _ _ _ _ _ _ more c.loop-more-2.invariant.stands took;
       same = c.loop-more-2.invariant.same;
       kept = c.loop-more-2.invariant.kept;

@@ -1,4 +1,5 @@
 use Rattle.std.proofs.Common.{◌≡◌, ◌+◌, ◌-◌, ◌^◌, ◌<◌, ◌≤◌, length}
+use Rattle.mrt_read.proofs.Fed.{IsFed}
 use Rattle.mrt_read.specs.Standing.{ReaderIsUsedUp, reader_left}
 use Rattle.read_count.proofs.Counting.{Counting}
 use Rattle.read_count.proofs.count.count_through.Given as goal
@@ -7,6 +8,7 @@ abbrev pub invariant-loop-more : goal.invariant-loop-more
 invariant-loop-more g l = record {
   some : 0 < length l.room;
   within : l.at ≤ 2 ^ 36;
+  fed : IsFed l.reader l.at;
   stands : Counting (g.I.Inputs.content l.fn.inputs l.name) l.reader l.at l.events;
   used : ReaderIsUsedUp l.reader;
   same : g.I.Inputs.content l.inputs ≡ g.I.Inputs.content l.fn.inputs;
@@ -20,6 +22,7 @@ abbrev pub invariant-loop-more-2 : goal.invariant-loop-more-2
 invariant-loop-more-2 g l = record {
   some : 0 < length l.room;
   within : l.at ≤ 2 ^ 36;
+  fed : IsFed l.reader l.at;
   stands : Counting (g.I.Inputs.content l.fn.inputs l.name) l.reader l.at l.events;
   same : g.I.Inputs.content l.inputs ≡ g.I.Inputs.content l.fn.inputs;
   kept : g.I.Inputs.faults l.inputs ≡ g.I.Inputs.faults l.fn.inputs;

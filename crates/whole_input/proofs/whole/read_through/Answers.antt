@@ -1,6 +1,7 @@
-use Rattle.std.proofs.Common.{◌+◌, ◌∙◌, arith, refl}
+use Rattle.std.proofs.Common.{◌+◌, ◌∙◌, arith, refl, rules}
 use Rattle.std.proofs.lemmas.Grind.{common_steps}
 use Rattle.std.proofs.lemmas.Result.{err_from_is_err_and}
+use Rattle.mrt_read.proofs.Fed.{fed_at_start, fed_more, fed_takes}
 use Rattle.fib_io.specs.Pieces.{ComeNext, IsEnd, IsLarge}
 use Rattle.fib_io.proofs.Passing.{pass_begins, pass_ends, pass_goes_on, pass_refused, pass_stops, pass_stops_at_end}
 use Rattle.whole_input.proofs.Arriving.{told_before}
@@ -13,6 +14,7 @@ pub loop-more-init : goal.loop-more-init
 loop-more-init g c = record {
   some = c.requires;
   within = omega arith;
+  fed = fed_at_start c.new-reader.result c.new-reader.ensures.nothing c.new-reader.ensures.stands;
   stands = rw c.new-all.ensures.items (gathering_start _ _ c.new-reader.ensures.nothing c.new-reader.ensures.going c.new-reader.ensures.stands);
   cut = cut_at_start c.new-reader.result c.new-reader.ensures.nothing;
   same = refl;
@@ -37,6 +39,7 @@ pub loop-more-2-init : goal.loop-more-2-init
 loop-more-2-init g c = record {
   some = c.in_ok-n.ensures.some;
   within = c.in_ok-n.ensures.within;
+  fed = fed_more _ _ _ _ _ c.loop-more.invariant.fed c.in_ok-feed.ensures.ok (search rules);
   stands = gathering_feeds _ _ _ c.read_piece.new.room _ c.in_ok-n.n _ (told_before _ _ c.args.name.now (λ o. ComeNext o c.loop-more.at c.read_piece.new.room c.in_ok-n.n) c.loop-more.invariant.same c.in_ok-n.ensures.comes) c.loop-more.invariant.stands c.in_ok-feed.ensures.ok;
   same = c.in_ok-n.ensures.same ∙ c.loop-more.invariant.same;
   kept = c.in_ok-n.ensures.cause ∙ c.loop-more.invariant.kept;
@@ -54,6 +57,7 @@ loop-more-2-preserved g c =
     record {
       some = c.loop-more-2.invariant.some;
       within = c.loop-more-2.invariant.within;
+      fed = fed_takes _ _ _ _ c.loop-more-2.invariant.fed took;
       stands = rw (c.in_ok-extend_from_slice.ensures.items, c.deref.ensures.value) (gathering_takes _ _ _ _ _ _ c.loop-more-2.invariant.stands took);
       same = c.loop-more-2.invariant.same;
       kept = c.loop-more-2.invariant.kept;

@@ -1,5 +1,6 @@
 use Rattle.std.proofs.Common.{◌≡◌, ◌+◌, ◌-◌, ◌^◌, ◌<◌, ◌≤◌, length}
 use Rattle.fib_io.specs.Reads.{Leads, Makes}
+use Rattle.mrt_read.proofs.Fed.{IsFed}
 use Rattle.mrt_read.specs.Standing.{reader_left}
 use Rattle.whole_input.proofs.Cutting.{IsCutNow}
 use Rattle.whole_input.proofs.Gathering.{Gathering}
@@ -9,6 +10,7 @@ abbrev pub invariant-loop-more : goal.invariant-loop-more
 invariant-loop-more g l = record {
   some : 0 < length l.room;
   within : l.at ≤ 2 ^ 36;
+  fed : IsFed l.reader l.at;
   stands : Gathering (g.I.Inputs.content l.fn.inputs l.name) l.reader l.at l.all.items;
   cut : IsCutNow l.reader;
   same : g.I.Inputs.content l.inputs ≡ g.I.Inputs.content l.fn.inputs;
@@ -23,6 +25,7 @@ abbrev pub invariant-loop-more-2 : goal.invariant-loop-more-2
 invariant-loop-more-2 g l = record {
   some : 0 < length l.room;
   within : l.at ≤ 2 ^ 36;
+  fed : IsFed l.reader l.at;
   stands : Gathering (g.I.Inputs.content l.fn.inputs l.name) l.reader l.at l.all.items;
   same : g.I.Inputs.content l.inputs ≡ g.I.Inputs.content l.fn.inputs;
   kept : g.I.Inputs.faults l.inputs ≡ g.I.Inputs.faults l.fn.inputs;
