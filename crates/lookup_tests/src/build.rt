@@ -83,113 +83,99 @@ fn answer(hop: u16, visits: u8, nodes: u64, leaves: u64) -> Told {
     )
 }
 
-fn sized(direct_bits: u8, nodes: u8, leaves: u8) -> Size
-    ensures { (result.direct_bits ≡ direct_bits) × (result.nodes ≡ nodes)
-        × (result.leaves ≡ leaves) }
-{
-    Size {
-        direct_bits,
-        nodes,
-        leaves,
-    }
-}
-
-fn route(first: &Addr, len: u8) -> OneRoute
-    requires { len ≤ width first.now.family }
-    ensures { result.prefix.family ≡ first.now.family }
-{
-    OneRoute {
-        prefix: Prefix::new(first, len),
+/// What a trie of an IPv4 route, of this many direct bits and with arenas of these orders, tells of an address.
+fn told_of(
+    alloc: Global,
+    route: (u32, u8),
+    orders: (u8, u8, u8),
+    addr: u32,
+) -> Result<Told, AllocError> {
+    let table = OneRoute {
+        prefix: Prefix::new(&Addr::v4(route.0), route.1.min(32)),
         hop: Hop(1),
-    }
+    };
+    let size = Size {
+        direct_bits: orders.0.min(18),
+        nodes: orders.1.min(26),
+        leaves: orders.2.min(26),
+    };
+    tell_of(alloc, &table, size, &Addr::v4(addr))
 }
 
-/// 10.0.0.0/8, and addresses in it, beside it and far from it.
+/// 10.0.0.0/8 without direct bits, and addresses in it, beside it and far from it; its arenas too small for its two nodes, just
+/// large enough, and too small for its five leaves. One address: a node in each stride, also in the last, where several slots are
+/// one address.
 #[test]
-fn a_short_route(rt: HostRuntime) -> Result<(), Fail> {
-    let table = route(&Addr::v4(0x0a00_0000), 8);
-    let inside = Addr::v4(0x0a01_0203);
-    let beside = Addr::v4(0x0b00_0001);
-    let far = Addr::v4(0xc000_0001);
-    let none = sized(0, 2, 4);
-    let most = sized(16, 2, 4);
-    assert_eq!(rt;
-        tell_of(rt.alloc(), &table, none, &inside)?,
-        answer(1, 2, 2, 5)
-    );
-    assert_eq!(rt;
-        tell_of(rt.alloc(), &table, none, &beside)?,
-        answer(0, 2, 2, 5)
-    );
-    assert_eq!(rt;
-        tell_of(rt.alloc(), &table, none, &far)?,
-        answer(0, 1, 2, 5)
-    );
-    assert_eq!(rt;
-        tell_of(rt.alloc(), &table, most, &inside)?,
-        answer(1, 0, 0, 0)
-    );
-    Ok(())
-}
-
-/// One address: a node in each stride, also in the last, where several slots are one address.
-#[test]
-fn a_host_route(rt: HostRuntime) -> Result<(), Fail> {
-    let host = Addr::v4(0x0a00_0001);
-    let table = route(&host, 32);
-    assert_eq!(rt;
-        tell_of(rt.alloc(), &table, sized(16, 2, 4), &host)?,
-        answer(1, 3, 3, 6)
-    );
-    assert_eq!(rt;
-        tell_of(rt.alloc(), &table, sized(18, 2, 4), &host)?,
-        answer(1, 3, 3, 6)
-    );
-    Ok(())
-}
-
-/// One IPv6 address: 19 strides after 16 bits, and after 18.
-#[test]
-fn a_long_route(rt: HostRuntime) -> Result<(), Fail> {
-    let host = Addr::v6(0x2001_0db8_0000_0000_0000_0000_0000_0001);
-    let table = route(&host, 128);
-    assert_eq!(rt;
-        tell_of(rt.alloc(), &table, sized(16, 5, 6), &host)?,
-        answer(1, 19, 19, 22)
-    );
-    assert_eq!(rt;
-        tell_of(rt.alloc(), &table, sized(18, 5, 6), &host)?,
-        answer(1, 19, 19, 22)
-    );
-    Ok(())
-}
-
-/// The arenas of 10.0.0.0/8 without direct bits, too small for its two nodes, just large enough, and too small for its leaves.
-#[test]
-fn too_small(rt: HostRuntime) -> Result<(), Fail> {
-    let table = route(&Addr::v4(0x0a00_0000), 8);
-    let inside = Addr::v4(0x0a01_0203);
-    let nodes = TrieFull {
+fn a_route_is_found(rt: HostRuntime) -> Result<(), Fail> {
+    let nodes = Told::Refused(TrieFull {
         arena: 0,
         need: 2,
         have: 1,
-    };
-    let leaves = TrieFull {
+    });
+    let leaves = Told::Refused(TrieFull {
+        arena: 1,
+        need: 5,
+        have: 4,
+    });
+    let ten = 0x0a00_0000;
+    let one = 0x0a00_0001;
+    for (name, route, orders, addr, due) in [
+        (
+            "inside",
+            (ten, 8),
+            (0, 2, 4),
+            0x0a01_0203,
+            answer(1, 2, 2, 5),
+        ),
+        (
+            "beside",
+            (ten, 8),
+            (0, 2, 4),
+            0x0b00_0001,
+            answer(0, 2, 2, 5),
+        ),
+        ("far", (ten, 8), (0, 2, 4), 0xc000_0001, answer(0, 1, 2, 5)),
+        (
+            "direct",
+            (ten, 8),
+            (16, 2, 4),
+            0x0a01_0203,
+            answer(1, 0, 0, 0),
+        ),
+        ("few nodes", (ten, 8), (0, 0, 4), 0x0a01_0203, nodes),
+        (
+            "just enough",
+            (ten, 8),
+            (0, 1, 3),
+            0x0a01_0203,
+            answer(1, 2, 2, 5),
+        ),
+        ("few leaves", (ten, 8), (0, 1, 2), 0x0a01_0203, leaves),
+        ("an address", (one, 32), (16, 2, 4), one, answer(1, 3, 3, 6)),
+        (
+            "18 direct bits",
+            (one, 32),
+            (18, 2, 4),
+            one,
+            answer(1, 3, 3, 6),
+        ),
+    ] {
+        assert_eq!(rt; told_of(rt.alloc(), route, orders, addr)?, due, "{name}");
+    }
+    Ok(())
+}
+
+#[test]
+fn a_refusal_has_its_numbers_in_place(rt: HostRuntime) -> Result<(), Fail> {
+    let alloc = rt.alloc();
+    let full = TrieFull {
         arena: 1,
         need: 5,
         have: 4,
     };
     assert_eq!(rt;
-        tell_of(rt.alloc(), &table, sized(0, 0, 4), &inside)?,
-        Told::Refused(nodes)
-    );
-    assert_eq!(rt;
-        tell_of(rt.alloc(), &table, sized(0, 1, 3), &inside)?,
-        answer(1, 2, 2, 5)
-    );
-    assert_eq!(rt;
-        tell_of(rt.alloc(), &table, sized(0, 1, 2), &inside)?,
-        Told::Refused(leaves)
+        format!(in alloc; "{full}")?.as_str(),
+        "arena 1 needs 5 of 4"
     );
     Ok(())
 }

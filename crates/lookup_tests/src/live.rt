@@ -1,6 +1,6 @@
-//! An update that isn't made beside the old version, in sets that just hold one: a selector, a lookup that holds the other set.
+//! Updates one after another: words, selectors, and a lookup that holds the other set.
 
-ghost use Rattle.std.specs.Prelude.{◌≡◌, ◌∷◌, [], ◌≤◌, suc, false, OnOk};
+ghost use Rattle.std.specs.Prelude.{◌≡◌, ◌∷◌, [], ◌≤◌, ◌+◌, suc, false, length, OnOk};
 ghost use Rattle.fib_addr.specs.Views.{prefix_as};
 ghost use Rattle.table_model.specs.Entries.{Entries};
 ghost use Rattle.poptrie_update.specs.Lives.{Shows, is_pending};
@@ -25,7 +25,7 @@ struct Ended {
 /// Ends an update, once the stores that are left are made.
 fn finish(live: &mut Live, pending: Pending)
     requires token { IsTokenOf pending live.old }
-    requires time { live.old.selected.time ≤ 1 }
+    requires time { live.old.selected.time ≤ 3 }
     ensures family { live.new.selected.family ≡ live.old.selected.family }
     ensures quiet { is_pending live.new ≡ false }
     ensures time { live.new.selected.time ≡ suc live.old.selected.time }
@@ -51,7 +51,7 @@ fn update(
     requires family { live.old.selected.family ≡ after.now.prefix.family }
     requires prefix { before.now.prefix ≡ after.now.prefix }
     requires quiet { is_pending live.old ≡ false }
-    requires time { live.old.selected.time ≤ 1 }
+    requires time { live.old.selected.time ≤ 3 }
     requires shows { Shows live.old ((prefix_as before.now.prefix, before.now.hop.0) ∷ [])
         ((prefix_as before.now.prefix, before.now.hop.0) ∷ []) }
     ensures family { live.new.selected.family ≡ live.old.selected.family }
@@ -78,44 +78,31 @@ fn update(
     }
 }
 
-/// What becomes of a trie of a table, in sets of these sizes: of its update to another one, and of that back while a lookup is
-/// open.
-#[derive(Clone, Copy, Debug, PartialEq, Eq)]
-enum Told {
-    NotBuilt,
-    NotReady(NotReady),
-    Once(Ended, NotReady),
-    Twice(Ended, Ended),
-}
+/// An update while the oldest open lookup is this one, and what becomes of it.
+type Update = (Oldest, Result<Ended, NotReady>);
 
-fn tell(
-    alloc: Global,
-    table: &OneRoute,
-    changed: &OneRoute,
-    orders: (u8, u8),
-    oldest: Oldest,
-) -> Result<Told, AllocError>
-    requires prefix { table.now.prefix ≡ changed.now.prefix }
-    requires small { (orders.0 ≤ 26) × (orders.1 ≤ 26) }
+/// Whether these updates, there and back between two tables of one prefix, become what is due; the last may not be made ready.
+fn come_to(live: &mut Live, now: &OneRoute, next: &OneRoute, updates: &[Update]) -> bool
+    requires family { live.old.selected.family ≡ now.now.prefix.family }
+    requires prefix { now.now.prefix ≡ next.now.prefix }
+    requires quiet { is_pending live.old ≡ false }
+    requires time { live.old.selected.time + length updates.now ≤ 4 }
+    requires shows { Shows live.old ((prefix_as now.now.prefix, now.now.hop.0) ∷ [])
+        ((prefix_as now.now.prefix, now.now.hop.0) ∷ []) }
 {
-    let mut live = Live::new(alloc, table.prefix.family, 0, orders.0, orders.1)?;
-    match live.build(table) {
-        Ok(()) => {}
-        Err(_full) => return Ok(Told::NotBuilt),
-    }
-    match update(&mut live, table, changed, Oldest::Nobody) {
-        Err(why) => Ok(Told::NotReady(why)),
-        Ok(first) => match update(&mut live, changed, table, oldest) {
-            Err(why) => Ok(Told::Once(first, why)),
-            Ok(second) => Ok(Told::Twice(first, second)),
+    match updates {
+        [] => true,
+        [(oldest, due), rest @ ..] => match update(live, now, next, *oldest) {
+            Err(why) => *due == Err(why) && rest.is_empty(),
+            Ok(ended) => *due == Ok(ended) && come_to(live, next, now, rest),
         },
     }
 }
 
-/// 10.0.0.0/8 without direct bits has two nodes and five leaves, each in a block of its own. Sets of two nodes and eight leaves
-/// hold it once, and its update to another hop is a selector while the other set is free. With twice the places a word is stored.
-#[test]
-fn another_hop(rt: HostRuntime) -> Result<(), Fail> {
+/// Whether the updates of a trie of 10.0.0.0/8 without direct bits, in sets of these orders, become what is due.
+fn are_right(alloc: Global, orders: (u8, u8), updates: &[Update]) -> Result<bool, AllocError>
+    requires few { length updates.now ≤ 4 }
+{
     let prefix = Prefix::new(&Addr::v4(0x0a00_0000), 8);
     let table = OneRoute {
         prefix,
@@ -125,67 +112,102 @@ fn another_hop(rt: HostRuntime) -> Result<(), Fail> {
         prefix,
         hop: Hop(2),
     };
-    let selected = Ended {
+    let mut live = Live::new(alloc, prefix.family, 0, orders.0.min(26), orders.1.min(26))?;
+    match live.build(&table) {
+        Ok(()) => Ok(come_to(&mut live, &table, &changed, updates)),
+        Err(_full) => Ok(false),
+    }
+}
+
+/// An update that stores the selector, and the time after its end.
+const fn selected(time: u64) -> Result<Ended, NotReady> {
+    Ok(Ended {
         selector: true,
         stores: (true, false),
-        time: 1,
-    };
-    let word = Ended {
+        time,
+    })
+}
+
+/// An update that stores one word, and the time after its end.
+const fn word(time: u64) -> Result<Ended, NotReady> {
+    Ok(Ended {
         selector: false,
         stores: (true, false),
-        time: 1,
-    };
-    let pinned = NotReady::Pinned {
+        time,
+    })
+}
+
+/// Lookup 3, which started at this time, is the oldest.
+const fn started(since: u64) -> Oldest {
+    Oldest::Started { cursor: 3, since }
+}
+
+/// 10.0.0.0/8 without direct bits has two nodes and five leaves, each in a block of its own. Sets of two nodes and eight leaves
+/// hold it once, and its update to another hop is a selector while the other set is free. With twice the places a word is stored.
+#[test]
+fn another_hop(rt: HostRuntime) -> Result<(), Fail> {
+    let pinned = Err(NotReady::Pinned {
         need: 1,
         cursor: 3,
         arena: 0,
         largest: None,
-    };
-    let at_start = Oldest::Started {
+    });
+    let once = (1, 3);
+    let twice = (2, 4);
+    let cases: [(&str, (u8, u8), &[Update]); 6] = [
+        (
+            "a lookup from the start",
+            once,
+            &[(Oldest::Nobody, selected(1)), (started(0), pinned)],
+        ),
+        (
+            "a lookup after the first end",
+            once,
+            &[(Oldest::Nobody, selected(1)), (started(1), selected(2))],
+        ),
+        (
+            "no lookup",
+            once,
+            &[(Oldest::Nobody, selected(1)), (Oldest::Nobody, selected(2))],
+        ),
+        (
+            "room beside, and a lookup from the start",
+            twice,
+            &[(Oldest::Nobody, word(1)), (started(0), selected(2))],
+        ),
+        (
+            "room beside, and a lookup after the first end",
+            twice,
+            &[(Oldest::Nobody, word(1)), (started(1), word(2))],
+        ),
+        (
+            "three ends, then a selector",
+            twice,
+            &[
+                (Oldest::Nobody, word(1)),
+                (Oldest::Nobody, word(2)),
+                (Oldest::Nobody, word(3)),
+                (started(2), selected(4)),
+            ],
+        ),
+    ];
+    for (name, orders, updates) in cases {
+        assert!(rt; updates.len() <= 4, "{name}");
+        assert!(rt; are_right(rt.alloc(), orders, updates)?, "{name}");
+    }
+    Ok(())
+}
+
+#[test]
+fn a_held_set_has_its_numbers_in_place(rt: HostRuntime) -> Result<(), Fail> {
+    let alloc = rt.alloc();
+    let pinned = NotReady::Pinned {
+        need: 5,
         cursor: 3,
-        since: 0,
+        arena: 1,
+        largest: Some(2),
     };
-    let after_first = Oldest::Started {
-        cursor: 3,
-        since: 1,
-    };
-    assert_eq!(rt;
-        tell(rt.alloc(), &table, &changed, (1, 3), at_start)?,
-        Told::Once(selected, pinned)
-    );
-    assert_eq!(rt;
-        tell(rt.alloc(), &table, &changed, (1, 3), after_first)?,
-        Told::Twice(
-            selected,
-            Ended {
-                time: 2,
-                ..selected
-            }
-        )
-    );
-    assert_eq!(rt;
-        tell(rt.alloc(), &table, &changed, (1, 3), Oldest::Nobody)?,
-        Told::Twice(
-            selected,
-            Ended {
-                time: 2,
-                ..selected
-            }
-        )
-    );
-    assert_eq!(rt;
-        tell(rt.alloc(), &table, &changed, (2, 4), at_start)?,
-        Told::Twice(
-            word,
-            Ended {
-                time: 2,
-                ..selected
-            }
-        )
-    );
-    assert_eq!(rt;
-        tell(rt.alloc(), &table, &changed, (2, 4), after_first)?,
-        Told::Twice(word, Ended { time: 2, ..word })
-    );
+    let text = "lookup 3 holds the set that arena 1 would need 5 places of";
+    assert_eq!(rt; format!(in alloc; "{pinned}")?.as_str(), text);
     Ok(())
 }

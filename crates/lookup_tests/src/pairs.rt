@@ -29,9 +29,14 @@ fn tell(
 ) -> Result<Told, AllocError>
     requires family { addr.now.family ≡ table.now.prefix.family }
     requires other { other.now.family ≡ table.now.prefix.family }
-    requires small { (direct_bits ≤ 18) × (leaves ≤ 26) }
 {
-    let mut trie = TrieSet::new(alloc, table.prefix.family, direct_bits, 1, leaves)?;
+    let mut trie = TrieSet::new(
+        alloc,
+        table.prefix.family,
+        direct_bits.min(18),
+        1,
+        leaves.min(26),
+    )?;
     match trie.build(table) {
         Ok(()) => {
             trie.give_back(Oldest::Nobody);
@@ -56,23 +61,17 @@ fn a_short_route(rt: HostRuntime) -> Result<(), Fail> {
         hop: Hop(1),
     };
     let node = At::Node { node: 0, stride: 0 };
-    let full = TrieFull {
+    let nodes = Told::Reads(node, node, 0, false);
+    let words = Told::Reads(At::Answer(Hop(1)), At::Answer(Hop::NONE), 0, false);
+    let full = Told::Refused(TrieFull {
         arena: 1,
         need: 5,
         have: 4,
-    };
-    assert_eq!(rt;
-        tell(rt.alloc(), &table, 0, 3, &inside, &beside)?,
-        Told::Reads(node, node, 0, false)
-    );
-    assert_eq!(rt;
-        tell(rt.alloc(), &table, 8, 3, &inside, &beside)?,
-        Told::Reads(At::Answer(Hop(1)), At::Answer(Hop::NONE), 0, false)
-    );
-    assert_eq!(rt;
-        tell(rt.alloc(), &table, 0, 2, &inside, &beside)?,
-        Told::Refused(full)
-    );
+    });
+    for (direct, leaves, due) in [(0, 3, nodes), (8, 3, words), (0, 2, full)] {
+        let told = tell(rt.alloc(), &table, direct, leaves, &inside, &beside)?;
+        assert_eq!(rt; told, due);
+    }
     Ok(())
 }
 
@@ -110,9 +109,8 @@ fn tell_update(
     leaves: u8,
 ) -> Result<Update, AllocError>
     requires family { changed.now.prefix.family ≡ table.now.prefix.family }
-    requires small { (nodes ≤ 26) × (leaves ≤ 26) }
 {
-    let mut trie = TrieSet::new(alloc, table.prefix.family, 0, nodes, leaves)?;
+    let mut trie = TrieSet::new(alloc, table.prefix.family, 0, nodes.min(26), leaves.min(26))?;
     match trie.build(table) {
         Ok(()) => {}
         Err(_full) => return Ok(Update::NotBuilt),
@@ -146,21 +144,18 @@ fn another_hop(rt: HostRuntime) -> Result<(), Fail> {
         prefix,
         hop: Hop(2),
     };
-    let out = Full {
+    let out = Update::NotReady(NotReady::NodesOut(Full {
         order: 0,
         largest: None,
-    };
-    assert_eq!(rt;
-        tell_update(rt.alloc(), &table, &changed, 2, 4)?,
-        Update::Stored(true, false, 1)
-    );
-    assert_eq!(rt;
-        tell_update(rt.alloc(), &table, &table, 1, 3)?,
-        Update::Stored(false, false, 1)
-    );
-    assert_eq!(rt;
-        tell_update(rt.alloc(), &table, &changed, 1, 3)?,
-        Update::NotReady(NotReady::NodesOut(out))
-    );
+    }));
+    for (next, nodes, leaves, due) in [
+        (changed, 2, 4, Update::Stored(true, false, 1)),
+        (table, 1, 3, Update::Stored(false, false, 1)),
+        (changed, 1, 3, out),
+    ] {
+        let next = OneRoute { prefix, ..next };
+        let told = tell_update(rt.alloc(), &table, &next, nodes, leaves)?;
+        assert_eq!(rt; told, due);
+    }
     Ok(())
 }
