@@ -216,3 +216,14 @@ pub(crate) const fn malformed(input: Which, number: u64, rule: u8) -> Outcome {
         rule,
     }
 }
+
+/// The rows of a text that begin with one of these words, in their order.
+pub(crate) fn rows_named(alloc: Global, text: &[u8], names: &[&str]) -> Result<Vec<u8>, Fail> {
+    let mut rows = Vec::new(alloc);
+    for row in text.split_inclusive(|octet| *octet == b'\n') {
+        if names.iter().any(|name| row.starts_with(name.as_bytes())) {
+            rows.extend_from_slice(row)?;
+        }
+    }
+    Ok(rows)
+}

@@ -393,6 +393,25 @@ pub const UPPER_HALF: &[&str] = &[
     "01 80",
 ];
 
+/// The first peer announces 0.0.0.0/0 by 192.0.2.2.
+pub const ALL_TO_B: &[&str] = &[
+    "00000000 0010 0004 00000040",
+    SESSION,
+    "ffffffffffffffffffffffffffffffff 002c 02",
+    "0000",
+    "0014",
+    ORIGIN,
+    PATH,
+    HOP_B,
+    "00",
+];
+
+/// A route of 16 bits by 192.0.2.1: what stands before the two octets of its prefix, and what stands behind them.
+pub const OF_16_BITS: (&[&str], &[&str]) = (
+    &["00000000 000d 0002 00000025", "00000000 10"],
+    &["0001", FIRST_ENTRY, ORIGIN, PATH, HOP_A],
+);
+
 /// A record of another type.
 pub const OTHER: &[&str] = &["00000000 000c 0001 00000000"];
 

@@ -2,8 +2,11 @@
 
 use crate::harness::{Expected, FIRST, Given, Record, YES, compare, inputs_of, run_on};
 use crate::records::{PEERS, SIX, SIX_TO_SECOND, SIX_TO_THIRD, TEN, TEN_TO_A, TEN_TO_B};
+use fib_addr::Family;
 use fib_main::{Outcome, Which};
+use poptrie_build::TrieFull;
 use std::test::Fail;
+use stepper::StepError;
 
 /// Tries of 2 nodes and 8 leaves.
 const SMALL: &[&str] = &[
@@ -254,5 +257,19 @@ fn no_number_for_the_65th_look_up(rt: HostRuntime) -> Result<(), Fail> {
     assert_eq!(&rt; came.outcome, Outcome::Done);
     let end: &[u8] = b"step,63,open,62\nstep,64,open,63\nstep,65,full\n";
     assert!(&rt; came.out.written().ends_with(end));
+    Ok(())
+}
+
+#[test]
+fn a_refusal_has_its_numbers_in_place(rt: HostRuntime) -> Result<(), Fail> {
+    let alloc = rt.alloc();
+    let full = TrieFull {
+        arena: 3,
+        need: 5,
+        have: 4,
+    };
+    let refused = StepError::TrieFull(7, Family::V6, full);
+    let text = "V6 after event 7: arena 3 needs 5 of 4";
+    assert_eq!(rt; format!(in alloc; "{refused}")?.as_str(), text);
     Ok(())
 }

@@ -2,7 +2,7 @@
 
 use crate::harness::{
     ALL, CHECK, Expected, FIRST, Given, READ_FAULT, Record, Rows, USAGE, WITH_SNAPSHOTS,
-    WITH_UPDATES, WORDS, YES, compare, inputs_of, malformed, run_on, text_of,
+    WITH_UPDATES, WORDS, YES, compare, inputs_of, malformed, rows_named, run_on, text_of,
 };
 use crate::records::{
     ALL_TWICE, GONE_AND_BACK, HALVES, LONG_HEADER, LONGER, LOST, LOWER_HALF, ONE_ADDRESS,
@@ -14,11 +14,11 @@ use crate::records::{
 };
 use crate::texts::{
     CERTIFICATE_OF_NONE, PRINTED_TIE, REPORT_OF_MADE, REPORT_OF_ONE_MADE, ROWS_OF_BOTH,
-    ROWS_OF_DROP, ROWS_OF_DROP_BEFORE_HOP, ROWS_OF_GONE_AND_BACK, ROWS_OF_KEPT_HOP, ROWS_OF_LONGER,
-    ROWS_OF_LOST, ROWS_OF_LOST_PATHS, ROWS_OF_MEET, ROWS_OF_NO_SUCH_PATH, ROWS_OF_OTHER_PATH,
-    ROWS_OF_REDUNDANT, ROWS_OF_REPAIR, ROWS_OF_SET, ROWS_OF_SIX, ROWS_OF_SNAPSHOT, ROWS_OF_TEN,
-    ROWS_OF_TIE, ROWS_OF_TREATED, TIE_BOUNDS, TIE_LEAST, TIE_LEAVES, TIE_ROUTES, WRONG_JOIN,
-    WRONG_LEAST,
+    ROWS_OF_DROP, ROWS_OF_DROP_BEFORE_HOP, ROWS_OF_GONE_AND_BACK, ROWS_OF_KEPT_HOP,
+    ROWS_OF_LATER_SNAPSHOT, ROWS_OF_LONGER, ROWS_OF_LOST, ROWS_OF_LOST_PATHS, ROWS_OF_MEET,
+    ROWS_OF_NO_SUCH_PATH, ROWS_OF_OTHER_PATH, ROWS_OF_REDUNDANT, ROWS_OF_REPAIR, ROWS_OF_SET,
+    ROWS_OF_SIX, ROWS_OF_SNAPSHOT, ROWS_OF_TEN, ROWS_OF_TIE, ROWS_OF_TREATED, TIE_BOUNDS,
+    TIE_LEAST, TIE_LEAVES, TIE_ROUTES, WRONG_JOIN, WRONG_LEAST,
 };
 use fib_addr::{Addr, Family, Hop, Prefix};
 use fib_io::MemInputs;
@@ -203,6 +203,16 @@ fn rows_of_kept_and_least_tables(rt: HostRuntime) -> Result<(), Fail> {
                 ..given
             },
             ROWS_OF_SNAPSHOT,
+        ),
+        (
+            "a snapshot after two events",
+            Given {
+                words: &["fib", "run", "dump", "--updates", "updates", "--every", "2"],
+                dump: &[TWO_PEERS, LOWER_HALF],
+                updates: &[UPPER_HALF, UPPER_HALF],
+                ..given
+            },
+            ROWS_OF_LATER_SNAPSHOT,
         ),
         (
             "the old hop is kept",
@@ -686,17 +696,6 @@ fn rows_of_paths_and_treated_messages(rt: HostRuntime) -> Result<(), Fail> {
         compare(&rt, name, &given, &done)?;
     }
     Ok(())
-}
-
-/// The rows of a text that begin with one of these words, in their order.
-fn rows_named(alloc: Global, text: &[u8], names: &[&str]) -> Result<Vec<u8>, Fail> {
-    let mut rows = Vec::new(alloc);
-    for row in text.split_inclusive(|octet| *octet == b'\n') {
-        if names.iter().any(|name| row.starts_with(name.as_bytes())) {
-            rows.extend_from_slice(row)?;
-        }
-    }
-    Ok(rows)
 }
 
 /// Runs and compares the rows of look-ups' visits and of nodes and leaves.

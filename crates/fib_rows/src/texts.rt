@@ -455,6 +455,29 @@ pub const ROWS_OF_SNAPSHOT: &[&[&str]] = &[
     ],
 ];
 
+/// The same after a second event, which changes nothing.
+pub const ROWS_OF_LATER_SNAPSHOT: &[&[&str]] = &[
+    HALVES_ROUTES,
+    &[
+        "change,1,+,128.0.0.0/1,192.0.2.1",
+        "change,2,+,0.0.0.0/0,192.0.2.1",
+        "change,2,-,0.0.0.0/1",
+        "change,2,-,128.0.0.0/1",
+        "table,0.0.0.0/0,192.0.2.1",
+    ],
+    CERT_OF_HALVES,
+    &[
+        "report,records,4",
+        "report,skipped,0",
+        "report,events,3",
+        "report,routes,2",
+        "report,entries,1",
+        "report,nodes,0",
+        "report,leaves,0",
+        "report,treated,0",
+    ],
+];
+
 /// Two halves by one next hop, of which the load had the first.
 const HALVES_ROUTES: &[&str] = &[
     "route,0.0.0.0/1,192.0.2.1",
