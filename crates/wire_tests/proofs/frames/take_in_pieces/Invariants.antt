@@ -1,4 +1,4 @@
-use Rattle.std.proofs.Common.{◌+◌, ◌-◌, ◌≤◌, ◌×◌, length}
+use Rattle.std.proofs.Common.{◌+◌, ◌-◌, ◌≤◌, length}
 use Rattle.mrt_frame.specs.Framing.{framer_count, framer_left}
 use Rattle.wire_tests.proofs.frames.take_in_pieces.Given as goal
 
