@@ -161,3 +161,20 @@ fn refuses_what_is_cut_or_too_long(rt: HostRuntime) -> Result<(), Fail> {
     }
     Ok(())
 }
+
+#[test]
+fn a_refusal_has_its_numbers_in_place(rt: HostRuntime) -> Result<(), Fail> {
+    let alloc = rt.alloc();
+    for (number, rule, text) in [
+        (
+            3,
+            Rule::HeaderCut,
+            "record 3 breaks rule HeaderCut of reading",
+        ),
+        (0, Rule::TooLong, "record 0 breaks rule TooLong of reading"),
+    ] {
+        let refused = Malformed { number, rule };
+        assert_eq!(rt; format!(in alloc; "{refused}")?.as_str(), text);
+    }
+    Ok(())
+}

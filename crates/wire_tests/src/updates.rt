@@ -36,45 +36,40 @@ fn tells_all_that_an_update_says_in_its_order(rt: HostRuntime) -> Result<(), Fai
         asn: 64500,
     };
     let via = Via { peer, id: 0 };
-    let (events, treated) = read_message(rt.alloc(), &UPDATE, true, false, peer)?;
-    assert!(rt; !treated);
-    let expected = [
-        Event::Withdraw(via, Prefix::from_front(Family::V4, 9, &[10, 128])),
-        Event::Withdraw(
-            via,
-            Prefix::from_front(Family::V6, 32, &[0x20, 0x01, 0x0d, 0xb8]),
-        ),
-        Event::Announce(via, Prefix::from_front(Family::V4, 8, &[11]), 1, v4),
-        Event::Announce(
-            via,
-            Prefix::from_front(Family::V6, 32, &[0x20, 0x01, 0x0d, 0xb9]),
-            1,
-            v6,
-        ),
+    let ten_half = Prefix::from_front(Family::V4, 9, &[10, 128]);
+    let eleven = Prefix::from_front(Family::V4, 8, &[11]);
+    let db8 = Prefix::from_front(Family::V6, 32, &[0x20, 0x01, 0x0d, 0xb8]);
+    let db9 = Prefix::from_front(Family::V6, 32, &[0x20, 0x01, 0x0d, 0xb9]);
+    let reached = [
+        Event::Withdraw(via, ten_half),
+        Event::Withdraw(via, db8),
+        Event::Announce(via, eleven, 1, v4),
+        Event::Announce(via, db9, 1, v6),
     ];
-    assert_eq!(rt; events.as_slice(), expected.as_slice());
+    let treated = [
+        Event::Withdraw(via, ten_half),
+        Event::Withdraw(via, db8),
+        Event::Withdraw(via, eleven),
+        Event::Withdraw(via, db9),
+    ];
+    let ten = Prefix::from_front(Family::V4, 8, &[10]);
+    let with_id = [Event::Withdraw(Via { peer, id: 1 }, ten)];
     let mut malformed = UPDATE;
     malformed[SEGMENT_TYPE] = 5;
-    let (events, treated) = read_message(rt.alloc(), &malformed, true, false, peer)?;
-    assert!(rt; treated);
-    let expected = [
-        Event::Withdraw(via, Prefix::from_front(Family::V4, 9, &[10, 128])),
-        Event::Withdraw(
-            via,
-            Prefix::from_front(Family::V6, 32, &[0x20, 0x01, 0x0d, 0xb8]),
+    for (name, bytes, ids, is_treated, due) in [
+        (
+            "both families",
+            UPDATE.as_slice(),
+            false,
+            false,
+            reached.as_slice(),
         ),
-        Event::Withdraw(via, Prefix::from_front(Family::V4, 8, &[11])),
-        Event::Withdraw(
-            via,
-            Prefix::from_front(Family::V6, 32, &[0x20, 0x01, 0x0d, 0xb9]),
-        ),
-    ];
-    assert_eq!(rt; events.as_slice(), expected.as_slice());
-    let (events, treated) = read_message(rt.alloc(), &WITH_ID, true, true, peer)?;
-    assert!(rt; !treated);
-    let ten = Prefix::from_front(Family::V4, 8, &[10]);
-    let expected = [Event::Withdraw(Via { peer, id: 1 }, ten)];
-    assert_eq!(rt; events.as_slice(), expected.as_slice());
+        ("a malformed path", &malformed, false, true, &treated),
+        ("a path identifier", &WITH_ID, true, false, &with_id),
+    ] {
+        let told = read_message(rt.alloc(), bytes, true, ids, peer)?;
+        assert_eq!(rt; (told.0.as_slice(), told.1), (due, is_treated), "{name}");
+    }
     for bytes in [&UPDATE[..18], &UPDATE[..83], &UPDATE[..19]] {
         match read_message(rt.alloc(), bytes, true, false, peer) {
             Ok(_) => assert!(rt; false, "a message of {} octets", bytes.len()),
