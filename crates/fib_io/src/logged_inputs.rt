@@ -65,11 +65,7 @@ impl<I: Inputs + Drop> LoggedInputs<I> {
         ensures { option_map (λ reads. map read_as reads.now) result
             ≡ ⟦<LoggedInputs<I> as Inputs>⟧.reads self.now }
     {
-        if self.is_whole {
-            Some(&self.log)
-        } else {
-            None
-        }
+        if self.is_whole { Some(&self.log) } else { None }
     }
 }
 

@@ -259,7 +259,6 @@ pub feeds_end_of_read : (error : EventsError) → feeds_end (of_read error) ≡ 
 feeds_end_of_read (read.Malformed malformed) = refl
 feeds_end_of_read read.NoMemory = refl
 
-
 -- elementary events that aren't taken end the pass where they stand
 pub taken_end : (which : MrtInput) (count : ℕ) (events : List Event) (old new : State) (error : FeedError) → StateTakesAll which count events old (Err error) new → feeds_end error ≡ Anywhere
 taken_end which count events old new (feed.HopsFull n) takes = refl

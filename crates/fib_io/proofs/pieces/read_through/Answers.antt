@@ -33,4 +33,4 @@ pub returns-in_err-extend_from_slice-clause-made : goal.returns-in_err-extend_fr
 returns-in_err-extend_from_slice-clause-made g c =
     let p = err_from_is_err_and c.from_residual-in_err-extend_from_slice.result c.from_residual-in_err-extend_from_slice.ensures.1 in
     rw (p.1, p.2) (pass_stops _ _ c.args.name.now (c.len-at.result + c.in_ok-n.n) (grind (arith, common_steps))
-      (pass_goes_on _ _ _ c.args.name.now (length c.loop-octets.octets.items) c.len-at.result (c.len-at.result + c.in_ok-n.n) c.in_ok-n.n (search rules) (search rules) (grind (arith, common_steps)) c.loop-octets.invariant.made c.in_ok-n.ensures.made))
+    (pass_goes_on _ _ _ c.args.name.now (length c.loop-octets.octets.items) c.len-at.result (c.len-at.result + c.in_ok-n.n) c.in_ok-n.n (search rules) (search rules) (grind (arith, common_steps)) c.loop-octets.invariant.made c.in_ok-n.ensures.made))

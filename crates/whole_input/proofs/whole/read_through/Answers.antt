@@ -81,7 +81,7 @@ pub returns-in_err-feed-clause-reads : goal.returns-in_err-feed-clause-reads
 returns-in_err-feed-clause-reads g c =
     let p = err_from_is_err_and c.from_residual-in_err-feed.result c.from_residual-in_err-feed.ensures.1 in
     rw (p.1, p.2) (pass_stops _ _ c.args.name.now (c.loop-more.at + c.in_ok-n.n) c.in_ok-n.ensures.within
-      (pass_goes_on _ _ _ c.args.name.now c.loop-more.at c.loop-more.at (c.loop-more.at + c.in_ok-n.n) c.in_ok-n.n refl refl (grind (arith, common_steps)) c.loop-more.invariant.made c.in_ok-n.ensures.made))
+    (pass_goes_on _ _ _ c.args.name.now c.loop-more.at c.loop-more.at (c.loop-more.at + c.in_ok-n.n) c.in_ok-n.n refl refl (grind (arith, common_steps)) c.loop-more.invariant.made c.in_ok-n.ensures.made))
 
 pub returns-in_err-read_events-clause-reads : goal.returns-in_err-read_events-clause-reads
 returns-in_err-read_events-clause-reads g c =
