@@ -1,10 +1,13 @@
 -- How the program ends where memory runs out for its words.
-use Rattle.std.proofs.Common.{◌≡◌, refl, ℕ, ◌<◌, List, Option, Some, None, Ok, Err, inl, inr, arith}
+use Rattle.std.proofs.Common.{◌≡◌, refl, ℕ, ◌<◌, List, ◌∷◌, Option, Some, None, Ok, Err, inl, inr, arith}
 use Rattle.std.specs.Prelude.{IfSome, [], unwrap_or}
+use Rattle.fib_io.specs.Reads.{Read}
+use Rattle.fib_io.proofs.Passing.{makes_none, no_pass}
 use Rattle.fib_words.specs.Commands.{Asked, Run, Check, Make, Steps, command_of}
 use Rattle.fib_main.specs.declared.outcome.Outcome.TheVariants.{NoMemory}
 use Rattle.fib_main.specs.Ends.{TellsOf}
 use Rattle.fib_main.specs.Owned.{IsOf}
+use Rattle.fib_main.specs.Passes.{Input, ReadInPart, ReadsAt, check_inputs, run_inputs, steps_inputs}
 use Rattle.fib_main.specs.Stepped.{EndsRun, FitsSteps, IfStepping}
 use Rattle.fib_main.specs.Due.{stepping_at}
 use Rattle.fib_main.specs.Untold.{FitsSome}
@@ -28,12 +31,24 @@ fits_steps content (Some (Check name)) out = tt
 fits_steps content (Some (Make routes seed)) out = tt
 fits_steps content (Some (Steps named)) out = elim (stepping_at content named) as (λ d. IfStepping d (λ s. EndsRun s out out NoMemory)) [ Ok s ↦ tt | Err stop ↦ tt ]
 
+-- none of these inputs was begun
+none_begun : (inputs : List Input) → ReadInPart inputs []
+none_begun [] = record { before = []; after = []; order = refl; first = []; whole = refl; last = []; begun = refl; all = refl }
+none_begun (input ∷ inputs) = record { before = []; after = input ∷ inputs; order = refl; first = []; whole = refl; last = []; begun = no_pass input.1; all = refl }
+
+none_read : (asked : Option Asked) → ReadsAt asked NoMemory []
+none_read None = refl
+none_read (Some (Run named)) = none_begun (run_inputs named)
+none_read (Some (Check name)) = none_begun (check_inputs name)
+none_read (Some (Make routes seed)) = refl
+none_read (Some (Steps named)) = none_begun (steps_inputs named)
+
 not_more : {P : Type 0} (n : ℕ) → n < n → P
 not_more n h = absurd (omega (arith, h))
 
 -- nothing was read or written, and standard error has the line
-pub no_memory : (words : List (List ℕ)) (content : List ℕ → Option (List ℕ)) (faults : List ℕ → ℕ) (out : Option (List ℕ)) (out_faults : ℕ) (old new : Option (List ℕ)) (before now : ℕ) → TellsOf NoMemory old new before now → Ends words (moment content faults out out_faults old before) (moment content faults out out_faults new now) NoMemory
-no_memory words content faults out out_faults old new before now told = record {
+pub no_memory : (words : List (List ℕ)) (content : List ℕ → Option (List ℕ)) (faults : List ℕ → ℕ) (made : Option (List Read)) (out : Option (List ℕ)) (out_faults : ℕ) (old new : Option (List ℕ)) (before now : ℕ) → TellsOf NoMemory old new before now → Ends words (moment content faults made out out_faults old before) (moment content faults made out out_faults new now) NoMemory
+no_memory words content faults made out out_faults old new before now told = record {
   exact = tt;
   own = owned (command_of words);
   read = refl;
@@ -49,6 +64,7 @@ no_memory words content faults out out_faults old new before now told = record {
   printed = λ e. absurd (cc);
   front = λ e. absurd (cc);
   due_yes = λ e. absurd (cc);
+  reads = makes_none made (ReadsAt (command_of words) NoMemory) (none_read (command_of words));
 }
 
 -- the words that a command line tells, if it does

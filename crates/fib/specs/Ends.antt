@@ -3,12 +3,14 @@ use Rattle.std.specs.Prelude.{◌≡◌, ℕ, ◌<◌, List, take, Option, IfSom
 use Rattle.std.specs.Vec.Iter.{into_iter_items, into_iter_len}
 use Rattle.std.specs.declared.vec.IntoIter.{IntoIter}
 use Rattle.fib_io.specs.Causes.{Rose}
+use Rattle.fib_io.specs.Reads.{Makes, Read}
 use Rattle.fib_words.specs.Commands.{command_of}
 use Rattle.fib_main.specs.declared.outcome.Outcome.{Outcome}
 use Rattle.fib_main.specs.declared.outcome.Outcome.TheVariants.{Done, ReadFault, WriteFault}
 use Rattle.fib_main.specs.Due.{due}
 use Rattle.fib_main.specs.Ends.{Completes, Meets, OneRose, reads, ReadsFrom, status_of, TellsOf, text_due, Writes, WritesBy}
 use Rattle.fib_main.specs.Owned.{IsOf}
+use Rattle.fib_main.specs.Passes.{ReadsAt}
 use Rattle.fib_main.specs.Proves.{AddsFrontOfYes, AddsYes, IfRan, IsRun, PrintsYes}
 use Rattle.fib_main.specs.Stepped.{FitsSteps}
 use Rattle.fib_main.specs.Untold.{FitsSome}
@@ -17,7 +19,7 @@ use Rattle.fib_main.specs.Untold.{FitsSome}
 abbrev pub words_left : {X Z : Type 0} → IntoIter X Z → List X
 words_left words = take (into_iter_len words) (into_iter_items words)
 
--- what inputs, output and standard error tell at a moment: what each name holds and how many of its reads failed, and what was written and how many writes failed
+-- what inputs, output and standard error tell at a moment: what each name holds, how many of its reads failed and which reads were made, and what was written and how many writes failed
 pub record Moment : Type 0 where
   pub content : List ℕ → Option (List ℕ)
   pub read_faults : List ℕ → ℕ
@@ -25,18 +27,20 @@ pub record Moment : Type 0 where
   pub out_faults : ℕ
   pub err : Option (List ℕ)
   pub err_faults : ℕ
+  pub reads : Option (List Read)
 
-abbrev pub moment : (List ℕ → Option (List ℕ)) → (List ℕ → ℕ) → Option (List ℕ) → ℕ → Option (List ℕ) → ℕ → Moment
-moment content read_faults out out_faults err err_faults = record {
+abbrev pub moment : (List ℕ → Option (List ℕ)) → (List ℕ → ℕ) → Option (List Read) → Option (List ℕ) → ℕ → Option (List ℕ) → ℕ → Moment
+moment content read_faults made out out_faults err err_faults = record {
   content = content;
   read_faults = read_faults;
   out = out;
   out_faults = out_faults;
   err = err;
   err_faults = err_faults;
+  reads = made;
 }
 
--- All that the top call says of these words, between two moments. The outcome is the due one, but for faults and want of memory, and it is one of these words. Faults have their causes, and where a count rose the outcome says so; where none did, the due outcome comes or memory ran out. No content changes, output has the text due, and standard error has the outcome's line. At Done of a run the output has a text more to which a check says yes.
+-- All that the top call says of these words, between two moments. The outcome is the due one, but for faults and want of memory, and it is one of these words. Faults have their causes, and where a count rose the outcome says so; where none did, the due outcome comes or memory ran out. The inputs that the words name are read one after another, each in order. No content changes, output has the text due, and standard error has the outcome's line. At Done of a run the output has a text more to which a check says yes.
 pub record Ends (words : List (List ℕ)) (old new : Moment) (outcome : Outcome) : Type 0 where
   pub exact : Meets (due words old.content) outcome
   pub own : IsOf (command_of words) outcome
@@ -53,6 +57,7 @@ pub record Ends (words : List (List ℕ)) (old new : Moment) (outcome : Outcome)
   pub printed : outcome ≡ Done → IsRun (command_of words) → AddsYes old.out new.out
   pub front : outcome ≡ WriteFault → IsRun (command_of words) → AddsFrontOfYes old.out new.out
   pub due_yes : outcome ≡ Done → IfRan (due words old.content) PrintsYes
+  pub reads : Makes old.reads new.reads (ReadsAt (command_of words) outcome)
 
 -- So it ends of a command line: with this outcome of some words, which are those of the command line, where it tells them.
 pub record EndsOf (told : Option (List (List ℕ))) (old new : Moment) (outcome : Outcome) : Type 0 where

@@ -73,10 +73,10 @@ fn outcome_of<C: CommandLine, I: Inputs, O: Sink, E: Sink>(
     err: &mut E,
 ) -> Outcome
     ensures { EndsOf (C.words line.now)
-        (moment (I.content inputs.old) (I.faults inputs.old) (O.written out.old)
-        (O.faults out.old) (E.written err.old) (E.faults err.old))
-        (moment (I.content inputs.new) (I.faults inputs.new) (O.written out.new)
-        (O.faults out.new) (E.written err.new) (E.faults err.new)) result }
+        (moment (I.content inputs.old) (I.faults inputs.old) (I.reads inputs.old)
+        (O.written out.old) (O.faults out.old) (E.written err.old) (E.faults err.old))
+        (moment (I.content inputs.new) (I.faults inputs.new) (I.reads inputs.new)
+        (O.written out.new) (O.faults out.new) (E.written err.new) (E.faults err.new)) result }
 {
     match words_of(alloc, line) {
         Ok(words) => run_fib(alloc, &words, inputs, out, err),
@@ -96,10 +96,10 @@ fn run<C: CommandLine, I: Inputs, O: Sink, E: Sink>(
     err: &mut E,
 ) -> ExitCode
     ensures { EndsWith (C.words line.now)
-        (moment (I.content inputs.old) (I.faults inputs.old) (O.written out.old)
-        (O.faults out.old) (E.written err.old) (E.faults err.old))
-        (moment (I.content inputs.new) (I.faults inputs.new) (O.written out.new)
-        (O.faults out.new) (E.written err.new) (E.faults err.new)) (exit_status result) }
+        (moment (I.content inputs.old) (I.faults inputs.old) (I.reads inputs.old)
+        (O.written out.old) (O.faults out.old) (E.written err.old) (E.faults err.old))
+        (moment (I.content inputs.new) (I.faults inputs.new) (I.reads inputs.new)
+        (O.written out.new) (O.faults out.new) (E.written err.new) (E.faults err.new)) (exit_status result) }
 {
     let outcome = outcome_of(alloc, line, inputs, out, err);
     ExitCode::from(outcome.status())

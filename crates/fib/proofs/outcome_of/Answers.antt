@@ -26,6 +26,7 @@ returns-in-Ok g c =
         printed = does.printed;
         front = does.front;
         due_yes = does.due_yes;
+        reads = does.reads;
       };
     }
 
@@ -35,5 +36,5 @@ returns-in-Err g c =
     record {
       words = unwrap_or told [];
       are_told = are_told told;
-      ends = no_memory (unwrap_or told []) (g.I.Inputs.content c.args.inputs.now) (g.I.Inputs.faults c.args.inputs.now) (g.O.Sink.written c.args.out.now) (g.O.Sink.faults c.args.out.now) (g.E.Sink.written c.args.err.now) (g.E.Sink.written c.tell.new.err) (g.E.Sink.faults c.args.err.now) (g.E.Sink.faults c.tell.new.err) c.tell.ensures;
+      ends = no_memory (unwrap_or told []) (g.I.Inputs.content c.args.inputs.now) (g.I.Inputs.faults c.args.inputs.now) (g.I.Inputs.reads c.args.inputs.now) (g.O.Sink.written c.args.out.now) (g.O.Sink.faults c.args.out.now) (g.E.Sink.written c.args.err.now) (g.E.Sink.written c.tell.new.err) (g.E.Sink.faults c.args.err.now) (g.E.Sink.faults c.tell.new.err) c.tell.ensures;
     }
