@@ -76,7 +76,9 @@ fn take_twice(framer: &mut Framer) -> Result<Option<[(u16, usize); 2]>, Malforme
 
 /// What is said once the records of the input are taken.
 fn end_of(framer: &mut Framer) -> Result<(), Malformed>
-    ensures { FramerIsUsedUp framer.new }
+    ensures used { FramerIsUsedUp framer.new }
+    ensures few { framer_count framer.new + length (framer_left framer.new)
+        ≤ framer_count framer.old + length (framer_left framer.old) }
 {
     while let Some(_framed) = framer.next()? {}
     framer.finish()
