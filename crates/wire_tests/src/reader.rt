@@ -73,6 +73,13 @@ fn take_in_pieces(
     Ok(reader)
 }
 
+/// A reader that was fed this.
+fn fed(alloc: Global, octets: &[u8]) -> Result<Reader, Fail> {
+    let mut reader = Reader::new(alloc);
+    reader.feed(octets)?;
+    Ok(reader)
+}
+
 /// What is said of the input's end, once the events of all whole records are taken.
 fn end_of(reader: &mut Reader) -> Result<(), EventsError> {
     while let Some(_events) = reader.take_events()? {}
@@ -142,9 +149,9 @@ fn tells_the_same_from_pieces_of_any_size(rt: HostRuntime) -> Result<(), Fail> {
             Rule::AttributeCut,
         ),
     ] {
-        let mut reader = Reader::new(rt.alloc());
-        reader.feed(first)?;
-        reader.feed(second)?;
+        let mut input = Vec::from_slice(rt.alloc(), first)?;
+        input.extend_from_slice(second)?;
+        let mut reader = fed(rt.alloc(), &input)?;
         let refused = Err(EventsError::Malformed(Malformed { number, rule }));
         assert_eq!(rt; end_of(&mut reader), refused, "{name}");
         assert_eq!(rt; end_of(&mut reader), refused, "{name}, asked again");
