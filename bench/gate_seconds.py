@@ -6,7 +6,7 @@ Usage:  gate_seconds.py [WORD..]
 Runs `rt ci` with the words in the folder that it is run in, as `gate_seconds.py --anew`, looks twice a second at the provers that
 it starts, and prints Markdown at the end: the processor seconds of each crate's proof, of its tests, and of its wrong bodies with
 the proof that they begin with.  What a prover takes after the last look isn't counted, half a second at most.  Other runs of `rt`
-on the machine are counted too, so there should be none.  The status is the gate's.
+on the machine aren't counted, but make these slower.  The status is the gate's.
 """
 
 import collections
@@ -31,16 +31,25 @@ def is_prover(words):
     return len(words) > 2 and os.path.basename(words[0]) == "rattle" and words[1] in ("build", "check", "lib")
 
 
-def provers():
-    """Each prover that runs and isn't another's: when it began, its crate, its kind, and the seconds that it and its ended parts took."""
-    found = {}
+def is_below(pid, top, above):
+    """Whether the process is the top one or one that it, or what it started, has started."""
+    while pid in above and pid != top:
+        pid = above[pid]
+    return pid == top
+
+
+def provers(top):
+    """Each prover below this process that isn't another's: when it began, its crate, its kind, and the seconds that it and its ended parts took."""
+    found, above = {}, {}
     for pid in filter(str.isdigit, os.listdir("/proc")):
         words = read(f"/proc/{pid}/cmdline").decode(errors="replace").split("\0")
         stat = read(f"/proc/{pid}/stat").rpartition(b")")[2].split()
-        if stat and is_prover(words):
-            found[pid] = words, stat
+        if stat:
+            above[pid] = stat[1].decode()
+            if is_prover(words):
+                found[pid] = words, stat
     for pid, (words, stat) in found.items():
-        if stat[1].decode() in found or "--crate-name" not in words:
+        if above[pid] in found or "--crate-name" not in words or not is_below(pid, top, above):
             continue
         try:
             folder = os.readlink(f"/proc/{pid}/cwd")
@@ -55,7 +64,7 @@ def count(process):
     """The seconds of each crate and kind, once the process has ended."""
     last = {}
     while process.poll() is None:
-        for key, crate, kind, seconds in provers():
+        for key, crate, kind, seconds in provers(str(process.pid)):
             last[key] = crate, kind, seconds
         time.sleep(0.5)
     sums = collections.defaultdict(float)
