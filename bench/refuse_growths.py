@@ -3,9 +3,8 @@
 
 Usage:  refuse_growths.py PROGRAM
 
-Every run ends with status 9 and writes nothing to standard output, or it ends as it does where memory suffices; where the growth
-is one that opening a file takes, it ends with status 3 and writes nothing. Needs a C compiler (cc) and the GNU C library;
-bench/refuse.c is what refuses. The status is 1 where a run ends otherwise, or can't be made."""
+Every run ends with status 9 and writes nothing to standard output, or it ends as it does where memory suffices. Needs a C compiler
+(cc) and the GNU C library; bench/refuse.c is what refuses. The status is 1 where a run ends otherwise, or can't be made."""
 
 import os
 import subprocess
@@ -18,7 +17,6 @@ import common
 HERE = os.path.dirname(os.path.abspath(__file__))
 EXAMPLES = os.path.join(HERE, "..", "examples")
 NO_MEMORY = 9
-READ_FAULT = 3
 
 PEERS = "00000000000d000100000015000000000000000102c0000201c00002010000fbf4"
 ROUTE = (
@@ -52,15 +50,15 @@ def run(program, words, refused, library):
 
 
 def refuse_each(program, words, library):
-    """The status of a run, how many growths it has, and how many of them end it by each status; each was refused in turn."""
+    """The status of a run, how many growths it has, and how many of them end it for want of memory; each was refused in turn."""
     status, out, _ = run(program, words, 0, library)
-    told = {NO_MEMORY: 0, READ_FAULT: 0}
+    told = 0
     for number in range(1, 1 << 20):
         ended, printed, reached = run(program, words, number, library)
         if not reached:
             return status, number - 1, told
-        if ended in told and printed == b"":
-            told[ended] += 1
+        if ended == NO_MEMORY and printed == b"":
+            told += 1
         elif (ended, printed) != (status, out):
             raise common.Refused("growth %d of fib %s: status %d" % (number, " ".join(words), ended))
     raise common.Refused("there is no end")
@@ -100,8 +98,7 @@ def main(words):
         for words in runs:
             status, growths, told = refuse_each(program, words, library)
             names = " ".join(os.path.basename(word) for word in words)
-            ends = (names, status, growths, told[NO_MEMORY], told[READ_FAULT])
-            print("fib %s: status %d; of %d growths %d end it with 9, %d with 3" % ends)
+            print("fib %s: status %d; of %d growths %d end it with 9" % (names, status, growths, told))
 
 
 if __name__ == "__main__":

@@ -56,7 +56,8 @@ refused_at : (before between now : Option (List Read)) (name : List ℕ) (at : �
 refused_at before between now name at read.Fault within first last = passes AtFault before between now name at within first last
 refused_at before between now name at read.TooLarge within first last = passes PastMost before between now name at within first last
 refused_at before between now name at read.NoMemory within first last =
-    makes_then before between now (Leads name 0 at) (λ _. ⊥) (Pass Anywhere name) first last (λ xs ys p q. absurd q)
+    passes Anywhere before between now name at within first
+    (makes_as between now (λ reads. reads ≡ []) (EndsPass Anywhere name at) last (λ reads none. inl none))
 
 pub pass_refused : (before between now : Option (List Read)) (name : List ℕ) (at here : ℕ) (error : ReadError) → here ≡ at → at ≤ 2 ^ 36 → Makes before between (Leads name 0 at) → Makes between now (IsPieceRead name here (Err error)) → Makes before now (Pass (end_by error) name)
 pass_refused before between now name at here error is within first last =

@@ -1,5 +1,7 @@
 -- Counts of faults, before and after a call.
-use Rattle.std.specs.Prelude.{◌≡◌, ℕ, ◌+◌, ◌-◌, ◌^◌, ◌≤◌, min, List, Result, OnErr, OnOk}
+use Rattle.std.specs.Prelude.{◌≡◌, ℕ, ◌+◌, ◌-◌, ◌^◌, ◌≤◌, min, List, Result, Ok, Err, OnErr, OnOk}
+use Rattle.fib_io.specs.declared.InFault.{InFault}
+use Rattle.fib_io.specs.declared.InFault.TheVariants.{Failed, NoMemory}
 
 -- the count rose, or stands at the last value of a u64
 abbrev pub Rose : ℕ → ℕ → Type 0
@@ -11,8 +13,13 @@ pub record HasCause {T E : Type 0} (before now : ℕ) (result : Result T E) : Ty
   pub failed : OnErr result (Rose before now)
   pub kept : OnOk result (now ≡ before)
 
--- the same of the counts of all names, where this name was read
-pub record HasReadCause {T E : Type 0} (before now : List ℕ → ℕ) (name : List ℕ) (result : Result T E) : Type 0 where
+-- no count fell, and that of this name rose
+pub record RoseFor (before now : List ℕ → ℕ) (name : List ℕ) : Type 0 where
   pub later : (other : List ℕ) → before other ≤ now other
-  pub failed : OnErr result (Rose (before name) (now name))
-  pub kept : OnOk result (now ≡ before)
+  pub rose : Rose (before name) (now name)
+
+-- the count of the name that was read rose where the read failed, and no other answer changes a count: neither octets nor want of memory
+abbrev pub HasReadCause : {T : Type 0} → (List ℕ → ℕ) → (List ℕ → ℕ) → List ℕ → Result T InFault → Type 0
+HasReadCause before now name (Ok x) = now ≡ before
+HasReadCause before now name (Err Failed) = RoseFor before now name
+HasReadCause before now name (Err NoMemory) = now ≡ before

@@ -1,6 +1,8 @@
 -- Inputs that are read in pieces.
 use Rattle.std.specs.Prelude.{◌≡◌, ℕ, ◌+◌, ◌^◌, ◌≤◌, ◌<◌, List, [], ◌++◌, length, take, drop, Result, Ok, Err}
 use Rattle.fib_io.specs.Causes.{Rose}
+use Rattle.fib_io.specs.declared.InFault.{InFault}
+use Rattle.fib_io.specs.declared.InFault.TheVariants.{Failed, NoMemory}
 use Rattle.fib_io.specs.declared.pieces.ReadError.{ReadError}
 use Rattle.fib_io.specs.declared.pieces.ReadError.TheVariants as read
 
@@ -23,6 +25,11 @@ IsEnd octets at = (octets_from at octets ≡ []) × (length octets ≤ 2 ^ 36)
 -- nothing comes from this place on, and the input has more octets than are read
 abbrev pub IsLarge : List ℕ → ℕ → Type 0
 IsLarge octets at = (octets_from at octets ≡ []) × (2 ^ 36 < length octets)
+
+-- what a read that gave nothing comes to
+abbrev pub refusal_of : InFault → ReadError
+refusal_of Failed = read.Fault
+refusal_of NoMemory = read.NoMemory
 
 -- a fault comes only where the count of the name rose, and every other answer leaves all counts
 abbrev pub IsReadOf : {T : Type 0} → (List ℕ → ℕ) → (List ℕ → ℕ) → List ℕ → Result T ReadError → Type 0

@@ -1,5 +1,7 @@
 -- Reads that are made of inputs, in their order.
 use Rattle.std.specs.Prelude.{◌≡◌, ℕ, ◌+◌, ◌^◌, ◌≤◌, ◌<◌, List, [], ◌∷◌, ◌++◌, Option, Some, None, Result, Ok, Err, IfSome, ◌⊎◌}
+use Rattle.fib_io.specs.declared.InFault.{InFault}
+use Rattle.fib_io.specs.declared.InFault.TheVariants.{Failed, NoMemory}
 use Rattle.fib_io.specs.declared.pieces.ReadError.{ReadError}
 use Rattle.fib_io.specs.declared.pieces.ReadError.TheVariants as read
 
@@ -12,18 +14,15 @@ pub record Read : Type 0 where
 abbrev pub read_of : List ℕ → ℕ → Option ℕ → Read
 read_of name at gave = record { name = name; at = at; gave = gave }
 
--- how many octets a read gave
-abbrev pub given : {E : Type 0} → Result ℕ E → Option ℕ
-given (Ok n) = Some n
-given (Err e) = None
-
 -- if all reads up to now are told, they are those that were told before, and then such reads
 abbrev pub Makes : Option (List Read) → Option (List Read) → (List Read → Type 0) → Type 0
 Makes before now Such = IfSome now (λ all. (old made : List Read) × (before ≡ Some old) × (all ≡ old ++ made) × Such made)
 
--- one read, with this answer
-abbrev pub IsRead : {E : Type 0} → List ℕ → ℕ → Result ℕ E → List Read → Type 0
-IsRead name at result reads = reads ≡ read_of name at (given result) ∷ []
+-- one read, with this answer; where memory ran out none was made
+abbrev pub IsRead : List ℕ → ℕ → Result ℕ InFault → List Read → Type 0
+IsRead name at (Ok n) reads = reads ≡ read_of name at (Some n) ∷ []
+IsRead name at (Err Failed) reads = reads ≡ read_of name at None ∷ []
+IsRead name at (Err NoMemory) reads = reads ≡ []
 
 -- ---- passes
 
@@ -58,12 +57,12 @@ pub record Pass (end : PassEnd) (name : List ℕ) (reads : List Read) : Type 0 w
 
 -- ---- what the calls read
 
--- a piece takes one read, which gave it
+-- a piece takes one read, which gave it, and none where memory ran out
 abbrev pub IsPieceRead : List ℕ → ℕ → Result ℕ ReadError → List Read → Type 0
 IsPieceRead name at (Ok n) reads = reads ≡ read_of name at (Some n) ∷ []
 IsPieceRead name at (Err read.Fault) reads = EndsPass AtFault name at reads
 IsPieceRead name at (Err read.TooLarge) reads = EndsPass PastMost name at reads
-IsPieceRead name at (Err read.NoMemory) reads = ⊥
+IsPieceRead name at (Err read.NoMemory) reads = reads ≡ []
 
 -- a refusal ends the pass
 abbrev pub end_by : ReadError → PassEnd

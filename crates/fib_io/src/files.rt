@@ -2,28 +2,31 @@
 //!
 //! A name's file is opened at its first read and stays open, so that all that is read of a name is of one file, also
 //! where another takes its place under that name meanwhile. A read goes on where the last one ended, or goes to its place
-//! first; so a pipe can be read once, in order. There is one count of faults, a `u64`, which each error raises.
+//! first; so a pipe can be read once, in order. There is one count of faults, a `u64`, which each error raises, but for want
+//! of memory.
 //!
 //! What a file holds no contract can say. `ByName` and `ReadSeek` say what a system may tell, and the inputs are proved
 //! over any: a read gives what stands at its place, opens exactly the name given, and only if it isn't open, goes to no
 //! place where the last read ended, and hands on what one read of the reader gave. What is trusted is the calls of the
 //! system under `SystemFiles` and `File`, which tell nothing.
 
-ghost use Rattle.std.specs.Prelude.{◌≡◌, ℕ, ◌+◌, ◌++◌, ◌≤◌, ◌<◌, List, [], Option, Some, None, option_map, length, slice_get, IfOk, IfSome, IsNone, OnOk};
+ghost use Rattle.std.specs.Prelude.{◌≡◌, ◌↔◌, ℕ, ◌+◌, ◌++◌, ◌≤◌, ◌<◌, List, [], Option, Some, None, option_map, length, slice_get, IfOk, IfSome, IsNone, OnOk};
 ghost use Rattle.std.specs.String.{string_bytes};
 ghost use Rattle.std.specs.Io.KnownBytes.{Keeps};
 ghost use Rattle.std.specs.Io.Seek.{MovesTo};
+ghost use Rattle.std.specs.IoError.{error_kind};
 ghost use Rattle.std.specs.List.{position};
 ghost use Rattle.std.specs.Option.{ForSome};
 ghost use Rattle.fib_io.specs.Files.{AllOpen, AllStand, Call, calls_met, calls_of_read, Gives, GoesTo, has_name, IsOpen, IsOpened, KeepsOpen, open_under, Opens, OpensOnce, ReadsOn, ReadsOnce, Stands, way_to, with_name};
 ghost use Rattle.fib_io.specs.Causes.{HasReadCause};
 ghost use Rattle.fib_io.specs.Octets.{AreAt};
 ghost use Rattle.fib_io.specs.Reads.{IsRead, Makes};
+ghost use Rattle.fib_io.specs.declared.InFault.TheVariants.{NoMemory};
 
 use crate::{InFault, Inputs, count_fault};
 use std::alloc::{AllocError, AllocFailed, Global};
 use std::fs::{self, File};
-use std::io::{self, Read, Seek, SeekFrom};
+use std::io::{self, ErrorKind, Read, Seek, SeekFrom};
 use std::rt::Files;
 
 /// A reader that goes to any place. `calls` is what it was asked and did since it was opened, if the type tells it.
@@ -99,20 +102,29 @@ impl<R: Files<File = File>> ByName for SystemFiles<'_, R> {
 }
 
 impl From<io::Error> for InFault {
-    fn from(_e: io::Error) -> InFault {
-        InFault
+    fn from(error: io::Error) -> InFault
+        ensures { result ≡ InFault.NoMemory ↔ error_kind error ≡ ErrorKind.OutOfMemory }
+    {
+        match error.kind() {
+            ErrorKind::OutOfMemory => InFault::NoMemory,
+            _ => InFault::Failed,
+        }
     }
 }
 
 impl From<AllocError> for InFault {
+    ghost from_gives = { λ _ e. e ≡ NoMemory };
+
     fn from(_e: AllocError) -> InFault {
-        InFault
+        InFault::NoMemory
     }
 }
 
 impl<T: Drop> From<AllocFailed<T>> for InFault {
+    ghost from_gives = { λ _ e. e ≡ NoMemory };
+
     fn from(_e: AllocFailed<T>) -> InFault {
-        InFault
+        InFault::NoMemory
     }
 }
 
@@ -176,8 +188,8 @@ fn place_of<R: ReadSeek + Drop>(inputs: &[OpenInput<R>], name: &str) -> Option<u
     inputs.iter().position(|input| input.name.as_str() == name)
 }
 
-/// Files by name. A file that can't be opened, sought or read is a fault, whatever the cause, an interrupted call and want
-/// of memory too, and all names have one count of faults.
+/// Files by name. A file that can't be opened, sought or read is a fault, an interrupted call too; where memory is wanting for
+/// it, ours or the system's, it is `NoMemory`. All names have one count of faults.
 #[derive(Drop)]
 pub struct FileInputs<N: ByName + Drop> {
     alloc: Global,
@@ -194,9 +206,22 @@ impl<'r, R: Files<File = File>> FileInputs<SystemFiles<'r, R>> {
     pub fn new(alloc: Global, rt: &'r R) -> FileInputs<SystemFiles<'r, R>>
         ensures { ⟦<FileInputs<SystemFiles<'r, R>> as Inputs>⟧.faults result ≡ (λ _. 0) }
     {
+        FileInputs::over(alloc, SystemFiles { rt })
+    }
+}
+
+impl<N: ByName + Drop> FileInputs<N> {
+    ghost use Rattle.fib_io.specs.FileInputs.{files_of, inputs_of};
+
+    /// Reads what this system opens by name. Nothing is opened before the first read of its name.
+    pub fn over(alloc: Global, files: N) -> FileInputs<N>
+        ensures faults { ⟦<FileInputs<N> as Inputs>⟧.faults result ≡ (λ _. 0) }
+        ensures files { files_of result ≡ files }
+        ensures none { inputs_of result ≡ [] }
+    {
         FileInputs {
             alloc,
-            files: SystemFiles { rt },
+            files,
             inputs: Vec::new(alloc),
             faults: 0,
         }
@@ -296,7 +321,7 @@ impl<N: ByName + Drop> Inputs for FileInputs<N> {
         ensures kept { KeepsOpen name.now (inputs_of self.old) (inputs_of self.new) }
     {
         let result = self.read_named(name, at, buf);
-        if result.is_err() {
+        if result == Err(InFault::Failed) {
             count_fault(&mut self.faults);
         }
         result

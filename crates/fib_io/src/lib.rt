@@ -1,8 +1,9 @@
 //! What the program reads and writes, with counts of the faults that came up.
 //!
 //! `Inputs` gives octets by name and place, and `Sink` takes octets in order. Each keeps a count of its faults
-//! that never falls, and an error comes only where the count rose, so that no error can be made up. A contract
-//! names what an input holds or what a sink was given, where the type tells it.
+//! that never falls, and a failure comes only where the count rose, so that none can be made up. Memory may run out
+//! before a read, which leaves all counts. A contract names what an input holds or what a sink was given, where the
+//! type tells it.
 //!
 //! `MemInputs` and `MemSink` keep octets in memory and fail at the calls that they are told, `SureInputs` and
 //! `SureSink` never fail, `FileInputs` and `StdSink` stand over files and over standard output and error.
@@ -32,10 +33,16 @@ pub use memory_sinks::{MemSink, SureSink};
 pub use pieces::{MOST_OCTETS, ReadError, piece_room, read_piece, read_whole};
 pub use streams::{FlushWrite, StdSink};
 
-/// A read failed. The count of the name that was read rose, unless it stood at the last value of a `u64`.
+/// Why a read gave nothing.
 #[derive(Clone, Copy, Debug, PartialEq, Eq, Error)]
-#[error("a read failed")]
-pub struct InFault;
+pub enum InFault {
+    /// The read failed. The count of the name that was read rose, unless it stood at the last value of a `u64`.
+    #[error("a read failed")]
+    Failed,
+    /// Memory ran out. No read was made, and no count changed.
+    #[error("no memory")]
+    NoMemory,
+}
 
 /// A write failed. The sink's count rose, unless it stood at the last value of a `u64`.
 #[derive(Clone, Copy, Debug, PartialEq, Eq, Error)]

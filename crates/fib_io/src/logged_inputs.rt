@@ -20,7 +20,8 @@ pub struct LoggedRead {
 
 /// Inputs over others, which keep every read that is made of these, in their order.
 ///
-/// They read as those below do. If memory runs out for a read that is to be kept, they tell no reads from then on.
+/// They read as those below do. A read for which memory ran out wasn't made, and isn't kept. If memory runs out for a read that
+/// is to be kept, they tell no reads from then on.
 #[derive(Drop)]
 pub struct LoggedInputs<I: Inputs + Drop> {
     alloc: Global,
@@ -78,7 +79,7 @@ impl<I: Inputs + Drop> Inputs for LoggedInputs<I> {
 
     fn read(&mut self, name: &str, at: u64, buf: &mut [u8]) -> Result<usize, InFault> {
         let result = self.inputs.read(name, at, buf);
-        if self.is_whole {
+        if self.is_whole && result != Err(InFault::NoMemory) {
             let kept = push_read(self.alloc, &mut self.log, name, at, result.ok());
             self.is_whole = kept.is_ok();
         }

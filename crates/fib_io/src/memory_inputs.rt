@@ -123,7 +123,7 @@ impl Inputs for MemInputs {
             Some(octets) if !is_failing => Ok(copy_from(octets, at, self.most, buf)),
             _ => {
                 count_fault(&mut self.faults);
-                Err(InFault)
+                Err(InFault::Failed)
             }
         }
     }

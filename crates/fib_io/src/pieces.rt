@@ -3,9 +3,9 @@
 ghost use Rattle.std.specs.Prelude.{◌≡◌, ◌≤◌, ◌<◌, ◌+◌, length, IfOk, IfSome, IsErrOf};
 ghost use Rattle.fib_io.specs.Causes.{HasReadCause};
 ghost use Rattle.fib_io.specs.Octets.{AreAt};
-ghost use Rattle.fib_io.specs.Pieces.{ComeNext, IsEnd, IsLarge, IsReadOf};
+ghost use Rattle.fib_io.specs.Pieces.{ComeNext, IsEnd, IsLarge, IsReadOf, refusal_of};
 ghost use Rattle.fib_io.specs.Reads.{IsPieceRead, IsRead, Makes, Pass, whole_end};
-ghost use Rattle.fib_io.specs.declared.pieces.ReadError.TheVariants.{Fault, NoMemory};
+ghost use Rattle.fib_io.specs.declared.pieces.ReadError.TheVariants.{NoMemory};
 
 use crate::{InFault, Inputs};
 use std::alloc::{AllocError, AllocFailed, Global};
@@ -32,10 +32,13 @@ pub enum ReadError {
 }
 
 impl From<InFault> for ReadError {
-    ghost from_gives = { λ _ e. e ≡ Fault };
+    ghost from_gives = { λ fault e. e ≡ refusal_of fault };
 
-    fn from(_e: InFault) -> ReadError {
-        ReadError::Fault
+    fn from(fault: InFault) -> ReadError {
+        match fault {
+            InFault::Failed => ReadError::Fault,
+            InFault::NoMemory => ReadError::NoMemory,
+        }
     }
 }
 
@@ -110,7 +113,6 @@ pub fn read_piece<I: Inputs>(
         (λ octets. IsEnd octets at)) }
     ensures large { IsErrOf result ReadError.TooLarge → IfSome (I.content inputs.old name.now)
         (λ octets. IsLarge octets at) }
-    ensures memory { IsErrOf result ReadError.NoMemory → ⊥ }
     ensures same { I.content inputs.new ≡ I.content inputs.old }
     ensures cause { IsReadOf (I.faults inputs.old) (I.faults inputs.new) name.now result }
     ensures made { Makes (I.reads inputs.old) (I.reads inputs.new)

@@ -3,12 +3,12 @@
 ghost use Rattle.std.specs.Prelude.{None};
 
 use fib_io::{
-    FileInputs, FlushWrite, InFault, Inputs, MemInputs, MemSink, OutFault, Sink, StdSink,
+    ByName, FileInputs, FlushWrite, InFault, Inputs, MemInputs, MemSink, OutFault, Sink, StdSink,
     SureInputs, SureSink, write_all,
 };
 use std::alloc::Global;
 use std::cell::Cell;
-use std::fs;
+use std::fs::{self, File};
 use std::io::{self, ErrorKind, Write};
 use std::test::Fail;
 
@@ -44,6 +44,24 @@ impl FlushWrite for Pipe<'_> {
     }
 }
 
+/// A system that opens nothing, always for this reason.
+#[derive(Drop)]
+struct Closed {
+    why: ErrorKind,
+}
+
+impl ByName for Closed {
+    type Reader = File;
+
+    ghost content = { λ _ _. None };
+
+    ghost opened = { λ _. None };
+
+    fn open(&mut self, _name: &str) -> io::Result<File> {
+        Err(self.why.into())
+    }
+}
+
 /// Two pairs with one name.
 fn names_of(alloc: Global) -> Result<Vec<(String, Vec<u8>)>, Fail> {
     let mut names = Vec::new(alloc);
@@ -61,11 +79,11 @@ fn reads_by_name_and_place(rt: HostRuntime) -> Result<(), Fail> {
     let mut buf = [0u8; 4];
     for (case, name, at, due, held) in [
         ("the front", "dump", 0, Ok(4), b"hell"),
-        ("the second read", "dump", 4, Err(InFault), b"hell"),
+        ("the second read", "dump", 4, Err(InFault::Failed), b"hell"),
         ("the last octet", "dump", 4, Ok(1), b"oell"),
         ("the end", "dump", 5, Ok(0), b"oell"),
         ("past the end", "dump", u64::MAX, Ok(0), b"oell"),
-        ("no such name", "asks", 0, Err(InFault), b"oell"),
+        ("no such name", "asks", 0, Err(InFault::Failed), b"oell"),
     ] {
         assert!(rt; inputs.read(name, at, &mut buf) == due, "{case}");
         assert!(rt; &buf == held, "{case}");
@@ -115,6 +133,18 @@ fn writes_on_after_a_part(rt: HostRuntime) -> Result<(), Fail> {
 }
 
 #[test]
+fn memory_that_is_wanting_is_no_failed_read(rt: HostRuntime) -> Result<(), Fail> {
+    for (why, due) in [
+        (ErrorKind::OutOfMemory, InFault::NoMemory),
+        (ErrorKind::NotFound, InFault::Failed),
+    ] {
+        let mut inputs = FileInputs::over(rt.alloc(), Closed { why });
+        assert!(rt; inputs.read("dump", 0, &mut [0u8; 4]) == Err(due));
+    }
+    Ok(())
+}
+
+#[test]
 fn adapters_keep_files_open_and_count_faults(rt: HostRuntime) -> Result<(), Fail> {
     let mut inputs = FileInputs::new(rt.alloc(), &rt);
     let mut buf = [0u8; 4];
@@ -128,8 +158,14 @@ fn adapters_keep_files_open_and_count_faults(rt: HostRuntime) -> Result<(), Fail
     for (case, name, at, due, held) in [
         ("the file that was opened", "hello.txt", 0, Ok(4), b"hell"),
         ("the end", "hello.txt", 5, Ok(0), b"hell"),
-        ("no such file", "other.txt", 0, Err(InFault), b"hell"),
-        ("a folder", "/", 0, Err(InFault), b"hell"),
+        (
+            "no such file",
+            "other.txt",
+            0,
+            Err(InFault::Failed),
+            b"hell",
+        ),
+        ("a folder", "/", 0, Err(InFault::Failed), b"hell"),
     ] {
         assert!(rt; inputs.read(name, at, &mut buf) == due, "{case}");
         assert!(rt; &buf == held, "{case}");
