@@ -2,12 +2,14 @@
 use Rattle.std.proofs.Common.{◌≡◌, refl, ℕ, ◌<◌, List, ◌∷◌, Option, Some, None, Ok, Err, inl, inr, arith}
 use Rattle.std.specs.Prelude.{IfSome, [], unwrap_or}
 use Rattle.fib_io.specs.Reads.{Read}
-use Rattle.fib_io.proofs.Passing.{makes_none, no_pass}
+use Rattle.fib_io.proofs.Passing.{makes_none}
+use Rattle.fib_io.proofs.Timing.{no_pass_in_time}
 use Rattle.fib_words.specs.Commands.{Asked, Run, Check, Make, Steps, command_of}
 use Rattle.fib_main.specs.declared.outcome.Outcome.TheVariants.{NoMemory}
 use Rattle.fib_main.specs.Ends.{TellsOf}
 use Rattle.fib_main.specs.Owned.{IsOf}
-use Rattle.fib_main.specs.Passes.{Input, ReadInPart, ReadsAt, check_inputs, run_inputs, steps_inputs}
+use Rattle.fib_main.specs.InTime.{TextMayGoOn, RunMayGoOn, StepsMayGoOn}
+use Rattle.fib_main.specs.Passes.{Content, Input, Judge, ReadInPart, ReadsAt, check_inputs, run_inputs, steps_inputs}
 use Rattle.fib_main.specs.Stepped.{EndsRun, FitsSteps, IfStepping}
 use Rattle.fib_main.specs.Due.{stepping_at}
 use Rattle.fib_main.specs.Untold.{FitsSome}
@@ -32,16 +34,16 @@ fits_steps content (Some (Make routes seed)) out = tt
 fits_steps content (Some (Steps named)) out = elim (stepping_at content named) as (λ d. IfStepping d (λ s. EndsRun s out out NoMemory)) [ Ok s ↦ tt | Err stop ↦ tt ]
 
 -- none of these inputs was begun
-none_begun : (inputs : List Input) → ReadInPart inputs []
-none_begun [] = record { before = []; after = []; order = refl; first = []; whole = refl; last = []; begun = refl; all = refl }
-none_begun (input ∷ inputs) = record { before = []; after = input ∷ inputs; order = refl; first = []; whole = refl; last = []; begun = no_pass input.1; all = refl }
+none_begun : (content : Content) (Goes : Judge) (inputs : List Input) → ReadInPart content Goes inputs []
+none_begun content Goes [] = record { before = []; after = []; order = refl; first = []; whole = refl; last = []; begun = refl; all = refl }
+none_begun content Goes (input ∷ inputs) = record { before = []; after = input ∷ inputs; order = refl; first = []; whole = refl; last = []; begun = no_pass_in_time (content input.1) (Goes input.0) input.1; all = refl }
 
-none_read : (asked : Option Asked) → ReadsAt asked NoMemory []
-none_read None = refl
-none_read (Some (Run named)) = none_begun (run_inputs named)
-none_read (Some (Check name)) = none_begun (check_inputs name)
-none_read (Some (Make routes seed)) = refl
-none_read (Some (Steps named)) = none_begun (steps_inputs named)
+none_read : (content : Content) (asked : Option Asked) → ReadsAt content asked NoMemory []
+none_read content None = refl
+none_read content (Some (Run named)) = none_begun content (RunMayGoOn content named) (run_inputs named)
+none_read content (Some (Check name)) = none_begun content TextMayGoOn (check_inputs name)
+none_read content (Some (Make routes seed)) = refl
+none_read content (Some (Steps named)) = none_begun content (StepsMayGoOn named) (steps_inputs named)
 
 not_more : {P : Type 0} (n : ℕ) → n < n → P
 not_more n h = absurd (omega (arith, h))
@@ -64,7 +66,7 @@ no_memory words content faults made out out_faults old new before now told = rec
   printed = λ e. absurd (cc);
   front = λ e. absurd (cc);
   due_yes = λ e. absurd (cc);
-  reads = makes_none made (ReadsAt (command_of words) NoMemory) (none_read (command_of words));
+  reads = makes_none made (ReadsAt content (command_of words) NoMemory) (none_read content (command_of words));
 }
 
 -- the words that a command line tells, if it does

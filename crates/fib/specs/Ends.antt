@@ -57,7 +57,7 @@ pub record Ends (words : List (List ℕ)) (old new : Moment) (outcome : Outcome)
   pub printed : outcome ≡ Done → IsRun (command_of words) → AddsYes old.out new.out
   pub front : outcome ≡ WriteFault → IsRun (command_of words) → AddsFrontOfYes old.out new.out
   pub due_yes : outcome ≡ Done → IfRan (due words old.content) PrintsYes
-  pub reads : Makes old.reads new.reads (ReadsAt (command_of words) outcome)
+  pub reads : Makes old.reads new.reads (ReadsAt old.content (command_of words) outcome)
 
 -- So it ends of a command line: with this outcome of some words, which are those of the command line, where it tells them.
 pub record EndsOf (told : Option (List (List ℕ))) (old new : Moment) (outcome : Outcome) : Type 0 where

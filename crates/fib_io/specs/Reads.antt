@@ -1,5 +1,6 @@
 -- Reads that are made of inputs, in their order.
-use Rattle.std.specs.Prelude.{◌≡◌, ℕ, ◌+◌, ◌^◌, ◌≤◌, ◌<◌, List, [], ◌∷◌, ◌++◌, Option, Some, None, Result, Ok, Err, IfSome, ◌⊎◌}
+use Rattle.std.specs.Prelude.{◌≡◌, ℕ, ◌+◌, ◌^◌, ◌≤◌, ◌<◌, List, [], ◌∷◌, ◌++◌, take, Option, Some, None, Result, Ok, Err, IfSome, ◌⊎◌}
+use Rattle.std.specs.List.{All}
 use Rattle.fib_io.specs.declared.InFault.{InFault}
 use Rattle.fib_io.specs.declared.InFault.TheVariants.{Failed, NoMemory}
 use Rattle.fib_io.specs.declared.pieces.ReadError.{ReadError}
@@ -54,6 +55,21 @@ pub record Pass (end : PassEnd) (name : List ℕ) (reads : List Read) : Type 0 w
   pub last : List Read
   pub ends : EndsPass end name at last
   pub all : reads ≡ front ++ last
+
+-- ---- passes that stop in time
+
+-- each of these reads begins where the octets before its place are such
+abbrev pub BeginBehind : (List ℕ → Type 0) → List ℕ → List Read → Type 0
+BeginBehind Such octets reads = All (λ read. Such (take read.at octets)) reads
+
+-- the same of the reads of an input, where it tells what it holds
+abbrev pub AreInTime : Option (List ℕ) → (List ℕ → Type 0) → List Read → Type 0
+AreInTime content Such reads = IfSome content (λ octets. BeginBehind Such octets reads)
+
+-- One pass over an input, of which no read is made once what was read of it before isn't such.
+pub record PassInTime (content : Option (List ℕ)) (Such : List ℕ → Type 0) (end : PassEnd) (name : List ℕ) (reads : List Read) : Type 0 where
+  pub pass : Pass end name reads
+  pub in_time : AreInTime content Such reads
 
 -- ---- what the calls read
 

@@ -1,6 +1,6 @@
 -- Asks that are taken piece by piece.
 use Rattle.std.proofs.Common.{◌≡◌, ℕ, ◌+◌, ◌^◌, ◌<◌, ◌≤◌, Bool, true, false, cond, List, [], ◌++◌, length, map, take, drop, Option, Some, None, Result, Ok, Err, refl, sym, ap, subst, ◌∙◌, arith, append_assoc, length-append, length-take, take_all}
-use Rattle.std.specs.Prelude.{IfSome, IsErrOf}
+use Rattle.std.specs.Prelude.{IfSome, IsErrOf, is_ok}
 use Rattle.std.proofs.lemmas.Bool.{le-leb, lt-leb, leb-true}
 use Rattle.std.proofs.lemmas.List.{length-map, map-append, take-append-drop}
 use Rattle.std.specs.declared.vec.Vec.{Vec}
@@ -26,9 +26,10 @@ use Rattle.fib_main.specs.declared.outcome.Which.TheVariants.{Asks}
 use Rattle.fib_main.specs.Asks.{addresses_from, asks_in, ended_asks_in, ended_lines, has_feed}
 use Rattle.fib_main.specs.Asking.{AreEnded, AsksFed, AsksFrom, AsksStand, BringsAsks, HasBadLine, ReadsLines, ask_of_input, ask_refusal, asks_behind}
 use Rattle.fib_main.specs.Due.{asks_of, told_asks}
+use Rattle.fib_main.specs.InTime.{AsksMayGoOn}
 use Rattle.fib_main.specs.Reads.{IsList}
 use Rattle.whole_input.specs.Cuts.{is_small}
-use Rattle.whole_input.proofs.Arriving.{Comes, all_fed, comes_first, comes_next}
+use Rattle.whole_input.proofs.Arriving.{Comes, all_fed, comes_first, comes_next, such_before}
 use Rattle.fib_main.specs.Stops.{Stop, Refused, FailsDue, IsDueIfTold, lined, lined_past}
 use Rattle.fib_main.proofs.AskLemmas.{addresses_on, then_lines}
 use Rattle.fib_main.proofs.AskLines.{ended_both, ended_front, ended_more, ended_none, ends_lines, held_more, no_feed, no_feed_after}
@@ -162,6 +163,13 @@ pub record Asking (content : Option (List ℕ)) (reader : AskReader) (at : ℕ) 
   pub octets : length fed ≡ at
   pub comes : IfSome content (Comes fed at)
   pub stands : AsksStand fed reader
+
+-- what was fed may be read on from
+fed_on : (fed : List ℕ) (reader : AskReader) → AsksStand fed reader → AsksMayGoOn fed
+fed_on fed reader s = ap is_ok (ended_asks fed reader s)
+
+pub asking_on : (content : Option (List ℕ)) (reader : AskReader) (at : ℕ) → at ≤ 2 ^ 36 → Asking content reader at → IfSome content (λ c. AsksMayGoOn (take at c))
+asking_on content reader at within s = such_before content s.fed at AsksMayGoOn within s.octets s.comes (fed_on s.fed reader s.stands)
 
 pub asking_start : (content : Option (List ℕ)) (reader : AskReader) → AsksStand [] reader → Asking content reader 0
 asking_start content reader s = record { fed = []; octets = refl; comes = comes_first content; stands = s }

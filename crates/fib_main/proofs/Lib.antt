@@ -25,3 +25,4 @@ pub mod Making
 pub mod Stepped
 pub mod Scripts
 pub mod Whole
+pub mod Judging

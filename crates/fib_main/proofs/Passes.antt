@@ -2,11 +2,12 @@
 use Rattle.std.specs.Prelude.{IfErr, IsErrAnd, IsErrOf, MatchResult}
 use Rattle.std.proofs.lemmas.Result.{err_from_is_err_and}
 use Rattle.std.proofs.Common.{◌≡◌, ◌∙◌, ℕ, zero, suc, ◌≤◌, List, [], ◌∷◌, ◌++◌, Option, Some, None, Result, Ok, Err, refl, sym, ap, subst, append_assoc, append-nil, arith}
-use Rattle.fib_io.specs.Reads.{Anywhere, AtEnd, Makes, Pass, PassEnd, Read}
+use Rattle.fib_io.specs.Reads.{Anywhere, AtEnd, Makes, Pass, PassEnd, PassInTime, Read}
 use Rattle.fib_io.specs.declared.pieces.ReadError.{ReadError}
 use Rattle.fib_io.specs.declared.pieces.ReadError.TheVariants as pieces
 use Rattle.fib_io.specs.Reads as io
-use Rattle.fib_io.proofs.Passing.{ended_anywhere, makes_as, makes_none, makes_then, no_pass}
+use Rattle.fib_io.proofs.Passing.{makes_as, makes_none, makes_then}
+use Rattle.fib_io.proofs.Timing.{ended_in_time, no_pass_in_time, pass_as, pass_of_text}
 use Rattle.fib_engine.specs.declared.error.EngineError.{EngineError}
 use Rattle.fib_engine.specs.declared.error.EngineError.TheVariants as engine
 use Rattle.mrt_read.specs.declared.reader.EventsError.{EventsError}
@@ -38,7 +39,8 @@ use Rattle.fib_words.specs.Commands.{Asked, Check, Make, Run, Steps}
 use Rattle.fib_main.specs.Ends.{EndsBy}
 use Rattle.fib_main.specs.Asking.{ask_of_input, ask_refusal}
 use Rattle.fib_main.specs.Loaded.{of_step}
-use Rattle.fib_main.specs.Passes.{AllRead, Input, IsNumbered, MayBegin, ReadInPart, ReadUpTo, ReadsAsked, ReadsAt, ReadsOf, ReadsTo, StopsReading, ask_end, asks_end, check_inputs, feed_end, feeds_end, run_inputs, steps_inputs}
+use Rattle.fib_main.specs.InTime.{TextMayGoOn, RunMayGoOn, StepsMayGoOn}
+use Rattle.fib_main.specs.Passes.{AllRead, Content, Input, Judge, IsNumbered, MayBegin, ReadInPart, ReadUpTo, ReadsAsked, ReadsAt, ReadsOf, ReadsTo, StopsReading, ask_end, asks_end, check_inputs, feed_end, feeds_end, run_inputs, steps_inputs}
 use Rattle.fib_main.specs.Standing.{IsOfLoad, StateTakesAll, of_input, of_read, refusal_at, refusal_of}
 use Rattle.fib_main.specs.Stepped.{arena_of}
 use Rattle.fib_main.specs.Stepping.{refusal_of_whole}
@@ -46,12 +48,12 @@ use Rattle.fib_main.specs.Stops.{input_of}
 
 -- ---- inputs after others
 
-all_both : (xs ys : List Input) (first next : List Read) → AllRead xs first → AllRead ys next → AllRead (xs ++ ys) (first ++ next)
-all_both [] ys first next p q = subst (λ reads. AllRead ys (reads ++ next)) (sym p) q
-all_both (x ∷ xs) ys first next p q = (p.0, p.1 ++ next, ap (λ reads. reads ++ next) p.2 ∙ append_assoc p.0 p.1 next, p.3, all_both xs ys p.1 next p.4 q)
+all_both : (content : Content) (Goes : Judge) (xs ys : List Input) (first next : List Read) → AllRead content Goes xs first → AllRead content Goes ys next → AllRead content Goes (xs ++ ys) (first ++ next)
+all_both content Goes [] ys first next p q = subst (λ reads. AllRead content Goes ys (reads ++ next)) (sym p) q
+all_both content Goes (x ∷ xs) ys first next p q = (p.0, p.1 ++ next, ap (λ reads. reads ++ next) p.2 ∙ append_assoc p.0 p.1 next, p.3, all_both content Goes xs ys p.1 next p.4 q)
 
-up_to_sooner : (xs ys : List Input) (which : Which) (end : PassEnd) (reads : List Read) → ReadUpTo xs which end reads → ReadUpTo (xs ++ ys) which end reads
-up_to_sooner xs ys which end reads p = record {
+up_to_sooner : (content : Content) (Goes : Judge) (xs ys : List Input) (which : Which) (end : PassEnd) (reads : List Read) → ReadUpTo content Goes xs which end reads → ReadUpTo content Goes (xs ++ ys) which end reads
+up_to_sooner content Goes xs ys which end reads p = record {
   before = p.before;
   name = p.name;
   after = p.after ++ ys;
@@ -63,161 +65,234 @@ up_to_sooner xs ys which end reads p = record {
   all = p.all;
 }
 
-up_to_later : (xs ys : List Input) (which : Which) (end : PassEnd) (first next : List Read) → AllRead xs first → ReadUpTo ys which end next → ReadUpTo (xs ++ ys) which end (first ++ next)
-up_to_later xs ys which end first next p q = record {
+up_to_later : (content : Content) (Goes : Judge) (xs ys : List Input) (which : Which) (end : PassEnd) (first next : List Read) → AllRead content Goes xs first → ReadUpTo content Goes ys which end next → ReadUpTo content Goes (xs ++ ys) which end (first ++ next)
+up_to_later content Goes xs ys which end first next p q = record {
   before = xs ++ q.before;
   name = q.name;
   after = q.after;
   order = ap (λ inputs. xs ++ inputs) q.order ∙ sym (append_assoc xs q.before ((which, q.name) ∷ q.after));
   first = first ++ q.first;
-  whole = all_both xs q.before first q.first p q.whole;
+  whole = all_both content Goes xs q.before first q.first p q.whole;
   last = q.last;
   pass = q.pass;
   all = ap (λ reads. first ++ reads) q.all ∙ sym (append_assoc first q.first q.last);
 }
 
-begun_none : (inputs : List Input) → MayBegin inputs []
-begun_none [] = refl
-begun_none (input ∷ inputs) = no_pass input.1
+begun_none : (content : Content) (Goes : Judge) (inputs : List Input) → MayBegin content Goes inputs []
+begun_none content Goes [] = refl
+begun_none content Goes (input ∷ inputs) = no_pass_in_time (content input.1) (Goes input.0) input.1
 
-begun_sooner : (xs ys : List Input) (reads : List Read) → MayBegin xs reads → MayBegin (xs ++ ys) reads
-begun_sooner [] ys reads p = subst (MayBegin ys) (sym p) (begun_none ys)
-begun_sooner (x ∷ xs) ys reads p = p
+begun_sooner : (content : Content) (Goes : Judge) (xs ys : List Input) (reads : List Read) → MayBegin content Goes xs reads → MayBegin content Goes (xs ++ ys) reads
+begun_sooner content Goes [] ys reads p = subst (MayBegin content Goes ys) (sym p) (begun_none content Goes ys)
+begun_sooner content Goes (x ∷ xs) ys reads p = p
 
-part_sooner : (xs ys : List Input) (reads : List Read) → ReadInPart xs reads → ReadInPart (xs ++ ys) reads
-part_sooner xs ys reads p = record {
+part_sooner : (content : Content) (Goes : Judge) (xs ys : List Input) (reads : List Read) → ReadInPart content Goes xs reads → ReadInPart content Goes (xs ++ ys) reads
+part_sooner content Goes xs ys reads p = record {
   before = p.before;
   after = p.after ++ ys;
   order = ap (λ inputs. inputs ++ ys) p.order ∙ append_assoc p.before p.after ys;
   first = p.first;
   whole = p.whole;
   last = p.last;
-  begun = begun_sooner p.after ys p.last p.begun;
+  begun = begun_sooner content Goes p.after ys p.last p.begun;
   all = p.all;
 }
 
-part_later : (xs ys : List Input) (first next : List Read) → AllRead xs first → ReadInPart ys next → ReadInPart (xs ++ ys) (first ++ next)
-part_later xs ys first next p q = record {
+part_later : (content : Content) (Goes : Judge) (xs ys : List Input) (first next : List Read) → AllRead content Goes xs first → ReadInPart content Goes ys next → ReadInPart content Goes (xs ++ ys) (first ++ next)
+part_later content Goes xs ys first next p q = record {
   before = xs ++ q.before;
   after = q.after;
   order = ap (λ inputs. xs ++ inputs) q.order ∙ sym (append_assoc xs q.before q.after);
   first = first ++ q.first;
-  whole = all_both xs q.before first q.first p q.whole;
+  whole = all_both content Goes xs q.before first q.first p q.whole;
   last = q.last;
   begun = q.begun;
   all = ap (λ reads. first ++ reads) q.all ∙ sym (append_assoc first q.first q.last);
 }
 
-part_all : (xs : List Input) (reads : List Read) → AllRead xs reads → ReadInPart xs reads
-part_all xs reads p = record { before = xs; after = []; order = sym (append-nil xs); first = reads; whole = p; last = []; begun = refl; all = sym (append-nil reads) }
+part_all : (content : Content) (Goes : Judge) (xs : List Input) (reads : List Read) → AllRead content Goes xs reads → ReadInPart content Goes xs reads
+part_all content Goes xs reads p = record { before = xs; after = []; order = sym (append-nil xs); first = reads; whole = p; last = []; begun = refl; all = sym (append-nil reads) }
 
-stops_sooner : (xs ys : List Input) (o : Outcome) (reads : List Read) → StopsReading xs o reads → StopsReading (xs ++ ys) o reads
-stops_sooner xs ys ReadFault reads p = (p.0, up_to_sooner xs ys p.0 io.AtFault reads p.1)
-stops_sooner xs ys NoMemory reads p = part_sooner xs ys reads p
-stops_sooner xs ys (TooLarge which) reads p = up_to_sooner xs ys which io.PastMost reads p
-stops_sooner xs ys (Malformed which number rule) reads p = up_to_sooner xs ys which Anywhere reads p
-stops_sooner xs ys (BadLine which line why) reads p = up_to_sooner xs ys which _ reads p
-stops_sooner xs ys (HopsFull zero) reads p = up_to_sooner xs ys Dump Anywhere reads p
-stops_sooner xs ys (HopsFull (suc event)) reads p = up_to_sooner xs ys Updates Anywhere reads p
-stops_sooner xs ys (TrieFull zero need have arena) reads p = up_to_sooner xs ys Dump AtEnd reads p
-stops_sooner xs ys (TrieFull (suc event) need have arena) reads p = up_to_sooner xs ys Updates Anywhere reads p
-stops_sooner xs ys Done reads p = absurd p
-stops_sooner xs ys (CheckNo x) reads p = absurd p
-stops_sooner xs ys WriteFault reads p = absurd p
-stops_sooner xs ys Usage reads p = absurd p
+stops_sooner : (content : Content) (Goes : Judge) (xs ys : List Input) (o : Outcome) (reads : List Read) → StopsReading content Goes xs o reads → StopsReading content Goes (xs ++ ys) o reads
+stops_sooner content Goes xs ys ReadFault reads p = (p.0, up_to_sooner content Goes xs ys p.0 io.AtFault reads p.1)
+stops_sooner content Goes xs ys NoMemory reads p = part_sooner content Goes xs ys reads p
+stops_sooner content Goes xs ys (TooLarge which) reads p = up_to_sooner content Goes xs ys which io.PastMost reads p
+stops_sooner content Goes xs ys (Malformed which number rule) reads p = up_to_sooner content Goes xs ys which Anywhere reads p
+stops_sooner content Goes xs ys (BadLine which line why) reads p = up_to_sooner content Goes xs ys which _ reads p
+stops_sooner content Goes xs ys (HopsFull zero) reads p = up_to_sooner content Goes xs ys Dump Anywhere reads p
+stops_sooner content Goes xs ys (HopsFull (suc event)) reads p = up_to_sooner content Goes xs ys Updates Anywhere reads p
+stops_sooner content Goes xs ys (TrieFull zero need have arena) reads p = up_to_sooner content Goes xs ys Dump AtEnd reads p
+stops_sooner content Goes xs ys (TrieFull (suc event) need have arena) reads p = up_to_sooner content Goes xs ys Updates Anywhere reads p
+stops_sooner content Goes xs ys Done reads p = absurd p
+stops_sooner content Goes xs ys (CheckNo x) reads p = absurd p
+stops_sooner content Goes xs ys WriteFault reads p = absurd p
+stops_sooner content Goes xs ys Usage reads p = absurd p
 
-stops_later : (xs ys : List Input) (o : Outcome) (first next : List Read) → AllRead xs first → StopsReading ys o next → StopsReading (xs ++ ys) o (first ++ next)
-stops_later xs ys ReadFault first next p q = (q.0, up_to_later xs ys q.0 io.AtFault first next p q.1)
-stops_later xs ys NoMemory first next p q = part_later xs ys first next p q
-stops_later xs ys (TooLarge which) first next p q = up_to_later xs ys which io.PastMost first next p q
-stops_later xs ys (Malformed which number rule) first next p q = up_to_later xs ys which Anywhere first next p q
-stops_later xs ys (BadLine which line why) first next p q = up_to_later xs ys which _ first next p q
-stops_later xs ys (HopsFull zero) first next p q = up_to_later xs ys Dump Anywhere first next p q
-stops_later xs ys (HopsFull (suc event)) first next p q = up_to_later xs ys Updates Anywhere first next p q
-stops_later xs ys (TrieFull zero need have arena) first next p q = up_to_later xs ys Dump AtEnd first next p q
-stops_later xs ys (TrieFull (suc event) need have arena) first next p q = up_to_later xs ys Updates Anywhere first next p q
-stops_later xs ys Done first next p q = absurd q
-stops_later xs ys (CheckNo x) first next p q = absurd q
-stops_later xs ys WriteFault first next p q = absurd q
-stops_later xs ys Usage first next p q = absurd q
+stops_later : (content : Content) (Goes : Judge) (xs ys : List Input) (o : Outcome) (first next : List Read) → AllRead content Goes xs first → StopsReading content Goes ys o next → StopsReading content Goes (xs ++ ys) o (first ++ next)
+stops_later content Goes xs ys ReadFault first next p q = (q.0, up_to_later content Goes xs ys q.0 io.AtFault first next p q.1)
+stops_later content Goes xs ys NoMemory first next p q = part_later content Goes xs ys first next p q
+stops_later content Goes xs ys (TooLarge which) first next p q = up_to_later content Goes xs ys which io.PastMost first next p q
+stops_later content Goes xs ys (Malformed which number rule) first next p q = up_to_later content Goes xs ys which Anywhere first next p q
+stops_later content Goes xs ys (BadLine which line why) first next p q = up_to_later content Goes xs ys which _ first next p q
+stops_later content Goes xs ys (HopsFull zero) first next p q = up_to_later content Goes xs ys Dump Anywhere first next p q
+stops_later content Goes xs ys (HopsFull (suc event)) first next p q = up_to_later content Goes xs ys Updates Anywhere first next p q
+stops_later content Goes xs ys (TrieFull zero need have arena) first next p q = up_to_later content Goes xs ys Dump AtEnd first next p q
+stops_later content Goes xs ys (TrieFull (suc event) need have arena) first next p q = up_to_later content Goes xs ys Updates Anywhere first next p q
+stops_later content Goes xs ys Done first next p q = absurd q
+stops_later content Goes xs ys (CheckNo x) first next p q = absurd q
+stops_later content Goes xs ys WriteFault first next p q = absurd q
+stops_later content Goes xs ys Usage first next p q = absurd q
+
+-- ---- inputs that are judged otherwise
+
+-- what one judge lets be read on, the other does too, of each of these inputs
+abbrev pub Lets : Judge → Judge → List Input → Type 0
+Lets Goes Other [] = Unit {0}
+Lets Goes Other (input ∷ inputs) = ((octets : List ℕ) → Goes input.0 octets → Other input.0 octets) × Lets Goes Other inputs
+
+lets_front : (Goes Other : Judge) (xs ys : List Input) → Lets Goes Other (xs ++ ys) → Lets Goes Other xs
+lets_front Goes Other [] ys lets = tt
+lets_front Goes Other (x ∷ xs) ys lets = (lets.0, lets_front Goes Other xs ys lets.1)
+
+lets_back : (Goes Other : Judge) (xs ys : List Input) → Lets Goes Other (xs ++ ys) → Lets Goes Other ys
+lets_back Goes Other [] ys lets = lets
+lets_back Goes Other (x ∷ xs) ys lets = lets_back Goes Other xs ys lets.1
+
+all_let : (content : Content) (Goes Other : Judge) (xs : List Input) (reads : List Read) → Lets Goes Other xs → AllRead content Goes xs reads → AllRead content Other xs reads
+all_let content Goes Other [] reads lets p = p
+all_let content Goes Other (x ∷ xs) reads lets p = (p.0, p.1, p.2, pass_as (content x.1) (Goes x.0) (Other x.0) AtEnd x.1 p.0 lets.0 p.3, all_let content Goes Other xs p.1 lets.1 p.4)
+
+up_to_let : (content : Content) (Goes Other : Judge) (xs : List Input) (which : Which) (end : PassEnd) (reads : List Read) → Lets Goes Other xs → ReadUpTo content Goes xs which end reads → ReadUpTo content Other xs which end reads
+up_to_let content Goes Other xs which end reads lets p =
+    let here : Lets Goes Other (p.before ++ (which, p.name) ∷ p.after) = subst (Lets Goes Other) p.order lets in
+    record {
+      before = p.before;
+      name = p.name;
+      after = p.after;
+      order = p.order;
+      first = p.first;
+      whole = all_let content Goes Other p.before p.first (lets_front Goes Other p.before ((which, p.name) ∷ p.after) here) p.whole;
+      last = p.last;
+      pass = pass_as (content p.name) (Goes which) (Other which) end p.name p.last (lets_back Goes Other p.before ((which, p.name) ∷ p.after) here).0 p.pass;
+      all = p.all;
+    }
+
+begun_let : (content : Content) (Goes Other : Judge) (xs : List Input) (reads : List Read) → Lets Goes Other xs → MayBegin content Goes xs reads → MayBegin content Other xs reads
+begun_let content Goes Other [] reads lets p = p
+begun_let content Goes Other (x ∷ xs) reads lets p = pass_as (content x.1) (Goes x.0) (Other x.0) Anywhere x.1 reads lets.0 p
+
+part_let : (content : Content) (Goes Other : Judge) (xs : List Input) (reads : List Read) → Lets Goes Other xs → ReadInPart content Goes xs reads → ReadInPart content Other xs reads
+part_let content Goes Other xs reads lets p =
+    let here : Lets Goes Other (p.before ++ p.after) = subst (Lets Goes Other) p.order lets in
+    record {
+      before = p.before;
+      after = p.after;
+      order = p.order;
+      first = p.first;
+      whole = all_let content Goes Other p.before p.first (lets_front Goes Other p.before p.after here) p.whole;
+      last = p.last;
+      begun = begun_let content Goes Other p.after p.last (lets_back Goes Other p.before p.after here) p.begun;
+      all = p.all;
+    }
+
+stops_let : (content : Content) (Goes Other : Judge) (xs : List Input) (o : Outcome) (reads : List Read) → Lets Goes Other xs → StopsReading content Goes xs o reads → StopsReading content Other xs o reads
+stops_let content Goes Other xs ReadFault reads lets p = (p.0, up_to_let content Goes Other xs p.0 io.AtFault reads lets p.1)
+stops_let content Goes Other xs NoMemory reads lets p = part_let content Goes Other xs reads lets p
+stops_let content Goes Other xs (TooLarge which) reads lets p = up_to_let content Goes Other xs which io.PastMost reads lets p
+stops_let content Goes Other xs (Malformed which number rule) reads lets p = up_to_let content Goes Other xs which Anywhere reads lets p
+stops_let content Goes Other xs (BadLine which line why) reads lets p = up_to_let content Goes Other xs which _ reads lets p
+stops_let content Goes Other xs (HopsFull zero) reads lets p = up_to_let content Goes Other xs Dump Anywhere reads lets p
+stops_let content Goes Other xs (HopsFull (suc event)) reads lets p = up_to_let content Goes Other xs Updates Anywhere reads lets p
+stops_let content Goes Other xs (TrieFull zero need have arena) reads lets p = up_to_let content Goes Other xs Dump AtEnd reads lets p
+stops_let content Goes Other xs (TrieFull (suc event) need have arena) reads lets p = up_to_let content Goes Other xs Updates Anywhere reads lets p
+stops_let content Goes Other xs Done reads lets p = absurd p
+stops_let content Goes Other xs (CheckNo x) reads lets p = absurd p
+stops_let content Goes Other xs WriteFault reads lets p = absurd p
+stops_let content Goes Other xs Usage reads lets p = absurd p
+
+pub all_lets : (content : Content) (Goes Other : Judge) (before now : Option (List Read)) (xs : List Input) → Lets Goes Other xs → Makes before now (AllRead content Goes xs) → Makes before now (AllRead content Other xs)
+all_lets content Goes Other before now xs lets made = makes_as before now (AllRead content Goes xs) (AllRead content Other xs) made (λ reads p. all_let content Goes Other xs reads lets p)
+
+pub stopped_lets : (content : Content) (Goes Other : Judge) (before now : Option (List Read)) (xs : List Input) (o : Outcome) → Lets Goes Other xs → Makes before now (StopsReading content Goes xs o) → Makes before now (StopsReading content Other xs o)
+stopped_lets content Goes Other before now xs o lets made = makes_as before now (StopsReading content Goes xs o) (StopsReading content Other xs o) made (λ reads p. stops_let content Goes Other xs o reads lets p)
 
 -- ---- calls after others
 
 -- a refusal of the first inputs
-pub stopped_first : (before now : Option (List Read)) (xs ys : List Input) (o : Outcome) → Makes before now (StopsReading xs o) → Makes before now (StopsReading (xs ++ ys) o)
-stopped_first before now xs ys o made = makes_as before now (StopsReading xs o) (StopsReading (xs ++ ys) o) made (stops_sooner xs ys o)
+pub stopped_first : (content : Content) (Goes : Judge) (before now : Option (List Read)) (xs ys : List Input) (o : Outcome) → Makes before now (StopsReading content Goes xs o) → Makes before now (StopsReading content Goes (xs ++ ys) o)
+stopped_first content Goes before now xs ys o made = makes_as before now (StopsReading content Goes xs o) (StopsReading content Goes (xs ++ ys) o) made (stops_sooner content Goes xs ys o)
 
 -- the first inputs, and then a refusal of others
-pub stopped_next : (before between now : Option (List Read)) (xs ys : List Input) (o : Outcome) → Makes before between (AllRead xs) → Makes between now (StopsReading ys o) → Makes before now (StopsReading (xs ++ ys) o)
-stopped_next before between now xs ys o first next = makes_then before between now (AllRead xs) (StopsReading ys o) (StopsReading (xs ++ ys) o) first next (stops_later xs ys o)
+pub stopped_next : (content : Content) (Goes : Judge) (before between now : Option (List Read)) (xs ys : List Input) (o : Outcome) → Makes before between (AllRead content Goes xs) → Makes between now (StopsReading content Goes ys o) → Makes before now (StopsReading content Goes (xs ++ ys) o)
+stopped_next content Goes before between now xs ys o first next = makes_then before between now (AllRead content Goes xs) (StopsReading content Goes ys o) (StopsReading content Goes (xs ++ ys) o) first next (stops_later content Goes xs ys o)
 
 -- the first inputs, and then others
-pub all_next : (before between now : Option (List Read)) (xs ys : List Input) → Makes before between (AllRead xs) → Makes between now (AllRead ys) → Makes before now (AllRead (xs ++ ys))
-all_next before between now xs ys first next = makes_then before between now (AllRead xs) (AllRead ys) (AllRead (xs ++ ys)) first next (all_both xs ys)
+pub all_next : (content : Content) (Goes : Judge) (before between now : Option (List Read)) (xs ys : List Input) → Makes before between (AllRead content Goes xs) → Makes between now (AllRead content Goes ys) → Makes before now (AllRead content Goes (xs ++ ys))
+all_next content Goes before between now xs ys first next = makes_then before between now (AllRead content Goes xs) (AllRead content Goes ys) (AllRead content Goes (xs ++ ys)) first next (all_both content Goes xs ys)
 
-pub reads_next : {X : Type 0} (before between now : Option (List Read)) (xs ys : List Input) (r : Result X Outcome) → Makes before between (AllRead xs) → Makes between now (ReadsOf ys r) → Makes before now (ReadsOf (xs ++ ys) r)
-reads_next before between now xs ys (Ok x) first next = all_next before between now xs ys first next
-reads_next before between now xs ys (Err o) first next = stopped_next before between now xs ys o first next
+pub reads_next : {X : Type 0} (content : Content) (Goes : Judge) (before between now : Option (List Read)) (xs ys : List Input) (r : Result X Outcome) → Makes before between (AllRead content Goes xs) → Makes between now (ReadsOf content Goes ys r) → Makes before now (ReadsOf content Goes (xs ++ ys) r)
+reads_next content Goes before between now xs ys (Ok x) first next = all_next content Goes before between now xs ys first next
+reads_next content Goes before between now xs ys (Err o) first next = stopped_next content Goes before between now xs ys o first next
 
 -- all inputs, and then memory runs out
-pub out_of_memory : (before now : Option (List Read)) (xs : List Input) → Makes before now (AllRead xs) → Makes before now (StopsReading xs NoMemory)
-out_of_memory before now xs made = makes_as before now (AllRead xs) (StopsReading xs NoMemory) made (part_all xs)
-
--- no input
-pub none_read : (now : Option (List Read)) → Makes now now (AllRead [])
-none_read now = makes_none now (AllRead []) refl
+pub out_of_memory : (content : Content) (Goes : Judge) (before now : Option (List Read)) (xs : List Input) → Makes before now (AllRead content Goes xs) → Makes before now (StopsReading content Goes xs NoMemory)
+out_of_memory content Goes before now xs made = makes_as before now (AllRead content Goes xs) (StopsReading content Goes xs NoMemory) made (part_all content Goes xs)
 
 -- ---- one input
 
-all_one : (which : Which) (name : List ℕ) (reads : List Read) → Pass AtEnd name reads → AllRead ((which, name) ∷ []) reads
-all_one which name reads p = (reads, [], sym (append-nil reads), p, refl)
+all_one : (content : Content) (Goes : Judge) (which : Which) (name : List ℕ) (reads : List Read) → PassInTime (content name) (Goes which) AtEnd name reads → AllRead content Goes ((which, name) ∷ []) reads
+all_one content Goes which name reads p = (reads, [], sym (append-nil reads), p, refl)
 
-up_to_one : (which : Which) (end : PassEnd) (name : List ℕ) (reads : List Read) → Pass end name reads → ReadUpTo ((which, name) ∷ []) which end reads
-up_to_one which end name reads p = record { before = []; name = name; after = []; order = refl; first = []; whole = refl; last = reads; pass = p; all = refl }
+up_to_one : (content : Content) (Goes : Judge) (which : Which) (end : PassEnd) (name : List ℕ) (reads : List Read) → PassInTime (content name) (Goes which) end name reads → ReadUpTo content Goes ((which, name) ∷ []) which end reads
+up_to_one content Goes which end name reads p = record { before = []; name = name; after = []; order = refl; first = []; whole = refl; last = reads; pass = p; all = refl }
 
-part_one : (which : Which) (name : List ℕ) (reads : List Read) → Pass Anywhere name reads → ReadInPart ((which, name) ∷ []) reads
-part_one which name reads p = record { before = []; after = (which, name) ∷ []; order = refl; first = []; whole = refl; last = reads; begun = p; all = refl }
+part_one : (content : Content) (Goes : Judge) (which : Which) (name : List ℕ) (reads : List Read) → PassInTime (content name) (Goes which) Anywhere name reads → ReadInPart content Goes ((which, name) ∷ []) reads
+part_one content Goes which name reads p = record { before = []; after = (which, name) ∷ []; order = refl; first = []; whole = refl; last = reads; begun = p; all = refl }
+
+-- a text is judged once it was read
+pub text_pass : (content : Content) (before now : Option (List Read)) (which : Which) (end : PassEnd) (name : List ℕ) → Makes before now (Pass end name) → Makes before now (PassInTime (content name) (TextMayGoOn which) end name)
+text_pass content before now which end name made = makes_as before now (Pass end name) (PassInTime (content name) (TextMayGoOn which) end name) made (λ reads p. pass_of_text (content name) end name reads p)
 
 -- it is read to its end
-pub input_read : (before now : Option (List Read)) (which : Which) (name : List ℕ) → Makes before now (Pass AtEnd name) → Makes before now (AllRead ((which, name) ∷ []))
-input_read before now which name made = makes_as before now (Pass AtEnd name) (AllRead ((which, name) ∷ [])) made (all_one which name)
+pub input_read : (content : Content) (Goes : Judge) (before now : Option (List Read)) (which : Which) (name : List ℕ) → Makes before now (PassInTime (content name) (Goes which) AtEnd name) → Makes before now (AllRead content Goes ((which, name) ∷ []))
+input_read content Goes before now which name made = makes_as before now (PassInTime (content name) (Goes which) AtEnd name) (AllRead content Goes ((which, name) ∷ [])) made (all_one content Goes which name)
 
 -- it is refused
-input_refused : (before now : Option (List Read)) (which : Which) (end : PassEnd) (name : List ℕ) → Makes before now (Pass end name) → Makes before now (ReadUpTo ((which, name) ∷ []) which end)
-input_refused before now which end name made = makes_as before now (Pass end name) (ReadUpTo ((which, name) ∷ []) which end) made (up_to_one which end name)
+input_refused : (content : Content) (Goes : Judge) (before now : Option (List Read)) (which : Which) (end : PassEnd) (name : List ℕ) → Makes before now (PassInTime (content name) (Goes which) end name) → Makes before now (ReadUpTo content Goes ((which, name) ∷ []) which end)
+input_refused content Goes before now which end name made = makes_as before now (PassInTime (content name) (Goes which) end name) (ReadUpTo content Goes ((which, name) ∷ []) which end) made (up_to_one content Goes which end name)
 
-pub input_fails : (before now : Option (List Read)) (which : Which) (name : List ℕ) → Makes before now (Pass io.AtFault name) → Makes before now (StopsReading ((which, name) ∷ []) ReadFault)
-input_fails before now which name made = makes_as before now (Pass io.AtFault name) (StopsReading ((which, name) ∷ []) ReadFault) made (λ reads p. (which, up_to_one which io.AtFault name reads p))
+pub input_fails : (content : Content) (Goes : Judge) (before now : Option (List Read)) (which : Which) (name : List ℕ) → Makes before now (PassInTime (content name) (Goes which) io.AtFault name) → Makes before now (StopsReading content Goes ((which, name) ∷ []) ReadFault)
+input_fails content Goes before now which name made = makes_as before now (PassInTime (content name) (Goes which) io.AtFault name) (StopsReading content Goes ((which, name) ∷ []) ReadFault) made (λ reads p. (which, up_to_one content Goes which io.AtFault name reads p))
 
-pub input_large : (before now : Option (List Read)) (which : Which) (name : List ℕ) → Makes before now (Pass io.PastMost name) → Makes before now (StopsReading ((which, name) ∷ []) (TooLarge which))
-input_large before now which name made = input_refused before now which io.PastMost name made
+pub input_large : (content : Content) (Goes : Judge) (before now : Option (List Read)) (which : Which) (name : List ℕ) → Makes before now (PassInTime (content name) (Goes which) io.PastMost name) → Makes before now (StopsReading content Goes ((which, name) ∷ []) (TooLarge which))
+input_large content Goes before now which name made = input_refused content Goes before now which io.PastMost name made
 
-pub input_begun : (before now : Option (List Read)) (which : Which) (name : List ℕ) → Makes before now (Pass Anywhere name) → Makes before now (StopsReading ((which, name) ∷ []) NoMemory)
-input_begun before now which name made = makes_as before now (Pass Anywhere name) (StopsReading ((which, name) ∷ []) NoMemory) made (part_one which name)
+pub input_begun : (content : Content) (Goes : Judge) (before now : Option (List Read)) (which : Which) (name : List ℕ) → Makes before now (PassInTime (content name) (Goes which) Anywhere name) → Makes before now (StopsReading content Goes ((which, name) ∷ []) NoMemory)
+input_begun content Goes before now which name made = makes_as before now (PassInTime (content name) (Goes which) Anywhere name) (StopsReading content Goes ((which, name) ∷ []) NoMemory) made (part_one content Goes which name)
 
 -- an input whose reads are all made is refused then
-one_ended : (which : Which) (name : List ℕ) (reads : List Read) → AllRead ((which, name) ∷ []) reads → ReadUpTo ((which, name) ∷ []) which AtEnd reads
-one_ended which name reads p = up_to_one which AtEnd name reads (subst (Pass AtEnd name) (sym (p.2 ∙ ap (λ rest. p.0 ++ rest) p.4 ∙ append-nil p.0)) p.3)
+one_ended : (content : Content) (Goes : Judge) (which : Which) (name : List ℕ) (reads : List Read) → AllRead content Goes ((which, name) ∷ []) reads → ReadUpTo content Goes ((which, name) ∷ []) which AtEnd reads
+one_ended content Goes which name reads p = up_to_one content Goes which AtEnd name reads (subst (PassInTime (content name) (Goes which) AtEnd name) (sym (p.2 ∙ ap (λ rest. p.0 ++ rest) p.4 ∙ append-nil p.0)) p.3)
 
-one_ended_early : (which : Which) (name : List ℕ) (reads : List Read) → AllRead ((which, name) ∷ []) reads → ReadUpTo ((which, name) ∷ []) which Anywhere reads
-one_ended_early which name reads p = up_to_one which Anywhere name reads (ended_anywhere name reads (subst (Pass AtEnd name) (sym (p.2 ∙ ap (λ rest. p.0 ++ rest) p.4 ∙ append-nil p.0)) p.3))
+one_ended_early : (content : Content) (Goes : Judge) (which : Which) (name : List ℕ) (reads : List Read) → AllRead content Goes ((which, name) ∷ []) reads → ReadUpTo content Goes ((which, name) ∷ []) which Anywhere reads
+one_ended_early content Goes which name reads p = up_to_one content Goes which Anywhere name reads (ended_in_time (content name) (Goes which) name reads (subst (PassInTime (content name) (Goes which) AtEnd name) (sym (p.2 ∙ ap (λ rest. p.0 ++ rest) p.4 ∙ append-nil p.0)) p.3))
 
-pub text_refused : (before now : Option (List Read)) (which : Which) (name : List ℕ) → Makes before now (AllRead ((which, name) ∷ [])) → Makes before now (ReadUpTo ((which, name) ∷ []) which AtEnd)
-text_refused before now which name made = makes_as before now (AllRead ((which, name) ∷ [])) (ReadUpTo ((which, name) ∷ []) which AtEnd) made (one_ended which name)
+pub text_refused : (content : Content) (Goes : Judge) (before now : Option (List Read)) (which : Which) (name : List ℕ) → Makes before now (AllRead content Goes ((which, name) ∷ [])) → Makes before now (ReadUpTo content Goes ((which, name) ∷ []) which AtEnd)
+text_refused content Goes before now which name made = makes_as before now (AllRead content Goes ((which, name) ∷ [])) (ReadUpTo content Goes ((which, name) ∷ []) which AtEnd) made (one_ended content Goes which name)
 
 -- ---- asks
 
-pub asks_stop : (before now : Option (List Read)) (name : List ℕ) (error : AskError) → Makes before now (Pass (asks_end error) name) → Makes before now (StopsReading ((Asks, name) ∷ []) (ask_refusal error))
-asks_stop before now name (ask.BadLine line) made = input_refused before now Asks Anywhere name made
-asks_stop before now name ask.NoMemory made = input_begun before now Asks name made
-asks_stop before now name ask.Fault made = input_fails before now Asks name made
-asks_stop before now name ask.TooLarge made = input_large before now Asks name made
+pub asks_stop : (content : Content) (Goes : Judge) (before now : Option (List Read)) (name : List ℕ) (error : AskError) → Makes before now (PassInTime (content name) (Goes Asks) (asks_end error) name) → Makes before now (StopsReading content Goes ((Asks, name) ∷ []) (ask_refusal error))
+asks_stop content Goes before now name (ask.BadLine line) made = input_refused content Goes before now Asks Anywhere name made
+asks_stop content Goes before now name ask.NoMemory made = input_begun content Goes before now Asks name made
+asks_stop content Goes before now name ask.Fault made = input_fails content Goes before now Asks name made
+asks_stop content Goes before now name ask.TooLarge made = input_large content Goes before now Asks name made
 
-pub asks_read : {X : Type 0} (before now : Option (List Read)) (name : List ℕ) (r : Result X AskError) (s : Result X Outcome) → Makes before now (Pass (ask_end r) name) → MatchResult r (λ x. s ≡ Ok x) (λ e. IsErrAnd s (λ o. o ≡ ask_refusal e)) → Makes before now (ReadsOf ((Asks, name) ∷ []) s)
-asks_read before now name (Ok x) s made is = rw is (input_read before now Asks name made)
-asks_read before now name (Err e) s made is =
+pub asks_read : {X : Type 0} (content : Content) (Goes : Judge) (before now : Option (List Read)) (name : List ℕ) (r : Result X AskError) (s : Result X Outcome) → Makes before now (PassInTime (content name) (Goes Asks) (ask_end r) name) → MatchResult r (λ x. s ≡ Ok x) (λ e. IsErrAnd s (λ o. o ≡ ask_refusal e)) → Makes before now (ReadsOf content Goes ((Asks, name) ∷ []) s)
+asks_read content Goes before now name (Ok x) s made is = rw is (input_read content Goes before now Asks name made)
+asks_read content Goes before now name (Err e) s made is =
     let p = err_from_is_err_and s is in
-    rw (p.1, p.2) (asks_stop before now name e made)
+    rw (p.1, p.2) (asks_stop content Goes before now name e made)
 
 pub asks_end_of_input : (error : ReadError) → asks_end (ask_of_input error) ≡ io.end_by error
 asks_end_of_input pieces.Fault = refl
@@ -226,29 +301,29 @@ asks_end_of_input pieces.NoMemory = refl
 
 -- ---- records
 
-later_event : (n : ℕ) (before now : Option (List Read)) (name : List ℕ) → 1 ≤ n → Makes before now (Pass Anywhere name) → Makes before now (StopsReading ((Updates, name) ∷ []) (HopsFull n))
-later_event zero before now name h made = absurd (omega (arith, h))
-later_event (suc n) before now name h made = input_refused before now Updates Anywhere name made
+later_event : (content : Content) (Goes : Judge) (n : ℕ) (before now : Option (List Read)) (name : List ℕ) → 1 ≤ n → Makes before now (PassInTime (content name) (Goes Updates) Anywhere name) → Makes before now (StopsReading content Goes ((Updates, name) ∷ []) (HopsFull n))
+later_event content Goes zero before now name h made = absurd (omega (arith, h))
+later_event content Goes (suc n) before now name h made = input_refused content Goes before now Updates Anywhere name made
 
-later_short : (n need have arena : ℕ) (before now : Option (List Read)) (name : List ℕ) → 1 ≤ n → Makes before now (Pass Anywhere name) → Makes before now (StopsReading ((Updates, name) ∷ []) (TrieFull n need have arena))
-later_short zero need have arena before now name h made = absurd (omega (arith, h))
-later_short (suc n) need have arena before now name h made = input_refused before now Updates Anywhere name made
+later_short : (content : Content) (Goes : Judge) (n need have arena : ℕ) (before now : Option (List Read)) (name : List ℕ) → 1 ≤ n → Makes before now (PassInTime (content name) (Goes Updates) Anywhere name) → Makes before now (StopsReading content Goes ((Updates, name) ∷ []) (TrieFull n need have arena))
+later_short content Goes zero need have arena before now name h made = absurd (omega (arith, h))
+later_short content Goes (suc n) need have arena before now name h made = input_refused content Goes before now Updates Anywhere name made
 
-pub feeds_stop : (before now : Option (List Read)) (which : MrtInput) (name : List ℕ) (error : FeedError) → IsNumbered which error → Makes before now (Pass (feeds_end error) name) → Makes before now (StopsReading ((input_of which, name) ∷ []) (refusal_of which error))
-feeds_stop before now which name (feed.Malformed malformed) numbered made = input_refused before now (input_of which) Anywhere name made
-feeds_stop before now which name feed.NoMemory numbered made = input_begun before now (input_of which) name made
-feeds_stop before now which name feed.Fault numbered made = input_fails before now (input_of which) name made
-feeds_stop before now which name feed.TooLarge numbered made = input_large before now (input_of which) name made
-feeds_stop before now mrt.Dump name (feed.HopsFull n) numbered made = input_refused before now Dump Anywhere name made
-feeds_stop before now mrt.Updates name (feed.HopsFull n) numbered made = later_event n before now name numbered made
-feeds_stop before now mrt.Dump name (feed.TrieFull n full) numbered made = absurd (let e : mrt.Dump ≡ mrt.Updates = numbered.0 in cc)
-feeds_stop before now mrt.Updates name (feed.TrieFull n full) numbered made = later_short n full.need full.have full.arena before now name numbered.1 made
+pub feeds_stop : (content : Content) (Goes : Judge) (before now : Option (List Read)) (which : MrtInput) (name : List ℕ) (error : FeedError) → IsNumbered which error → Makes before now (PassInTime (content name) (Goes (input_of which)) (feeds_end error) name) → Makes before now (StopsReading content Goes ((input_of which, name) ∷ []) (refusal_of which error))
+feeds_stop content Goes before now which name (feed.Malformed malformed) numbered made = input_refused content Goes before now (input_of which) Anywhere name made
+feeds_stop content Goes before now which name feed.NoMemory numbered made = input_begun content Goes before now (input_of which) name made
+feeds_stop content Goes before now which name feed.Fault numbered made = input_fails content Goes before now (input_of which) name made
+feeds_stop content Goes before now which name feed.TooLarge numbered made = input_large content Goes before now (input_of which) name made
+feeds_stop content Goes before now mrt.Dump name (feed.HopsFull n) numbered made = input_refused content Goes before now Dump Anywhere name made
+feeds_stop content Goes before now mrt.Updates name (feed.HopsFull n) numbered made = later_event content Goes n before now name numbered made
+feeds_stop content Goes before now mrt.Dump name (feed.TrieFull n full) numbered made = absurd (let e : mrt.Dump ≡ mrt.Updates = numbered.0 in cc)
+feeds_stop content Goes before now mrt.Updates name (feed.TrieFull n full) numbered made = later_short content Goes n full.need full.have full.arena before now name numbered.1 made
 
-pub feeds_read : {X : Type 0} (before now : Option (List Read)) (which : MrtInput) (name : List ℕ) (r : Result X FeedError) (s : Result X Outcome) → Makes before now (Pass (feed_end r) name) → IfErr r (IsNumbered which) → MatchResult r (λ x. s ≡ Ok x) (λ e. IsErrAnd s (λ o. o ≡ refusal_of which e)) → Makes before now (ReadsOf ((input_of which, name) ∷ []) s)
-feeds_read before now which name (Ok x) s made numbered is = rw is (input_read before now (input_of which) name made)
-feeds_read before now which name (Err e) s made numbered is =
+pub feeds_read : {X : Type 0} (content : Content) (Goes : Judge) (before now : Option (List Read)) (which : MrtInput) (name : List ℕ) (r : Result X FeedError) (s : Result X Outcome) → Makes before now (PassInTime (content name) (Goes (input_of which)) (feed_end r) name) → IfErr r (IsNumbered which) → MatchResult r (λ x. s ≡ Ok x) (λ e. IsErrAnd s (λ o. o ≡ refusal_of which e)) → Makes before now (ReadsOf content Goes ((input_of which, name) ∷ []) s)
+feeds_read content Goes before now which name (Ok x) s made numbered is = rw is (input_read content Goes before now (input_of which) name made)
+feeds_read content Goes before now which name (Err e) s made numbered is =
     let p = err_from_is_err_and s is in
-    rw (p.1, p.2) (feeds_stop before now which name e numbered made)
+    rw (p.1, p.2) (feeds_stop content Goes before now which name e numbered made)
 
 pub feeds_end_of_input : (error : ReadError) → feeds_end (of_input error) ≡ io.end_by error
 feeds_end_of_input pieces.Fault = refl
@@ -290,110 +365,110 @@ update_numbered which event (engine.TrieFull t) r is e first = rw e (is, first)
 update_numbered which event engine.NoMemory r is e first = rw e tt
 
 -- the load is refused once the dump was read to its end
-pub load_stops : (before now : Option (List Read)) (name : List ℕ) (error : FeedError) → IsOfLoad error → Makes before now (AllRead ((Dump, name) ∷ [])) → Makes before now (StopsReading ((Dump, name) ∷ []) (refusal_of mrt.Dump error))
-load_stops before now name (feed.TrieFull n full) of made = text_refused before now Dump name made
-load_stops before now name feed.NoMemory of made = out_of_memory before now ((Dump, name) ∷ []) made
-load_stops before now name (feed.HopsFull n) of made = absurd of
-load_stops before now name (feed.Malformed malformed) of made = absurd of
-load_stops before now name feed.Fault of made = absurd of
-load_stops before now name feed.TooLarge of made = absurd of
+pub load_stops : (content : Content) (Goes : Judge) (before now : Option (List Read)) (name : List ℕ) (error : FeedError) → IsOfLoad error → Makes before now (AllRead content Goes ((Dump, name) ∷ [])) → Makes before now (StopsReading content Goes ((Dump, name) ∷ []) (refusal_of mrt.Dump error))
+load_stops content Goes before now name (feed.TrieFull n full) of made = text_refused content Goes before now Dump name made
+load_stops content Goes before now name feed.NoMemory of made = out_of_memory content Goes before now ((Dump, name) ∷ []) made
+load_stops content Goes before now name (feed.HopsFull n) of made = absurd of
+load_stops content Goes before now name (feed.Malformed malformed) of made = absurd of
+load_stops content Goes before now name feed.Fault of made = absurd of
+load_stops content Goes before now name feed.TooLarge of made = absurd of
 
 -- ---- all updates, and the steps
 
-pub events_stop : (before now : Option (List Read)) (name : List ℕ) (error : WholeError) → Makes before now (Pass (whole_input.end_by error) name) → Makes before now (StopsReading ((Updates, name) ∷ []) (refusal_of_whole error))
-events_stop before now name (whole.Malformed malformed) made = input_refused before now Updates Anywhere name made
-events_stop before now name whole.NoMemory made = input_begun before now Updates name made
-events_stop before now name whole.Fault made = input_fails before now Updates name made
-events_stop before now name whole.TooLarge made = input_large before now Updates name made
+pub events_stop : (content : Content) (Goes : Judge) (before now : Option (List Read)) (name : List ℕ) (error : WholeError) → Makes before now (PassInTime (content name) (Goes Updates) (whole_input.end_by error) name) → Makes before now (StopsReading content Goes ((Updates, name) ∷ []) (refusal_of_whole error))
+events_stop content Goes before now name (whole.Malformed malformed) made = input_refused content Goes before now Updates Anywhere name made
+events_stop content Goes before now name whole.NoMemory made = input_begun content Goes before now Updates name made
+events_stop content Goes before now name whole.Fault made = input_fails content Goes before now Updates name made
+events_stop content Goes before now name whole.TooLarge made = input_large content Goes before now Updates name made
 
-pub events_read : {X : Type 0} (before now : Option (List Read)) (name : List ℕ) (r : Result X WholeError) (s : Result X Outcome) → Makes before now (Pass (whole_input.end_of r) name) → MatchResult r (λ x. s ≡ Ok x) (λ e. IsErrAnd s (λ o. o ≡ refusal_of_whole e)) → Makes before now (ReadsOf ((Updates, name) ∷ []) s)
-events_read before now name (Ok x) s made is = rw is (input_read before now Updates name made)
-events_read before now name (Err e) s made is =
+pub events_read : {X : Type 0} (content : Content) (Goes : Judge) (before now : Option (List Read)) (name : List ℕ) (r : Result X WholeError) (s : Result X Outcome) → Makes before now (PassInTime (content name) (Goes Updates) (whole_input.end_of r) name) → MatchResult r (λ x. s ≡ Ok x) (λ e. IsErrAnd s (λ o. o ≡ refusal_of_whole e)) → Makes before now (ReadsOf content Goes ((Updates, name) ∷ []) s)
+events_read content Goes before now name (Ok x) s made is = rw is (input_read content Goes before now Updates name made)
+events_read content Goes before now name (Err e) s made is =
     let p = err_from_is_err_and s is in
-    rw (p.1, p.2) (events_stop before now name e made)
+    rw (p.1, p.2) (events_stop content Goes before now name e made)
 
-updates_ended : (before now : Option (List Read)) (name : List ℕ) → Makes before now (AllRead ((Updates, name) ∷ [])) → Makes before now (ReadUpTo ((Updates, name) ∷ []) Updates Anywhere)
-updates_ended before now name made = makes_as before now (AllRead ((Updates, name) ∷ [])) (ReadUpTo ((Updates, name) ∷ []) Updates Anywhere) made (one_ended_early Updates name)
+updates_ended : (content : Content) (Goes : Judge) (before now : Option (List Read)) (name : List ℕ) → Makes before now (AllRead content Goes ((Updates, name) ∷ [])) → Makes before now (ReadUpTo content Goes ((Updates, name) ∷ []) Updates Anywhere)
+updates_ended content Goes before now name made = makes_as before now (AllRead content Goes ((Updates, name) ∷ [])) (ReadUpTo content Goes ((Updates, name) ∷ []) Updates Anywhere) made (one_ended_early content Goes Updates name)
 
 -- a step is refused once the updates were read to their end
-pub step_stops_reading : (w : World) (script : List Step) (before now : Option (List Read)) (name : List ℕ) (error : StepError) → runs.EndsBy w script error → Makes before now (AllRead ((Updates, name) ∷ [])) → Makes before now (StopsReading ((Updates, name) ∷ []) (of_step error))
-step_stops_reading w script before now name (step.HopsFull n) (front, rest, rows, s, e, run, p) made =
-    subst (λ k. Makes before now (StopsReading ((Updates, name) ∷ []) (HopsFull k))) (sym p.1) (updates_ended before now name made)
-step_stops_reading w script before now name (step.TrieFull n f t) (front, rest, rows, s, e, run, p) made =
-    subst (λ k. Makes before now (StopsReading ((Updates, name) ∷ []) (TrieFull k t.need t.have (arena_of f t.arena)))) (sym p.1) (updates_ended before now name made)
-step_stops_reading w script before now name step.NoMemory ends made = out_of_memory before now ((Updates, name) ∷ []) made
+pub step_stops_reading : (content : Content) (Goes : Judge) (w : World) (script : List Step) (before now : Option (List Read)) (name : List ℕ) (error : StepError) → runs.EndsBy w script error → Makes before now (AllRead content Goes ((Updates, name) ∷ [])) → Makes before now (StopsReading content Goes ((Updates, name) ∷ []) (of_step error))
+step_stops_reading content Goes w script before now name (step.HopsFull n) (front, rest, rows, s, e, run, p) made =
+    subst (λ k. Makes before now (StopsReading content Goes ((Updates, name) ∷ []) (HopsFull k))) (sym p.1) (updates_ended content Goes before now name made)
+step_stops_reading content Goes w script before now name (step.TrieFull n f t) (front, rest, rows, s, e, run, p) made =
+    subst (λ k. Makes before now (StopsReading content Goes ((Updates, name) ∷ []) (TrieFull k t.need t.have (arena_of f t.arena)))) (sym p.1) (updates_ended content Goes before now name made)
+step_stops_reading content Goes w script before now name step.NoMemory ends made = out_of_memory content Goes before now ((Updates, name) ∷ []) made
 
 -- ---- the top call
 
-ends_asked : {X : Type 0} (asked : Option Asked) (x : X) (reads : List Read) → ReadsAsked {X = X} asked (Ok x) reads → ReadsAt asked Done reads
-ends_asked None x reads p = p
-ends_asked (Some (Run named)) x reads p = p
-ends_asked (Some (Check name)) x reads p = p
-ends_asked (Some (Make routes seed)) x reads p = p
-ends_asked (Some (Steps named)) x reads p = p
+ends_asked : {X : Type 0} (content : Content) (asked : Option Asked) (x : X) (reads : List Read) → ReadsAsked {X = X} content asked (Ok x) reads → ReadsAt content asked Done reads
+ends_asked content None x reads p = p
+ends_asked content (Some (Run named)) x reads p = p
+ends_asked content (Some (Check name)) x reads p = p
+ends_asked content (Some (Make routes seed)) x reads p = p
+ends_asked content (Some (Steps named)) x reads p = p
 
-no_asked : {X : Type 0} (asked : Option Asked) (x : X) (found : code.No) (reads : List Read) → ReadsAsked {X = X} asked (Ok x) reads → ReadsAt asked (CheckNo found) reads
-no_asked None x found reads p = p
-no_asked (Some (Run named)) x found reads p = p
-no_asked (Some (Check name)) x found reads p = p
-no_asked (Some (Make routes seed)) x found reads p = p
-no_asked (Some (Steps named)) x found reads p = p
+no_asked : {X : Type 0} (content : Content) (asked : Option Asked) (x : X) (found : code.No) (reads : List Read) → ReadsAsked {X = X} content asked (Ok x) reads → ReadsAt content asked (CheckNo found) reads
+no_asked content None x found reads p = p
+no_asked content (Some (Run named)) x found reads p = p
+no_asked content (Some (Check name)) x found reads p = p
+no_asked content (Some (Make routes seed)) x found reads p = p
+no_asked content (Some (Steps named)) x found reads p = p
 
-unwritten_asked : {X : Type 0} (asked : Option Asked) (x : X) (reads : List Read) → ReadsAsked {X = X} asked (Ok x) reads → ReadsAt asked WriteFault reads
-unwritten_asked None x reads p = p
-unwritten_asked (Some (Run named)) x reads p = p
-unwritten_asked (Some (Check name)) x reads p = p
-unwritten_asked (Some (Make routes seed)) x reads p = p
-unwritten_asked (Some (Steps named)) x reads p = p
+unwritten_asked : {X : Type 0} (content : Content) (asked : Option Asked) (x : X) (reads : List Read) → ReadsAsked {X = X} content asked (Ok x) reads → ReadsAt content asked WriteFault reads
+unwritten_asked content None x reads p = p
+unwritten_asked content (Some (Run named)) x reads p = p
+unwritten_asked content (Some (Check name)) x reads p = p
+unwritten_asked content (Some (Make routes seed)) x reads p = p
+unwritten_asked content (Some (Steps named)) x reads p = p
 
-reads_stopped : (inputs : List Input) (o : Outcome) (reads : List Read) → StopsReading inputs o reads → ReadsTo inputs o reads
-reads_stopped inputs Done reads p = absurd p
-reads_stopped inputs (CheckNo x) reads p = absurd p
-reads_stopped inputs WriteFault reads p = absurd p
-reads_stopped inputs Usage reads p = p
-reads_stopped inputs ReadFault reads p = p
-reads_stopped inputs NoMemory reads p = p
-reads_stopped inputs (TooLarge which) reads p = p
-reads_stopped inputs (Malformed which number rule) reads p = p
-reads_stopped inputs (HopsFull event) reads p = p
-reads_stopped inputs (TrieFull event need have arena) reads p = p
-reads_stopped inputs (BadLine which line why) reads p = p
+reads_stopped : (content : Content) (Goes : Judge) (inputs : List Input) (o : Outcome) (reads : List Read) → StopsReading content Goes inputs o reads → ReadsTo content Goes inputs o reads
+reads_stopped content Goes inputs Done reads p = absurd p
+reads_stopped content Goes inputs (CheckNo x) reads p = absurd p
+reads_stopped content Goes inputs WriteFault reads p = absurd p
+reads_stopped content Goes inputs Usage reads p = p
+reads_stopped content Goes inputs ReadFault reads p = p
+reads_stopped content Goes inputs NoMemory reads p = p
+reads_stopped content Goes inputs (TooLarge which) reads p = p
+reads_stopped content Goes inputs (Malformed which number rule) reads p = p
+reads_stopped content Goes inputs (HopsFull event) reads p = p
+reads_stopped content Goes inputs (TrieFull event need have arena) reads p = p
+reads_stopped content Goes inputs (BadLine which line why) reads p = p
 
-stopped_asked : (X : Type 0) (asked : Option Asked) (o : Outcome) (reads : List Read) → ReadsAsked {X = X} asked (Err o) reads → ReadsAt asked o reads
-stopped_asked X None o reads p = p
-stopped_asked X (Some (Run named)) o reads p = reads_stopped (run_inputs named) o reads p
-stopped_asked X (Some (Check name)) o reads p = reads_stopped (check_inputs name) o reads p
-stopped_asked X (Some (Make routes seed)) o reads p = p
-stopped_asked X (Some (Steps named)) o reads p = reads_stopped (steps_inputs named) o reads p
+stopped_asked : (content : Content) (X : Type 0) (asked : Option Asked) (o : Outcome) (reads : List Read) → ReadsAsked {X = X} content asked (Err o) reads → ReadsAt content asked o reads
+stopped_asked content X None o reads p = p
+stopped_asked content X (Some (Run named)) o reads p = reads_stopped content (RunMayGoOn content named) (run_inputs named) o reads p
+stopped_asked content X (Some (Check name)) o reads p = reads_stopped content TextMayGoOn (check_inputs name) o reads p
+stopped_asked content X (Some (Make routes seed)) o reads p = p
+stopped_asked content X (Some (Steps named)) o reads p = reads_stopped content (StepsMayGoOn named) (steps_inputs named) o reads p
 
 -- all was read
-pub reads_ended : {X : Type 0} (before now : Option (List Read)) (asked : Option Asked) (x : X) (wrong : Option No) (o : Outcome) → EndsBy wrong o → Makes before now (ReadsAsked {X = X} asked (Ok x)) → Makes before now (ReadsAt asked o)
-reads_ended {X = X} before now asked x None o ends made = rw ends (makes_as before now (ReadsAsked {X = X} asked (Ok x)) (ReadsAt asked Done) made (ends_asked asked x))
-reads_ended {X = X} before now asked x (Some wrong) o ends made = rw ends.1 (makes_as before now (ReadsAsked {X = X} asked (Ok x)) (ReadsAt asked (CheckNo ends.0)) made (no_asked asked x ends.0))
+pub reads_ended : {X : Type 0} (content : Content) (before now : Option (List Read)) (asked : Option Asked) (x : X) (wrong : Option No) (o : Outcome) → EndsBy wrong o → Makes before now (ReadsAsked {X = X} content asked (Ok x)) → Makes before now (ReadsAt content asked o)
+reads_ended {X = X} content before now asked x None o ends made = rw ends (makes_as before now (ReadsAsked {X = X} content asked (Ok x)) (ReadsAt content asked Done) made (ends_asked content asked x))
+reads_ended {X = X} content before now asked x (Some wrong) o ends made = rw ends.1 (makes_as before now (ReadsAsked {X = X} content asked (Ok x)) (ReadsAt content asked (CheckNo ends.0)) made (no_asked content asked x ends.0))
 
-pub reads_unwritten : {X : Type 0} (before now : Option (List Read)) (asked : Option Asked) (x : X) → Makes before now (ReadsAsked {X = X} asked (Ok x)) → Makes before now (ReadsAt asked WriteFault)
-reads_unwritten {X = X} before now asked x made = makes_as before now (ReadsAsked {X = X} asked (Ok x)) (ReadsAt asked WriteFault) made (unwritten_asked asked x)
+pub reads_unwritten : {X : Type 0} (content : Content) (before now : Option (List Read)) (asked : Option Asked) (x : X) → Makes before now (ReadsAsked {X = X} content asked (Ok x)) → Makes before now (ReadsAt content asked WriteFault)
+reads_unwritten {X = X} content before now asked x made = makes_as before now (ReadsAsked {X = X} content asked (Ok x)) (ReadsAt content asked WriteFault) made (unwritten_asked content asked x)
 
 -- an input was refused
-pub reads_refused : (X : Type 0) (before now : Option (List Read)) (asked : Option Asked) (o : Outcome) → Makes before now (ReadsAsked {X = X} asked (Err o)) → Makes before now (ReadsAt asked o)
-reads_refused X before now asked o made = makes_as before now (ReadsAsked {X = X} asked (Err o)) (ReadsAt asked o) made (stopped_asked X asked o)
+pub reads_refused : (content : Content) (X : Type 0) (before now : Option (List Read)) (asked : Option Asked) (o : Outcome) → Makes before now (ReadsAsked {X = X} content asked (Err o)) → Makes before now (ReadsAt content asked o)
+reads_refused content X before now asked o made = makes_as before now (ReadsAsked {X = X} content asked (Err o)) (ReadsAt content asked o) made (stopped_asked content X asked o)
 
 -- words whose inputs weren't begun
-part_none : (inputs : List Input) → ReadInPart inputs []
-part_none inputs = record { before = []; after = inputs; order = refl; first = []; whole = refl; last = []; begun = begun_none inputs; all = refl }
+part_none : (content : Content) (Goes : Judge) (inputs : List Input) → ReadInPart content Goes inputs []
+part_none content Goes inputs = record { before = []; after = inputs; order = refl; first = []; whole = refl; last = []; begun = begun_none content Goes inputs; all = refl }
 
-memory_asked : (X : Type 0) (asked : Option Asked) → ReadsAsked {X = X} asked (Err NoMemory) []
-memory_asked X None = refl
-memory_asked X (Some (Run named)) = part_none (run_inputs named)
-memory_asked X (Some (Check name)) = part_none (check_inputs name)
-memory_asked X (Some (Make routes seed)) = refl
-memory_asked X (Some (Steps named)) = part_none (steps_inputs named)
+memory_asked : (content : Content) (X : Type 0) (asked : Option Asked) → ReadsAsked {X = X} content asked (Err NoMemory) []
+memory_asked content X None = refl
+memory_asked content X (Some (Run named)) = part_none content (RunMayGoOn content named) (run_inputs named)
+memory_asked content X (Some (Check name)) = part_none content TextMayGoOn (check_inputs name)
+memory_asked content X (Some (Make routes seed)) = refl
+memory_asked content X (Some (Steps named)) = part_none content (StepsMayGoOn named) (steps_inputs named)
 
-pub memory_read : (X : Type 0) (now : Option (List Read)) (asked : Option Asked) → Makes now now (ReadsAsked {X = X} asked (Err NoMemory))
-memory_read X now asked = makes_none now (ReadsAsked {X = X} asked (Err NoMemory)) (memory_asked X asked)
+pub memory_read : (content : Content) (X : Type 0) (now : Option (List Read)) (asked : Option Asked) → Makes now now (ReadsAsked {X = X} content asked (Err NoMemory))
+memory_read content X now asked = makes_none now (ReadsAsked {X = X} content asked (Err NoMemory)) (memory_asked content X asked)
 
-pub usage_read : (X : Type 0) (now : Option (List Read)) (asked : Option Asked) (o : Outcome) → asked ≡ None → Makes now now (ReadsAsked {X = X} asked (Err o))
-usage_read X now asked o none = rw none (makes_none now (λ reads. reads ≡ []) refl)
+pub usage_read : (content : Content) (X : Type 0) (now : Option (List Read)) (asked : Option Asked) (o : Outcome) → asked ≡ None → Makes now now (ReadsAsked {X = X} content asked (Err o))
+usage_read content X now asked o none = rw none (makes_none now (λ reads. reads ≡ []) refl)
 
 -- nothing was read
 pub nothing_read : (now : Option (List Read)) → Makes now now (λ reads. reads ≡ [])

@@ -9,7 +9,7 @@ use Rattle.wire_model.specs.Rules.{rule_number}
 use Rattle.wire_model.specs.Record.{Record, record_at, records_in}
 use Rattle.wire_model.specs.Pieces.{TakesRecords}
 use Rattle.wire_model.proofs.More.{starts_so, feeds_on, takes_on, ends_cut}
-use Rattle.reading_model.specs.Input.{start, input}
+use Rattle.reading_model.specs.Input.{Progress, start, input}
 use Rattle.reading_model.proofs.Reading.{reading_ends, reading_ends_cut}
 use Rattle.fib_io.specs.Pieces.{octets_read, octets_from, ComeNext, IsEnd, IsLarge}
 use Rattle.fib_io.specs.declared.pieces.ReadError.{ReadError}
@@ -21,7 +21,8 @@ use Rattle.mrt_read.specs.declared.reader.Reader.{Reader}
 use Rattle.mrt_read.specs.declared.reader.EventsError.{EventsError}
 use Rattle.mrt_read.specs.declared.reader.EventsError.TheVariants as read
 use Rattle.whole_input.specs.Cuts.{cut_at, is_cut, is_small}
-use Rattle.whole_input.proofs.Arriving.{Comes, all_fed, comes_first, comes_next}
+use Rattle.whole_input.proofs.Arriving.{Comes, all_fed, comes_first, comes_next, such_before}
+use Rattle.whole_input.proofs.Gathering.{goes_on}
 use Rattle.whole_input.proofs.Cutting.{IsCutNow, cut_rules, ends_here, goes_past, not_cut, reads_on, uncut}
 use Rattle.fib_main.specs.declared.outcome.MrtInput.{MrtInput}
 use Rattle.fib_main.specs.declared.outcome.Outcome.TheVariants as outcome
@@ -30,8 +31,9 @@ use Rattle.fib_main.specs.declared.state.FeedError.{FeedError}
 use Rattle.fib_main.specs.declared.state.FeedError.TheVariants.{Malformed, TooLarge}
 use Rattle.fib_main.specs.Counts.{AreFew, CountsFit, CountsOn}
 use Rattle.fib_main.specs.Stops.{Refused, FailsDue, IsDueIfTold, input_of}
-use Rattle.fib_main.specs.Refusals.{Limits}
-use Rattle.fib_main.specs.Due.{feed_in, feed_of}
+use Rattle.fib_main.specs.Refusals.{Limits, stop_at, too_much}
+use Rattle.fib_main.specs.Due.{elems_in, feed_in, feed_of, read_part}
+use Rattle.fib_main.specs.InTime.{FeedMayGoOn}
 use Rattle.fib_main.specs.Standing.{StateStands, StateHas, StateBrings, StateTakesAll, next_elems, of_input, of_read, refusal_of}
 use Rattle.fib_main.proofs.Counting.{Counting, counting_end, counting_feeds, counting_fits, counting_next, counting_start, counting_still}
 use Rattle.fib_main.proofs.Feeding.{Going, due_of, going_start, going_next, going_still, going_feeds, refused_hops, refused_is, brought_is, fault_due, whole_due, past_due, cut_due}
@@ -111,6 +113,26 @@ streaming_still which content first old new state at events s nothing = record {
 pub streaming_fits : (which : MrtInput) (content : Option (List ℕ)) (first : State) (old new : Reader) (mid : State) (at events : ℕ) (more : List Event) → length first.engine.candidates ≤ 2 ^ 40 → at ≤ 2 ^ 36 → Streaming which content first old mid at events → reading.TakesEvents old more new → CountsFit mid.engine.candidates more events
 streaming_fits which content first old new mid at events more few within s t =
     counting_fits s.fed first.engine.candidates mid.engine.candidates old new events more (omega (arith, few, within, s.octets)) s.counting t
+
+-- ---- what was read, where nothing of it is refused
+
+part_in : (fed left : List ℕ) (reader : Reader) (read : Progress) (rule : Rule) → reading.reader_left reader ≡ left → reading.ReaderStands fed read reader → reading.reader_refusal reader ≡ None → record_at left ≡ Err rule → read_part (input fed) ≡ read
+part_in fed [] reader read rule is stands none e = ap read_part (reading_ends fed read (rw is at (reads_on fed read reader none stands)))
+part_in fed (b ∷ left) reader read rule is stands none e = ap read_part (reading_ends_cut fed (b ∷ left) read rule (rw is at (reads_on fed read reader none stands)) (omega arith) e)
+
+part_now : (fed : List ℕ) (reader : Reader) (read : Progress) → reading.ReaderStands fed read reader → reading.reader_refusal reader ≡ None → IsCutNow reader → read_part (input fed) ≡ read
+part_now fed reader read stands none (inl e) = part_in fed (reading.reader_left reader) reader read HeaderCut refl stands none e
+part_now fed reader read stands none (inr e) = part_in fed (reading.reader_left reader) reader read BodyCut refl stands none e
+
+fed_on : (which : MrtInput) (limits : Limits) (before : List Elem) (fed : List ℕ) (reader : Reader) (state : State) (events : ℕ) (taken : List Record) → Going which limits before fed reader state events → TakesRecords fed taken (reading.reader_left reader) → length taken ≡ reader.records → reading.reader_refusal reader ≡ None → IsCutNow reader → FeedMayGoOn limits.sizes which before fed
+fed_on which limits before fed reader state events taken g t n none cut = record {
+  whole = goes_on fed reader g.read taken g.stands t n none cut;
+  taken = ap (λ p. stop_at (too_much which limits.sizes) before (elems_in before p)) (part_now fed reader g.read g.stands none cut) ∙ g.held.fits;
+}
+
+pub streaming_on : (which : MrtInput) (content : Option (List ℕ)) (first : State) (reader : Reader) (state : State) (at events : ℕ) (limits : Limits) (before : List Elem) → at ≤ 2 ^ 36 → StateStands which limits before [] first → Streaming which content first reader state at events → IsCutNow reader → IfSome content (λ c. FeedMayGoOn limits.sizes which before (take at c))
+streaming_on which content first reader state at events limits before within stands s cut =
+    such_before content s.fed at (FeedMayGoOn limits.sizes which before) within s.octets s.comes (fed_on which limits before s.fed reader state events s.taken (s.going limits before stands) s.frames s.numbered s.none cut)
 
 -- ---- refusals
 

@@ -18,4 +18,5 @@ pub mod Words
 pub mod Stepped
 pub mod Stepping
 pub mod Loaded
+pub mod InTime
 pub mod Passes

@@ -1,6 +1,6 @@
 -- Which reads are made of the inputs that words name.
 use Rattle.std.specs.Prelude.{◌≡◌, ◌≤◌, ℕ, zero, suc, List, [], ◌∷◌, ◌++◌, map, Option, Some, None, option_to_list, Result, Ok, Err}
-use Rattle.fib_io.specs.Reads.{Anywhere, AtEnd, AtFault, Pass, PassEnd, PastMost, Read}
+use Rattle.fib_io.specs.Reads.{Anywhere, AtEnd, AtFault, PassEnd, PassInTime, PastMost, Read}
 use Rattle.fib_words.specs.Commands.{Asked, Check, Make, Named, NamedSteps, Run, Steps}
 use Rattle.fib_main.specs.declared.asks.AskError.{AskError}
 use Rattle.fib_main.specs.declared.asks.AskError.TheVariants as ask
@@ -12,6 +12,7 @@ use Rattle.fib_main.specs.declared.outcome.Which.{Which}
 use Rattle.fib_main.specs.declared.outcome.Which.TheVariants.{Asks, Dump, Updates, Printed, Script}
 use Rattle.fib_main.specs.declared.state.FeedError.{FeedError}
 use Rattle.fib_main.specs.declared.state.FeedError.TheVariants as feed
+use Rattle.fib_main.specs.InTime.{TextMayGoOn, RunMayGoOn, StepsMayGoOn}
 
 -- an input, by what it is for, and its name
 abbrev pub Input : Type 0
@@ -40,37 +41,47 @@ load_inputs named = (Dump, named.dump) ∷ (Updates, named.updates) ∷ []
 abbrev pub steps_inputs : NamedSteps → List Input
 steps_inputs named = (Script, named.script) ∷ load_inputs named
 
+-- ---- passes over inputs, one after another
+
+-- of which name what is held, if that is told
+abbrev pub Content : Type 0
+Content = List ℕ → Option (List ℕ)
+
+-- behind which octets an input is read on, by what it is for
+abbrev pub Judge : Type 1
+Judge = Which → List ℕ → Type 0
+
 -- one pass over each of these inputs, one after another, each to the input's end
-abbrev pub AllRead : List Input → List Read → Type 0
-AllRead [] reads = reads ≡ []
-AllRead (input ∷ inputs) reads = (first rest : List Read) × (reads ≡ first ++ rest) × Pass AtEnd input.1 first × AllRead inputs rest
+abbrev pub AllRead : Content → Judge → List Input → List Read → Type 0
+AllRead content Goes [] reads = reads ≡ []
+AllRead content Goes (input ∷ inputs) reads = (first rest : List Read) × (reads ≡ first ++ rest) × PassInTime (content input.1) (Goes input.0) AtEnd input.1 first × AllRead content Goes inputs rest
 
 -- the inputs before this one are read, each to its end, then this one by a pass that ends so, and none after it
-pub record ReadUpTo (inputs : List Input) (which : Which) (end : PassEnd) (reads : List Read) : Type 0 where
+pub record ReadUpTo (content : Content) (Goes : Judge) (inputs : List Input) (which : Which) (end : PassEnd) (reads : List Read) : Type 0 where
   pub before : List Input
   pub name : List ℕ
   pub after : List Input
   pub order : inputs ≡ before ++ (which, name) ∷ after
   pub first : List Read
-  pub whole : AllRead before first
+  pub whole : AllRead content Goes before first
   pub last : List Read
-  pub pass : Pass end name last
+  pub pass : PassInTime (content name) (Goes which) end name last
   pub all : reads ≡ first ++ last
 
 -- the first of these inputs may be begun, and none after it
-abbrev pub MayBegin : List Input → List Read → Type 0
-MayBegin [] reads = reads ≡ []
-MayBegin (input ∷ inputs) reads = Pass Anywhere input.1 reads
+abbrev pub MayBegin : Content → Judge → List Input → List Read → Type 0
+MayBegin content Goes [] reads = reads ≡ []
+MayBegin content Goes (input ∷ inputs) reads = PassInTime (content input.1) (Goes input.0) Anywhere input.1 reads
 
 -- some of the inputs are read, each to its end, in their order, and the next may be begun
-pub record ReadInPart (inputs : List Input) (reads : List Read) : Type 0 where
+pub record ReadInPart (content : Content) (Goes : Judge) (inputs : List Input) (reads : List Read) : Type 0 where
   pub before : List Input
   pub after : List Input
   pub order : inputs ≡ before ++ after
   pub first : List Read
-  pub whole : AllRead before first
+  pub whole : AllRead content Goes before first
   pub last : List Read
-  pub begun : MayBegin after last
+  pub begun : MayBegin content Goes after last
   pub all : reads ≡ first ++ last
 
 -- lines that are wrong: those of asks are judged as they come, all others once their input was read to its end
@@ -79,48 +90,48 @@ lines_end Asks = Anywhere
 lines_end which = AtEnd
 
 -- The reads up to a refusal are those of the inputs before the one that is refused, and of this one. A fault of reading is that of the last read. An input is too large if a read behind the last octet that is read gave some. Events that aren't taken are those of the updates, and event 0 is the load: its tries are asked for room once it was read to its end.
-abbrev pub StopsReading : List Input → Outcome → List Read → Type 0
-StopsReading inputs ReadFault reads = (which : Which) × ReadUpTo inputs which AtFault reads
-StopsReading inputs NoMemory reads = ReadInPart inputs reads
-StopsReading inputs (TooLarge which) reads = ReadUpTo inputs which PastMost reads
-StopsReading inputs (Malformed which number rule) reads = ReadUpTo inputs which Anywhere reads
-StopsReading inputs (BadLine which line why) reads = ReadUpTo inputs which (lines_end which) reads
-StopsReading inputs (HopsFull zero) reads = ReadUpTo inputs Dump Anywhere reads
-StopsReading inputs (HopsFull (suc event)) reads = ReadUpTo inputs Updates Anywhere reads
-StopsReading inputs (TrieFull zero need have arena) reads = ReadUpTo inputs Dump AtEnd reads
-StopsReading inputs (TrieFull (suc event) need have arena) reads = ReadUpTo inputs Updates Anywhere reads
-StopsReading inputs Done reads = ⊥
-StopsReading inputs (CheckNo x) reads = ⊥
-StopsReading inputs WriteFault reads = ⊥
-StopsReading inputs Usage reads = ⊥
+abbrev pub StopsReading : Content → Judge → List Input → Outcome → List Read → Type 0
+StopsReading content Goes inputs ReadFault reads = (which : Which) × ReadUpTo content Goes inputs which AtFault reads
+StopsReading content Goes inputs NoMemory reads = ReadInPart content Goes inputs reads
+StopsReading content Goes inputs (TooLarge which) reads = ReadUpTo content Goes inputs which PastMost reads
+StopsReading content Goes inputs (Malformed which number rule) reads = ReadUpTo content Goes inputs which Anywhere reads
+StopsReading content Goes inputs (BadLine which line why) reads = ReadUpTo content Goes inputs which (lines_end which) reads
+StopsReading content Goes inputs (HopsFull zero) reads = ReadUpTo content Goes inputs Dump Anywhere reads
+StopsReading content Goes inputs (HopsFull (suc event)) reads = ReadUpTo content Goes inputs Updates Anywhere reads
+StopsReading content Goes inputs (TrieFull zero need have arena) reads = ReadUpTo content Goes inputs Dump AtEnd reads
+StopsReading content Goes inputs (TrieFull (suc event) need have arena) reads = ReadUpTo content Goes inputs Updates Anywhere reads
+StopsReading content Goes inputs Done reads = ⊥
+StopsReading content Goes inputs (CheckNo x) reads = ⊥
+StopsReading content Goes inputs WriteFault reads = ⊥
+StopsReading content Goes inputs Usage reads = ⊥
 
 -- the reads of a call: all of its inputs, or those up to the refusal
-abbrev pub ReadsOf : {X : Type 0} → List Input → Result X Outcome → List Read → Type 0
-ReadsOf inputs (Ok x) reads = AllRead inputs reads
-ReadsOf inputs (Err o) reads = StopsReading inputs o reads
+abbrev pub ReadsOf : {X : Type 0} → Content → Judge → List Input → Result X Outcome → List Read → Type 0
+ReadsOf content Goes inputs (Ok x) reads = AllRead content Goes inputs reads
+ReadsOf content Goes inputs (Err o) reads = StopsReading content Goes inputs o reads
 
 -- The reads of inputs with this outcome. Each is read to its end at Done, where a check says no and at a fault of writing; else they are read up to the refusal.
-abbrev pub ReadsTo : List Input → Outcome → List Read → Type 0
-ReadsTo inputs Done reads = AllRead inputs reads
-ReadsTo inputs (CheckNo x) reads = AllRead inputs reads
-ReadsTo inputs WriteFault reads = AllRead inputs reads
-ReadsTo inputs o reads = StopsReading inputs o reads
+abbrev pub ReadsTo : Content → Judge → List Input → Outcome → List Read → Type 0
+ReadsTo content Goes inputs Done reads = AllRead content Goes inputs reads
+ReadsTo content Goes inputs (CheckNo x) reads = AllRead content Goes inputs reads
+ReadsTo content Goes inputs WriteFault reads = AllRead content Goes inputs reads
+ReadsTo content Goes inputs o reads = StopsReading content Goes inputs o reads
 
--- The reads of what words ask for: those of the inputs that they name. Words that are no command read nothing, and what is made of a number isn't read.
-abbrev pub ReadsAt : Option Asked → Outcome → List Read → Type 0
-ReadsAt None o reads = reads ≡ []
-ReadsAt (Some (Run named)) o reads = ReadsTo (run_inputs named) o reads
-ReadsAt (Some (Check name)) o reads = ReadsTo (check_inputs name) o reads
-ReadsAt (Some (Make routes seed)) o reads = reads ≡ []
-ReadsAt (Some (Steps named)) o reads = ReadsTo (steps_inputs named) o reads
+-- The reads of what words ask for: those of the inputs that they name. No read of an input is made once what was read of it before is to be refused, where the input tells what it holds. Words that are no command read nothing, and what is made of a number isn't read.
+abbrev pub ReadsAt : Content → Option Asked → Outcome → List Read → Type 0
+ReadsAt content None o reads = reads ≡ []
+ReadsAt content (Some (Run named)) o reads = ReadsTo content (RunMayGoOn content named) (run_inputs named) o reads
+ReadsAt content (Some (Check name)) o reads = ReadsTo content TextMayGoOn (check_inputs name) o reads
+ReadsAt content (Some (Make routes seed)) o reads = reads ≡ []
+ReadsAt content (Some (Steps named)) o reads = ReadsTo content (StepsMayGoOn named) (steps_inputs named) o reads
 
 -- the same of a call that gives something
-abbrev pub ReadsAsked : {X : Type 0} → Option Asked → Result X Outcome → List Read → Type 0
-ReadsAsked None r reads = reads ≡ []
-ReadsAsked (Some (Run named)) r reads = ReadsOf (run_inputs named) r reads
-ReadsAsked (Some (Check name)) r reads = ReadsOf (check_inputs name) r reads
-ReadsAsked (Some (Make routes seed)) r reads = reads ≡ []
-ReadsAsked (Some (Steps named)) r reads = ReadsOf (steps_inputs named) r reads
+abbrev pub ReadsAsked : {X : Type 0} → Content → Option Asked → Result X Outcome → List Read → Type 0
+ReadsAsked content None r reads = reads ≡ []
+ReadsAsked content (Some (Run named)) r reads = ReadsOf content (RunMayGoOn content named) (run_inputs named) r reads
+ReadsAsked content (Some (Check name)) r reads = ReadsOf content TextMayGoOn (check_inputs name) r reads
+ReadsAsked content (Some (Make routes seed)) r reads = reads ≡ []
+ReadsAsked content (Some (Steps named)) r reads = ReadsOf content (StepsMayGoOn named) (steps_inputs named) r reads
 
 -- ---- the parts
 

@@ -5,8 +5,9 @@ ghost use Rattle.fib_addr.specs.Views.{addr_as};
 ghost use Rattle.printed_model.specs.Texts.{line_texts};
 ghost use Rattle.fib_main.specs.Asks.{asks_in};
 ghost use Rattle.fib_main.specs.Asking.{AsksFed, AsksFrom, AsksStand, BringsAsks, ReadsLines, ask_of_input};
-ghost use Rattle.fib_io.specs.Reads.{Makes, Pass};
+ghost use Rattle.fib_io.specs.Reads.{Makes, PassInTime};
 ghost use Rattle.fib_main.specs.Due.{told_asks};
+ghost use Rattle.fib_main.specs.InTime.{AsksMayGoOn};
 ghost use Rattle.fib_main.specs.Passes.{ask_end};
 ghost use Rattle.fib_main.specs.Reads.{IsList};
 ghost use Rattle.fib_main.specs.declared.asks.AskError.TheVariants.{NoMemory};
@@ -151,7 +152,7 @@ fn read_through<I: Inputs>(
     ensures same { I.content inputs.new ≡ I.content inputs.old }
     ensures cause { AsksFrom (I.faults inputs.old) (I.faults inputs.new) name.now result }
     ensures reads { Makes (I.reads inputs.old) (I.reads inputs.new)
-        (Pass (ask_end result) name.now) }
+        (PassInTime (I.content inputs.old name.now) AsksMayGoOn (ask_end result) name.now) }
 {
     let mut reader = AskReader::new(alloc);
     let mut at = 0;
@@ -176,7 +177,7 @@ pub fn read_asks<I: Inputs>(
     ensures same { I.content inputs.new ≡ I.content inputs.old }
     ensures cause { AsksFrom (I.faults inputs.old) (I.faults inputs.new) name.now result }
     ensures reads { Makes (I.reads inputs.old) (I.reads inputs.new)
-        (Pass (ask_end result) name.now) }
+        (PassInTime (I.content inputs.old name.now) AsksMayGoOn (ask_end result) name.now) }
 {
     let mut room = piece_room(alloc)?;
     read_through(alloc, inputs, name, &mut room)

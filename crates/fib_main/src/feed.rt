@@ -3,8 +3,9 @@
 ghost use Rattle.std.specs.Prelude.{◌≡◌, List, [], ◌^◌, ◌<◌, ◌≤◌, length, IfErr, IfOk, Some};
 ghost use Rattle.route_model.specs.Events.{Elem};
 ghost use Rattle.fib_main.specs.Counts.{AreFew};
-ghost use Rattle.fib_io.specs.Reads.{Makes, Pass};
+ghost use Rattle.fib_io.specs.Reads.{Makes, Pass, PassInTime};
 ghost use Rattle.fib_main.specs.Due.{feed_at};
+ghost use Rattle.fib_main.specs.InTime.{FeedMayGoOn};
 ghost use Rattle.fib_main.specs.Passes.{IsNumbered, feed_end};
 ghost use Rattle.fib_main.specs.Refusals.{Limits};
 ghost use Rattle.fib_main.specs.Standing.{FeedsFrom, IsReady, StateBrings, StateStands};
@@ -51,6 +52,9 @@ fn feed_through<I: Inputs>(
     ensures cause { FeedsFrom (I.faults inputs.old) (I.faults inputs.new) name.now result }
     ensures reads { Makes (I.reads inputs.old) (I.reads inputs.new)
         (Pass (feed_end result) name.now) }
+    ensures in_time { (limits : Limits) (before : List Elem) → StateStands which limits before [] state.old
+        → Makes (I.reads inputs.old) (I.reads inputs.new) (PassInTime (I.content inputs.old name.now)
+        (FeedMayGoOn limits.sizes which before) (feed_end result) name.now) }
     ensures numbered { IfErr result (IsNumbered which) }
 {
     let mut reader = Reader::new(alloc);
@@ -97,6 +101,9 @@ pub fn feed<I: Inputs>(
     ensures cause { FeedsFrom (I.faults inputs.old) (I.faults inputs.new) name.now result }
     ensures reads { Makes (I.reads inputs.old) (I.reads inputs.new)
         (Pass (feed_end result) name.now) }
+    ensures in_time { (limits : Limits) (before : List Elem) → StateStands which limits before [] state.old
+        → Makes (I.reads inputs.old) (I.reads inputs.new) (PassInTime (I.content inputs.old name.now)
+        (FeedMayGoOn limits.sizes which before) (feed_end result) name.now) }
     ensures numbered { IfErr result (IsNumbered which) }
 {
     let mut room = piece_room(alloc)?;

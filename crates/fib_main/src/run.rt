@@ -7,6 +7,7 @@ ghost use Rattle.fib_main.specs.Counts.{AddUp, AreFew};
 ghost use Rattle.fib_main.specs.Due.{asks_at, checked, feed_at, input_at, limits_of, made_at, made_named, output_at, reply_at, run_at, told_at, used_at, with_counts, with_reply, with_text};
 ghost use Rattle.fib_main.specs.Ends.{feeds_named, reads_asked, reads_named, ReadsName, ReadsNames};
 ghost use Rattle.fib_io.specs.Reads.{Makes};
+ghost use Rattle.fib_main.specs.InTime.{FeedMayGoOn, TextMayGoOn, RunMayGoOn};
 ghost use Rattle.fib_main.specs.Owned.{IsOf, Owns, StopsAt, StopsIn};
 ghost use Rattle.fib_main.specs.Passes.{ReadsAsked, ReadsOf, check_inputs, feed_inputs, input_for, run_inputs};
 ghost use Rattle.fib_main.specs.Proves.{ChecksYes, IfRan, IsRun, PrintsYes};
@@ -52,7 +53,7 @@ pub(crate) fn octets_of<I: Inputs>(
     ensures same { I.content inputs.new ≡ I.content inputs.old }
     ensures cause { ReadsName name.now (I.faults inputs.old) (I.faults inputs.new) result }
     ensures reads { Makes (I.reads inputs.old) (I.reads inputs.new)
-        (ReadsOf ((which, name.now) ∷ []) result) }
+        (ReadsOf (I.content inputs.old) TextMayGoOn ((which, name.now) ∷ []) result) }
 {
     match read_whole(alloc, inputs, name) {
         Ok(octets) => Ok(octets),
@@ -79,7 +80,7 @@ fn outcome_of_asks(error: AskError) -> Outcome
 }
 
 /// The addresses that are asked for, none where no asks are named.
-#[tactic(auto, using(crate::proofs::Passes::asks_stop, crate::proofs::Passes::input_read, crate::proofs::Passes::none_read), unfolding(crate::specs::Due::asks_at))]
+#[tactic(auto, using(crate::proofs::Passes::asks_stop, crate::proofs::Passes::input_read, crate::proofs::Passes::nothing_read), unfolding(crate::specs::Due::asks_at))]
 fn asks_of<I: Inputs>(
     alloc: Global,
     inputs: &mut I,
@@ -93,7 +94,8 @@ fn asks_of<I: Inputs>(
     ensures cause { ReadsNames (option_to_list (named_as command.now).asks) (I.faults inputs.old)
         (I.faults inputs.new) result }
     ensures reads { Makes (I.reads inputs.old) (I.reads inputs.new)
-        (ReadsOf (input_for Which.Asks (named_as command.now).asks) result) }
+        (ReadsOf (I.content inputs.old) (RunMayGoOn (I.content inputs.old) (named_as command.now))
+        (input_for Which.Asks (named_as command.now).asks) result) }
 {
     let Some(name) = command.asks else {
         return Ok(Vec::new(alloc));
@@ -158,14 +160,15 @@ pub(crate) fn feed_of<I: Inputs>(
         counts state.new.engine.candidates) }
     ensures same { I.content inputs.new ≡ I.content inputs.old }
     ensures cause { ReadsName name.now (I.faults inputs.old) (I.faults inputs.new) result }
-    ensures reads { Makes (I.reads inputs.old) (I.reads inputs.new)
-        (ReadsOf ((input_of which, name.now) ∷ []) result) }
+    ensures reads { (limits : ends) (before : List Elem) → StateStands which limits before [] state.old
+        → Makes (I.reads inputs.old) (I.reads inputs.new) (ReadsOf (I.content inputs.old)
+        (λ _. FeedMayGoOn limits.sizes which before) ((input_of which, name.now) ∷ []) result) }
 {
     feed(alloc, inputs, state, which, name).map_err(|error| outcome_of_refusal(which, error))
 }
 
 /// Takes what the updates bring, if any are named.
-#[tactic(auto, using(crate::proofs::Passes::none_read), unfolding(crate::specs::Due::feed_at))]
+#[tactic(auto, using(crate::proofs::Passes::nothing_read), unfolding(crate::specs::Due::feed_at))]
 fn updates_of<I: Inputs>(
     alloc: Global,
     inputs: &mut I,
@@ -186,8 +189,11 @@ fn updates_of<I: Inputs>(
     ensures same { I.content inputs.new ≡ I.content inputs.old }
     ensures cause { ReadsNames (option_to_list (named_as command.now).updates) (I.faults inputs.old)
         (I.faults inputs.new) result }
-    ensures reads { Makes (I.reads inputs.old) (I.reads inputs.new)
-        (ReadsOf (input_for Which.Updates (named_as command.now).updates) result) }
+    ensures reads { (limits : ends) (before : List Elem)
+        → StateStands MrtInput.Updates limits before [] state.old
+        → Makes (I.reads inputs.old) (I.reads inputs.new) (ReadsOf (I.content inputs.old)
+        (λ _. FeedMayGoOn limits.sizes MrtInput.Updates before)
+        (input_for Which.Updates (named_as command.now).updates) result) }
 {
     match command.updates {
         Some(name) => feed_of(alloc, inputs, state, MrtInput::Updates, name),
@@ -234,8 +240,10 @@ fn feed_both<I: Inputs>(
     ensures cause { StateStands MrtInput.Dump (limits_of (named_as command.now)) [] [] state.old
         → ReadsNames (feeds_named (I.content inputs.old) (named_as command.now))
         (I.faults inputs.old) (I.faults inputs.new) result }
-    ensures reads { Makes (I.reads inputs.old) (I.reads inputs.new)
-        (ReadsOf (feed_inputs (named_as command.now)) result) }
+    ensures reads { StateStands MrtInput.Dump (limits_of (named_as command.now)) [] [] state.old
+        → Makes (I.reads inputs.old) (I.reads inputs.new) (ReadsOf (I.content inputs.old)
+        (RunMayGoOn (I.content inputs.old) (named_as command.now)) (feed_inputs (named_as command.now))
+        result) }
 {
     let load = feed_of(alloc, inputs, state, MrtInput::Dump, command.dump)?;
     if let Err(error) = state.finish_load() {
@@ -262,7 +270,8 @@ fn text_of<I: Inputs>(
     ensures cause { ReadsNames (feeds_named (I.content inputs.old) (named_as command.now))
         (I.faults inputs.old) (I.faults inputs.new) result }
     ensures reads { Makes (I.reads inputs.old) (I.reads inputs.new)
-        (ReadsOf (feed_inputs (named_as command.now)) result) }
+        (ReadsOf (I.content inputs.old) (RunMayGoOn (I.content inputs.old) (named_as command.now))
+        (feed_inputs (named_as command.now)) result) }
 {
     let mut state = State::new(alloc, limits_of(command));
     let fed = feed_both(alloc, inputs, &mut state, command)?;
@@ -351,7 +360,8 @@ fn run_for<I: Inputs>(
     ensures cause { ReadsNames (reads_named (I.content inputs.old) (named_as command.now))
         (I.faults inputs.old) (I.faults inputs.new) result }
     ensures reads { Makes (I.reads inputs.old) (I.reads inputs.new)
-        (ReadsOf (run_inputs (named_as command.now)) result) }
+        (ReadsOf (I.content inputs.old) (RunMayGoOn (I.content inputs.old) (named_as command.now))
+        (run_inputs (named_as command.now)) result) }
 {
     let asks = asks_of(alloc, inputs, command)?;
     text_of(alloc, inputs, command, &asks)
@@ -367,7 +377,7 @@ fn check_for<I: Inputs>(alloc: Global, inputs: &mut I, name: &str) -> Result<Rep
     ensures same { I.content inputs.new ≡ I.content inputs.old }
     ensures cause { ReadsName name.now (I.faults inputs.old) (I.faults inputs.new) result }
     ensures reads { Makes (I.reads inputs.old) (I.reads inputs.new)
-        (ReadsOf (check_inputs name.now) result) }
+        (ReadsOf (I.content inputs.old) TextMayGoOn (check_inputs name.now) result) }
 {
     let octets = octets_of(alloc, inputs, name, Which::Printed)?;
     match check_text(alloc, octets) {
@@ -410,7 +420,7 @@ fn reply_to<I: Inputs>(
     ensures cause { ReadsNames (reads_asked (I.content inputs.old) (Some (asked_as command.now)))
         (I.faults inputs.old) (I.faults inputs.new) result }
     ensures reads { Makes (I.reads inputs.old) (I.reads inputs.new)
-        (ReadsAsked (Some (asked_as command.now)) result) }
+        (ReadsAsked (I.content inputs.old) (Some (asked_as command.now)) result) }
 {
     match command {
         CommandWords::Run(run) => {
@@ -447,7 +457,7 @@ pub fn reply_for<I: Inputs>(
     ensures cause { ReadsNames (read_by words.now (I.content inputs.old)) (I.faults inputs.old)
         (I.faults inputs.new) result }
     ensures reads { Makes (I.reads inputs.old) (I.reads inputs.new)
-        (ReadsAsked (asked_by words.now) result) }
+        (ReadsAsked (I.content inputs.old) (asked_by words.now) result) }
 {
     let command = match read_words(alloc, words) {
         Ok(command) => command,

@@ -8,6 +8,7 @@ ghost use Rattle.stepper.specs.Runs.{ArePrinted};
 ghost use Rattle.fib_words.specs.Commands.{IsWithin, Steps, steps_as};
 ghost use Rattle.fib_main.specs.Due.{load_at, script_at, stepping_at, steps_sizes, with_world, world_at};
 ghost use Rattle.fib_main.specs.Ends.{after, reads_steps, ReadsName, ReadsNames};
+ghost use Rattle.fib_main.specs.InTime.{TextMayGoOn, StepsMayGoOn};
 ghost use Rattle.fib_main.specs.Loaded.{GivesLoad, of_step};
 ghost use Rattle.fib_main.specs.Stepped.{arena_of};
 ghost use Rattle.fib_io.specs.Reads.{Makes};
@@ -16,6 +17,7 @@ ghost use Rattle.fib_main.specs.Passes.{ReadsOf, load_inputs, steps_inputs};
 ghost use Rattle.fib_main.specs.Stepping.{events_at, refusal_of_whole};
 ghost use Rattle.fib_main.specs.Stops.{GivesDue};
 ghost use Rattle.fib_main.specs.Untold.{GivesText, StepsOfSome};
+ghost use Rattle.whole_input.specs.Whole.{MayGoOn};
 
 use crate::outcome::{MrtInput, Outcome, Which};
 use crate::run::{feed_of, octets_of, outcome_of_refusal};
@@ -40,7 +42,7 @@ fn script_of<I: Inputs>(alloc: Global, inputs: &mut I, name: &str) -> Result<Vec
     ensures same { I.content inputs.new ≡ I.content inputs.old }
     ensures cause { ReadsName name.now (I.faults inputs.old) (I.faults inputs.new) result }
     ensures reads { Makes (I.reads inputs.old) (I.reads inputs.new)
-        (ReadsOf ((Which.Script, name.now) ∷ []) result) }
+        (ReadsOf (I.content inputs.old) TextMayGoOn ((Which.Script, name.now) ∷ []) result) }
 {
     let octets = octets_of(alloc, inputs, name, Which::Script)?;
     match read_script(alloc, &octets) {
@@ -80,7 +82,8 @@ fn load_of<I: Inputs>(
     ensures cause { ReadsName (steps_as command.now).dump (I.faults inputs.old)
         (I.faults inputs.new) result }
     ensures reads { Makes (I.reads inputs.old) (I.reads inputs.new)
-        (ReadsOf ((Which.Dump, (steps_as command.now).dump) ∷ []) result) }
+        (ReadsOf (I.content inputs.old) (StepsMayGoOn (steps_as command.now))
+        ((Which.Dump, (steps_as command.now).dump) ∷ []) result) }
 {
     let mut state = State::new(
         alloc,
@@ -124,7 +127,7 @@ fn events_of<I: Inputs>(alloc: Global, inputs: &mut I, name: &str) -> Result<Vec
     ensures same { I.content inputs.new ≡ I.content inputs.old }
     ensures cause { ReadsName name.now (I.faults inputs.old) (I.faults inputs.new) result }
     ensures reads { Makes (I.reads inputs.old) (I.reads inputs.new)
-        (ReadsOf ((Which.Updates, name.now) ∷ []) result) }
+        (ReadsOf (I.content inputs.old) (λ _. MayGoOn) ((Which.Updates, name.now) ∷ []) result) }
 {
     read_all_events(alloc, inputs, name).map_err(outcome_of_whole)
 }
@@ -175,7 +178,8 @@ fn rows_of<I: Inputs>(
         (steps_sizes (steps_as command.now)) (I.content inputs.old) (steps_as command.now).dump)
         ((steps_as command.now).updates ∷ [])) (I.faults inputs.old) (I.faults inputs.new) result }
     ensures reads { Makes (I.reads inputs.old) (I.reads inputs.new)
-        (ReadsOf (load_inputs (steps_as command.now)) result) }
+        (ReadsOf (I.content inputs.old) (StepsMayGoOn (steps_as command.now))
+        (load_inputs (steps_as command.now)) result) }
 {
     let engine = load_of(alloc, inputs, command)?;
     let events = events_of(alloc, inputs, command.updates)?;
@@ -200,7 +204,8 @@ pub fn steps_for<I: Inputs>(
     ensures cause { ReadsNames (reads_steps (I.content inputs.old) (steps_as command.now))
         (I.faults inputs.old) (I.faults inputs.new) result }
     ensures reads { Makes (I.reads inputs.old) (I.reads inputs.new)
-        (ReadsOf (steps_inputs (steps_as command.now)) result) }
+        (ReadsOf (I.content inputs.old) (StepsMayGoOn (steps_as command.now))
+        (steps_inputs (steps_as command.now)) result) }
 {
     let script = script_of(alloc, inputs, command.script)?;
     let text = rows_of(alloc, inputs, command, &script)?;

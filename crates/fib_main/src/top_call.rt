@@ -42,7 +42,7 @@ fn outcome_of<I: Inputs, O: Sink>(
     ensures read { ReadsFrom (read_by words.now (I.content inputs.old)) (I.faults inputs.old)
         (I.faults inputs.new) result }
     ensures reads { Makes (I.reads inputs.old) (I.reads inputs.new)
-        (ReadsAt (asked_by words.now) result) }
+        (ReadsAt (I.content inputs.old) (asked_by words.now) result) }
     ensures write { WritesBy (O.faults out.old) (O.faults out.new) result }
     ensures out { Writes (text_due (due_by words.now (I.content inputs.old))) (O.written out.old)
         (O.written out.new) result }
@@ -90,7 +90,7 @@ fn run_and_tell<I: Inputs, O: Sink, E: Sink>(
     ensures read { ReadsFrom (read_by words.now (I.content inputs.old)) (I.faults inputs.old)
         (I.faults inputs.new) result }
     ensures reads { Makes (I.reads inputs.old) (I.reads inputs.new)
-        (ReadsAt (asked_by words.now) result) }
+        (ReadsAt (I.content inputs.old) (asked_by words.now) result) }
     ensures write { WritesBy (O.faults out.old) (O.faults out.new) result }
     ensures out { Writes (text_due (due_by words.now (I.content inputs.old))) (O.written out.old)
         (O.written out.new) result }
@@ -144,9 +144,11 @@ pub fn run_fib<I: Inputs, O: Sink, E: Sink>(
 
     // Each input that the words name is read in order from its first octet on, each place once, and nothing is read after it failed
     // or ended: asks or a script, then the dump, then the updates, each to its end before the next; and nothing after the input
-    // that is refused. A name that stands for two inputs is read for each. So each of them may be a pipe.
+    // that is refused. No read of an input is made once what was read of it before is to be refused: a line of the asks that has
+    // its line feed, a record that is whole or whose header is refused, an event. A name that stands for two inputs is read for
+    // each. So each of them may be a pipe.
     ensures reads { Makes (I.reads inputs.old) (I.reads inputs.new)
-        (ReadsAt (asked_by words.now) result) }
+        (ReadsAt (I.content inputs.old) (asked_by words.now) result) }
 
     // A fault of writing has its cause in out.
     ensures write { WritesBy (O.faults out.old) (O.faults out.new) result }

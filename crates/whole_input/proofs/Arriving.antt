@@ -1,5 +1,7 @@
 -- What was fed of an input, and what comes of it.
-use Rattle.std.proofs.Common.{◌≡◌, ℕ, ◌+◌, List, [], ◌++◌, Option, Some, None, take, refl, sym, ap, subst, ◌∙◌, append_assoc, append-nil}
+use Rattle.std.proofs.Common.{◌≡◌, ℕ, ◌+◌, ◌^◌, ◌≤◌, List, [], ◌++◌, length, Option, Some, None, take, refl, sym, ap, subst, ◌∙◌, append_assoc, append-nil}
+use Rattle.std.proofs.Math.Seq.{take-append_seam}
+use Rattle.std.proofs.lemmas.List.{take-take}
 use Rattle.std.specs.Prelude.{IfSome}
 use Rattle.fib_io.specs.Pieces.{octets_read, octets_from, ComeNext}
 
@@ -17,6 +19,16 @@ comes_next (Some c) fed room at n s t = s ∙ ap (λ z. fed ++ z) t ∙ sym (app
 
 pub all_fed : (c fed : List ℕ) (at : ℕ) → octets_from at c ≡ [] → Comes fed at c → octets_read c ≡ fed
 all_fed c fed at nothing comes = comes ∙ ap (λ z. fed ++ z) nothing ∙ append-nil fed
+
+-- what was fed is all that stands before the next place
+pub fed_before : (c fed : List ℕ) (at : ℕ) → at ≤ 2 ^ 36 → length fed ≡ at → Comes fed at c → take at c ≡ fed
+fed_before c fed at within is comes =
+    sym (take-take at (2 ^ 36) c within) ∙ ap (take at) comes ∙ ap (λ k. take k (fed ++ octets_from at c)) (sym is) ∙ take-append_seam fed (octets_from at c)
+
+-- what holds of what was fed holds of that
+pub such_before : (content : Option (List ℕ)) (fed : List ℕ) (at : ℕ) (Such : List ℕ → Type 0) → at ≤ 2 ^ 36 → length fed ≡ at → IfSome content (Comes fed at) → Such fed → IfSome content (λ c. Such (take at c))
+such_before None fed at Such within is comes such = tt
+such_before (Some c) fed at Such within is comes such = subst Such (sym (fed_before c fed at within is comes)) such
 
 -- an input as it was before
 pub told_before : (old now : List ℕ → Option (List ℕ)) (name : List ℕ) (P : List ℕ → Type 0) → now ≡ old → IfSome (now name) P → IfSome (old name) P

@@ -1,5 +1,5 @@
 -- An input whose events are gathered piece by piece.
-use Rattle.std.proofs.Common.{◌≡◌, ℕ, ◌+◌, ◌^◌, ◌<◌, List, [], ◌∷◌, ◌++◌, length, map, take, Option, Some, None, Ok, Err, refl, sym, ap, ◌∙◌, inl, inr, arith, length-append}
+use Rattle.std.proofs.Common.{◌≡◌, ℕ, ◌+◌, ◌^◌, ◌<◌, ◌≤◌, List, [], ◌∷◌, ◌++◌, length, map, take, Option, Some, None, Ok, Err, refl, sym, ap, subst, ◌∙◌, inl, inr, arith, length-append, length-take}
 use Rattle.std.specs.Prelude.{IfSome, IsErrOf, false, true, ◌⊎◌}
 use Rattle.std.proofs.lemmas.Bool.{le-leb}
 use Rattle.std.proofs.lemmas.List.{map-append}
@@ -22,14 +22,15 @@ use Rattle.mrt_read.specs.declared.reader.Reader.{Reader}
 use Rattle.mrt_read.specs.declared.reader.EventsError.{EventsError}
 use Rattle.mrt_read.specs.declared.reader.EventsError.TheVariants as read
 use Rattle.whole_input.specs.Cuts.{cut_at, is_cut, is_small}
-use Rattle.whole_input.specs.Whole.{EndsOrIsCut, HasEvents, IsBad, IsRefused, IsTooLarge, of_input, of_read}
+use Rattle.whole_input.specs.Whole.{HasEvents, IsBad, IsRefused, IsTooLarge, MayGoOn, of_input, of_read}
 use Rattle.whole_input.specs.declared.whole.WholeError.TheVariants.{Malformed}
-use Rattle.whole_input.proofs.Arriving.{Comes, all_fed, comes_first, comes_next}
+use Rattle.whole_input.proofs.Arriving.{Comes, all_fed, comes_first, comes_next, such_before}
 use Rattle.whole_input.proofs.Cutting.{IsCutNow, cut_rules, ends_here, not_cut, reads_on, uncut}
 
 -- So many octets of the input were fed: these are the events of its records so far, and the reader isn't refused.
 pub record Gathering (content : Option (List ℕ)) (reader : Reader) (at : ℕ) (events : List code_event.Event) : Type 0 where
   pub fed : List ℕ
+  pub octets : length fed ≡ at
   pub comes : IfSome content (Comes fed at)
   pub taken : List Record
   pub frames : TakesRecords fed taken (reading.reader_left reader)
@@ -44,6 +45,7 @@ pub record Gathering (content : Option (List ℕ)) (reader : Reader) (at : ℕ) 
 pub gathering_start : (content : Option (List ℕ)) (reader : Reader) → reading.reader_left reader ≡ [] → reading.reader_refusal reader ≡ None → reading.ReaderStands [] start reader → Gathering content reader 0 []
 gathering_start content reader empty none s = record {
   fed = [];
+  octets = refl;
   comes = comes_first content;
   taken = [];
   frames = rw empty starts_so;
@@ -56,9 +58,10 @@ gathering_start content reader empty none s = record {
 
 -- ---- a piece more
 
-pub gathering_feeds : (content : Option (List ℕ)) (old new : Reader) (room : List ℕ) (at n : ℕ) (events : List code_event.Event) → IfSome content (λ c. ComeNext c at room n) → Gathering content old at events → reading.ReaderFeeds old (take n room) new → Gathering content new (at + n) events
-gathering_feeds content old new room at n events next s feeds = record {
+pub gathering_feeds : (content : Option (List ℕ)) (old new : Reader) (room : List ℕ) (at n : ℕ) (events : List code_event.Event) → n ≤ length room → IfSome content (λ c. ComeNext c at room n) → Gathering content old at events → reading.ReaderFeeds old (take n room) new → Gathering content new (at + n) events
+gathering_feeds content old new room at n events h next s feeds = record {
   fed = s.fed ++ take n room;
+  octets = omega (arith, s.octets, h, length-append s.fed (take n room), length-take n room);
   comes = comes_next content s.fed room at n s.comes next;
   taken = s.taken;
   frames = rw feeds.leaves (feeds_on s.fed (take n room) (reading.reader_left old) s.taken s.frames);
@@ -74,6 +77,7 @@ gathering_feeds content old new room at n events next s feeds = record {
 pub gathering_takes : (content : Option (List ℕ)) (old new : Reader) (at : ℕ) (events more : List code_event.Event) → Gathering content old at events → reading.TakesEvents old (map event_as more) new → Gathering content new at (events ++ more)
 gathering_takes content old new at events more s t = record {
   fed = s.fed;
+  octets = s.octets;
   comes = s.comes;
   taken = s.taken ++ t.front.0 ∷ [];
   frames = takes_on s.fed (reading.reader_left old) (reading.reader_left new) s.taken t.front.0 s.frames t.front.1;
@@ -129,22 +133,33 @@ has_all (Some c) reader at events end s t = record {
   are = s.has;
 }
 
--- ---- more octets than are read
+-- ---- what was read, where no record of it is refused
 
-cut_in : (c fed left : List ℕ) (reader : Reader) (read : Progress) (taken : List Record) (rule : Rule) → reading.reader_left reader ≡ left → octets_read c ≡ fed → reading.ReaderStands fed read reader → TakesRecords fed taken left → length taken ≡ reader.records → reading.reader_refusal reader ≡ None
-    → record_at left ≡ Err rule → (rule ≡ HeaderCut) ⊎ (rule ≡ BodyCut) → EndsOrIsCut (octets_read c) (input (octets_read c))
-cut_in c fed [] reader read taken rule is same stands t n none e cut =
-    let all : input (octets_read c) ≡ Ok read = ap input same ∙ reading_ends fed read (rw is at (reads_on fed read reader none stands)) in
+ends_in : (fed left : List ℕ) (reader : Reader) (read : Progress) (taken : List Record) (rule : Rule) → reading.reader_left reader ≡ left → reading.ReaderStands fed read reader → TakesRecords fed taken left → length taken ≡ reader.records → reading.reader_refusal reader ≡ None
+    → record_at left ≡ Err rule → (rule ≡ HeaderCut) ⊎ (rule ≡ BodyCut) → MayGoOn fed
+ends_in fed [] reader read taken rule is stands t n none e cut =
+    let all : input fed ≡ Ok read = reading_ends fed read (rw is at (reads_on fed read reader none stands)) in
     rw all tt
-cut_in c fed (b ∷ left) reader read taken rule is same stands t n none e cut =
+ends_in fed (b ∷ left) reader read taken rule is stands t n none e cut =
     let some : 0 < length (b ∷ left) = omega arith in
-    let is_cut_now : cut_at read.records (records_in (octets_read c)) ≡ true = rw same (ap (cut_at read.records) (ends_cut fed (b ∷ left) taken rule t some e) ∙ cut_rules (length taken) read.records rule (n ∙ sym stands.records) cut) in
-    let stops : input (octets_read c) ≡ Err (record { read = read; rule = rule }) = ap input same ∙ reading_ends_cut fed (b ∷ left) read rule (rw is at (reads_on fed read reader none stands)) some e in
+    let is_cut_now : cut_at read.records (records_in fed) ≡ true = ap (cut_at read.records) (ends_cut fed (b ∷ left) taken rule t some e) ∙ cut_rules (length taken) read.records rule (n ∙ sym stands.records) cut in
+    let stops : input fed ≡ Err (record { read = read; rule = rule }) = reading_ends_cut fed (b ∷ left) read rule (rw is at (reads_on fed read reader none stands)) some e in
     rw stops is_cut_now
 
+pub goes_on : (fed : List ℕ) (reader : Reader) (read : Progress) (taken : List Record) → reading.ReaderStands fed read reader → TakesRecords fed taken (reading.reader_left reader) → length taken ≡ reader.records → reading.reader_refusal reader ≡ None → IsCutNow reader → MayGoOn fed
+goes_on fed reader read taken stands t n none (inl e) = ends_in fed (reading.reader_left reader) reader read taken HeaderCut refl stands t n none e (inl refl)
+goes_on fed reader read taken stands t n none (inr e) = ends_in fed (reading.reader_left reader) reader read taken BodyCut refl stands t n none e (inr refl)
+
+pub goes_on_at : (content : Option (List ℕ)) (reader : Reader) (at : ℕ) (events : List code_event.Event) → at ≤ 2 ^ 36 → Gathering content reader at events → IsCutNow reader → IfSome content (λ c. MayGoOn (take at c))
+goes_on_at content reader at events within s cut = such_before content s.fed at MayGoOn within s.octets s.comes (goes_on s.fed reader s.read s.taken s.stands s.frames s.numbered s.none cut)
+
+-- ---- more octets than are read
+
 large_in : (c : List ℕ) (reader : Reader) (at : ℕ) (events : List code_event.Event) → IsLarge c at → Gathering (Some c) reader at events → IsCutNow reader → IsTooLarge c
-large_in c reader at events large s (inl e) = record { large = large.1; ends = cut_in c s.fed (reading.reader_left reader) reader s.read s.taken HeaderCut refl (all_fed c s.fed at large.0 s.comes) s.stands s.frames s.numbered s.none e (inl refl) }
-large_in c reader at events large s (inr e) = record { large = large.1; ends = cut_in c s.fed (reading.reader_left reader) reader s.read s.taken BodyCut refl (all_fed c s.fed at large.0 s.comes) s.stands s.frames s.numbered s.none e (inr refl) }
+large_in c reader at events large s cut = record {
+  large = large.1;
+  ends = subst MayGoOn (sym (all_fed c s.fed at large.0 s.comes)) (goes_on s.fed reader s.read s.taken s.stands s.frames s.numbered s.none cut);
+}
 
 pub refused_piece : (content : Option (List ℕ)) (reader : Reader) (at : ℕ) (events : List code_event.Event) (error : ReadError) → (IsErrOf {T = ℕ} (Err error) pieces.TooLarge → IfSome content (λ c. IsLarge c at)) → Gathering content reader at events → IsCutNow reader → IfSome content (IsRefused (of_input error))
 refused_piece None reader at events error large s cut = tt

@@ -34,10 +34,14 @@ abbrev pub EndsOrIsCut : List ℕ → Result Progress Stopped → Type 0
 EndsOrIsCut octets (Ok read) = Unit {0}
 EndsOrIsCut octets (Err stopped) = is_cut octets stopped.read.records ≡ true
 
+-- octets behind which an input may be read on: they break no rule but that their last record is cut
+abbrev pub MayGoOn : List ℕ → Type 0
+MayGoOn octets = EndsOrIsCut octets (input octets)
+
 -- there are more octets than are read, and these break no rule but that their last record is cut
 pub record IsTooLarge (octets : List ℕ) : Type 0 where
   pub large : 2 ^ 36 < length octets
-  pub ends : EndsOrIsCut (octets_read octets) (input (octets_read octets))
+  pub ends : MayGoOn (octets_read octets)
 
 -- why no events are given of these octets; a fault of reading and want of memory can come of any
 abbrev pub IsRefused : WholeError → List ℕ → Type 0

@@ -2,8 +2,8 @@
 
 ghost use Rattle.std.specs.Prelude.{◌≡◌, ◌<◌, length, map, IfErr, IfOk, IfSome};
 ghost use Rattle.fib_prefix.specs.Views.{event_as};
-ghost use Rattle.fib_io.specs.Reads.{Makes, Pass};
-ghost use Rattle.whole_input.specs.Whole.{FaultRose, HasEvents, IsRefused, end_of, of_input, of_read};
+ghost use Rattle.fib_io.specs.Reads.{Makes, PassInTime};
+ghost use Rattle.whole_input.specs.Whole.{FaultRose, HasEvents, IsRefused, MayGoOn, end_of, of_input, of_read};
 ghost use Rattle.whole_input.specs.declared.whole.WholeError.TheVariants.{Malformed as IsMalformed, NoMemory as IsNoMemory};
 
 use fib_io::{Inputs, ReadError, piece_room, read_piece};
@@ -91,7 +91,7 @@ fn read_through<I: Inputs>(
     ensures same { I.content inputs.new ≡ I.content inputs.old }
     ensures cause { FaultRose (I.faults inputs.old) (I.faults inputs.new) name.now result }
     ensures reads { Makes (I.reads inputs.old) (I.reads inputs.new)
-        (Pass (end_of result) name.now) }
+        (PassInTime (I.content inputs.old name.now) MayGoOn (end_of result) name.now) }
 {
     let mut reader = Reader::new(alloc);
     let mut all = Vec::new(alloc);
@@ -126,7 +126,7 @@ pub fn read_all_events<I: Inputs>(
     ensures same { I.content inputs.new ≡ I.content inputs.old }
     ensures cause { FaultRose (I.faults inputs.old) (I.faults inputs.new) name.now result }
     ensures reads { Makes (I.reads inputs.old) (I.reads inputs.new)
-        (Pass (end_of result) name.now) }
+        (PassInTime (I.content inputs.old name.now) MayGoOn (end_of result) name.now) }
 {
     let mut room = piece_room(alloc)?;
     read_through(alloc, inputs, name, &mut room)

@@ -1,10 +1,12 @@
-use Rattle.std.proofs.Common.{◌+◌, ◌∙◌, Err, ap, arith, refl}
+use Rattle.std.proofs.Common.{◌+◌, ◌∙◌, Err, Ok, ap, arith, refl}
 use Rattle.std.proofs.lemmas.Grind.{common_steps}
 use Rattle.std.proofs.lemmas.Result.{err_from_is_err_and}
 use Rattle.fib_io.specs.Pieces.{ComeNext, IsEnd, IsLarge}
 use Rattle.fib_io.proofs.Passing.{pass_begins, pass_ends, pass_goes_on, pass_refused, pass_stops}
+use Rattle.fib_io.proofs.Timing.{passes_in_time, time_begins, time_goes_on}
 use Rattle.whole_input.proofs.Arriving.{told_before}
-use Rattle.fib_main.proofs.AskReading.{asking_feeds, asking_start, brings_all, cause_of_end, cause_of_feed, feed_fits, finish_fits, reads_of_end, reads_of_feed, refused_feed, refused_piece}
+use Rattle.fib_main.specs.InTime.{AsksMayGoOn}
+use Rattle.fib_main.proofs.AskReading.{asking_feeds, asking_on, asking_start, brings_all, cause_of_end, cause_of_feed, feed_fits, finish_fits, reads_of_end, reads_of_feed, refused_feed, refused_piece}
 use Rattle.fib_main.proofs.Passes.{asks_end_of_input}
 use Rattle.fib_main.proofs.asks.read_through.Goals as goal
 
@@ -16,6 +18,7 @@ loop-reader-init g c = record {
   same = refl;
   kept = refl;
   made = pass_begins _ c.args.name.now;
+  in_time = time_begins _ _ AsksMayGoOn;
 }
 
 pub returns-in_err-n-clause-brings : goal.returns-in_err-n-clause-brings
@@ -56,20 +59,28 @@ loop-reader-preserved g c =
       same = c.in_ok-n.ensures.same ∙ c.loop-reader.invariant.same;
       kept = c.in_ok-n.ensures.cause ∙ c.loop-reader.invariant.kept;
       made = pass_goes_on _ _ _ c.args.name.now c.loop-reader.at c.loop-reader.at _ c.in_ok-n.n refl refl (grind (arith, common_steps)) c.loop-reader.invariant.made c.in_ok-n.ensures.made;
+      in_time = time_goes_on _ _ _ _ AsksMayGoOn c.args.name.now c.loop-reader.at (Ok c.in_ok-n.n) (asking_on _ _ c.loop-reader.at c.loop-reader.invariant.within c.loop-reader.invariant.stands) c.loop-reader.invariant.in_time c.in_ok-n.ensures.made;
     }
 
 pub returns-in_err-n-clause-reads : goal.returns-in_err-n-clause-reads
 returns-in_err-n-clause-reads g c =
     let p = err_from_is_err_and c.from_residual.result c.from_residual.ensures.1 in
-    rw (p.1, p.2, asks_end_of_input c.in_err-n.field-0.0) (pass_refused _ _ _ c.args.name.now c.loop-reader.at c.loop-reader.at c.in_err-n.field-0.0 refl c.loop-reader.invariant.within c.loop-reader.invariant.made c.in_err-n.ensures.made)
+    rw (p.1, p.2, asks_end_of_input c.in_err-n.field-0.0) (passes_in_time _ _ _ AsksMayGoOn _ c.args.name.now
+    (pass_refused _ _ _ c.args.name.now c.loop-reader.at c.loop-reader.at c.in_err-n.field-0.0 refl c.loop-reader.invariant.within c.loop-reader.invariant.made c.in_err-n.ensures.made)
+    (time_goes_on _ _ _ _ AsksMayGoOn c.args.name.now c.loop-reader.at (Err c.in_err-n.field-0.0) (asking_on _ _ c.loop-reader.at c.loop-reader.invariant.within c.loop-reader.invariant.stands) c.loop-reader.invariant.in_time c.in_err-n.ensures.made))
 
 pub returns-then-n-eq0-clause-reads : goal.returns-then-n-eq0-clause-reads
-returns-then-n-eq0-clause-reads g c = reads_of_end _ _ c.args.name.now _ _ _ _ c.loop-reader.invariant.stands c.finish.ensures
-    (pass_ends _ _ _ c.args.name.now c.loop-reader.at c.loop-reader.at c.in_ok-n.n refl c.loop-reader.invariant.within c.if-n-eq0.true c.loop-reader.invariant.made c.in_ok-n.ensures.made)
+returns-then-n-eq0-clause-reads g c =
+    passes_in_time _ _ _ AsksMayGoOn _ c.args.name.now
+    (reads_of_end _ _ c.args.name.now _ _ _ _ c.loop-reader.invariant.stands c.finish.ensures
+    (pass_ends _ _ _ c.args.name.now c.loop-reader.at c.loop-reader.at c.in_ok-n.n refl c.loop-reader.invariant.within c.if-n-eq0.true c.loop-reader.invariant.made c.in_ok-n.ensures.made))
+    (time_goes_on _ _ _ _ AsksMayGoOn c.args.name.now c.loop-reader.at (Ok c.in_ok-n.n) (asking_on _ _ c.loop-reader.at c.loop-reader.invariant.within c.loop-reader.invariant.stands) c.loop-reader.invariant.in_time c.in_ok-n.ensures.made)
 
 pub returns-in_err-feed-clause-reads : goal.returns-in_err-feed-clause-reads
 returns-in_err-feed-clause-reads g c =
     let p = err_from_is_err_and c.from_residual-in_err-feed.result c.from_residual-in_err-feed.ensures.1 in
-    rw (p.1, p.2) (reads_of_feed _ _ c.args.name.now _ _ _ c.read_piece.new.room c.loop-reader.at c.in_ok-n.n c.in_err-feed.field-0.0 c.loop-reader.invariant.stands c.in_err-feed.ensures
+    rw (p.1, p.2) (passes_in_time _ _ _ AsksMayGoOn _ c.args.name.now
+    (reads_of_feed _ _ c.args.name.now _ _ _ c.read_piece.new.room c.loop-reader.at c.in_ok-n.n c.in_err-feed.field-0.0 c.loop-reader.invariant.stands c.in_err-feed.ensures
     (pass_stops _ _ c.args.name.now (c.loop-reader.at + c.in_ok-n.n) c.in_ok-n.ensures.within
     (pass_goes_on _ _ _ c.args.name.now c.loop-reader.at c.loop-reader.at (c.loop-reader.at + c.in_ok-n.n) c.in_ok-n.n refl refl (grind (arith, common_steps)) c.loop-reader.invariant.made c.in_ok-n.ensures.made)))
+    (time_goes_on _ _ _ _ AsksMayGoOn c.args.name.now c.loop-reader.at (Ok c.in_ok-n.n) (asking_on _ _ c.loop-reader.at c.loop-reader.invariant.within c.loop-reader.invariant.stands) c.loop-reader.invariant.in_time c.in_ok-n.ensures.made))

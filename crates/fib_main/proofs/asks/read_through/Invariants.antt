@@ -1,5 +1,6 @@
 use Rattle.std.proofs.Common.{◌≡◌, ◌+◌, ◌-◌, ◌^◌, ◌<◌, ◌≤◌, length}
-use Rattle.fib_io.specs.Reads.{Leads, Makes}
+use Rattle.fib_io.specs.Reads.{AreInTime, Leads, Makes}
+use Rattle.fib_main.specs.InTime.{AsksMayGoOn}
 use Rattle.fib_main.proofs.AskReading.{Asking}
 use Rattle.fib_main.proofs.asks.read_through.Given as goal
 
@@ -11,6 +12,7 @@ invariant-loop-reader g l = record {
   same : g.I.Inputs.content l.inputs ≡ g.I.Inputs.content l.fn.inputs;
   kept : g.I.Inputs.faults l.inputs ≡ g.I.Inputs.faults l.fn.inputs;
   made : Makes (g.I.Inputs.reads l.fn.inputs) (g.I.Inputs.reads l.inputs) (Leads l.name 0 l.at);
+  in_time : Makes (g.I.Inputs.reads l.fn.inputs) (g.I.Inputs.reads l.inputs) (AreInTime (g.I.Inputs.content l.fn.inputs l.name) AsksMayGoOn);
 }
 
 abbrev pub decreases-loop-reader : goal.decreases-loop-reader

@@ -1,14 +1,16 @@
-use Rattle.std.proofs.Common.{◌+◌, ◌∙◌, arith, refl, sym, rules}
+use Rattle.std.proofs.Common.{◌+◌, ◌∙◌, Err, Ok, arith, refl, sym, rules}
 use Rattle.std.proofs.lemmas.Grind.{common_steps}
 use Rattle.std.proofs.lemmas.Result.{err_from_is_err_and}
 use Rattle.mrt_read.proofs.Fed.{fed_at_start, fed_more, fed_takes}
 use Rattle.fib_io.specs.Pieces.{ComeNext, IsEnd, IsLarge}
 use Rattle.fib_io.proofs.Passing.{pass_begins, pass_ends, pass_goes_on, pass_refused, pass_stops, pass_stops_at_end}
+use Rattle.fib_io.proofs.Timing.{passes_in_time, time_begins, time_goes_on}
 use Rattle.fib_main.specs.Due.{feed_at}
+use Rattle.fib_main.specs.InTime.{FeedMayGoOn}
 use Rattle.fib_main.proofs.Passes.{feeds_end_of_input, feeds_end_of_read, input_numbered, read_numbered, taken_end}
 use Rattle.whole_input.proofs.Arriving.{told_before}
 use Rattle.whole_input.proofs.Cutting.{cut_at_start}
-use Rattle.fib_main.proofs.Streaming.{brings_all, few_all, refused_end, refused_event, refused_piece, refused_read, streaming_feeds, streaming_fits, streaming_start, streaming_takes}
+use Rattle.fib_main.proofs.Streaming.{brings_all, few_all, refused_end, refused_event, refused_piece, refused_read, streaming_feeds, streaming_fits, streaming_on, streaming_start, streaming_takes}
 use Rattle.fib_main.proofs.feed.feed_through.Goals as goal
 
 pub loop-more-init : goal.loop-more-init
@@ -22,6 +24,7 @@ loop-more-init g c = record {
   same = refl;
   kept = refl;
   made = pass_begins _ c.args.name.now;
+  in_time = λ limits before s. time_begins _ _ (FeedMayGoOn limits.sizes c.args.which before);
 }
 
 pub returns-in_err-n-clause-brings : goal.returns-in_err-n-clause-brings
@@ -53,6 +56,7 @@ loop-more-2-init g c = record {
   same = c.in_ok-n.ensures.same ∙ c.loop-more.invariant.same;
   kept = c.in_ok-n.ensures.cause ∙ c.loop-more.invariant.kept;
   made = pass_goes_on _ _ _ c.args.name.now c.loop-more.at c.loop-more.at _ c.in_ok-n.n refl refl (grind (arith, common_steps)) c.loop-more.invariant.made c.in_ok-n.ensures.made;
+  in_time = λ limits before s. time_goes_on _ _ _ _ (FeedMayGoOn limits.sizes c.args.which before) c.args.name.now c.loop-more.at (Ok c.in_ok-n.n) (streaming_on _ _ _ _ _ c.loop-more.at _ limits before c.loop-more.invariant.within s c.loop-more.invariant.stands c.loop-more.invariant.cut) (c.loop-more.invariant.in_time limits before s) c.in_ok-n.ensures.made;
 }
 
 pub returns-in_err-read_events-clause-brings : goal.returns-in_err-read_events-clause-brings
@@ -88,6 +92,7 @@ loop-more-2-preserved g c =
       same = c.loop-more-2.invariant.same;
       kept = c.loop-more-2.invariant.kept;
       made = c.loop-more-2.invariant.made;
+      in_time = c.loop-more-2.invariant.in_time;
     }
 
 pub returns-in_err-n-clause-reads : goal.returns-in_err-n-clause-reads
@@ -133,3 +138,21 @@ pub returns-in_err-events-clause-numbered : goal.returns-in_err-events-clause-nu
 returns-in_err-events-clause-numbered g c =
     let p = err_from_is_err_and c.from_residual-in_err-events.result c.from_residual-in_err-events.ensures.1 in
     rw (p.1, p.2) c.in_err-events.ensures.numbered
+
+pub returns-in_err-n-clause-in_time : goal.returns-in_err-n-clause-in_time
+returns-in_err-n-clause-in_time g c = λ limits before s. passes_in_time _ _ _ (FeedMayGoOn limits.sizes c.args.which before) _ c.args.name.now (returns-in_err-n-clause-reads g c) (time_goes_on _ _ _ _ (FeedMayGoOn limits.sizes c.args.which before) c.args.name.now c.loop-more.at (Err c.in_err-n.field-0.0) (streaming_on _ _ _ _ _ c.loop-more.at _ limits before c.loop-more.invariant.within s c.loop-more.invariant.stands c.loop-more.invariant.cut) (c.loop-more.invariant.in_time limits before s) c.in_err-n.ensures.made)
+
+pub returns-in_err-finish-clause-in_time : goal.returns-in_err-finish-clause-in_time
+returns-in_err-finish-clause-in_time g c = λ limits before s. passes_in_time _ _ _ (FeedMayGoOn limits.sizes c.args.which before) _ c.args.name.now (returns-in_err-finish-clause-reads g c) (time_goes_on _ _ _ _ (FeedMayGoOn limits.sizes c.args.which before) c.args.name.now c.loop-more.at (Ok c.in_ok-n.n) (streaming_on _ _ _ _ _ c.loop-more.at _ limits before c.loop-more.invariant.within s c.loop-more.invariant.stands c.loop-more.invariant.cut) (c.loop-more.invariant.in_time limits before s) c.in_ok-n.ensures.made)
+
+pub returns-then-n-eq0-clause-in_time : goal.returns-then-n-eq0-clause-in_time
+returns-then-n-eq0-clause-in_time g c = λ limits before s. passes_in_time _ _ _ (FeedMayGoOn limits.sizes c.args.which before) _ c.args.name.now (returns-then-n-eq0-clause-reads g c) (time_goes_on _ _ _ _ (FeedMayGoOn limits.sizes c.args.which before) c.args.name.now c.loop-more.at (Ok c.in_ok-n.n) (streaming_on _ _ _ _ _ c.loop-more.at _ limits before c.loop-more.invariant.within s c.loop-more.invariant.stands c.loop-more.invariant.cut) (c.loop-more.invariant.in_time limits before s) c.in_ok-n.ensures.made)
+
+pub returns-in_err-feed-clause-in_time : goal.returns-in_err-feed-clause-in_time
+returns-in_err-feed-clause-in_time g c = λ limits before s. passes_in_time _ _ _ (FeedMayGoOn limits.sizes c.args.which before) _ c.args.name.now (returns-in_err-feed-clause-reads g c) (time_goes_on _ _ _ _ (FeedMayGoOn limits.sizes c.args.which before) c.args.name.now c.loop-more.at (Ok c.in_ok-n.n) (streaming_on _ _ _ _ _ c.loop-more.at _ limits before c.loop-more.invariant.within s c.loop-more.invariant.stands c.loop-more.invariant.cut) (c.loop-more.invariant.in_time limits before s) c.in_ok-n.ensures.made)
+
+pub returns-in_err-read_events-clause-in_time : goal.returns-in_err-read_events-clause-in_time
+returns-in_err-read_events-clause-in_time g c = λ limits before s. passes_in_time _ _ _ (FeedMayGoOn limits.sizes c.args.which before) _ c.args.name.now (returns-in_err-read_events-clause-reads g c) (c.loop-more-2.invariant.in_time limits before s)
+
+pub returns-in_err-events-clause-in_time : goal.returns-in_err-events-clause-in_time
+returns-in_err-events-clause-in_time g c = λ limits before s. passes_in_time _ _ _ (FeedMayGoOn limits.sizes c.args.which before) _ c.args.name.now (returns-in_err-events-clause-reads g c) (c.loop-more-2.invariant.in_time limits before s)

@@ -1,8 +1,11 @@
-use Rattle.std.proofs.Common.{◌≡◌, ◌+◌, ◌-◌, ◌^◌, ◌<◌, ◌≤◌, length}
-use Rattle.fib_io.specs.Reads.{Leads, Makes}
+use Rattle.std.proofs.Common.{◌≡◌, ◌+◌, ◌-◌, ◌^◌, ◌<◌, ◌≤◌, List, [], length}
+use Rattle.fib_io.specs.Reads.{AreInTime, Leads, Makes}
+use Rattle.route_model.specs.Events.{Elem}
 use Rattle.mrt_read.proofs.Fed.{IsFed}
 use Rattle.mrt_read.specs.Standing.{reader_left}
-use Rattle.fib_main.specs.Standing.{IsReady}
+use Rattle.fib_main.specs.InTime.{FeedMayGoOn}
+use Rattle.fib_main.specs.Refusals.{Limits}
+use Rattle.fib_main.specs.Standing.{IsReady, StateStands}
 use Rattle.whole_input.proofs.Cutting.{IsCutNow}
 use Rattle.fib_main.proofs.Streaming.{Streaming}
 use Rattle.fib_main.proofs.feed.feed_through.Given as goal
@@ -18,6 +21,7 @@ invariant-loop-more g l = record {
   same : g.I.Inputs.content l.inputs ≡ g.I.Inputs.content l.fn.inputs;
   kept : g.I.Inputs.faults l.inputs ≡ g.I.Inputs.faults l.fn.inputs;
   made : Makes (g.I.Inputs.reads l.fn.inputs) (g.I.Inputs.reads l.inputs) (Leads l.name 0 l.at);
+  in_time : (limits : Limits) (before : List Elem) → StateStands l.fn.which limits before [] l.fn.state → Makes (g.I.Inputs.reads l.fn.inputs) (g.I.Inputs.reads l.inputs) (AreInTime (g.I.Inputs.content l.fn.inputs l.name) (FeedMayGoOn limits.sizes l.fn.which before));
 }
 
 abbrev pub decreases-loop-more : goal.decreases-loop-more
@@ -33,6 +37,7 @@ invariant-loop-more-2 g l = record {
   same : g.I.Inputs.content l.inputs ≡ g.I.Inputs.content l.fn.inputs;
   kept : g.I.Inputs.faults l.inputs ≡ g.I.Inputs.faults l.fn.inputs;
   made : Makes (g.I.Inputs.reads l.fn.inputs) (g.I.Inputs.reads l.inputs) (Leads l.name 0 l.at);
+  in_time : (limits : Limits) (before : List Elem) → StateStands l.fn.which limits before [] l.fn.state → Makes (g.I.Inputs.reads l.fn.inputs) (g.I.Inputs.reads l.inputs) (AreInTime (g.I.Inputs.content l.fn.inputs l.name) (FeedMayGoOn limits.sizes l.fn.which before));
 }
 
 abbrev pub decreases-loop-more-2 : goal.decreases-loop-more-2

@@ -1,6 +1,7 @@
 use Rattle.std.proofs.Common.{inl}
 use Rattle.std.proofs.lemmas.Result.{err_from_is_err_and}
 use Rattle.fib_main.specs.declared.outcome.Which.TheVariants as which
+use Rattle.fib_main.specs.InTime.{TextMayGoOn}
 use Rattle.fib_main.specs.Passes.{check_inputs}
 use Rattle.fib_main.proofs.Passes.{out_of_memory, text_refused}
 use Rattle.fib_main.proofs.run.check_for.Goals as goal
@@ -14,7 +15,7 @@ returns-in_err-octets-clause-reads g c =
     rw (p.1, p.2) c.in_err-octets.ensures.reads
 
 pub returns-in-Err-BadRow-clause-reads : goal.returns-in-Err-BadRow-clause-reads
-returns-in-Err-BadRow-clause-reads g c = text_refused _ _ which.Printed c.args.name.now c.in_ok-octets.ensures.reads
+returns-in-Err-BadRow-clause-reads g c = text_refused (g.I.Inputs.content c.args.inputs.now) TextMayGoOn _ _ which.Printed c.args.name.now c.in_ok-octets.ensures.reads
 
 pub returns-in-Err-NoMemory-clause-reads : goal.returns-in-Err-NoMemory-clause-reads
-returns-in-Err-NoMemory-clause-reads g c = out_of_memory _ _ (check_inputs c.args.name.now) c.in_ok-octets.ensures.reads
+returns-in-Err-NoMemory-clause-reads g c = out_of_memory (g.I.Inputs.content c.args.inputs.now) TextMayGoOn _ _ (check_inputs c.args.name.now) c.in_ok-octets.ensures.reads

@@ -7,6 +7,8 @@ use Rattle.fib_main.proofs.Due.{dump_fails, end_fails, fed_all, feeds_due, load_
 use Rattle.fib_main.specs.declared.outcome.Which.TheVariants as which
 use Rattle.fib_main.specs.Passes.{StopsReading, feed_inputs, input_for}
 use Rattle.fib_io.specs.Reads.{Makes}
+use Rattle.fib_main.specs.InTime.{RunMayGoOn}
+use Rattle.fib_main.proofs.Judging.{dump_read, dump_stops, updates_end, updates_stop}
 use Rattle.fib_main.proofs.Passes.{all_next, load_stops, stopped_first, stopped_next}
 use Rattle.fib_main.proofs.run.feed_both.Goals as goal
 
@@ -49,24 +51,36 @@ returns-clause-due g c = λ s.
     ((load.0, updates.0), fed_all (limits_of named) load.0 updates.0 _ _ _ load.1 updates.1, feeds_due _ named load.0 updates.0 (load_fits _ named load.0 load.2 (load_has_room (limits_of named) load.0 _ stands)) is)
 
 pub returns-in_err-load-clause-reads : goal.returns-in_err-load-clause-reads
-returns-in_err-load-clause-reads g c =
+returns-in_err-load-clause-reads g c = λ s.
     let p = err_from_is_err_and c.from_residual.result c.from_residual.ensures.1 in
     let named = named_as c.args.command.now in
-    rw (p.1, p.2) (stopped_first _ _ ((which.Dump, named.dump) ∷ []) (input_for which.Updates named.updates) _ c.in_err-load.ensures.reads)
+    let content = g.I.Inputs.content c.args.inputs.now in
+    rw (p.1, p.2) (stopped_first content (RunMayGoOn content named) _ _ ((which.Dump, named.dump) ∷ []) (input_for which.Updates named.updates) _ (dump_stops content named _ _ _ (c.in_err-load.ensures.reads (limits_of named) [] s)))
 
 pub returns-in-Err-clause-reads : goal.returns-in-Err-clause-reads
-returns-in-Err-clause-reads g c =
+returns-in-Err-clause-reads g c = λ s.
     let named = named_as c.args.command.now in
-    subst (λ o. Makes (g.I.Inputs.reads c.args.inputs.now) (g.I.Inputs.reads c.feed_of.new.inputs) (StopsReading (feed_inputs named) o)) (sym c.outcome_of_refusal.ensures)
-    (stopped_first _ _ ((which.Dump, named.dump) ∷ []) (input_for which.Updates named.updates) _ (load_stops _ _ named.dump c.in-Err.error c.in-Err.ensures.kinds c.in_ok-load.ensures.reads))
+    let content = g.I.Inputs.content c.args.inputs.now in
+    subst (λ o. Makes (g.I.Inputs.reads c.args.inputs.now) (g.I.Inputs.reads c.feed_of.new.inputs) (StopsReading content (RunMayGoOn content named) (feed_inputs named) o)) (sym c.outcome_of_refusal.ensures)
+    (stopped_first content (RunMayGoOn content named) _ _ ((which.Dump, named.dump) ∷ []) (input_for which.Updates named.updates) _ (load_stops content (RunMayGoOn content named) _ _ named.dump c.in-Err.error c.in-Err.ensures.kinds (dump_read content named _ _ (c.in_ok-load.ensures.reads (limits_of named) [] s))))
 
 pub returns-in_err-updates-clause-reads : goal.returns-in_err-updates-clause-reads
-returns-in_err-updates-clause-reads g c =
+returns-in_err-updates-clause-reads g c = λ s.
     let p = err_from_is_err_and c.from_residual-in_err-updates.result c.from_residual-in_err-updates.ensures.1 in
     let named = named_as c.args.command.now in
-    rw (p.1, p.2) (stopped_next _ _ _ ((which.Dump, named.dump) ∷ []) (input_for which.Updates named.updates) _ c.in_ok-load.ensures.reads c.in_err-updates.ensures.reads)
+    let content = g.I.Inputs.content c.args.inputs.now in
+    let load = c.in_ok-load.ensures.due (limits_of named) [] s in
+    let stands = c.in_default.ensures.stands (limits_of named) load.0.elems load.1.stands in
+    let fits = load_fits _ named load.0 load.2 (load_has_room (limits_of named) load.0 _ stands) in
+    let later = rw c.in_ok-load.ensures.same at (c.in_err-updates.ensures.reads (limits_of named) load.0.elems stands) in
+    rw (p.1, p.2) (stopped_next content (RunMayGoOn content named) _ _ _ ((which.Dump, named.dump) ∷ []) (input_for which.Updates named.updates) _ (dump_read content named _ _ (c.in_ok-load.ensures.reads (limits_of named) [] s)) (updates_stop content named load.0 _ _ _ fits later))
 
 pub returns-clause-reads : goal.returns-clause-reads
-returns-clause-reads g c =
+returns-clause-reads g c = λ s.
     let named = named_as c.args.command.now in
-    all_next _ _ _ ((which.Dump, named.dump) ∷ []) (input_for which.Updates named.updates) c.in_ok-load.ensures.reads c.in_ok-updates.ensures.reads
+    let content = g.I.Inputs.content c.args.inputs.now in
+    let load = c.in_ok-load.ensures.due (limits_of named) [] s in
+    let stands = c.in_default.ensures.stands (limits_of named) load.0.elems load.1.stands in
+    let fits = load_fits _ named load.0 load.2 (load_has_room (limits_of named) load.0 _ stands) in
+    let later = rw c.in_ok-load.ensures.same at (c.in_ok-updates.ensures.reads (limits_of named) load.0.elems stands) in
+    all_next content (RunMayGoOn content named) _ _ _ ((which.Dump, named.dump) ∷ []) (input_for which.Updates named.updates) (dump_read content named _ _ (c.in_ok-load.ensures.reads (limits_of named) [] s)) (updates_end content named load.0 _ _ fits later)

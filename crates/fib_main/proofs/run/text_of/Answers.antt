@@ -6,6 +6,7 @@ use Rattle.fib_main.specs.declared.outcome.MrtInput.TheVariants.{Dump}
 use Rattle.fib_main.specs.Due.{limits_of, printed_text}
 use Rattle.fib_main.specs.Standing.{StateStands}
 use Rattle.fib_main.proofs.Due.{all_due, feeds_fail}
+use Rattle.fib_main.specs.InTime.{RunMayGoOn}
 use Rattle.fib_main.specs.Passes.{feed_inputs}
 use Rattle.fib_main.proofs.Passes.{out_of_memory}
 use Rattle.fib_main.proofs.run.text_of.Goals as goal
@@ -44,8 +45,18 @@ returns-in_err-fed-clause-cause g c =
 
 pub returns-in_err-fed-clause-reads : goal.returns-in_err-fed-clause-reads
 returns-in_err-fed-clause-reads g c =
+    let stands = subst (λ l. StateStands Dump l [] [] c.new-state.result) c.limits_of.ensures c.new-state.ensures.stands in
     let p = err_from_is_err_and c.from_residual.result c.from_residual.ensures.1 in
-    rw (p.1, p.2) c.in_err-fed.ensures.reads
+    rw (p.1, p.2) (c.in_err-fed.ensures.reads stands)
 
 pub returns-in-Err-clause-reads : goal.returns-in-Err-clause-reads
-returns-in-Err-clause-reads g c = out_of_memory _ _ (feed_inputs (named_as c.args.command.now)) c.in_ok-fed.ensures.reads
+returns-in-Err-clause-reads g c =
+    let named = named_as c.args.command.now in
+    let content = g.I.Inputs.content c.args.inputs.now in
+    let stands = subst (λ l. StateStands Dump l [] [] c.new-state.result) c.limits_of.ensures c.new-state.ensures.stands in
+    out_of_memory content (RunMayGoOn content named) _ _ (feed_inputs named) (c.in_ok-fed.ensures.reads stands)
+
+pub returns-in-Ok-clause-reads : goal.returns-in-Ok-clause-reads
+returns-in-Ok-clause-reads g c =
+    let stands = subst (λ l. StateStands Dump l [] [] c.new-state.result) c.limits_of.ensures c.new-state.ensures.stands in
+    c.in_ok-fed.ensures.reads stands

@@ -12,6 +12,8 @@ use Rattle.fib_main.specs.Standing.{StateStands}
 use Rattle.fib_main.proofs.Due.{dump_stops, end_reads, load_due, load_ends, load_has_room, load_refused}
 use Rattle.fib_io.specs.Reads.{Makes}
 use Rattle.fib_main.specs.Passes.{StopsReading}
+use Rattle.fib_main.specs.InTime.{StepsMayGoOn}
+use Rattle.fib_main.proofs.Judging.{load_read, load_stopped}
 use Rattle.fib_main.proofs.Passes.{load_stops}
 use Rattle.fib_main.proofs.stepping.load_of.Goals as goal
 
@@ -58,11 +60,23 @@ returns-clause-due g c =
 
 pub returns-in_err-feed_of-clause-reads : goal.returns-in_err-feed_of-clause-reads
 returns-in_err-feed_of-clause-reads g c =
+    let z = steps_sizes (steps_as c.args.command.now) in
+    let stands = subst (λ z. StateStands Dump (record { every = 0; sizes = z }) [] [] c.new-state.result) c.sizes_of.ensures c.new-state.ensures.stands in
     let p = err_from_is_err_and c.from_residual.result c.from_residual.ensures.1 in
-    rw (p.1, p.2) c.in_err-feed_of.ensures.reads
+    rw (p.1, p.2) (load_stopped (g.I.Inputs.content c.args.inputs.now) (steps_as c.args.command.now) _ _ _ (c.in_err-feed_of.ensures.reads (record { every = 0; sizes = z }) [] stands))
 
 pub returns-in-Err-clause-reads : goal.returns-in-Err-clause-reads
 returns-in-Err-clause-reads g c =
-    let name = (steps_as c.args.command.now).dump in
-    subst (λ o. Makes (g.I.Inputs.reads c.args.inputs.now) (g.I.Inputs.reads c.feed_of.new.inputs) (StopsReading ((which.Dump, name) ∷ []) o)) (sym c.outcome_of_refusal.ensures)
-    (load_stops _ _ name c.in-Err.error c.in-Err.ensures.kinds c.in_ok-feed_of.ensures.reads)
+    let named = steps_as c.args.command.now in
+    let content = g.I.Inputs.content c.args.inputs.now in
+    let z = steps_sizes named in
+    let stands = subst (λ z. StateStands Dump (record { every = 0; sizes = z }) [] [] c.new-state.result) c.sizes_of.ensures c.new-state.ensures.stands in
+    subst (λ o. Makes (g.I.Inputs.reads c.args.inputs.now) (g.I.Inputs.reads c.feed_of.new.inputs) (StopsReading content (StepsMayGoOn named) ((which.Dump, named.dump) ∷ []) o)) (sym c.outcome_of_refusal.ensures)
+    (load_stops content (StepsMayGoOn named) _ _ named.dump c.in-Err.error c.in-Err.ensures.kinds (load_read content named _ _ (c.in_ok-feed_of.ensures.reads (record { every = 0; sizes = z }) [] stands)))
+
+pub returns-clause-reads : goal.returns-clause-reads
+returns-clause-reads g c =
+    let named = steps_as c.args.command.now in
+    let z = steps_sizes named in
+    let stands = subst (λ z. StateStands Dump (record { every = 0; sizes = z }) [] [] c.new-state.result) c.sizes_of.ensures c.new-state.ensures.stands in
+    load_read (g.I.Inputs.content c.args.inputs.now) named _ _ (c.in_ok-feed_of.ensures.reads (record { every = 0; sizes = z }) [] stands)

@@ -13,6 +13,8 @@ use Rattle.fib_main.specs.Untold.{GivesText}
 use Rattle.fib_main.proofs.Stepped.{dump_stops, early_due, early_of, first_read, is_of_step, later_read, step_stops, text_due, updates_stop, world_due}
 use Rattle.fib_io.specs.Reads.{Makes}
 use Rattle.fib_main.specs.Passes.{StopsReading, load_inputs}
+use Rattle.fib_main.specs.InTime.{StepsMayGoOn}
+use Rattle.fib_main.proofs.Judging.{events_end, events_stopped}
 use Rattle.fib_main.proofs.Passes.{all_next, step_stops_reading, stopped_first, stopped_next}
 use Rattle.fib_main.proofs.stepping.rows_of.Goals as goal
 
@@ -87,23 +89,27 @@ pub returns-in_err-engine-clause-reads : goal.returns-in_err-engine-clause-reads
 returns-in_err-engine-clause-reads g c =
     let p = err_from_is_err_and c.from_residual.result c.from_residual.ensures.1 in
     let named = steps_as c.args.command.now in
-    rw (p.1, p.2) (stopped_first _ _ ((which.Dump, named.dump) ∷ []) ((which.Updates, named.updates) ∷ []) _ c.in_err-engine.ensures.reads)
+    rw (p.1, p.2) (stopped_first (g.I.Inputs.content c.args.inputs.now) (StepsMayGoOn named) _ _ ((which.Dump, named.dump) ∷ []) ((which.Updates, named.updates) ∷ []) _ c.in_err-engine.ensures.reads)
 
 pub returns-in_err-events-clause-reads : goal.returns-in_err-events-clause-reads
 returns-in_err-events-clause-reads g c =
     let p = err_from_is_err_and c.from_residual-in_err-events.result c.from_residual-in_err-events.ensures.1 in
     let named = steps_as c.args.command.now in
-    rw (p.1, p.2) (stopped_next _ _ _ ((which.Dump, named.dump) ∷ []) ((which.Updates, named.updates) ∷ []) _ c.in_ok-engine.ensures.reads c.in_err-events.ensures.reads)
+    let later = rw c.in_ok-engine.ensures.same at c.in_err-events.ensures.reads in
+    rw (p.1, p.2) (stopped_next (g.I.Inputs.content c.args.inputs.now) (StepsMayGoOn named) _ _ _ ((which.Dump, named.dump) ∷ []) ((which.Updates, named.updates) ∷ []) _ c.in_ok-engine.ensures.reads (events_stopped (g.I.Inputs.content c.args.inputs.now) named _ _ _ later))
 
 pub returns-in-Ok-clause-reads : goal.returns-in-Ok-clause-reads
 returns-in-Ok-clause-reads g c =
     let named = steps_as c.args.command.now in
-    all_next _ _ _ ((which.Dump, named.dump) ∷ []) ((which.Updates, named.updates) ∷ []) c.in_ok-engine.ensures.reads c.in_ok-events.ensures.reads
+    let later = rw c.in_ok-engine.ensures.same at c.in_ok-events.ensures.reads in
+    all_next (g.I.Inputs.content c.args.inputs.now) (StepsMayGoOn named) _ _ _ ((which.Dump, named.dump) ∷ []) ((which.Updates, named.updates) ∷ []) c.in_ok-engine.ensures.reads (events_end (g.I.Inputs.content c.args.inputs.now) named _ _ later)
 
 pub returns-clause-reads : goal.returns-clause-reads
 returns-clause-reads g c =
     let named = steps_as c.args.command.now in
+    let content = g.I.Inputs.content c.args.inputs.now in
     let load = c.in_ok-engine.ensures.due in
-    subst (λ o. Makes (g.I.Inputs.reads c.args.inputs.now) (g.I.Inputs.reads c.events_of.new.inputs) (StopsReading (load_inputs named) o)) (sym c.outcome_of_step.ensures)
-    (stopped_next _ _ _ ((which.Dump, named.dump) ∷ []) ((which.Updates, named.updates) ∷ []) (of_step c.in-Err.error) c.in_ok-engine.ensures.reads
-    (step_stops_reading _ _ _ _ named.updates c.in-Err.error (c.in-Err.ensures.stops load.0.elems load.1) c.in_ok-events.ensures.reads))
+    let later = rw c.in_ok-engine.ensures.same at c.in_ok-events.ensures.reads in
+    subst (λ o. Makes (g.I.Inputs.reads c.args.inputs.now) (g.I.Inputs.reads c.events_of.new.inputs) (StopsReading content (StepsMayGoOn named) (load_inputs named) o)) (sym c.outcome_of_step.ensures)
+    (stopped_next content (StepsMayGoOn named) _ _ _ ((which.Dump, named.dump) ∷ []) ((which.Updates, named.updates) ∷ []) (of_step c.in-Err.error) c.in_ok-engine.ensures.reads
+    (step_stops_reading content (StepsMayGoOn named) _ _ _ _ named.updates c.in-Err.error (c.in-Err.ensures.stops load.0.elems load.1) (events_end content named _ _ later)))

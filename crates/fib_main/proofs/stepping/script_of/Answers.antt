@@ -1,6 +1,7 @@
 use Rattle.std.proofs.lemmas.Result.{err_from_is_err_and}
 use Rattle.std.proofs.Common.{[], ◌∷◌}
 use Rattle.fib_main.specs.declared.outcome.Which.TheVariants as which
+use Rattle.fib_main.specs.InTime.{TextMayGoOn}
 use Rattle.fib_main.proofs.Passes.{out_of_memory}
 use Rattle.fib_main.proofs.stepping.script_of.Goals as goal
 
@@ -10,4 +11,4 @@ returns-in_err-octets-clause-reads g c =
     rw (p.1, p.2) c.in_err-octets.ensures.reads
 
 pub returns-clause-reads : goal.returns-clause-reads
-returns-clause-reads g c = out_of_memory _ _ ((which.Script, c.args.name.now) ∷ []) c.in_ok-octets.ensures.reads
+returns-clause-reads g c = out_of_memory (g.I.Inputs.content c.args.inputs.now) TextMayGoOn _ _ ((which.Script, c.args.name.now) ∷ []) c.in_ok-octets.ensures.reads

@@ -6,6 +6,8 @@ use Rattle.fib_main.specs.declared.outcome.Which.TheVariants as which
 use Rattle.fib_main.specs.Due.{script_at}
 use Rattle.fib_main.proofs.Stepped.{first_read, later_read, script_gives, script_stops}
 use Rattle.fib_main.specs.Passes.{load_inputs}
+use Rattle.fib_main.specs.InTime.{StepsMayGoOn}
+use Rattle.fib_main.proofs.Judging.{script_end, script_stopped}
 use Rattle.fib_main.proofs.Passes.{all_next, stopped_first, stopped_next}
 use Rattle.fib_main.proofs.stepping.steps_for.Goals as goal
 
@@ -70,15 +72,17 @@ pub returns-in_err-script-clause-reads : goal.returns-in_err-script-clause-reads
 returns-in_err-script-clause-reads g c =
     let p = err_from_is_err_and c.from_residual.result c.from_residual.ensures.1 in
     let named = steps_as c.args.command.now in
-    rw (p.1, p.2) (stopped_first _ _ ((which.Script, named.script) ∷ []) (load_inputs named) _ c.in_err-script.ensures.reads)
+    rw (p.1, p.2) (stopped_first (g.I.Inputs.content c.args.inputs.now) (StepsMayGoOn named) _ _ ((which.Script, named.script) ∷ []) (load_inputs named) _ (script_stopped (g.I.Inputs.content c.args.inputs.now) named _ _ _ c.in_err-script.ensures.reads))
 
 pub returns-in_err-text-clause-reads : goal.returns-in_err-text-clause-reads
 returns-in_err-text-clause-reads g c =
     let p = err_from_is_err_and c.from_residual-in_err-text.result c.from_residual-in_err-text.ensures.1 in
     let named = steps_as c.args.command.now in
-    rw (p.1, p.2) (stopped_next _ _ _ ((which.Script, named.script) ∷ []) (load_inputs named) _ c.in_ok-script.ensures.reads c.in_err-text.ensures.reads)
+    let later = rw c.in_ok-script.ensures.same at c.in_err-text.ensures.reads in
+    rw (p.1, p.2) (stopped_next (g.I.Inputs.content c.args.inputs.now) (StepsMayGoOn named) _ _ _ ((which.Script, named.script) ∷ []) (load_inputs named) _ (script_end (g.I.Inputs.content c.args.inputs.now) named _ _ c.in_ok-script.ensures.reads) later)
 
 pub returns-clause-reads : goal.returns-clause-reads
 returns-clause-reads g c =
     let named = steps_as c.args.command.now in
-    all_next _ _ _ ((which.Script, named.script) ∷ []) (load_inputs named) c.in_ok-script.ensures.reads c.in_ok-text.ensures.reads
+    let later = rw c.in_ok-script.ensures.same at c.in_ok-text.ensures.reads in
+    all_next (g.I.Inputs.content c.args.inputs.now) (StepsMayGoOn named) _ _ _ ((which.Script, named.script) ∷ []) (load_inputs named) (script_end (g.I.Inputs.content c.args.inputs.now) named _ _ c.in_ok-script.ensures.reads) later

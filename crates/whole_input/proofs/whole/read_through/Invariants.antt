@@ -1,7 +1,8 @@
 use Rattle.std.proofs.Common.{◌≡◌, ◌+◌, ◌-◌, ◌^◌, ◌<◌, ◌≤◌, length}
-use Rattle.fib_io.specs.Reads.{Leads, Makes}
+use Rattle.fib_io.specs.Reads.{AreInTime, Leads, Makes}
 use Rattle.mrt_read.proofs.Fed.{IsFed}
 use Rattle.mrt_read.specs.Standing.{reader_left}
+use Rattle.whole_input.specs.Whole.{MayGoOn}
 use Rattle.whole_input.proofs.Cutting.{IsCutNow}
 use Rattle.whole_input.proofs.Gathering.{Gathering}
 use Rattle.whole_input.proofs.whole.read_through.Given as goal
@@ -16,6 +17,7 @@ invariant-loop-more g l = record {
   same : g.I.Inputs.content l.inputs ≡ g.I.Inputs.content l.fn.inputs;
   kept : g.I.Inputs.faults l.inputs ≡ g.I.Inputs.faults l.fn.inputs;
   made : Makes (g.I.Inputs.reads l.fn.inputs) (g.I.Inputs.reads l.inputs) (Leads l.name 0 l.at);
+  in_time : Makes (g.I.Inputs.reads l.fn.inputs) (g.I.Inputs.reads l.inputs) (AreInTime (g.I.Inputs.content l.fn.inputs l.name) MayGoOn);
 }
 
 abbrev pub decreases-loop-more : goal.decreases-loop-more
@@ -30,6 +32,7 @@ invariant-loop-more-2 g l = record {
   same : g.I.Inputs.content l.inputs ≡ g.I.Inputs.content l.fn.inputs;
   kept : g.I.Inputs.faults l.inputs ≡ g.I.Inputs.faults l.fn.inputs;
   made : Makes (g.I.Inputs.reads l.fn.inputs) (g.I.Inputs.reads l.inputs) (Leads l.name 0 l.at);
+  in_time : Makes (g.I.Inputs.reads l.fn.inputs) (g.I.Inputs.reads l.inputs) (AreInTime (g.I.Inputs.content l.fn.inputs l.name) MayGoOn);
 }
 
 abbrev pub decreases-loop-more-2 : goal.decreases-loop-more-2
