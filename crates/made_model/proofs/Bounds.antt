@@ -14,9 +14,10 @@ pub record IsRoute (r : Route) : Type 0 where
   pub few : length r.prefix.bits ≤ 24
   pub peer : r.peer < 8
 
--- a path of at most four AS numbers, one of sixteen next hops
+-- a path of one to four AS numbers, one of sixteen next hops
 pub record IsOffer (o : Offer) : Type 0 where
   pub path : o.path ≤ 4
+  pub some : 0 < o.path
   pub hop : o.hop < 16
 
 pub length-route : (x : ℕ) → length (route x).prefix.bits ≡ 8 + draw x 0 % 17
@@ -37,5 +38,6 @@ pub offer_is : (x : ℕ) → IsOffer (offer x)
 unfolding offer
 offer_is x = record {
   path = let below : draw x 0 % 4 < 4 = mod_below (draw x 0) 4 (omega arith) in omega arith;
+  some = omega arith;
   hop = mod_below (draw x 1) 16 (omega arith);
 }

@@ -1,7 +1,8 @@
 -- The dump is read as its entries.
 use Rattle.std.proofs.Common.{◌≡◌, ℕ, zero, suc, ◌+◌, ◌<◌, ◌≤◌, false, List, [], ◌∷◌, ◌++◌, length, map, Some, Ok, refl, append_assoc, append-nil, arith}
-use Rattle.std.specs.Prelude.{flat_map, slice_get}
+use Rattle.std.specs.Prelude.{flat_map, slice_get, ◌==◌}
 use Rattle.std.specs.List.{range_with_len}
+use Rattle.std.proofs.lemmas.Bool.{ne_eqb}
 use Rattle.address_model.specs.declared.family.Family.TheVariants.{V4}
 use Rattle.route_model.specs.Events.{Peer}
 use Rattle.octet_fields.specs.Field.{one_more, times}
@@ -72,7 +73,8 @@ entry_read r o route offer =
     let area = number_octets 2 (length list) ++ list in
     let peer : r.peer < 8 = route.peer in
     let path : o.path ≤ 4 = offer.path in
-    rw (number_read RibForm 2 r.peer (time ++ area) (omega arith), peer_found r.peer peer, octets_read RibForm 4 time area (length-number_octets 4 0), nothing_read RibForm area, number_read RibForm 2 (length list) list (omega (arith, length-attributes r.peer o)), octets_all RibForm (length list) list refl, attributes_read (Rib V4) refl r.peer o) refl
+    let some : (o.path == 0) ≡ false = ne_eqb o.path 0 (omega (arith, offer.some)) in
+    rw (number_read RibForm 2 r.peer (time ++ area) (omega arith), peer_found r.peer peer, octets_read RibForm 4 time area (length-number_octets 4 0), nothing_read RibForm area, number_read RibForm 2 (length list) list (omega (arith, length-attributes r.peer o)), octets_all RibForm (length list) list refl, attributes_read (Rib V4) refl r.peer o peer, some) refl
 
 pub rib_read : (i : ℕ) (r : Route) (o : Offer) → IsRoute r → IsOffer o → rib made_peers false V4 (rib_body i r o) ≡ Ok (announcement r o ∷ [])
 unfolding rib rib_body times

@@ -2,7 +2,7 @@
 use Rattle.std.proofs.Common.{◌≡◌, ℕ, ◌+◌, ◌^◌, ◌<◌, ◌≤◌, Bool, false, true, List, [], ◌∷◌, ◌++◌, length, replicate, Some, Ok, refl, sym, ap, ◌∙◌, append_assoc, append-nil, length-append, arith}
 use Rattle.std.specs.Prelude.{nat_lt, ◌==◌, if◌then◌else◌}
 use Rattle.std.proofs.Common.{eq-eqb}
-use Rattle.std.proofs.lemmas.Bool.{le-ltb}
+use Rattle.std.proofs.lemmas.Bool.{le-ltb, ne_eqb}
 use Rattle.std.proofs.lemmas.List.{length-replicate}
 use Rattle.address_model.specs.declared.family.Family.TheVariants.{V4}
 use Rattle.address_model.specs.Address.{Prefix}
@@ -57,7 +57,8 @@ update_read false r o route offer =
     let list = offer_attributes r.peer o in
     let same : none ++ (number_octets 2 (length list) ++ list) ++ prefix ≡ none ++ (number_octets 2 (length list) ++ (list ++ prefix)) = simp append_assoc refl in
     let path : o.path ≤ 4 = offer.path in
-    rw (same, number_read UpdateLengths 2 0 (number_octets 2 (length list) ++ (list ++ prefix)) (omega arith), no_octets_read UpdateLengths (number_octets 2 (length list) ++ (list ++ prefix)), no_nlri UpdateLengths, number_read UpdateLengths 2 (length list) (list ++ prefix) (omega (arith, length-attributes r.peer o)), octets_read UpdateLengths (length list) list prefix refl, attributes_read (Update true false) refl r.peer o, nlri_read UpdateLengths r.prefix route.family route.few) refl
+    let some : (o.path == 0) ≡ false = ne_eqb o.path 0 (omega (arith, offer.some)) in
+    rw (same, number_read UpdateLengths 2 0 (number_octets 2 (length list) ++ (list ++ prefix)) (omega arith), no_octets_read UpdateLengths (number_octets 2 (length list) ++ (list ++ prefix)), no_nlri UpdateLengths, number_read UpdateLengths 2 (length list) (list ++ prefix) (omega (arith, length-attributes r.peer o)), octets_read UpdateLengths (length list) list prefix refl, attributes_read (Update true false) refl r.peer o route.peer, some, nlri_read UpdateLengths r.prefix route.family route.few) refl
 
 -- ---- the message
 

@@ -1,5 +1,5 @@
 -- What is drawn: routes of eight peers, then updates of these routes; and the events that they are. Addresses and AS numbers are those set aside for documentation (RFC 5737, 3; RFC 5398, 4).
-use Rattle.std.specs.Prelude.{ℕ, ◌+◌, ◌*◌, ◌/◌, ◌%◌, ◌^◌, Bool, List, [], ◌∷◌, map, ◌==◌, if◌then◌else◌}
+use Rattle.std.specs.Prelude.{ℕ, ◌+◌, ◌*◌, ◌/◌, ◌%◌, ◌^◌, Bool, List, [], ◌∷◌, map, Some, ◌==◌, if◌then◌else◌}
 use Rattle.std.specs.List.{range_with_len}
 use Rattle.address_model.specs.declared.family.Family.TheVariants.{V4}
 use Rattle.address_model.specs.Address.{Address, Prefix, first_bits}
@@ -94,9 +94,9 @@ update_offer seed n j = offer (state_after (update_state seed n j) 2)
 abbrev pub via_of : ℕ → Via
 via_of i = record { peer = made_peer i; id = 0 }
 
--- the peer announces the route with this path and next hop
+-- the peer announces the route with this path and next hop; it originates in the peer's AS
 abbrev pub announcement : Route → Offer → Event
-announcement r o = Announce (via_of r.peer) r.prefix o.path (ipv4 (hop_octets o.hop))
+announcement r o = Announce (via_of r.peer) r.prefix o.path (ipv4 (hop_octets o.hop)) (Some (peer_as r.peer))
 
 -- the peer withdraws the route
 abbrev pub withdrawal : Route → Event

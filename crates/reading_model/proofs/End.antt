@@ -10,7 +10,7 @@ use Rattle.wire_model.specs.declared.place.Place.{Place}
 use Rattle.wire_model.specs.declared.rule.Rule.{Rule}
 use Rattle.wire_model.specs.declared.rule.Rule.TheVariants.{PrefixLength, AttributeCut, AttributeValue, SecondMp}
 use Rattle.wire_model.specs.Wire.{octets_for, prefix_at, id_size, nlri_at}
-use Rattle.wire_model.specs.Path.{segment_at}
+use Rattle.wire_model.specs.Path.{Path, segment_at}
 use Rattle.wire_model.specs.Attribute.{Found, is_second, with_value, attribute_at}
 use Rattle.wire_model.specs.Record.{next_record}
 use Rattle.reading_model.specs.Input.{read_record}
@@ -67,7 +67,7 @@ nlri_leaves cut ids family octets =
     then_meets (number_at cut (id_size ids) octets) _ (λ x. length x.1 ≤ length octets) _ (number_leaves cut (id_size ids) octets) (λ id le.
     then_meets (prefix_at cut family id.1) _ (λ x. length x.1 < length id.1) _ (prefix_leaves cut family id.1) (λ prefix less. omega (arith, le, less)))
 
-segment_leaves : (size so_far : ℕ) (octets : List ℕ) → Leaves (length octets) (segment_at size so_far octets)
+segment_leaves : (size : ℕ) (so_far : Path) (octets : List ℕ) → Leaves (length octets) (segment_at size so_far octets)
 unfolding segment_at
 segment_leaves size so_far octets =
     then_meets (octet_at AttributeValue octets) _ (λ x. length x.1 < length octets) _ (octet_leaves AttributeValue octets) (λ kind less.

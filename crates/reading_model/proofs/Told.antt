@@ -20,6 +20,7 @@ use Rattle.reading_model.specs.declared.session.Session.TheVariants.{StateChange
 use Rattle.wire_model.specs.declared.rule.Rule.{Rule}
 use Rattle.wire_model.specs.declared.rule.Rule.TheVariants.{PeerTableForm, PrefixLength, RibForm, AttributeCut, AttributeValue, SecondMp, SessionForm, MessageLength, UpdateLengths}
 use Rattle.wire_model.specs.Wire.{octets_for, address_at, prefix_at, Nlri, id_size, nlri_at, nlris, family_of, family_at}
+use Rattle.wire_model.specs.Path.{Path}
 use Rattle.wire_model.specs.Attribute.{ReachAttr, Unreached, Found, nothing_found, hop_of, is_hop_length, next_hop_at, is_of, full_hop, rib_hop, reach_of_rib, reach_in, unreach_in, judged, keep_first, with_as_path, next_hop_in, with_next_hop, with_reach, with_unreach, with_value, is_second, attribute_at, Listed, is_bad, listed, attributes}
 use Rattle.reading_model.specs.Rib.{peer_at, peer_table, entry_hop, event_of, indexed, rib_entry_at, rib}
 use Rattle.reading_model.specs.Update.{Said, said, via_of, withdrawn, routes, unreach_events, reach_events, update, message, is_lost, state_change, session_of, session_says, session_behind, session_in, bgp4mp}
@@ -309,7 +310,7 @@ entry_hop_meets family list h = by_family family list.hop list.reach h.0 h.1
     by_family V6 (Some hop) None p q = p
     by_family V6 None None p q = tt
 
-event_meets : (path : ℕ) (hop : Option Address) (via : Via) (prefix : Prefix) → IsVia via → IfSome hop IsAddress → IsPrefix prefix → IsEvent (event_of path hop via prefix)
+event_meets : (path : Path) (hop : Option Address) (via : Via) (prefix : Prefix) → IsVia via → IfSome hop IsAddress → IsPrefix prefix → IsEvent (event_of path hop via prefix)
 event_meets path (Some hop) via prefix p h x = (p, x, h)
 event_meets path None via prefix p h x = (p, x)
 
@@ -341,7 +342,7 @@ withdrawn_meet : (peer : Peer) (gone : List Nlri) → IsPeer peer → AllByRecur
 withdrawn_meet peer [] p a = tt
 withdrawn_meet peer (n ∷ gone) p a = ((p, a.0), withdrawn_meet peer gone p a.1)
 
-routes_meet : (peer : Peer) (path : ℕ) (hop : Option Address) (nlri : List Nlri) → IsPeer peer → IfSome hop IsAddress → AllByRecursion IsNlri nlri → AllByRecursion IsEvent (routes peer path hop nlri)
+routes_meet : (peer : Peer) (path : Path) (hop : Option Address) (nlri : List Nlri) → IsPeer peer → IfSome hop IsAddress → AllByRecursion IsNlri nlri → AllByRecursion IsEvent (routes peer path hop nlri)
 routes_meet peer path hop [] p h a = tt
 routes_meet peer path hop (n ∷ nlri) p h a = (event_meets path hop (via_of peer n) n.prefix p h a.0, routes_meet peer path hop nlri p h a.1)
 

@@ -10,6 +10,7 @@ use Rattle.wire_model.specs.declared.place.Place.TheVariants.{Rib}
 use Rattle.wire_model.specs.declared.rule.Rule.{Rule}
 use Rattle.wire_model.specs.declared.rule.Rule.TheVariants.{PeerTableForm, PeerIndex, RibForm}
 use Rattle.wire_model.specs.Wire.{address_at, prefix_at, id_size}
+use Rattle.wire_model.specs.Path.{Path}
 use Rattle.wire_model.specs.Attribute.{ReachAttr, Listed, attributes}
 
 -- ---- PEER_INDEX_TABLE (4.3.1)
@@ -41,8 +42,8 @@ entry_hop V4 list = option_or list.hop (option_map (λ (r : ReachAttr). r.hop) l
 entry_hop V6 list = option_or (option_map (λ (r : ReachAttr). r.hop) list.reach) list.hop
 
 -- a route; without a next hop it is withdrawn
-abbrev pub event_of : ℕ → Option Address → Via → Prefix → Event
-event_of path (Some hop) via prefix = Announce via prefix path hop
+abbrev pub event_of : Path → Option Address → Via → Prefix → Event
+event_of path (Some hop) via prefix = Announce via prefix path.length hop path.origin
 event_of path None via prefix = Withdraw via prefix
 
 -- the peer at an index

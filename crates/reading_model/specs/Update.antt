@@ -11,7 +11,7 @@ use Rattle.reading_model.specs.declared.session.Session.TheVariants.{StateChange
 use Rattle.wire_model.specs.declared.rule.Rule.{Rule}
 use Rattle.wire_model.specs.declared.rule.Rule.TheVariants.{SessionForm, MessageLength, UpdateLengths}
 use Rattle.wire_model.specs.Wire.{Nlri, address_at, nlris, family_of}
-use Rattle.wire_model.specs.Path.{as_size}
+use Rattle.wire_model.specs.Path.{Path, as_size}
 use Rattle.wire_model.specs.Attribute.{ReachAttr, Unreached, Listed, attributes}
 use Rattle.reading_model.specs.Rib.{event_of}
 
@@ -33,7 +33,7 @@ via_of peer n = record { peer = peer; id = n.id }
 abbrev pub withdrawn : Peer → List Nlri → List Event
 withdrawn peer gone = map (λ (n : Nlri). Withdraw (via_of peer n) n.prefix) gone
 
-abbrev pub routes : Peer → ℕ → Option Address → List Nlri → List Event
+abbrev pub routes : Peer → Path → Option Address → List Nlri → List Event
 routes peer path hop nlri = map (λ (n : Nlri). event_of path hop (via_of peer n) n.prefix) nlri
 
 -- what the two MP attributes say (RFC 4760, 3 and 4)

@@ -22,7 +22,7 @@ cuts [] a = tt
 cuts (c ∷ cs) a = (a.0, cuts cs a.1)
 
 pub elems_of_event : (held : Candidates) (event : Event) → AreCandidates held → IsEvent event → AllByRecursion IsElem (elems_of held event)
-elems_of_event held (Announce via prefix path hop) a e = ((e.1, e.0), tt)
+elems_of_event held (Announce via prefix path hop origin) a e = ((e.1, e.0), tt)
 elems_of_event held (Withdraw via prefix) a e = ((e.1, e.0), tt)
 elems_of_event held (Down peer) a e =
     let of_peer : Place × Offer → Bool = λ c. same_peer peer c.0.via.peer in

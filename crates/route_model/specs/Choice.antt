@@ -65,9 +65,9 @@ after_elems held elems = fold after_elem held elems
 abbrev pub cut_of : Place × Offer → Elem
 cut_of c = Cut c.0.via c.0.prefix
 
--- An Announce is one Put, a Withdraw one Cut, and a Down one Cut for each candidate of the peer, in the order of prefixes, then of path identifiers.
+-- An Announce is one Put, which drops its origin, a Withdraw one Cut, and a Down one Cut for each candidate of the peer, in the order of prefixes, then of path identifiers.
 abbrev pub elems_of : Candidates → Event → List Elem
-elems_of held (Announce via prefix path hop) = Put via prefix path hop ∷ []
+elems_of held (Announce via prefix path hop origin) = Put via prefix path hop ∷ []
 elems_of held (Withdraw via prefix) = Cut via prefix ∷ []
 elems_of held (Down peer) = map cut_of (filter (λ c. same_peer peer c.0.via.peer) held)
 

@@ -1,5 +1,5 @@
 -- What a feed of routes says, event by event.
-use Rattle.std.specs.Prelude.{ℕ, ◌&&◌, ◌==◌, Bool}
+use Rattle.std.specs.Prelude.{ℕ, ◌&&◌, ◌==◌, Bool, Option}
 use Rattle.std.specs.Ordering.{nat_cmp, ordering_then}
 use Rattle.std.specs.declared.cmp.Ordering.{Ordering}
 use Rattle.address_model.specs.Address.{Address, Prefix, IsAddress, IsPrefix, same_address}
@@ -36,15 +36,15 @@ same_via v u = same_peer v.peer u.peer && v.id == u.id
 abbrev pub via_cmp : Via → Via → Ordering
 via_cmp v u = ordering_then (peer_cmp v.peer u.peer) (nat_cmp v.id u.id)
 
--- What a peer says: a route of a prefix, with the length of its path and its next hop; that a route is gone; or that the session is lost and all of the peer's routes with it.
+-- What a peer says: a route of a prefix, with the length of its path, its next hop, and the AS in which it originates where its path tells it (RFC 6811, 2); that a route is gone; or that the session is lost and all of the peer's routes with it.
 pub data Event : Type 0 where
-  Announce : Via → Prefix → ℕ → Address → Event
+  Announce : Via → Prefix → ℕ → Address → Option ℕ → Event
   Withdraw : Via → Prefix → Event
   Down : Peer → Event
 
 -- the event is of a peer, a prefix and a next hop that there are
 abbrev pub IsEvent : Event → Type 0
-IsEvent (Announce via prefix path hop) = IsVia via × IsPrefix prefix × IsAddress hop
+IsEvent (Announce via prefix path hop origin) = IsVia via × IsPrefix prefix × IsAddress hop
 IsEvent (Withdraw via prefix) = IsVia via × IsPrefix prefix
 IsEvent (Down peer) = IsPeer peer
 

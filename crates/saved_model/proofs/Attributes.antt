@@ -1,4 +1,4 @@
--- The attributes of a candidate are read as its path's length and its next hop.
+-- The attributes of a candidate are read as a path of its length and its next hop.
 use Rattle.std.proofs.Common.{◌≡◌, ℕ, suc, ◌+◌, ◌<◌, ◌≤◌, ◌^◌, Bool, true, false, List, [], ◌∷◌, ◌++◌, length, take, Option, Some, None, Result, Ok, refl, sym, ap, ◌∙◌, append_assoc, append-nil, length-append, arith}
 use Rattle.std.specs.Prelude.{nat_lt, nat_eq, ◌==◌, bit_and, if◌then◌else◌}
 use Rattle.std.proofs.lemmas.Bool.{eqb-true}
@@ -13,13 +13,14 @@ use Rattle.wire_model.specs.declared.rule.Rule.{Rule}
 use Rattle.wire_model.specs.declared.rule.Rule.TheVariants.{AttributeCut, AttributeValue}
 use Rattle.wire_model.specs.Wire.{octets_for}
 use Rattle.wire_model.specs.declared.place.Place.TheVariants.{Rib}
+use Rattle.wire_model.specs.Path.{Path, no_path}
 use Rattle.wire_model.specs.Attribute.{Found, nothing_found, Listed, listed, with_as_path, with_next_hop, with_reach, with_value, rib_hop, next_hop_at, is_hop_length, is_second, attribute_at, attributes}
 use Rattle.reading_model.specs.Rib.{entry_hop}
 use Rattle.route_model.specs.Choice.{Place, Offer}
 use Rattle.written_model.specs.Octets.{number_octets}
 use Rattle.written_model.specs.Octets.{behind_length}
 use Rattle.written_model.proofs.Fields.{length-number_octets, octets_read, octets_all, number_read, octet_read}
-use Rattle.written_model.specs.Octets.{address_octets}
+use Rattle.written_model.specs.Octets.{address_octets, repeated_path}
 use Rattle.saved_model.specs.Entries.{path_octets, path_attribute, hop_attribute_of, hop_attribute, attributes_of}
 use Rattle.written_model.proofs.Addresses.{length-address, address_bits}
 use Rattle.saved_model.proofs.Paths.{path_read, length-path}
@@ -43,19 +44,19 @@ long_read family found next kind value rest first few e =
 -- ---- the values
 
 -- what stands where a path was read
-abbrev pub with_path : ℕ → Found
-with_path n = record nothing_found { path = Some (Some n) }
+abbrev pub with_path : ℕ → ℕ → Found
+with_path asn n = record nothing_found { path = Some (Some (repeated_path asn n)) }
 
-path_value : (family : Family) (asn n : ℕ) → with_value (Rib family) nothing_found 2 (path_octets asn n) ≡ Ok (with_path n)
+path_value : (family : Family) (asn n : ℕ) → asn < 2 ^ 32 → with_value (Rib family) nothing_found 2 (path_octets asn n) ≡ Ok (with_path asn n)
 unfolding with_value with_as_path
-path_value family asn n = rw (path_read asn n) refl
+path_value family asn n fits = rw (path_read asn n fits) refl
 
 -- what stands where a next hop was read too
-abbrev pub hop_at : Family → Option (Option ℕ) → Family → List Bool → Found
+abbrev pub hop_at : Family → Option (Option Path) → Family → List Bool → Found
 hop_at family path V4 bits = record nothing_found { path = path; hop = Some (Some (record { family = V4; bits = bits })) }
 hop_at family path V6 bits = record nothing_found { path = path; has_reach = true; reach = Some (record { family = family; hop = record { family = V6; bits = bits }; nlri = [] }) }
 
-next_hop_value : (family : Family) (path : Option (Option ℕ)) (bits : List Bool) → length bits ≡ 32 → (let hop : Address = record { family = V4; bits = bits } in with_value (Rib family) (record nothing_found { path = path }) 3 (address_octets hop) ≡ Ok (hop_at family path V4 bits))
+next_hop_value : (family : Family) (path : Option (Option Path)) (bits : List Bool) → length bits ≡ 32 → (let hop : Address = record { family = V4; bits = bits } in with_value (Rib family) (record nothing_found { path = path }) 3 (address_octets hop) ≡ Ok (hop_at family path V4 bits))
 unfolding with_value with_next_hop
 next_hop_value family path bits h =
     let hop : Address = record { family = V4; bits = bits } in
@@ -66,7 +67,7 @@ known : (family : Family) → is_hop_length family 16 ≡ true
 known V4 = refl
 known V6 = refl
 
-reach_value : (family : Family) (path : Option (Option ℕ)) (bits : List Bool) → length bits ≡ 128 → (let hop : Address = record { family = V6; bits = bits } in with_value (Rib family) (record nothing_found { path = path }) 14 (16 ∷ address_octets hop) ≡ Ok (hop_at family path V6 bits))
+reach_value : (family : Family) (path : Option (Option Path)) (bits : List Bool) → length bits ≡ 128 → (let hop : Address = record { family = V6; bits = bits } in with_value (Rib family) (record nothing_found { path = path }) 14 (16 ∷ address_octets hop) ≡ Ok (hop_at family path V6 bits))
 unfolding with_value with_reach rib_hop next_hop_at
 reach_value family path bits h =
     let hop : Address = record { family = V6; bits = bits } in
@@ -76,7 +77,7 @@ reach_value family path bits h =
     let all : take 16 octets ≡ octets = take_all 16 octets (omega arith) in
     rw (known family, octets_all AttributeValue 16 octets long, other, all, address_bits hop h) refl
 
-hop_step_at : (family : Family) (path : Option (Option ℕ)) (f : Family) (bits : List Bool) (rest : List ℕ) → length bits ≡ width f
+hop_step_at : (family : Family) (path : Option (Option Path)) (f : Family) (bits : List Bool) (rest : List ℕ) → length bits ≡ width f
     → (let hop : Address = record { family = f; bits = bits } in attribute_at (Rib family) (record nothing_found { path = path }) (hop_attribute_of f (address_octets hop) ++ rest) ≡ Ok (hop_at family path f bits, rest))
 hop_step_at family path V4 bits rest h =
     let hop : Address = record { family = V4; bits = bits } in
@@ -91,27 +92,27 @@ hop_step_at family path V6 bits rest h =
     ap (λ n. attribute_at (Rib family) (record nothing_found { path = path }) (128 ∷ 14 ∷ n ∷ 16 ∷ (octets ++ rest))) (sym long)
     ∙ short_read family (record nothing_found { path = path }) (hop_at family path V6 bits) 128 14 (16 ∷ octets) rest refl refl (reach_value family path bits h)
 
-hop_step : (family : Family) (path : Option (Option ℕ)) (hop : Address) (rest : List ℕ) → IsAddress hop → attribute_at (Rib family) (record nothing_found { path = path }) (hop_attribute hop ++ rest) ≡ Ok (hop_at family path hop.family hop.bits, rest)
+hop_step : (family : Family) (path : Option (Option Path)) (hop : Address) (rest : List ℕ) → IsAddress hop → attribute_at (Rib family) (record nothing_found { path = path }) (hop_attribute hop ++ rest) ≡ Ok (hop_at family path hop.family hop.bits, rest)
 unfolding hop_attribute
 hop_step family path hop rest h = hop_step_at family path hop.family hop.bits rest h
 
-path_step : (family : Family) (asn n : ℕ) (rest : List ℕ) → n ≤ 15000 → (n == 0) ≡ false → attribute_at (Rib family) nothing_found (path_attribute asn n ++ rest) ≡ Ok (with_path n, rest)
+path_step : (family : Family) (asn n : ℕ) (rest : List ℕ) → asn < 2 ^ 32 → n ≤ 15000 → (n == 0) ≡ false → attribute_at (Rib family) nothing_found (path_attribute asn n ++ rest) ≡ Ok (with_path asn n, rest)
 unfolding path_attribute
-path_step family asn n rest few some = by_size (nat_lt (length octets) 256) refl
+path_step family asn n rest fits few some = by_size (nat_lt (length octets) 256) refl (with_path asn n) (path_value family asn n fits)
   where
     octets : List ℕ
     octets = path_octets asn n
 
-    by_size : (b : Bool) → nat_lt (length octets) 256 ≡ b
-        → attribute_at (Rib family) nothing_found ((if n == 0 then [] else (if b then 64 ∷ 2 ∷ length octets ∷ octets else 80 ∷ 2 ∷ behind_length octets)) ++ rest) ≡ Ok (with_path n, rest)
-    by_size true e = rw some (short_read family nothing_found (with_path n) 64 2 octets rest refl refl (path_value family asn n))
-    by_size false e =
+    by_size : (b : Bool) → nat_lt (length octets) 256 ≡ b → (next : Found) → with_value (Rib family) nothing_found 2 octets ≡ Ok next
+        → attribute_at (Rib family) nothing_found ((if n == 0 then [] else (if b then 64 ∷ 2 ∷ length octets ∷ octets else 80 ∷ 2 ∷ behind_length octets)) ++ rest) ≡ Ok (next, rest)
+    by_size true e next value = rw some (short_read family nothing_found next 64 2 octets rest refl refl value)
+    by_size false e next value =
         let same : behind_length octets ++ rest ≡ number_octets 2 (length octets) ++ (octets ++ rest) = append_assoc (number_octets 2 (length octets)) octets rest in
-        rw some (ap (λ xs. attribute_at (Rib family) nothing_found (80 ∷ 2 ∷ xs)) same ∙ long_read family nothing_found (with_path n) 2 octets rest refl (omega (arith, length-path asn n few)) (path_value family asn n))
+        rw some (ap (λ xs. attribute_at (Rib family) nothing_found (80 ∷ 2 ∷ xs)) same ∙ long_read family nothing_found next 2 octets rest refl (omega (arith, length-path asn n few)) value)
 
-no_path : (asn n : ℕ) → (n == 0) ≡ true → path_attribute asn n ≡ []
+no_attribute : (asn n : ℕ) → (n == 0) ≡ true → path_attribute asn n ≡ []
 unfolding path_attribute
-no_path asn n e = rw e refl
+no_attribute asn n e = rw e refl
 
 -- ---- the list
 
@@ -142,16 +143,16 @@ some_path asn n some = by_tests (n == 0) some (nat_lt (length (path_octets asn n
     by_tests false e false = omega arith
 
 -- what was found is the path and the next hop
-abbrev IsRead : Family → Listed → ℕ → Address → Type 0
-IsRead family list n hop = (list.path ≡ n) × (entry_hop family list ≡ Some hop)
+abbrev IsRead : Family → Listed → Path → Address → Type 0
+IsRead family list path hop = (list.path ≡ path) × (entry_hop family list ≡ Some hop)
 
-found_path : (family : Family) (n : ℕ) (f : Family) (bits : List Bool) → IsRead family (listed (hop_at family (Some (Some n)) f bits)) n (record { family = f; bits = bits })
-found_path V4 n V4 bits = (refl, refl)
-found_path V4 n V6 bits = (refl, refl)
-found_path V6 n V4 bits = (refl, refl)
-found_path V6 n V6 bits = (refl, refl)
+found_path : (family : Family) (path : Path) (f : Family) (bits : List Bool) → IsRead family (listed (hop_at family (Some (Some path)) f bits)) path (record { family = f; bits = bits })
+found_path V4 path V4 bits = (refl, refl)
+found_path V4 path V6 bits = (refl, refl)
+found_path V6 path V4 bits = (refl, refl)
+found_path V6 path V6 bits = (refl, refl)
 
-found_none : (family : Family) (f : Family) (bits : List Bool) → IsRead family (listed (hop_at family None f bits)) 0 (record { family = f; bits = bits })
+found_none : (family : Family) (f : Family) (bits : List Bool) → IsRead family (listed (hop_at family None f bits)) no_path (record { family = f; bits = bits })
 found_none V4 V4 bits = (refl, refl)
 found_none V4 V6 bits = (refl, refl)
 found_none V6 V4 bits = (refl, refl)
@@ -161,37 +162,39 @@ found_none V6 V6 bits = (refl, refl)
 pub record AttributesRead (family : Family) (c : Place × Offer) : Type 0 where
   pub list : Listed
   pub read : attributes (Rib family) (attributes_of c) ≡ Ok list
-  pub path : list.path ≡ c.1.path
+  pub path : list.path ≡ repeated_path c.0.via.peer.asn c.1.path
   pub hop : entry_hop family list ≡ Some c.1.hop
 
-last_read : (family : Family) (path : Option (Option ℕ)) (hop : Address) (total : Result Found Rule) → IsAddress hop → Left (attribute_at (Rib family)) (record nothing_found { path = path }) (hop_attribute hop) total → total ≡ Ok (hop_at family path hop.family hop.bits)
+last_read : (family : Family) (path : Option (Option Path)) (hop : Address) (total : Result Found Rule) → IsAddress hop → Left (attribute_at (Rib family)) (record nothing_found { path = path }) (hop_attribute hop) total → total ≡ Ok (hop_at family path hop.family hop.bits)
 last_read family path hop total h l =
     let next = hop_at family path hop.family hop.bits in
     let e = ap (attribute_at (Rib family) (record nothing_found { path = path })) (sym (append-nil (hop_attribute hop))) ∙ hop_step family path hop [] h in
     left_at_end (attribute_at (Rib family)) next [] total refl (left_after (attribute_at (Rib family)) (record nothing_found { path = path }) next (hop_attribute hop) [] total e (some_hop hop) l)
 
-pub attributes_read : (family : Family) (c : Place × Offer) → c.1.path ≤ 15000 → IsAddress c.1.hop → AttributesRead family c
+pub attributes_read : (family : Family) (c : Place × Offer) → c.0.via.peer.asn < 2 ^ 32 → c.1.path ≤ 15000 → IsAddress c.1.hop → AttributesRead family c
 unfolding attributes attributes_of
-attributes_read family c few h = by_length (c.1.path == 0) refl
+attributes_read family c fits few h = by_length (c.1.path == 0) refl
   where
     by_length : (b : Bool) → (c.1.path == 0) ≡ b → AttributesRead family c
     by_length true e =
         let n : c.1.path ≡ 0 = eqb-true c.1.path 0 e in
-        let none : path_attribute c.0.via.peer.asn c.1.path ≡ [] = no_path c.0.via.peer.asn c.1.path e in
+        let none : path_attribute c.0.via.peer.asn c.1.path ≡ [] = no_attribute c.0.via.peer.asn c.1.path e in
         let octets = hop_attribute c.1.hop in
         let total = until_end (attribute_at (Rib family)) nothing_found octets in
         let read = last_read family None c.1.hop total h (left_at_start (attribute_at (Rib family)) nothing_found octets) in
         let is = found_none family c.1.hop.family c.1.hop.bits in
-        record { list = listed (hop_at family None c.1.hop.family c.1.hop.bits); read = rw (none, read) refl; path = is.0 ∙ sym n; hop = is.1 }
+        record { list = listed (hop_at family None c.1.hop.family c.1.hop.bits); read = rw (none, read) refl; path = is.0 ∙ ap (repeated_path c.0.via.peer.asn) (sym n); hop = is.1 }
     by_length false e =
+        let asn = c.0.via.peer.asn in
         let n = c.1.path in
-        let first = path_attribute c.0.via.peer.asn n in
+        let path = repeated_path asn n in
+        let first = path_attribute asn n in
         let octets = first ++ hop_attribute c.1.hop in
         let total = until_end (attribute_at (Rib family)) nothing_found octets in
-        let one = left_after (attribute_at (Rib family)) nothing_found (with_path n) octets (hop_attribute c.1.hop) total (path_step family c.0.via.peer.asn n (hop_attribute c.1.hop) few e) (omega (arith, length-append first (hop_attribute c.1.hop), some_path c.0.via.peer.asn n e)) (left_at_start (attribute_at (Rib family)) nothing_found octets) in
-        let read = last_read family (Some (Some n)) c.1.hop total h one in
-        let is = found_path family n c.1.hop.family c.1.hop.bits in
-        record { list = listed (hop_at family (Some (Some n)) c.1.hop.family c.1.hop.bits); read = rw read refl; path = is.0; hop = is.1 }
+        let one = left_after (attribute_at (Rib family)) nothing_found (with_path asn n) octets (hop_attribute c.1.hop) total (path_step family asn n (hop_attribute c.1.hop) fits few e) (omega (arith, length-append first (hop_attribute c.1.hop), some_path asn n e)) (left_at_start (attribute_at (Rib family)) nothing_found octets) in
+        let read = last_read family (Some (Some path)) c.1.hop total h one in
+        let is = found_path family path c.1.hop.family c.1.hop.bits in
+        record { list = listed (hop_at family (Some (Some path)) c.1.hop.family c.1.hop.bits); read = rw read refl; path = is.0; hop = is.1 }
 
 length-hop : (f : Family) (octets : List ℕ) → length (hop_attribute_of f octets) ≤ 4 + length octets
 length-hop V4 octets = omega arith

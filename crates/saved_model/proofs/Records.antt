@@ -77,7 +77,7 @@ unfolding rib_entry_at entry_octets
 entry_read peers ids p c rest w =
     let index = peer_index peers c.0.via.peer in
     let list = attributes_of c in
-    let read = attributes_read p.family c w.path w.hop in
+    let read = attributes_read p.family c w.asn w.path w.hop in
     let after = number_octets 2 (length list) ++ (list ++ rest) in
     let behind = number_octets 4 0 ++ (id_octets ids c.0.via.id ++ after) in
     let same : (number_octets 2 index ++ (number_octets 4 0 ++ (id_octets ids c.0.via.id ++ (number_octets 2 (length list) ++ list)))) ++ rest ≡ number_octets 2 index ++ behind = simp append_assoc refl in

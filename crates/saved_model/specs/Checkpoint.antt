@@ -6,12 +6,12 @@ use Rattle.address_model.specs.declared.family.Family.TheVariants.{V4, V6}
 use Rattle.address_model.specs.Address.{Prefix}
 use Rattle.route_model.specs.Events.{Peer, Event, Announce}
 use Rattle.route_model.specs.Choice.{Place, Offer, Candidates}
-use Rattle.written_model.specs.Octets.{number_octets, prefix_octets, record_octets}
+use Rattle.written_model.specs.Octets.{number_octets, prefix_octets, record_octets, repeated_path}
 use Rattle.saved_model.specs.Entries.{table_peer, entry_octets}
 
--- the announcement of a candidate
+-- the announcement of a candidate, with the origin that the written path tells
 abbrev pub announced : Place × Offer → Event
-announced c = Announce c.0.via c.0.prefix c.1.path c.1.hop
+announced c = Announce c.0.via c.0.prefix c.1.path c.1.hop (repeated_path c.0.via.peer.asn c.1.path).origin
 
 -- ---- pieces of the candidates, of which each is a record
 

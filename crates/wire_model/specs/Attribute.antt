@@ -10,7 +10,7 @@ use Rattle.wire_model.specs.declared.place.Place.TheVariants.{Rib, Update}
 use Rattle.wire_model.specs.declared.rule.Rule.{Rule}
 use Rattle.wire_model.specs.declared.rule.Rule.TheVariants.{AttributeCut, AttributeValue, SecondMp}
 use Rattle.wire_model.specs.Wire.{Nlri, family_at, nlris}
-use Rattle.wire_model.specs.Path.{as_size, path_of}
+use Rattle.wire_model.specs.Path.{Path, no_path, as_size, path_of}
 
 -- what MP_REACH_NLRI gives: a next hop for these routes
 pub record ReachAttr : Type 0 where
@@ -25,7 +25,7 @@ pub record Unreached : Type 0 where
 
 -- what stood in an attribute list so far; of AS_PATH and NEXT_HOP the value, or none where it isn't of its form
 pub record Found : Type 0 where
-  pub path : Option (Option ℕ)
+  pub path : Option (Option Path)
   pub hop : Option (Option Address)
   pub has_reach : Bool
   pub reach : Option ReachAttr
@@ -170,7 +170,7 @@ attribute_at place found octets = do
 
 -- what a list as a whole gives
 pub record Listed : Type 0 where
-  pub path : ℕ
+  pub path : Path
   pub hop : Option Address
   pub reach : Option ReachAttr
   pub unreach : Option Unreached
@@ -181,12 +181,12 @@ abbrev pub is_bad : {A : Type 0} → Option (Option A) → Bool
 is_bad (Some None) = true
 is_bad found = false
 
--- Without AS_PATH the length is 0. A list is bad where the first AS_PATH or the first NEXT_HOP isn't of its form: it has neither length nor next hop then.
+-- Without AS_PATH the length is 0, and there is no origin. A list is bad where the first AS_PATH or the first NEXT_HOP isn't of its form: it has neither length nor origin nor next hop then.
 abbrev pub listed : Found → Listed
 listed found =
     let bad = is_bad found.path || is_bad found.hop in
     record {
-      path = if bad then 0 else unwrap_or (unwrap_or found.path None) 0;
+      path = if bad then no_path else unwrap_or (unwrap_or found.path None) no_path;
       hop = if bad then None else unwrap_or found.hop None;
       reach = found.reach;
       unreach = found.unreach;

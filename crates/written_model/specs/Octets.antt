@@ -1,10 +1,11 @@
 -- How numbers, addresses, prefixes, attributes and records are written as octets.
-use Rattle.std.specs.Prelude.{ℕ, List, ◌∷◌, ◌++◌, length, take, replicate, flat_map}
+use Rattle.std.specs.Prelude.{ℕ, List, ◌∷◌, ◌++◌, length, take, replicate, flat_map, Some, None, ◌==◌, if◌then◌else◌}
 use Rattle.std.specs.Int.{bytes_high_first}
 use Rattle.address_model.specs.Address.{Address, Prefix}
 use Rattle.address_model.specs.Bits.{value_of}
 use Rattle.address_model.specs.Order.{filled}
 use Rattle.address_model.specs.Width.{width}
+use Rattle.wire_model.specs.Path.{Path}
 use Rattle.wire_model.specs.Wire.{octets_for}
 
 -- a number in so many octets, the highest first (RFC 6396, 2; RFC 4271, 4)
@@ -30,6 +31,10 @@ attribute_octets kind value = 64 ∷ kind ∷ length value ∷ value
 -- AS_PATH of one AS_SEQUENCE that has one AS number so many times, in four octets (RFC 4271, 4.3; RFC 6793, 3)
 unfoldable pub as_path_octets : ℕ → ℕ → List ℕ
 as_path_octets asn n = 2 ∷ n ∷ flat_map (number_octets 4) (replicate n asn)
+
+-- the path of one AS number so many times: that AS is its origin, unless the path is empty
+abbrev pub repeated_path : ℕ → ℕ → Path
+repeated_path asn n = record { length = n; origin = if n == 0 then None else Some asn }
 
 -- An MRT record (RFC 6396, 2): Timestamp, which is 0, Type, Subtype, Length and the body.
 unfoldable pub record_octets : ℕ → ℕ → List ℕ → List ℕ

@@ -2,7 +2,7 @@ use Rattle.std.proofs.Common.{arith}
 use Rattle.written_model.proofs.Fields.{number_read}
 use Rattle.written_model.proofs.Addresses.{address_read}
 use Rattle.written_model.proofs.Prefixes.{prefix_read}
-use Rattle.written_model.proofs.Attributes.{path_read}
+use Rattle.written_model.proofs.Attributes.{path_read, path_long}
 use Rattle.written_model.proofs.Records.{record_found}
 use Rattle.written_model.proofs.reading_law.Goals as goal
 
@@ -12,5 +12,6 @@ returns c = record {
   address = address_read;
   prefix = prefix_read;
   path = path_read;
+  path_length = path_long;
   mrt_record = λ kind subtype body rest k s few. record_found kind subtype body rest (omega arith) (omega arith) few;
 }
