@@ -1,2 +1,4 @@
 pub mod Octets
 pub mod Four
+pub mod Origins
+pub mod Judging

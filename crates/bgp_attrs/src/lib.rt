@@ -14,5 +14,5 @@ mod reach;
 
 pub use list::{Attrs, read_attrs};
 pub use multiprotocol::{Reach, Unreach};
-pub use path::path_length;
+pub use path::{path_length, path_origin};
 pub use wire_model::Place;

@@ -10,7 +10,7 @@ ghost use Rattle.fib_addr.specs.Views.{addr_as};
 ghost use Rattle.bgp_attrs.specs.Views.{found_as, ipv4_as, judged_as, listed_as};
 
 use crate::multiprotocol::{Reach, Unreach};
-use crate::path::path_length;
+use crate::path::{Path, read_path};
 use crate::reach::{reach_in_rib, reach_in_update, unreach_in_update};
 use byteorder::{BigEndian, ByteOrder};
 use fib_addr::Addr;
@@ -34,6 +34,9 @@ const EXTENDED_LENGTH: u8 = 0x10;
 pub struct Attrs<'a> {
     /// How long the path is; 0 without an AS_PATH, and where the list is bad.
     pub path: u32,
+    /// The AS in which the route originates (RFC 6811, section 2); None without an AS_PATH, where it doesn't tell the origin, and
+    /// where the list is bad.
+    pub origin: Option<u32>,
     /// NEXT_HOP; None where the list is bad.
     pub hop: Option<Addr>,
     /// MP_REACH_NLRI. None where it is missing or of a family that isn't read; in a RIB entry also where it can't be read
@@ -51,7 +54,7 @@ pub struct Attrs<'a> {
 struct Found<'a> {
     reach: Option<Reach<'a>>,
     unreach: Option<Unreach<'a>>,
-    path: Option<Option<u32>>,
+    path: Option<Option<Path>>,
     // The bits of an IPv4 address.
     hop: Option<Option<u32>>,
     has_reach: bool,
@@ -105,7 +108,7 @@ fn take_as_path(found: &mut Found<'_>, place: Place, value: &[u8]) -> Result<(),
         (with_as_path place (found_as found.old) value.now) }
 {
     if found.path.is_none() {
-        found.path = Some(judge(place, path_length(value, has_wide_as(place)))?);
+        found.path = Some(judge(place, read_path(value, has_wide_as(place)))?);
     }
     Ok(())
 }
@@ -244,12 +247,14 @@ fn attrs_of(found: Found<'_>) -> Attrs<'_>
 {
     let bad = matches!(found.path, Some(None)) || matches!(found.hop, Some(None));
     let hop = ipv4_addr(found.hop.flatten());
+    let path = if bad {
+        Path::empty()
+    } else {
+        found.path.flatten().unwrap_or(Path::empty())
+    };
     Attrs {
-        path: if bad {
-            0
-        } else {
-            found.path.flatten().unwrap_or(0)
-        },
+        path: path.length,
+        origin: path.origin,
         hop: if bad { None } else { hop },
         reach: found.reach,
         unreach: found.unreach,

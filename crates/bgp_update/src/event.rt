@@ -8,27 +8,31 @@ ghost use Rattle.wire_model.specs.Wire.{nlris};
 ghost use Rattle.fib_addr.specs.Views.{addr_as, prefix_as};
 ghost use Rattle.fib_prefix.specs.Views.{peer_as, via_as, event_as};
 ghost use Rattle.bgp_update.specs.Adds.{AddsRoutes};
+ghost use Rattle.bgp_update.specs.Views.{said_path};
 
 use fib_prefix::{Addr, Event, Family, Peer, Prefix, Via};
 use std::alloc::AllocError;
 use wire_fields::{Refusal, Rule, next_nlri};
 
-/// Adds the event of a prefix: Announce with this next hop, Withdraw where there is none. It is written once, where it stays.
+/// Adds the event of a prefix: Announce with this path length, origin and next hop, Withdraw where there is no next hop. It is
+/// written once, where it stays.
 #[inline(always)]
 pub fn push_event(
     events: &mut Vec<Event>,
     path: u32,
+    origin: Option<u32>,
     hop: Option<Addr>,
     via: Via,
     prefix: Prefix,
 ) -> Result<(), AllocError>
     ensures { OnOk result (map event_as events.new.items ≡ map event_as events.old.items
-        ++ model.event_of path (option_map addr_as hop) (via_as via) (prefix_as prefix) ∷ []) }
+        ++ model.event_of (record { length = path; origin = origin }) (option_map addr_as hop)
+        (via_as via) (prefix_as prefix) ∷ []) }
 {
     events.reserve(1)?;
     match hop {
         Some(hop) => {
-            events.push_reserved(Event::Announce(via, prefix, path, hop));
+            events.push_reserved(Event::Announce(via, prefix, path, hop, origin));
             Ok(())
         }
         None => {
@@ -38,7 +42,8 @@ pub fn push_event(
     }
 }
 
-/// What a peer says of all prefixes of a list: how long their path is, and their next hop, or none where they are withdrawn.
+/// What a peer says of all prefixes of a list: how long their path is, where they originate, and their next hop, or none where
+/// they are withdrawn.
 #[derive(Clone, Copy, Debug)]
 pub struct Saying {
     /// The peer.
@@ -47,6 +52,8 @@ pub struct Saying {
     pub hop: Option<Addr>,
     /// The path's length.
     pub path: u32,
+    /// The AS in which the routes originate; None where the path doesn't tell it.
+    pub origin: Option<u32>,
 }
 
 /// Where entries of NLRI stand.
@@ -69,7 +76,7 @@ pub fn push_routes(
     area: NlriArea<'_>,
     saying: Saying,
 ) -> Result<(), Refusal>
-    ensures { AddsRoutes (peer_as saying.peer) saying.path (option_map addr_as saying.hop)
+    ensures { AddsRoutes (peer_as saying.peer) (said_path saying) (option_map addr_as saying.hop)
         (map event_as events.old.items) (map event_as events.new.items) result
         (nlris area.entry.cut area.entry.ids area.entry.family area.entry.octets.now) }
 {
@@ -80,7 +87,14 @@ pub fn push_routes(
             peer: saying.peer,
             id: nlri.id,
         };
-        push_event(events, saying.path, saying.hop, via, nlri.prefix)?;
+        push_event(
+            events,
+            saying.path,
+            saying.origin,
+            saying.hop,
+            via,
+            nlri.prefix,
+        )?;
         rest = after;
     }
     Ok(())
@@ -93,7 +107,7 @@ pub fn push_ipv4(
     ids: bool,
     saying: Saying,
 ) -> Result<(), Refusal>
-    ensures { AddsRoutes (peer_as saying.peer) saying.path (option_map addr_as saying.hop)
+    ensures { AddsRoutes (peer_as saying.peer) (said_path saying) (option_map addr_as saying.hop)
         (map event_as events.old.items) (map event_as events.new.items) result
         (nlris UpdateLengths ids V4 octets.now) }
 {

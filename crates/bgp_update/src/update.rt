@@ -35,6 +35,7 @@ fn push_unreached(
         peer,
         hop: None,
         path: 0,
+        origin: None,
     };
     push_routes(events, area, saying)
 }
@@ -59,6 +60,7 @@ fn push_reached(events: &mut Vec<Event>, peer: Peer, attrs: &Attrs<'_>) -> Resul
         peer,
         hop: if attrs.bad { None } else { Some(reach.hop) },
         path: attrs.path,
+        origin: attrs.origin,
     };
     push_routes(events, area, saying)
 }
@@ -86,6 +88,7 @@ pub fn push_update(
             peer,
             hop: None,
             path: 0,
+            origin: None,
         },
     )?;
     let (list_len, rest) = u16_at(Rule::UpdateLengths, rest)?;
@@ -100,6 +103,7 @@ pub fn push_update(
             peer,
             hop: attrs.hop,
             path: attrs.path,
+            origin: attrs.origin,
         },
     )?;
     push_reached(events, peer, &attrs)?;

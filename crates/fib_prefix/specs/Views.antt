@@ -15,7 +15,7 @@ abbrev pub via_as : code_via.Via → Via
 via_as v = record { peer = peer_as v.peer; id = v.id }
 
 abbrev pub event_as : code_event.Event → Event
-event_as (event.Announce v p path hop) = Announce (via_as v) (prefix_as p) path (addr_as hop)
+event_as (event.Announce v p path hop origin) = Announce (via_as v) (prefix_as p) path (addr_as hop) origin
 event_as (event.Withdraw v p) = Withdraw (via_as v) (prefix_as p)
 event_as (event.Down q) = Down (peer_as q)
 

@@ -24,8 +24,9 @@ pub struct Via {
 /// What a peer says.
 #[derive(Clone, Copy, Debug, PartialEq, Eq)]
 pub enum Event {
-    /// A route of a prefix, with the length of its path and its next hop.
-    Announce(Via, Prefix, u32, Addr),
+    /// A route of a prefix, with the length of its path, its next hop, and the AS in which it originates, where its path tells it
+    /// (RFC 6811, section 2).
+    Announce(Via, Prefix, u32, Addr, Option<u32>),
     /// A route is gone.
     Withdraw(Via, Prefix),
     /// The session is lost, and all of the peer's routes with it.

@@ -7,6 +7,7 @@ use Rattle.fib_prefix.specs.Views.{peer_as, event_as}
 use Rattle.wire_model.specs.Wire.{nlris}
 use Rattle.wire_fields.specs.Gives.{nlri_as}
 use Rattle.reading_model.specs.Update.{routes}
+use Rattle.bgp_update.specs.Views.{said_path}
 use Rattle.bgp_update.proofs.Adding.{routes_more}
 use Rattle.bgp_update.proofs.event.push_routes.Goals as goal
 
@@ -20,8 +21,8 @@ loop-rest-preserved c =
       _,
       one_more_left _ _ _ _ _ _ c.in_ok-nlri.ensures.value c.in_ok-nlri.ensures.shorter i.1,
       c.in_ok-push_event.ensures
-          ∙ (rw i.2 (append_assoc _ (routes (peer_as c.args.saying.peer) c.args.saying.path (option_map addr_as c.args.saying.hop) i.0) _)
-          ∙ ap (λ es. map event_as c.args.events.now.items ++ es) (sym (routes_more (peer_as c.args.saying.peer) c.args.saying.path (option_map addr_as c.args.saying.hop) i.0 (nlri_as c.in_ok-nlri.nlri)))),
+          ∙ (rw i.2 (append_assoc _ (routes (peer_as c.args.saying.peer) (said_path c.args.saying) (option_map addr_as c.args.saying.hop) i.0) _)
+          ∙ ap (λ es. map event_as c.args.events.now.items ++ es) (sym (routes_more (peer_as c.args.saying.peer) (said_path c.args.saying) (option_map addr_as c.args.saying.hop) i.0 (nlri_as c.in_ok-nlri.nlri)))),
     )
 
 pub returns-in_err-nlri : goal.returns-in_err-nlri
