@@ -245,7 +245,7 @@ no_turns load e t s is few = rw is (record {
 -- ---- the elementary events of an event
 
 is_event : (event : code_event.Event) → IsEvent (event_as event)
-is_event (event_variant.Announce v prefix path hop) = (is_address v.peer.addr, is_prefix prefix, is_address hop)
+is_event (event_variant.Announce v prefix path hop origin) = (is_address v.peer.addr, is_prefix prefix, is_address hop)
 is_event (event_variant.Withdraw v prefix) = (is_address v.peer.addr, is_prefix prefix)
 is_event (event_variant.Down peer) = is_address peer.addr
 

@@ -81,7 +81,7 @@ cuts_take peer (c ∷ held) = by_test (of_peer peer c) refl (cuts_take peer held
 -- ---- events
 
 one_event_few : (held : Candidates) (event : Event) → length (elems_of held event) + length (after_elems held (elems_of held event)) ≤ length held + 2
-one_event_few held (Announce via prefix path hop) = omega (arith, put_few place_cmp held (record { prefix = prefix; via = via }) (record { path = path; hop = hop }))
+one_event_few held (Announce via prefix path hop origin) = omega (arith, put_few place_cmp held (record { prefix = prefix; via = via }) (record { path = path; hop = hop }))
 one_event_few held (Withdraw via prefix) = omega (arith, cut_few (same_place (record { prefix = prefix; via = via })) held)
 one_event_few held (Down peer) = omega (arith, cuts_take peer held)
 

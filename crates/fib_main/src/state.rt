@@ -201,7 +201,7 @@ fn elem_of(event: &Event) -> Option<Elem>
         → elem_as elem ∷ [] ≡ elems_of held (event_as event.now)) }
 {
     match *event {
-        Event::Announce(via, prefix, path, hop) => Some(Elem::Put(via, prefix, path, hop)),
+        Event::Announce(via, prefix, path, hop, _) => Some(Elem::Put(via, prefix, path, hop)),
         Event::Withdraw(via, prefix) => Some(Elem::Cut(via, prefix)),
         Event::Down(_) => None,
     }

@@ -25,7 +25,7 @@ is_route r = record {
 }
 
 pub is_offer : (o : code_offer.Offer) → IsOffer (offer_as o)
-is_offer o = record { path = o.short; hop = o.known }
+is_offer o = record { path = o.short; some = o.some; hop = o.known }
 
 -- five draws further
 pub five_more : (x y z i : ℕ) → y ≡ state_after x (5 * i) → z ≡ state_after y 5 → z ≡ state_after x (5 * (i + 1))

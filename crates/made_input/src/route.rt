@@ -27,6 +27,7 @@ pub struct Offer {
     /// The next hop's number, from 0.
     pub hop: u8,
     ghost short: { path ≤ 4 },
+    ghost some: { 0 < path },
     ghost known: { hop < 16 },
 }
 

@@ -75,6 +75,7 @@ fn push_entry<'a>(
     push_event(
         events,
         attrs.path,
+        attrs.origin,
         hop_of_entry(family, &attrs),
         via,
         prefix,

@@ -70,7 +70,7 @@ impl Candidates {
             ≡ elems_of self.now.candidates (event_as event.now)) }
     {
         match *event {
-            Event::Announce(via, prefix, path, hop) => Ok(vec![in self.alloc;
+            Event::Announce(via, prefix, path, hop, _) => Ok(vec![in self.alloc;
                 Elem::Put(via, prefix, path, hop),
             ]?),
             Event::Withdraw(via, prefix) => Ok(vec![in self.alloc; Elem::Cut(via, prefix)]?),

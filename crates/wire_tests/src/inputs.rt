@@ -41,7 +41,7 @@ fn gives_the_events_of_all_records(rt: HostRuntime) -> Result<(), Fail> {
     let peer = Peer { addr, asn: 64500 };
     let via = Via { peer, id: 0 };
     let ten = Prefix::from_front(Family::V4, 8, &[10]);
-    let route = Event::Announce(via, ten, 1, addr);
+    let route = Event::Announce(via, ten, 1, addr, Some(64500));
     let said = [Event::Withdraw(via, ten), route, Event::Down(peer)];
     for (octets, events) in [
         (b"".as_slice(), &said[..0]),

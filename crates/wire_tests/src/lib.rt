@@ -10,6 +10,8 @@ mod inputs;
 #[cfg(test)]
 mod made;
 #[cfg(test)]
+mod origins;
+#[cfg(test)]
 mod reader;
 #[cfg(test)]
 mod records;

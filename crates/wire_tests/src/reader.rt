@@ -101,8 +101,8 @@ fn tells_the_same_from_pieces_of_any_size(rt: HostRuntime) -> Result<(), Fail> {
     };
     let via = Via { peer, id: 0 };
     let expected = [
-        Event::Announce(via, ten, 1, addr),
-        Event::Announce(via, long, 1, hop),
+        Event::Announce(via, ten, 1, addr, Some(64500)),
+        Event::Announce(via, long, 1, hop, Some(64500)),
         Event::Down(peer),
     ];
     let mut input = Vec::from_slice(rt.alloc(), PEERS)?;

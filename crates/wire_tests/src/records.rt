@@ -66,10 +66,11 @@ fn tells_what_the_records_say(rt: HostRuntime) -> Result<(), Fail> {
     let ten = Prefix::from_front(Family::V4, 8, &[10]);
     let db8 = Prefix::from_front(Family::V6, 32, &[0x20, 0x01, 0x0d, 0xb8]);
     let table = PeerTable::read(alloc, PEERS)?;
-    let both = [Event::Withdraw(via, ten), Event::Announce(via, ten, 1, v4)];
+    let route = Event::Announce(via, ten, 1, v4, Some(64500));
+    let both = [Event::Withdraw(via, ten), route];
     let lost = [Event::Down(peer)];
-    let wide = [Event::Announce(via, ten, 1, v4)];
-    let long = [Event::Announce(via, db8, 0, v6)];
+    let wide = [route];
+    let long = [Event::Announce(via, db8, 0, v6, None)];
     let rib = longer(alloc, RIB_V4)?;
     for (body, family, expected) in [
         (RIB_V4, Family::V4, Ok(wide.as_slice())),

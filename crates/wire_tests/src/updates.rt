@@ -43,8 +43,8 @@ fn tells_all_that_an_update_says_in_its_order(rt: HostRuntime) -> Result<(), Fai
     let reached = [
         Event::Withdraw(via, ten_half),
         Event::Withdraw(via, db8),
-        Event::Announce(via, eleven, 1, v4),
-        Event::Announce(via, db9, 1, v6),
+        Event::Announce(via, eleven, 1, v4, Some(64500)),
+        Event::Announce(via, db9, 1, v6, Some(64500)),
     ];
     let treated = [
         Event::Withdraw(via, ten_half),
