@@ -1,5 +1,7 @@
 //! What peers say of prefixes.
 
+ghost use Rattle.std.specs.Prelude.{◌<◌, ◌^◌};
+
 use fib_addr::{Addr, Prefix};
 
 /// A peer: its address and its AS number. Peers are ordered by address, IPv4 before IPv6, then by AS number.
@@ -40,4 +42,19 @@ pub enum Elem {
     Put(Via, Prefix, u32, Addr),
     /// There is none by that way from now on.
     Cut(Via, Prefix),
+}
+
+/// A candidate: the route that comes by a way for a prefix.
+#[derive(Clone, Copy, Debug, PartialEq, Eq)]
+pub struct Cand {
+    /// The prefix.
+    pub prefix: Prefix,
+    /// The way.
+    pub via: Via,
+    /// The length of the path.
+    pub path: u32,
+    /// The next hop.
+    pub hop: Addr,
+    ghost asn: { via.peer.asn < 2 ^ 32 },
+    ghost id: { via.id < 2 ^ 32 },
 }

@@ -2,7 +2,8 @@
 
 ghost use Rattle.std.specs.Prelude.{◌≡◌};
 ghost use Rattle.fib_prefix.specs.Order.{code_peer_cmp, code_via_cmp};
-ghost use Rattle.fib_prefix.specs.Views.{peer_as, via_as};
+ghost use Rattle.fib_prefix.specs.Views.{IsOfOctets, cand_as, peer_as, via_as};
+ghost use Rattle.fib_prefix.specs.declared.event.Cand as code_cand;
 ghost use Rattle.fib_prefix.specs.declared.event.Peer as code_peer;
 ghost use Rattle.fib_prefix.specs.declared.event.Via as code_via;
 ghost use Rattle.route_model.specs.Events.{peer_cmp, via_cmp};
@@ -15,4 +16,9 @@ pub fn peer_order_law()
 /// `cmp` of ways is their order: by peer, then by path identifier.
 pub fn via_order_law()
     ensures { (v u : code_via.Via) → code_via_cmp v u ≡ via_cmp (via_as v) (via_as u) }
+{}
+
+/// A candidate has an AS number and a path identifier of four octets, and its next hop is an address.
+pub fn candidate_law()
+    ensures { (c : code_cand.Cand) → IsOfOctets (cand_as c) }
 {}

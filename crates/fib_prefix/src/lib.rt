@@ -4,9 +4,9 @@
 mod event;
 mod laws;
 
-pub use event::{Elem, Event, Peer, Via};
+pub use event::{Cand, Elem, Event, Peer, Via};
 pub use fib_addr::{
     Addr, Answers, Entry, Family, Hop, HopError, HopTable, HopsFull, MOST_HOPS, MOST_TEXT, Prefix,
     addr_text, bit_at, prefix_text, read_addr, read_ipv4, read_prefix,
 };
-pub use laws::{peer_order_law, via_order_law};
+pub use laws::{candidate_law, peer_order_law, via_order_law};
