@@ -175,15 +175,15 @@ via_parts peers s v e = by_peer (slice_get peers s.peer) refl e
     by_peer None g h = absurd cc
     by_peer (Some q) g h = let x = same_Some _ v h in (g ∙ ap (λ (w : Via). Some w.peer) x, ap (λ (w : Via). w.id) x)
 
-seat_of_via : (rows : List Row) (peers : List Peer) (s : Slot) (r : Row) (v : Via) → slice_get rows s.row ≡ Some r → via_on peers s ≡ Some v → seat_on rows peers s ≡ Some (record { via = v; prefix = r.prefix })
+pub seat_of_via : (rows : List Row) (peers : List Peer) (s : Slot) (r : Row) (v : Via) → slice_get rows s.row ≡ Some r → via_on peers s ≡ Some v → seat_on rows peers s ≡ Some (record { via = v; prefix = r.prefix })
 seat_of_via rows peers s r v f g = ap (λ x. seat_or x (via_on peers s)) f ∙ ap (seat_or (Some r)) g
 
 -- ---- the walk over a run
 
-same_number : (a b : ℕ) → (a == b) ≡ true → a ≡ b
+pub same_number : (a b : ℕ) → (a == b) ≡ true → a ≡ b
 same_number a b i = grind arith
 
-number_same : (a b : ℕ) → a ≡ b → (a == b) ≡ true
+pub number_same : (a b : ℕ) → a ≡ b → (a == b) ≡ true
 number_same a b i = grind (arith, i)
 
 and_parts : (a b : Bool) → (a && b) ≡ true → (a ≡ true) × (b ≡ true)

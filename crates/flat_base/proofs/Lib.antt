@@ -9,3 +9,4 @@ pub mod Flats
 pub mod Parts
 pub mod Betters
 pub mod Sessions
+pub mod Gathers

@@ -5,3 +5,4 @@ pub mod Seats
 pub mod Flat
 pub mod Chains
 pub mod Bests
+pub mod Ways

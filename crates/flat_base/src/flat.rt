@@ -4,11 +4,13 @@ ghost use Rattle.std.specs.Prelude.{◌||◌, ◌≡◌, ◌≢◌, ◌≤◌, �
 ghost use Rattle.std.specs.declared.cmp.Ordering.TheVariants.{Less, Equal};
 ghost use Rattle.std.specs.Map.{lookup};
 ghost use Rattle.std.specs.BTreeMap.{is_at};
+ghost use Rattle.fib_prefix.specs.declared.event.Via as code;
 ghost use Rattle.flat_base.specs.Orders.{seat_cmp};
 ghost use Rattle.flat_base.specs.Seats.{Seats};
 ghost use Rattle.flat_base.specs.Chains.{no_peer, end_of as chain_end};
 ghost use Rattle.flat_base.specs.Flat.{IsFlat, IsRow, HasNoRow, IsSlot, HasNoSlot, HasNoSeat, IsNumber, HasNoNumber, HasNumbers, IsGrown, IsRun, IsBehind, IsLastRow, IsNext, IsHop, HasHop, Puts, AreNumbers, AreApart, Offers, Thins, NoSeatComes, IsLastFree, Grows, IsSlotOf, live_on, is_seat, is_among, is_offered_by, with_offer, emptied, offer_by, seats_on, no_slot, flat_seats, offer_on, via_on, no_hop, both};
 ghost use Rattle.flat_base.specs.Bests.{IsBest, better_on, best_step, better_one as better};
+ghost use Rattle.flat_base.specs.Ways.{AddsWays, way_offer, way_put, way_step};
 
 use crate::keys::{Candidate, Offer, Seat};
 use crate::rows::Row;
@@ -16,7 +18,7 @@ use fib_prefix::{Addr, Peer, Prefix, Via};
 use indexmap::IndexSet;
 use std::alloc::{AllocError, Global};
 use std::cmp::Ordering;
-use std::collections::BTreeSet;
+use std::collections::{BTreeMap, BTreeSet};
 
 /// The hop number of a slot that offers nothing.
 const NO_HOP: u32 = u32::MAX;
@@ -718,6 +720,75 @@ impl Flat {
             let slot = self.slots[end as usize - 1];
             self.add_live(&slot, seats)?;
             end = slot.link;
+        }
+        Ok(())
+    }
+
+    /// Adds what is offered for a prefix, by ways.
+    ///
+    /// # Errors
+    ///
+    /// No memory.
+    pub fn add_ways(
+        &self,
+        prefix: &Prefix,
+        ways: &mut BTreeMap<Via, Offer>,
+    ) -> Result<(), AllocError>
+        requires { IsFlat self.now }
+        ensures { OnOk result (AddsWays (flat_seats self.now) prefix.now ways.old.entries ways.new.entries) }
+    {
+        match self.row_of(prefix) {
+            Some(row) => self.add_row(row, prefix, ways),
+            None => Ok(()),
+        }
+    }
+
+    /// Adds what the slots of a row offer, by ways.
+    fn add_row(
+        &self,
+        row: usize,
+        prefix: &Prefix,
+        ways: &mut BTreeMap<Via, Offer>,
+    ) -> Result<(), AllocError>
+        requires flat { IsFlat self.now }
+        requires row { IsRow self.now.rows.items prefix.now row }
+        ensures { OnOk result (AddsWays (flat_seats self.now) prefix.now ways.old.entries ways.new.entries) }
+    {
+        let run = self.run_of(row);
+        for i in run.from..run.to {
+            self.add_at(i, row, ways)?;
+        }
+        Ok(())
+    }
+
+    /// Adds what the slot at a place offers, if it is the row's.
+    fn add_at(
+        &self,
+        at: usize,
+        row: usize,
+        ways: &mut BTreeMap<Via, Offer>,
+    ) -> Result<(), AllocError>
+        ensures { OnOk result ((v : code.Via) → way_offer ways.new.entries v ≡ way_step self.now.peers.keys
+            self.now.hops.keys row (slice_get self.now.slots.items at) v (way_offer ways.old.entries v)) }
+    {
+        match self.slots.get(at) {
+            Some(slot) => {
+                if slot.row as usize != row {
+                    return Ok(());
+                }
+                self.add_way(slot, ways)
+            }
+            None => Ok(()),
+        }
+    }
+
+    /// Adds what a slot offers.
+    fn add_way(&self, slot: &Slot, ways: &mut BTreeMap<Via, Offer>) -> Result<(), AllocError>
+        ensures { OnOk result ((v : code.Via) → way_offer ways.new.entries v ≡ way_put (via_on self.now.peers.keys slot.now)
+            (offer_on self.now.hops.keys slot.now) v (way_offer ways.old.entries v)) }
+    {
+        if let (Some(via), Some(offer)) = (self.via_of(slot), self.offer(slot)) {
+            ways.insert(via, offer)?;
         }
         Ok(())
     }
