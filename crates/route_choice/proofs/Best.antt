@@ -135,7 +135,7 @@ filtered_sorted R p (k ∷ ks) s = by_test (p k) (filtered_sorted R p ks s.1)
     by_test false ih = ih
 
 -- what passes a test and lies in a list lies in the part that passes another that it passes
-any_filtered : {K : Type 0} (test p : K → Bool) (ks : List K) → ((k : K) → test k ≡ true → p k ≡ true) → list_any test ks ≡ true → list_any test (filter p ks) ≡ true
+pub any_filtered : {K : Type 0} (test p : K → Bool) (ks : List K) → ((k : K) → test k ≡ true → p k ≡ true) → list_any test ks ≡ true → list_any test (filter p ks) ≡ true
 any_filtered test p [] f h = h
 any_filtered test p (k ∷ ks) f h = by_test (test k) refl (p k) refl h (any_filtered test p ks f)
   where

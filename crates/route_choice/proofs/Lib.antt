@@ -7,3 +7,5 @@ pub mod Kept
 pub mod Spaces
 pub mod Downs
 pub mod AllRoutes
+pub mod RankWays
+pub mod AllCandidates

@@ -1,13 +1,15 @@
 -- What walks over seats and ranks find.
-use Rattle.std.specs.Prelude.{◌≡◌, ◌==◌, ◌&&◌, ◌||◌, nat_lt, ℕ, List, [], ◌∷◌, Bool, true, Option, Some, None, map, filter, slice_get, if◌then◌else◌}
+use Rattle.std.specs.Prelude.{◌≡◌, ◌==◌, ◌&&◌, ◌||◌, nat_lt, ℕ, List, [], ◌∷◌, Bool, true, Option, Some, None, map, filter, flat_map, slice_get, if◌then◌else◌}
 use Rattle.std.specs.List.{AllByRecursion, list_any}
 use Rattle.std.specs.BTreeMap.{is_at}
-use Rattle.address_model.specs.Address.{Address, Prefix}
+use Rattle.address_model.specs.Address.{Address, Prefix, same_prefix}
 use Rattle.fib_addr.specs.Views.{prefix_as}
-use Rattle.route_model.specs.Choice.{chosen_for}
+use Rattle.route_model.specs.Choice as model
+use Rattle.route_model.specs.Choice.{Place, Candidates, chosen_for}
 use Rattle.flat_base.specs.declared.rows.Row.{Row}
 use Rattle.flat_base.specs.Seats.{held_in}
-use Rattle.flat_base.specs.Bests.{is_out}
+use Rattle.flat_base.specs.Bests.{is_out, candidate_as}
+use Rattle.flat_base.specs.Ways.{Ways}
 use Rattle.std.specs.Ordering.{is_eq, is_lt}
 use Rattle.fib_addr.specs.Order.{code_cmp}
 use Rattle.fib_addr.specs.declared.addr.Addr.{Addr}
@@ -90,3 +92,17 @@ HasRanks ranks ps = AllByRecursion (λ r. has_prefix ps r.prefix ≡ true) ranks
 -- the prefixes of rows
 abbrev pub row_prefixes : List Row → List code.Prefix
 row_prefixes rows = map (λ (r : Row). r.prefix) rows
+
+-- the candidates of a prefix, and those of these prefixes, in their order
+abbrev pub held_at : Seats → code.Prefix → Candidates
+held_at seats p = filter (λ c. same_prefix c.0.prefix (prefix_as p)) (held_in seats)
+
+unfoldable pub held_for : Seats → List code.Prefix → Candidates
+held_for seats ps = flat_map (held_at seats) ps
+
+-- what comes by ways for a prefix, as candidates
+abbrev pub by_way : code.Prefix → Via × Offer → Place × model.Offer
+by_way p e = candidate_as (prefix_as p) (record { via = e.0; offer = e.1 })
+
+abbrev pub by_ways : code.Prefix → Ways → Candidates
+by_ways p ways = map (by_way p) ways

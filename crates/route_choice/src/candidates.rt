@@ -2,7 +2,8 @@
 
 ghost use Rattle.std.specs.Prelude.{◌≡◌, [], map, option_map, Some, None, IfOk, OnOk, OnErr};
 ghost use Rattle.fib_addr.specs.Views.{addr_as, prefix_as, route_as};
-ghost use Rattle.fib_prefix.specs.Views.{peer_as, event_as, elem_as};
+ghost use Rattle.std.specs.List.{AllByRecursion};
+ghost use Rattle.fib_prefix.specs.Views.{IsOfOctets, cand_as, peer_as, event_as, elem_as};
 ghost use Rattle.route_model.specs.Choice.{AreCandidates, after_elem, elems_of, chosen_for, routes_of};
 ghost use Rattle.flat_base.specs.Seats.{held_in};
 ghost use Rattle.flat_base.specs.Flat.{IsFlat, AreApart, flat_seats, both};
@@ -10,13 +11,14 @@ ghost use Rattle.route_choice.specs.Held.{Held, IsChoice, IsPlanned, pick_elem};
 ghost use Rattle.route_choice.specs.Kept.{IsKept};
 ghost use Rattle.route_choice.specs.Space.{HasSpace, planned_elem, over_of as over};
 
+use crate::all::all_candidates;
 use crate::both::{best_of, carry_one, choice_of, load_elem, make_space, plan_of};
 use crate::choice::{Choice, Pick};
 use crate::down::cuts_of;
 use crate::over::give_back;
 use crate::plan::{Plan, over_of};
 use crate::routes::routes_of as all_routes;
-use fib_prefix::{Addr, Elem, Event, Peer, Prefix};
+use fib_prefix::{Addr, Cand, Elem, Event, Peer, Prefix};
 use flat_base::{Flat, Offer, Rank, Seat};
 use std::alloc::{AllocError, Global};
 use std::collections::{BTreeMap, BTreeSet};
@@ -189,5 +191,19 @@ impl Candidates {
         ensures held { AreCandidates self.now.candidates }
     {
         all_routes(self.alloc, &self.flat, &self.seats, &self.ranks)
+    }
+    /// All candidates, in the order of prefixes, then of ways.
+    ///
+    /// # Errors
+    ///
+    /// No memory.
+    pub fn all(&self) -> Result<Vec<Cand>, AllocError>
+        ensures candidates { IfOk result (λ cands. map cand_as cands.items
+            ≡ self.now.candidates) }
+        ensures octets { IfOk result (λ cands. AllByRecursion IsOfOctets
+            (map cand_as cands.items)) }
+        ensures held { AreCandidates self.now.candidates }
+    {
+        all_candidates(self.alloc, &self.flat, &self.seats, &self.ranks)
     }
 }

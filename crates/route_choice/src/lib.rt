@@ -21,6 +21,7 @@
 //! costs its own routes.
 #![tactic(auto)]
 
+mod all;
 mod both;
 mod candidates;
 mod choice;

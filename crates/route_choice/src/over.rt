@@ -4,8 +4,10 @@ ghost use Rattle.std.specs.Prelude.{IfOk, ◌≡◌, ◌&&◌, ◌||◌, List, t
 ghost use Rattle.std.specs.Ordering.{is_eq};
 ghost use Rattle.std.specs.BTreeMap as tree;
 ghost use Rattle.std.specs.BTreeSet as set;
+ghost use Rattle.fib_prefix.specs.declared.event.Via as code;
 ghost use Rattle.flat_base.specs.Orders.{seat_cmp, rank_cmp};
 ghost use Rattle.flat_base.specs.Seats.{offer_at as offered};
+ghost use Rattle.flat_base.specs.Ways.{AddsWays, way_offer, way_put};
 ghost use Rattle.route_choice.specs.Seats.{IsIndexed, HasRoom, has_rank, has_seat, seat_in, offer_in};
 ghost use Rattle.route_choice.specs.Kept.{IsKept, StaysKept, KeepsBeside, EachSeatServes, EachRankServes, holds_seat as seat_held, holds_rank as rank_held};
 ghost use Rattle.route_choice.specs.Walks.{offer_ranked as ranked, first_in, better_of, cuts_in, ranks_of, seats_of};
@@ -79,6 +81,44 @@ pub fn best_but(
         }
     }
     None
+}
+
+/// Adds what is offered here for a prefix, by ways.
+///
+/// # Errors
+///
+/// No memory.
+pub fn add_ways(
+    seats: &BTreeMap<Seat, Option<Offer>>,
+    ranks: &BTreeSet<Rank>,
+    prefix: &Prefix,
+    ways: &mut BTreeMap<Via, Offer>,
+) -> Result<(), AllocError>
+    requires { IsIndexed seats.now.entries ranks.now.keys }
+    ensures { OnOk result (AddsWays seats.now.entries prefix.now ways.old.entries ways.new.entries) }
+{
+    for rank in ranks.range(Rank::first(prefix)..) {
+        if *prefix != rank.prefix() {
+            return Ok(());
+        }
+        add_ranked(seats, rank, ways)?;
+    }
+    Ok(())
+}
+
+/// Adds the offer of a rank, if it has one.
+fn add_ranked(
+    seats: &BTreeMap<Seat, Option<Offer>>,
+    rank: &Rank,
+    ways: &mut BTreeMap<Via, Offer>,
+) -> Result<(), AllocError>
+    ensures { OnOk result ((v : code.Via) → way_offer ways.new.entries v ≡ way_put (Some rank.now.via)
+        (ranked seats.now.entries rank.now) v (way_offer ways.old.entries v)) }
+{
+    if let Some(offer) = offer_ranked(seats, rank) {
+        ways.insert(rank.via(), offer)?;
+    }
+    Ok(())
 }
 
 /// The next hop of the preferred one of the route by a way and that of the others.

@@ -105,7 +105,7 @@ fn push_route(
 }
 
 /// Adds the prefixes of all rows.
-fn add_rows(flat: &Flat, prefixes: &mut BTreeSet<Prefix>) -> Result<(), AllocError>
+pub fn add_rows(flat: &Flat, prefixes: &mut BTreeSet<Prefix>) -> Result<(), AllocError>
     ensures { OnOk result (HasRows flat.now.rows.items prefixes.new.keys) }
 {
     for row in 0..flat.row_count() {
@@ -117,7 +117,7 @@ fn add_rows(flat: &Flat, prefixes: &mut BTreeSet<Prefix>) -> Result<(), AllocErr
 }
 
 /// Adds the prefixes of all ranks.
-fn add_ranks(ranks: &BTreeSet<Rank>, prefixes: &mut BTreeSet<Prefix>) -> Result<(), AllocError>
+pub fn add_ranks(ranks: &BTreeSet<Rank>, prefixes: &mut BTreeSet<Prefix>) -> Result<(), AllocError>
     ensures ranks { OnOk result (HasRanks ranks.now.keys prefixes.new.keys) }
     ensures kept { OnOk result ((p : code.Prefix) → has_prefix prefixes.old.keys p ≡ true
         → has_prefix prefixes.new.keys p ≡ true) }
