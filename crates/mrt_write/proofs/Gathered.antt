@@ -7,8 +7,8 @@ use Rattle.written_model.specs.Octets.{number_octets}
 use Rattle.saved_model.specs.Entries.{table_peer}
 use Rattle.saved_model.specs.Checkpoint.{table_body}
 use Rattle.saved_model.specs.Saved.{peers_with_candidates}
-use Rattle.mrt_write.specs.Views.{cand_as}
-use Rattle.mrt_write.specs.declared.entry.Cand as code_cand
+use Rattle.fib_prefix.specs.Views.{cand_as}
+use Rattle.fib_prefix.specs.declared.event.Cand as code_cand
 use Rattle.std.specs.BTreeSet.{insert_key}
 use Rattle.std.specs.Ordering.{match_ordering}
 use Rattle.std.specs.declared.cmp.Ordering.{Ordering}

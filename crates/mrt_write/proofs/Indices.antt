@@ -1,7 +1,13 @@
 -- The place of a peer.
-use Rattle.std.proofs.Common.{◌≡◌, ℕ, suc, ◌+◌, ◌<◌, ◌≤◌, Bool, true, false, cond, not, List, [], ◌∷◌, length, map, drop, get_or, refl, sym, ap, ◌∙◌, arith}
-use Rattle.std.specs.List.{list_any, position_or_len}
-use Rattle.std.specs.Ordering.{is_eq}
+use Rattle.std.proofs.Common.{inl, inr, ◌≡◌, ℕ, zero, suc, ◌+◌, ◌<◌, ◌≤◌, Bool, true, false, cond, not, List, [], ◌∷◌, length, map, drop, get_or, refl, sym, ap, subst, ◌∙◌, arith}
+use Rattle.std.specs.Prelude.{◌||◌, Ok, Err}
+use Rattle.std.specs.List.{AllByRecursion, list_any, position_or_len}
+use Rattle.std.specs.List.Sorted.{IsBinarySearchResult, IsNonDecreasingBy, IsStrictlySortedBy}
+use Rattle.std.specs.Ordering.{is_eq, ordering_index}
+use Rattle.std.specs.declared.cmp.Ordering.{Ordering}
+use Rattle.std.specs.declared.cmp.Ordering.TheVariants.{Less, Equal, Greater}
+use Rattle.std.proofs.lemmas.Bool.{cases_lt}
+use Rattle.std.proofs.lemmas.Cmp.{alike_right}
 use Rattle.std.proofs.lemmas.List.{drop_more}
 use Rattle.std.proofs.Math.ListN.{drop_of_length-le}
 use Rattle.address_model.specs.Width.{width}
@@ -12,11 +18,11 @@ use Rattle.route_model.proofs.Places.{peer_key}
 use Rattle.fib_prefix.specs.Views.{peer_as}
 use Rattle.fib_prefix.specs.Order.{code_peer_cmp}
 use Rattle.fib_prefix.specs.declared.event.Peer as code
-use Rattle.fib_prefix.proofs.Peers.{peer_is}
+use Rattle.fib_prefix.proofs.Peers.{peer_is, peer_total}
 use Rattle.saved_model.specs.Entries.{peer_index}
-use Rattle.mrt_write.specs.Views.{cand_as}
+use Rattle.fib_prefix.specs.Views.{cand_as}
 use Rattle.mrt_write.specs.Holds.{AreIn, AreShort}
-use Rattle.mrt_write.specs.declared.entry.Cand.{Cand}
+use Rattle.fib_prefix.specs.declared.event.Cand.{Cand}
 use Rattle.saved_model.proofs.Sharing.{index_is}
 
 is_peer : (q : code.Peer) → IsPeer (peer_as q)
@@ -35,36 +41,74 @@ turned q r = by_tests (same_peer q r) (same_peer r q) refl refl
     by_tests true false e h = let s : q ≡ r = peer_key.same q r e in sym (ap (λ x. same_peer x q) (sym s) ∙ peer_key.itself q) ∙ h
     by_tests false true e h = let s : r ≡ q = peer_key.same r q h in sym e ∙ (ap (λ x. same_peer q x) s ∙ peer_key.itself q)
 
--- those before a place aren't it
-pub record Sought (list : List code.Peer) (q : code.Peer) (place : ℕ) : Type 0 where
-  pub few : place ≤ length list
-  pub first : position_or_len (same_peer (peer_as q)) (map peer_as list) ≡ place + position_or_len (same_peer (peer_as q)) (map peer_as (drop place list))
+-- ---- the place that a search finds
 
-pub sought_start : (list : List code.Peer) (q : code.Peer) → Sought list q 0
-sought_start list q = record { few = omega arith; first = omega arith }
+rises : (list : List code.Peer) (i j : ℕ) (d : code.Peer) → IsStrictlySortedBy code_peer_cmp list → i < j → j < length list → code_peer_cmp (get_or list i d) (get_or list j d) ≡ Less
+unfolding IsStrictlySortedBy
+rises [] i j d s l m = absurd (omega (arith, m))
+rises (x ∷ list) i zero d s l m = absurd (omega (arith, l))
+rises (x ∷ list) zero (suc j) d s l m = behind list j s.0 (omega (arith, m))
+  where
+    behind : (ys : List code.Peer) (j : ℕ) → AllByRecursion (λ y. code_peer_cmp x y ≡ Less) ys → j < length ys → code_peer_cmp x (get_or ys j d) ≡ Less
+    behind [] j a m = absurd (omega (arith, m))
+    behind (y ∷ ys) zero a m = a.0
+    behind (y ∷ ys) (suc j) a m = behind ys j a.1 (omega (arith, m))
+rises (x ∷ list) (suc i) (suc j) d s l m = rises list i j d s.1 (omega (arith, l)) (omega (arith, m))
 
-pub sought_more : (list : List code.Peer) (q : code.Peer) (place : ℕ) (x : code.Peer) → Sought list q place → place < length list → x ≡ get_or list place x → is_eq (code_peer_cmp x q) ≡ false → Sought list q (place + 1)
-sought_more list q place x s some at e =
-    let rest = map peer_as (drop (place + 1) list) in
-    let front : drop place list ≡ x ∷ drop (place + 1) list = drop_more list place x some ∙ ap (λ y. y ∷ drop (place + 1) list) (sym at) in
-    let no : same_peer (peer_as q) (peer_as x) ≡ false = turned (peer_as q) (peer_as x) ∙ (sym (tied_is x q) ∙ e) in
-    let one : position_or_len (same_peer (peer_as q)) (map peer_as (drop place list)) ≡ 1 + position_or_len (same_peer (peer_as q)) rest =
-    ap (λ ys. position_or_len (same_peer (peer_as q)) (map peer_as ys)) front ∙ ap (λ b. cond (not b) (1 + position_or_len (same_peer (peer_as q)) rest) 0) no in
-    record { few = omega arith; first = omega (arith, s.first, one) }
+falls_not : (list : List code.Peer) (q : code.Peer) → IsStrictlySortedBy code_peer_cmp list → IsNonDecreasingBy (λ y. ordering_index (code_peer_cmp y q)) list
+falls_not list q s i j d le lt = elim (cases_lt i j) [
+  | inl m ↦ by_order (code_peer_cmp (get_or list j d) q) refl (rises list i j d s m lt)
+  | inr m ↦ let e : i ≡ j = omega (arith, m, le) in subst (λ k. ordering_index (code_peer_cmp (get_or list i d) q) ≤ ordering_index (code_peer_cmp (get_or list k d) q)) e (omega arith)
+]
+  where
+    low : (o : Ordering) → o ≡ Less → (n : ℕ) → ordering_index o ≤ n
+    low Less e n = omega arith
+    low Equal e n = absurd cc
+    low Greater e n = absurd cc
 
-pub sought_here : (list : List code.Peer) (q : code.Peer) (place : ℕ) (x : code.Peer) → Sought list q place → place < length list → x ≡ get_or list place x → is_eq (code_peer_cmp x q) ≡ true → list_any (same_peer (peer_as q)) (map peer_as list) ≡ true → place ≡ peer_index (map peer_as list) (peer_as q)
-sought_here list q place x s some at e there =
-    let rest = map peer_as (drop (place + 1) list) in
-    let front : drop place list ≡ x ∷ drop (place + 1) list = drop_more list place x some ∙ ap (λ y. y ∷ drop (place + 1) list) (sym at) in
-    let is : same_peer (peer_as q) (peer_as x) ≡ true = turned (peer_as q) (peer_as x) ∙ (sym (tied_is x q) ∙ e) in
-    let here : position_or_len (same_peer (peer_as q)) (map peer_as (drop place list)) ≡ 0 =
-    ap (λ ys. position_or_len (same_peer (peer_as q)) (map peer_as ys)) front ∙ ap (λ b. cond (not b) (1 + position_or_len (same_peer (peer_as q)) rest) 0) is in
-    omega (arith, s.first, here, index_is (peer_as q) (map peer_as list) there)
+    high : (o : Ordering) → ordering_index o ≤ 2
+    high Less = omega arith
+    high Equal = omega arith
+    high Greater = omega arith
 
-pub sought_all : (list : List code.Peer) (q : code.Peer) (place : ℕ) → Sought list q place → length list ≤ place → list_any (same_peer (peer_as q)) (map peer_as list) ≡ true → place ≡ peer_index (map peer_as list) (peer_as q)
-sought_all list q place s h there =
-    let none : position_or_len (same_peer (peer_as q)) (map peer_as (drop place list)) ≡ 0 = ap (λ ys. position_or_len (same_peer (peer_as q)) (map peer_as ys)) (drop_of_length-le list h) in
-    omega (arith, s.first, none, index_is (peer_as q) (map peer_as list) there)
+    by_order : (o : Ordering) → code_peer_cmp (get_or list j d) q ≡ o → code_peer_cmp (get_or list i d) (get_or list j d) ≡ Less → ordering_index (code_peer_cmp (get_or list i d) q) ≤ ordering_index o
+    by_order Less e l = low (code_peer_cmp (get_or list i d) q) (peer_total.trans (get_or list i d) (get_or list j d) q l e) 0
+    by_order Equal e l = low (code_peer_cmp (get_or list i d) q) (sym (alike_right peer_total (get_or list j d) q (get_or list i d) e) ∙ l) 1
+    by_order Greater e l = high (code_peer_cmp (get_or list i d) q)
+
+-- a peer that a test finds has a place
+some_place : (list : List code.Peer) (q : code.Peer) → list_any (same_peer (peer_as q)) (map peer_as list) ≡ true → (j : ℕ) × (j < length list) × ((d : code.Peer) → is_eq (code_peer_cmp (get_or list j d) q) ≡ true)
+some_place [] q e = absurd cc
+some_place (x ∷ list) q e = by_test (same_peer (peer_as q) (peer_as x)) refl e (some_place list q)
+  where
+    by_test : (b : Bool) → same_peer (peer_as q) (peer_as x) ≡ b → (b || list_any (same_peer (peer_as q)) (map peer_as list)) ≡ true
+        → (list_any (same_peer (peer_as q)) (map peer_as list) ≡ true → (j : ℕ) × (j < length list) × ((d : code.Peer) → is_eq (code_peer_cmp (get_or list j d) q) ≡ true))
+        → (j : ℕ) × (j < suc (length list)) × ((d : code.Peer) → is_eq (code_peer_cmp (get_or (x ∷ list) j d) q) ≡ true)
+    by_test true t f ih = (0, omega arith, λ d. tied_is x q ∙ (turned (peer_as x) (peer_as q) ∙ t))
+    by_test false t f ih = let r = ih f in (suc r.0, omega (arith, r.1), r.2)
+
+-- so a search in order finds it
+pub not_missed : (list : List code.Peer) (q : code.Peer) (i : ℕ) → IsStrictlySortedBy code_peer_cmp list → list_any (same_peer (peer_as q)) (map peer_as list) ≡ true → IsBinarySearchResult (λ y. code_peer_cmp y q) list (Err i) → ⊥
+not_missed list q i s there h =
+    let r = some_place list q there in
+    let p = h (falls_not list q s) in
+    elim (cases_lt r.0 i) [
+      | inl m ↦ let e : is_eq (code_peer_cmp (get_or list r.0 q) q) ≡ false = ap is_eq (p.0 r.0 q (omega arith) m) in let t = r.2 q in absurd cc
+      | inr m ↦ let e : is_eq (code_peer_cmp (get_or list r.0 q) q) ≡ false = ap is_eq (p.1 r.0 q m r.1) in let t = r.2 q in absurd cc
+    ]
+
+first_is : (list : List code.Peer) (q : code.Peer) (i : ℕ) → IsStrictlySortedBy code_peer_cmp list → i < length list → ((d : code.Peer) → code_peer_cmp (get_or list i d) q ≡ Equal) → position_or_len (same_peer (peer_as q)) (map peer_as list) ≡ i
+unfolding IsStrictlySortedBy
+first_is [] q i s l e = absurd (omega (arith, l))
+first_is (x ∷ list) q zero s l e = ap (λ b. cond (not b) (1 + position_or_len (same_peer (peer_as q)) (map peer_as list)) 0) (turned (peer_as q) (peer_as x) ∙ (sym (tied_is x q) ∙ ap is_eq (e q)))
+first_is (x ∷ list) q (suc i) s l e =
+    let less : code_peer_cmp x q ≡ Less = sym (alike_right peer_total (get_or list i q) q x (e q)) ∙ rises (x ∷ list) 0 (suc i) q s (omega arith) l in
+    let no : same_peer (peer_as q) (peer_as x) ≡ false = turned (peer_as q) (peer_as x) ∙ (sym (tied_is x q) ∙ ap is_eq less) in
+    let one : position_or_len (same_peer (peer_as q)) (map peer_as (x ∷ list)) ≡ 1 + position_or_len (same_peer (peer_as q)) (map peer_as list) = ap (λ b. cond (not b) (1 + position_or_len (same_peer (peer_as q)) (map peer_as list)) 0) no in
+    omega (arith, one, first_is list q i s.1 (omega (arith, l)) (λ d. e d))
+
+pub place_found : (list : List code.Peer) (q : code.Peer) (i : ℕ) → IsStrictlySortedBy code_peer_cmp list → list_any (same_peer (peer_as q)) (map peer_as list) ≡ true → i < length list → IsBinarySearchResult (λ y. code_peer_cmp y q) list (Ok i) → i ≡ peer_index (map peer_as list) (peer_as q)
+place_found list q i s there l h = sym (first_is list q i s l (λ d. h d)) ∙ sym (index_is (peer_as q) (map peer_as list) there)
 
 -- one of the others
 pub in_others : (peers : List Peer) (f : Cand) (cs : List Cand) (i : ℕ) (x : Cand) → AreIn peers (f ∷ cs) → i < length cs → x ≡ get_or cs i x → list_any (same_peer (peer_as x.via.peer)) peers ≡ true

@@ -14,14 +14,14 @@ use Rattle.route_model.proofs.Places.{peer_key}
 use Rattle.fib_prefix.specs.Views.{peer_as}
 use Rattle.saved_model.specs.Saved.{peers_with_candidates, long_one, most_path}
 use Rattle.saved_model.proofs.Sharing.{stays_in, all_key}
-use Rattle.mrt_write.specs.Views.{cand_as}
+use Rattle.fib_prefix.specs.Views.{cand_as}
 use Rattle.mrt_write.specs.Holds.{AreIn, AreShort}
 use Rattle.std.specs.Prelude.{Result, Ok, Err, IsErr}
 use Rattle.std.specs.Result.{IsErrAnd}
 use Rattle.std.specs.declared.vec.Vec.{Vec}
 use Rattle.mrt_write.specs.Answers.{WriterAnswers, no_memory}
 use Rattle.mrt_write.specs.declared.write.WriteError.{WriteError}
-use Rattle.mrt_write.specs.declared.entry.Cand.{Cand}
+use Rattle.fib_prefix.specs.declared.event.Cand.{Cand}
 
 has_peer : (r : Peer) (peers : List Peer) → IsPeer r → AllByRecursion IsPeer peers → list_any (same_peer r) (insert_key peer_cmp peers r) ≡ true
 has_peer r [] h a = ap (λ b. b || false) (peer_key.itself r)

@@ -24,8 +24,8 @@ use Rattle.written_model.proofs.Fields.{length-number_octets}
 use Rattle.saved_model.specs.Entries.{entry_octets}
 use Rattle.saved_model.specs.Checkpoint.{Piece, most_entries, piece_body}
 use Rattle.saved_model.specs.Saved.{has_place, with_candidate}
-use Rattle.mrt_write.specs.Views.{cand_as}
-use Rattle.mrt_write.specs.declared.entry.Cand as code_cand
+use Rattle.fib_prefix.specs.Views.{cand_as}
+use Rattle.fib_prefix.specs.declared.event.Cand as code_cand
 use Rattle.mrt_write.proofs.Written.{ceiling}
 
 pub is_prefix : (p : code.Prefix) → IsPrefix (prefix_as p)

@@ -4,8 +4,8 @@ use Rattle.std.specs.Prelude.{◌||◌, ◌==◌, nat_lt}
 use Rattle.std.proofs.lemmas.Bool.{ne_eqb, eq-eqb, lt-ltb, le-ltb}
 use Rattle.saved_model.specs.Checkpoint.{has_ids}
 use Rattle.saved_model.specs.Saved.{long_one, most_path}
-use Rattle.mrt_write.specs.Views.{cand_as}
-use Rattle.mrt_write.specs.declared.entry.Cand.{Cand}
+use Rattle.fib_prefix.specs.Views.{cand_as}
+use Rattle.fib_prefix.specs.declared.event.Cand.{Cand}
 use Rattle.mrt_write.proofs.Indices.{next_other, no_other}
 
 pub id_found : (cs : List Cand) (i : ℕ) (x : Cand) → has_ids (map cand_as cs) ≡ has_ids (map cand_as (drop i cs)) → i < length cs → x ≡ get_or cs i x → (x.via.id ≡ 0 → ⊥) → true ≡ has_ids (map cand_as cs)

@@ -8,8 +8,8 @@ use Rattle.saved_model.specs.Saved.{peers_with_candidates, pieces_of, saved}
 use Rattle.saved_model.proofs.Records.{length-table}
 use Rattle.fib_prefix.specs.Views.{peer_as}
 use Rattle.fib_prefix.specs.declared.event.Peer as code_peer
-use Rattle.mrt_write.specs.Views.{cand_as}
-use Rattle.mrt_write.specs.declared.entry.Cand.{Cand}
+use Rattle.fib_prefix.specs.Views.{cand_as}
+use Rattle.fib_prefix.specs.declared.event.Cand.{Cand}
 
 pub table_few : (peers : List code_peer.Peer) (body : List ℕ) → length peers ≤ 65535 → body ≡ table_body (map peer_as peers) → length body < 4294967296
 table_few peers body few e =

@@ -2,7 +2,7 @@
 use Rattle.std.specs.Prelude.{◌≡◌, ◌<◌, ◌≤◌, ℕ, Bool, true, List, ◌∷◌, ◌++◌, length, flat_map, get_or}
 use Rattle.std.specs.List.{list_any}
 use Rattle.fib_prefix.specs.Views.{peer_as}
-use Rattle.mrt_write.specs.declared.entry.Cand.{Cand}
+use Rattle.fib_prefix.specs.declared.event.Cand.{Cand}
 use Rattle.route_model.specs.Events.{Peer, same_peer}
 use Rattle.route_model.specs.Choice.{Place, Offer, Candidates}
 use Rattle.fib_addr.specs.Views.{prefix_as}

@@ -1,30 +1,15 @@
 //! Entries of RIB records.
 
-ghost use Rattle.std.specs.Prelude.{◌≡◌, ◌≤◌, ◌++◌, OnOk};
-ghost use Rattle.fib_prefix.specs.Views.{peer_as};
+ghost use Rattle.std.specs.Prelude.{◌≡◌, ◌≤◌, ◌++◌, [], OnOk};
+ghost use Rattle.fib_prefix.specs.Views.{cand_as, peer_as};
 ghost use Rattle.std.specs.Prelude.{List};
 ghost use Rattle.route_model.specs.Events.{Peer};
 ghost use Rattle.saved_model.specs.Entries.{attributes_of, entry_octets, id_octets, peer_index};
-ghost use Rattle.mrt_write.specs.Views.{cand_as};
 
 use crate::attribute::{put_as_path, put_hop};
-use fib_addr::{Addr, Prefix};
-use fib_prefix::Via;
+use fib_prefix::Cand;
 use octet_put::{put_behind_length, put_u16, put_u32};
 use std::alloc::{AllocError, Global};
-
-/// A candidate: what a peer offers for a prefix by a way.
-#[derive(Clone, Copy, Debug, PartialEq, Eq)]
-pub struct Cand {
-    /// The prefix.
-    pub prefix: Prefix,
-    /// The way.
-    pub via: Via,
-    /// The length of the path.
-    pub path: u32,
-    /// The next hop.
-    pub hop: Addr,
-}
 
 /// Puts a candidate's attributes.
 fn put_attributes(cand: &Cand, value: &mut Vec<u8>, out: &mut Vec<u8>) -> Result<(), AllocError>
@@ -51,7 +36,10 @@ pub struct Scratch {
 
 impl Scratch {
     /// Empty room.
-    pub fn new(alloc: Global) -> Scratch {
+    pub fn new(alloc: Global) -> Scratch
+        ensures value { result.value.items ≡ [] }
+        ensures part { result.part.items ≡ [] }
+    {
         Scratch {
             value: Vec::new(alloc),
             part: Vec::new(alloc),

@@ -7,12 +7,12 @@ ghost use Rattle.fib_addr.specs.Views.{prefix_as};
 ghost use Rattle.saved_model.specs.Entries.{entry_octets};
 ghost use Rattle.saved_model.specs.Checkpoint.{Piece, piece_records};
 ghost use Rattle.saved_model.specs.Saved.{has_place, pieces_from};
-ghost use Rattle.mrt_write.specs.Views.{cand_as};
+ghost use Rattle.fib_prefix.specs.Views.{cand_as};
 ghost use Rattle.mrt_write.specs.Holds.{OpenHolds, OpenTakes};
 
-use crate::entry::Cand;
 use crate::record::put_rib;
 use fib_addr::Prefix;
+use fib_prefix::Cand;
 use std::alloc::AllocError;
 
 /// The most entries of a record, whose number has two octets.

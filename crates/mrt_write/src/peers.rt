@@ -1,15 +1,15 @@
 //! Peers of a table.
 
 ghost use Rattle.std.specs.Prelude.{◌≡◌, ◌≤◌, ◌++◌, length, map, IfOk, OnOk};
-ghost use Rattle.fib_prefix.specs.Views.{peer_as};
+ghost use Rattle.std.specs.List.Sorted.{IsStrictlySortedBy};
+ghost use Rattle.fib_prefix.specs.Order.{code_peer_cmp};
+ghost use Rattle.fib_prefix.specs.Views.{cand_as, peer_as};
 ghost use Rattle.saved_model.specs.Entries.{table_peer};
 ghost use Rattle.saved_model.specs.Checkpoint.{table_body};
 ghost use Rattle.saved_model.specs.Saved.{peers_with_candidates};
-ghost use Rattle.mrt_write.specs.Views.{cand_as};
 
-use crate::entry::Cand;
 use crate::field::put_addr;
-use fib_prefix::{Family, Peer};
+use fib_prefix::{Cand, Family, Peer};
 use octet_put::{put_u16, put_u32};
 use std::alloc::{AllocError, Global};
 use std::collections::BTreeSet;
@@ -40,7 +40,8 @@ fn peer_set(alloc: Global, cands: &[Cand]) -> Result<BTreeSet<Peer>, AllocError>
 
 /// They, in a list.
 fn listed(alloc: Global, set: &BTreeSet<Peer>) -> Result<Vec<Peer>, AllocError>
-    ensures { IfOk result (λ list. list.items ≡ set.now.keys) }
+    ensures list { IfOk result (λ list. list.items ≡ set.now.keys) }
+    ensures sorted { IfOk result (λ list. IsStrictlySortedBy code_peer_cmp list.items) }
 {
     let mut list = Vec::new(alloc);
     for peer in set.iter() {
@@ -51,7 +52,8 @@ fn listed(alloc: Global, set: &BTreeSet<Peer>) -> Result<Vec<Peer>, AllocError>
 
 /// The peers that have a candidate, in their order.
 pub fn peers_with_candidates(alloc: Global, cands: &[Cand]) -> Result<Vec<Peer>, AllocError>
-    ensures { IfOk result (λ list. map peer_as list.items ≡ peers_with_candidates (map cand_as cands.now)) }
+    ensures peers { IfOk result (λ list. map peer_as list.items ≡ peers_with_candidates (map cand_as cands.now)) }
+    ensures sorted { IfOk result (λ list. IsStrictlySortedBy code_peer_cmp list.items) }
 {
     let set = peer_set(alloc, cands)?;
     listed(alloc, &set)

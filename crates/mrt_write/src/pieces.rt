@@ -2,30 +2,31 @@
 
 ghost use Rattle.std.specs.Prelude.{◌≡◌, ◌≤◌, ◌<◌, ◌+◌, ◌^◌, ◌++◌, ◌∷◌, ℕ, Bool, true, List, length, map, get_or, OnOk, IfErr};
 ghost use Rattle.std.specs.List.{list_any};
+ghost use Rattle.std.specs.List.Sorted.{IsStrictlySortedBy};
 ghost use Rattle.route_model.specs.Events.{same_peer};
-ghost use Rattle.fib_prefix.specs.Views.{peer_as};
+ghost use Rattle.fib_prefix.specs.Order.{code_peer_cmp};
+ghost use Rattle.fib_prefix.specs.Views.{cand_as, peer_as};
 ghost use Rattle.saved_model.specs.Entries.{peer_index};
 ghost use Rattle.saved_model.specs.Checkpoint.{piece_records};
 ghost use Rattle.saved_model.specs.Saved.{pieces_of};
-ghost use Rattle.mrt_write.specs.Views.{cand_as};
 ghost use Rattle.mrt_write.specs.Holds.{AreIn, AreShort};
 
-use crate::entry::{Cand, Scratch, put_entry};
+use crate::entry::{Scratch, put_entry};
 use crate::growing::Open;
 use crate::record::put_rib;
-use fib_prefix::Peer;
+use fib_prefix::{Cand, Peer};
 use std::alloc::{AllocError, Global};
 
-/// The place of a peer in a list that has it.
+/// The place of a peer in a list that has it, in the order of peers.
 fn index_of(list: &[Peer], peer: &Peer) -> u16
     requires there { list_any (same_peer (peer_as peer.now)) (map peer_as list.now) ≡ true }
+    requires sorted { IsStrictlySortedBy code_peer_cmp list.now }
     requires few { length list.now ≤ 65535 }
     ensures { result ≡ peer_index (map peer_as list.now) (peer_as peer.now) }
 {
-    let mut place = 0;
-    while place < list.len() && !list[place].cmp(peer).is_eq() {
-        place += 1;
-    }
+    let Ok(place) = list.binary_search(peer) else {
+        unreachable!();
+    };
     place as u16
 }
 
@@ -39,6 +40,7 @@ pub fn put_pieces(
     out: &mut Vec<u8>,
 ) -> Result<(), AllocError>
     requires few { length peers.now ≤ 65535 }
+    requires sorted { IsStrictlySortedBy code_peer_cmp peers.now }
     requires there { AreIn (map peer_as peers.now) (first.now ∷ others.now) }
     requires short { AreShort (first.now ∷ others.now) }
     requires many { length others.now < 2 ^ 60 }

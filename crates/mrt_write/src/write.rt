@@ -1,19 +1,19 @@
 //! Whole checkpoints.
 
 ghost use Rattle.std.specs.Prelude.{◌≡◌, ◌≤◌, ◌<◌, ◌^◌, ◌++◌, length, map, option_map, OnOk};
-ghost use Rattle.fib_prefix.specs.Views.{peer_as};
+ghost use Rattle.std.specs.List.Sorted.{IsStrictlySortedBy};
+ghost use Rattle.fib_prefix.specs.Order.{code_peer_cmp};
+ghost use Rattle.fib_prefix.specs.Views.{cand_as, peer_as};
 ghost use Rattle.route_model.specs.Choice.{AreCandidates};
 ghost use Rattle.saved_model.specs.Checkpoint.{has_ids};
 ghost use Rattle.mrt_write.specs.Answers.{WriterAnswers, no_memory};
 ghost use Rattle.saved_model.specs.Saved.{peers_with_candidates, saved, long_one};
-ghost use Rattle.mrt_write.specs.Views.{cand_as};
 ghost use Rattle.mrt_write.specs.Holds.{AreIn, AreShort};
 
-use crate::entry::Cand;
 use crate::peers::{peers_with_candidates, put_table};
 use crate::pieces::put_pieces;
 use fib_addr::Prefix;
-use fib_prefix::Peer;
+use fib_prefix::{Cand, Peer};
 use octet_put::put_record;
 use std::alloc::{AllocError, Global};
 
@@ -66,6 +66,7 @@ fn put_all(
     out: &mut Vec<u8>,
 ) -> Result<(), AllocError>
     requires few { length peers.now ≤ 65535 }
+    requires sorted { IsStrictlySortedBy code_peer_cmp peers.now }
     requires there { AreIn (peers_with_candidates (map cand_as cands.now)) cands.now }
     requires short { AreShort cands.now }
     requires many { length cands.now < 2 ^ 60 }

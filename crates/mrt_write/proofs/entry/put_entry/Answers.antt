@@ -1,7 +1,7 @@
 use Rattle.std.proofs.Common.{length, ap, ◌∙◌, arith}
 use Rattle.saved_model.specs.Entries.{attributes_of}
 use Rattle.saved_model.proofs.Attributes.{length-attributes}
-use Rattle.mrt_write.specs.Views.{cand_as}
+use Rattle.fib_prefix.specs.Views.{cand_as}
 use Rattle.mrt_write.proofs.Written.{on_ok, part_is, entry_put}
 use Rattle.mrt_write.proofs.entry.put_entry.Goals as goal
 

@@ -1,6 +1,6 @@
 use Rattle.std.proofs.Common.{map}
 use Rattle.saved_model.specs.Saved.{peers_with_candidates}
-use Rattle.mrt_write.specs.Views.{cand_as}
+use Rattle.fib_prefix.specs.Views.{cand_as}
 use Rattle.mrt_write.proofs.Gathered.{gather_start, gather_more}
 use Rattle.mrt_write.proofs.peers.peer_set.Goals as goal
 

@@ -1,7 +1,7 @@
 use Rattle.std.proofs.Common.{◌≡◌, drop, map}
 use Rattle.fib_prefix.specs.Views.{peer_as}
 use Rattle.saved_model.specs.Saved.{peers_with_candidates}
-use Rattle.mrt_write.specs.Views.{cand_as}
+use Rattle.fib_prefix.specs.Views.{cand_as}
 use Rattle.mrt_write.proofs.Gathered.{gathered}
 use Rattle.mrt_write.proofs.peers.peer_set.Given as goal
 

@@ -1,18 +1,13 @@
-use Rattle.std.proofs.Common.{sym, ap, ◌∙◌}
-use Rattle.std.specs.Ordering.{is_eq}
-use Rattle.mrt_write.proofs.Indices.{sought_start, sought_more, sought_here, sought_all}
+use Rattle.std.proofs.Common.{length, subst}
+use Rattle.std.specs.List.Sorted.{IsBinarySearchResult, IsSearchInRange}
+use Rattle.fib_prefix.specs.Order.{code_peer_cmp}
+use Rattle.mrt_write.proofs.Indices.{not_missed, place_found}
 use Rattle.mrt_write.proofs.pieces.index_of.Goals as goal
-use Rattle.mrt_write.proofs.pieces.index_of.Goals.{then-loop-place-test+else-not-is_eq, else-loop-place-test}
 
-pub loop-place-init : goal.loop-place-init
-loop-place-init c = sought_start c.args.list.now c.args.peer.now
-
-pub loop-place-preserved : goal.loop-place-preserved
-loop-place-preserved c =
-    sought_more c.args.list.now c.args.peer.now c.loop-place.place c.index-list-place.result c.loop-place.invariant c.loop-place-test.true c.index-list-place.is (ap is_eq (sym c.cmp.ensures) ∙ (sym c.is_eq.ensures ∙ c.if-not-is_eq.true))
+pub unreachable-requires : goal.unreachable-requires
+unreachable-requires c =
+    not_missed c.args.list.now c.args.peer.now c.in_default.field-0 c.requires.sorted c.requires.there (subst (λ r. IsBinarySearchResult (λ y. code_peer_cmp y c.args.peer.now) c.args.list.now r) c.in_default.is c.binary_search.ensures.position)
 
 pub returns : goal.returns
-returns c = elim c.loop-place-test.branch [
-  | then-loop-place-test+else-not-is_eq w ↦ sought_here c.args.list.now c.args.peer.now c.loop-place.place w.index-list-place.result c.loop-place.invariant w.loop-place-test.true w.index-list-place.is (ap is_eq (sym w.cmp.ensures) ∙ (sym w.is_eq.ensures ∙ w.if-not-is_eq.false)) c.requires.there
-  | else-loop-place-test w ↦ sought_all c.args.list.now c.args.peer.now c.loop-place.place c.loop-place.invariant w.loop-place-test.false c.requires.there
-]
+returns c =
+    place_found c.args.list.now c.args.peer.now c.in-Ok.place c.requires.sorted c.requires.there (subst (λ r. IsSearchInRange r (length c.args.list.now)) c.in-Ok.is c.binary_search.ensures.bound) (subst (λ r. IsBinarySearchResult (λ y. code_peer_cmp y c.args.peer.now) c.args.list.now r) c.in-Ok.is c.binary_search.ensures.position)

@@ -4,7 +4,7 @@ use Rattle.saved_model.specs.Entries.{entry_octets}
 use Rattle.saved_model.specs.Checkpoint.{piece_records}
 use Rattle.saved_model.specs.Saved.{pieces_of}
 use Rattle.saved_model.proofs.Sharing.{length_entry}
-use Rattle.mrt_write.specs.Views.{cand_as}
+use Rattle.fib_prefix.specs.Views.{cand_as}
 use Rattle.mrt_write.specs.Holds.{OpenLeadsTo}
 use Rattle.mrt_write.specs.declared.growing.Open.{Open}
 use Rattle.mrt_write.proofs.Written.{on_ok, part_is}

@@ -2,7 +2,7 @@ use Rattle.std.proofs.Common.{◌≤◌, ◌∷◌, ◌++◌, length, drop, map}
 use Rattle.fib_prefix.specs.Views.{peer_as}
 use Rattle.saved_model.specs.Checkpoint.{piece_records}
 use Rattle.saved_model.specs.Saved.{pieces_of}
-use Rattle.mrt_write.specs.Views.{cand_as}
+use Rattle.fib_prefix.specs.Views.{cand_as}
 use Rattle.mrt_write.specs.Holds.{OpenLeadsTo}
 use Rattle.mrt_write.proofs.pieces.put_pieces.Given as goal
 

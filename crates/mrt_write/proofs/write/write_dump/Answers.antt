@@ -2,7 +2,7 @@ use Rattle.std.proofs.Common.{◌≡◌, ◌++◌, ap, sym, ◌∙◌, map, leng
 use Rattle.std.proofs.lemmas.List.{length-map}
 use Rattle.fib_prefix.specs.Views.{peer_as}
 use Rattle.saved_model.specs.Saved.{peers_with_candidates, saved}
-use Rattle.mrt_write.specs.Views.{cand_as}
+use Rattle.fib_prefix.specs.Views.{cand_as}
 use Rattle.mrt_write.proofs.Present.{are_in, are_short, nothing_owed}
 use Rattle.mrt_write.proofs.write.write_dump.Goals as goal
 
@@ -11,12 +11,12 @@ returns-in_err-list c = nothing_owed (map cand_as c.args.cands.now) c.from_resid
 
 pub returns-then-peers-gt-MOST_PEERS : goal.returns-then-peers-gt-MOST_PEERS
 returns-then-peers-gt-MOST_PEERS c =
-    let len : length c.deref-peers.result.now ≡ length (peers_with_candidates (map cand_as c.args.cands.now)) = ap length c.deref-peers.ensures.value ∙ (sym (length-map c.in_ok-list.list.items peer_as) ∙ ap length c.in_ok-list.ensures) in
+    let len : length c.deref-peers.result.now ≡ length (peers_with_candidates (map cand_as c.args.cands.now)) = ap length c.deref-peers.ensures.value ∙ (sym (length-map c.in_ok-list.list.items peer_as) ∙ ap length c.in_ok-list.ensures.peers) in
     (omega (arith, len, c.if-peers-gt-MOST_PEERS.true), len)
 
 pub returns-in-Some : goal.returns-in-Some
 returns-in-Some c =
-    let len : length c.deref-peers.result.now ≡ length (peers_with_candidates (map cand_as c.args.cands.now)) = ap length c.deref-peers.ensures.value ∙ (sym (length-map c.in_ok-list.list.items peer_as) ∙ ap length c.in_ok-list.ensures) in
+    let len : length c.deref-peers.result.now ≡ length (peers_with_candidates (map cand_as c.args.cands.now)) = ap length c.deref-peers.ensures.value ∙ (sym (length-map c.in_ok-list.list.items peer_as) ∙ ap length c.in_ok-list.ensures.peers) in
     (omega (arith, len, c.if-peers-gt-MOST_PEERS.false), cand_as c.in-Some.long.now, sym c.in-Some.ensures, refl, refl)
 
 pub put_all-requires-clause-there : goal.put_all-requires-clause-there
@@ -30,5 +30,5 @@ returns-in_err-put_all c = nothing_owed (map cand_as c.args.cands.now) c.from_re
 
 pub returns : goal.returns
 returns c =
-    let len : length c.deref-peers.result.now ≡ length (peers_with_candidates (map cand_as c.args.cands.now)) = ap length c.deref-peers.ensures.value ∙ (sym (length-map c.in_ok-list.list.items peer_as) ∙ ap length c.in_ok-list.ensures) in
+    let len : length c.deref-peers.result.now ≡ length (peers_with_candidates (map cand_as c.args.cands.now)) = ap length c.deref-peers.ensures.value ∙ (sym (length-map c.in_ok-list.list.items peer_as) ∙ ap length c.in_ok-list.ensures.peers) in
     (omega (arith, len, c.if-peers-gt-MOST_PEERS.false), sym c.in_default.ensures, c.in_ok-put_all.ensures ∙ ap (λ xs. xs ++ saved (map cand_as c.args.cands.now)) c.new-out.ensures.items)

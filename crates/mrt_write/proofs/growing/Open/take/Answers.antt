@@ -1,5 +1,5 @@
 use Rattle.std.proofs.Common.{ap, sym, ◌∙◌, ◌+◌, ◌++◌, refl, length}
-use Rattle.mrt_write.specs.Views.{cand_as}
+use Rattle.fib_prefix.specs.Views.{cand_as}
 use Rattle.mrt_write.specs.declared.growing.Open.{Open}
 use Rattle.octet_put.proofs.Written.{last_put}
 use Rattle.mrt_write.proofs.Written.{on_ok}
