@@ -1,16 +1,18 @@
 -- The numbers of hops stay as rows are read.
-use Rattle.std.proofs.Common.{◌≡◌, List, [], ◌∷◌, ◌++◌, Option, Some, None, refl, sym, ap, ◌∙◌, append-nil}
-use Rattle.std.specs.Prelude.{unwrap_or, flat_map, fold, option_to_list}
-use Rattle.std.specs.List.{AllByRecursion}
+use Rattle.std.proofs.Common.{◌≡◌, ℕ, zero, suc, Bool, true, false, cond, List, [], ◌∷◌, ◌++◌, Option, Some, None, refl, sym, ap, ◌∙◌, append-nil}
+use Rattle.std.specs.Prelude.{unwrap_or, flat_map, fold, option_to_list, slice_get}
+use Rattle.std.specs.List.{AllByRecursion, list_any}
 use Rattle.std.proofs.lemmas.Grind.{flat_map-append}
 use Rattle.std.proofs.lemmas.List.Sums.{fold-append}
-use Rattle.address_model.specs.Address.{Address}
+use Rattle.address_model.specs.Address.{Address, same_address}
 use Rattle.fib_addr.specs.Hops.{hop_at, with_hop}
 use Rattle.fib_addr.proofs.HopLists.{HasNumber, brought_number, folded_stays, number_holds}
 use Rattle.cert_model.specs.Rows.{leaf_row}
 use Rattle.printed_model.specs.Rows.{PrintedRow, route_row, least_row, cert_leaf_row}
 use Rattle.printed_model.specs.Texts.{numbered_hop, hops_in}
-use Rattle.printed_model.specs.Used.{hop_number, route_entry, least_entry, cert_part}
+use Rattle.printed_model.specs.declared.kind.Kind.{Kind}
+use Rattle.printed_model.specs.Used.{hop_number, kind_hop, route_entry, least_entry, cert_part}
+use Rattle.printed_model.specs.Kinds.{hops_with}
 
 still_held : (hops more : List Address) (a : Address) → HasNumber hops a → HasNumber (fold with_hop hops more) a
 still_held hops more a h = (h.0, folded_stays hops more a h.0 h.1)
@@ -94,3 +96,28 @@ each f (x ∷ xs) h = (f x h.0, each f xs h.1)
 
 pub numbers_back : (rows : List PrintedRow) → AllByRecursion (λ a. hop_at (hops_in rows) (hop_number (hops_in rows) (Some a)) ≡ Some a) (flat_map numbered_hop rows)
 numbers_back rows = each (number_back (hops_in rows)) (flat_map numbered_hop rows) (all_held [] (flat_map numbered_hop rows))
+
+pub kind_numbers : (kind : Kind) (before : List Address) (rows : List PrintedRow) → AllByRecursion (λ a. hop_at (hops_with kind before rows) (hop_number (hops_with kind before rows) (Some a)) ≡ Some a) (flat_map (kind_hop kind) rows)
+kind_numbers kind before rows = each (number_back (hops_with kind before rows)) (flat_map (kind_hop kind) rows) (all_held before (flat_map (kind_hop kind) rows))
+
+-- ---- the hop of a number stays
+
+place_stays : (hops : List Address) (b a : Address) (n : ℕ) → slice_get hops n ≡ Some a → slice_get (hops ++ b ∷ []) n ≡ Some a
+place_stays [] b a n e = absurd cc
+place_stays (c ∷ hops) b a zero e = e
+place_stays (c ∷ hops) b a (suc n) e = place_stays hops b a n e
+
+hop_stays : (hops : List Address) (b a : Address) (n : ℕ) → hop_at hops n ≡ Some a → hop_at (with_hop hops b) n ≡ Some a
+hop_stays hops b a zero e = absurd cc
+hop_stays hops b a (suc n) e = by_test (list_any (same_address b) hops)
+  where
+    by_test : (t : Bool) → hop_at (cond t hops (hops ++ b ∷ [])) (suc n) ≡ Some a
+    by_test true = e
+    by_test false = place_stays hops b a n e
+
+hops_stay : (hops more : List Address) (a : Address) (n : ℕ) → hop_at hops n ≡ Some a → hop_at (fold with_hop hops more) n ≡ Some a
+hops_stay hops [] a n e = e
+hops_stay hops (b ∷ more) a n e = hops_stay (with_hop hops b) more a n (hop_stays hops b a n e)
+
+pub kind_stays : (kind : Kind) (before : List Address) (rows : List PrintedRow) (n : ℕ) (a : Address) → hop_at before n ≡ Some a → hop_at (hops_with kind before rows) n ≡ Some a
+kind_stays kind before rows n a e = hops_stay before (flat_map (kind_hop kind) rows) a n e

@@ -15,7 +15,7 @@ use Rattle.fib_addr.specs.Hops.{with_hop, most_hops}
 use Rattle.fib_addr.proofs.GroupLaws.{is_mark, none_of_both}
 use Rattle.printed_model.specs.Rows.{PrintedRow, route_row, add_row, replace_row, remove_row, answer_row, visits_row, table_row, least_row, cert_leaf_row, cert_join_row, cert_bound_row, report_row, IsRow, fields_of, text_of}
 use Rattle.printed_model.specs.Reading.{is_comma, row_in, line_in}
-use Rattle.printed_model.specs.Texts.{in_front, lines_of, line_texts, numbered_hop, hops_in, with_row, rows_after, rows_in}
+use Rattle.printed_model.specs.Texts.{in_front, lines_of, line_texts, numbered_hop, hops_in, with_row, rows_after, rows_by, rows_in}
 use Rattle.printed_model.proofs.Rows.{row_again}
 use Rattle.printed_model.proofs.Plain.{Lacks, IsPlain, fields_plain}
 
@@ -142,32 +142,35 @@ grows : (hops used : List Address) → length hops ≤ length (fold with_hop hop
 grows hops [] = omega arith
 grows hops (a ∷ used) = omega (arith, grows_once hops a, grows (with_hop hops a) used)
 
-pub few_before : (before rows : List PrintedRow) → length (hops_in before) ≤ length (hops_in (before ++ rows))
-few_before before rows =
-    let same : hops_in (before ++ rows) ≡ fold with_hop (hops_in before) (flat_map numbered_hop rows) =
-    ap (fold with_hop []) (flat_map-append numbered_hop before rows) ∙ fold-append with_hop [] (flat_map numbered_hop before) (flat_map numbered_hop rows) in
-    omega (arith, ap length same, grows (hops_in before) (flat_map numbered_hop rows))
+pub few_before : (brings : PrintedRow → List Address) (hops : List Address) (before rows : List PrintedRow)
+    → length (fold with_hop hops (flat_map brings before)) ≤ length (fold with_hop hops (flat_map brings (before ++ rows)))
+few_before brings hops before rows =
+    let first : List Address = fold with_hop hops (flat_map brings before) in
+    let same : fold with_hop hops (flat_map brings (before ++ rows)) ≡ fold with_hop first (flat_map brings rows) =
+    ap (fold with_hop hops) (flat_map-append brings before rows) ∙ fold-append with_hop hops (flat_map brings before) (flat_map brings rows) in
+    omega (arith, ap length same, grows first (flat_map brings rows))
 
 -- ---- rows after rows
 
-filled : (rows : List PrintedRow) (n : ℕ) (line : List ℕ) (lines : List (List ℕ)) (c : ℕ) (rest : List ℕ) → line ≡ c ∷ rest → rows_after rows n (line ∷ lines) ≡ (with_row n rows (line_in line) >>= λ more. rows_after more (n + 1) lines)
+filled : (rows : List PrintedRow) (n : ℕ) (line : List ℕ) (lines : List (List ℕ)) (c : ℕ) (rest : List ℕ) → line ≡ c ∷ rest
+    → rows_after hops_in rows n (line ∷ lines) ≡ (with_row hops_in n rows (line_in line) >>= λ more. rows_after hops_in more (n + 1) lines)
 unfolding rows_after
 filled rows n [] lines c rest e = absurd cc
 filled rows n (b ∷ line) lines c rest e = refl
 
-rows_again : (before rows : List PrintedRow) (n : ℕ) → AllByRecursion IsRow rows → length (hops_in (before ++ rows)) ≤ most_hops → rows_after before n (map line_text rows) ≡ Ok (before ++ rows)
+rows_again : (before rows : List PrintedRow) (n : ℕ) → AllByRecursion IsRow rows → length (hops_in (before ++ rows)) ≤ most_hops → rows_after hops_in before n (map line_text rows) ≡ Ok (before ++ rows)
 unfolding rows_after
 rows_again before [] n h few = ap Ok (sym (append-nil before))
 rows_again before (row ∷ rows) n h few =
     let b = begins row in
     let joined : (before ++ row ∷ []) ++ rows ≡ before ++ row ∷ rows = append_assoc before (row ∷ []) rows in
     let few_now : length (hops_in ((before ++ row ∷ []) ++ rows)) ≤ most_hops = omega (arith, ap (λ rs. length (hops_in rs)) joined, few) in
-    let fits : nat_lt most_hops (length (hops_in (before ++ row ∷ []))) ≡ false = le-ltb most_hops (length (hops_in (before ++ row ∷ []))) (omega (arith, few_before (before ++ row ∷ []) rows, few_now)) in
-    let next : with_row n before (line_in (line_text row)) ≡ Ok (before ++ row ∷ []) = ap (with_row n before) (line_again row h.0) ∙ cond-false _ _ _ fits in
+    let fits : nat_lt most_hops (length (hops_in (before ++ row ∷ []))) ≡ false = le-ltb most_hops (length (hops_in (before ++ row ∷ []))) (omega (arith, few_before numbered_hop [] (before ++ row ∷ []) rows, few_now)) in
+    let next : with_row hops_in n before (line_in (line_text row)) ≡ Ok (before ++ row ∷ []) = ap (with_row hops_in n before) (line_again row h.0) ∙ cond-false _ _ _ fits in
     filled before n (line_text row) (map line_text rows) b.first b.rest b.line
-    ∙ (ap (λ read. read >>= λ more. rows_after more (n + 1) (map line_text rows)) next
+    ∙ (ap (λ read. read >>= λ more. rows_after hops_in more (n + 1) (map line_text rows)) next
     ∙ (rows_again (before ++ row ∷ []) rows (n + 1) h.1 few_now ∙ ap Ok joined))
 
 pub text_again : (rows : List PrintedRow) → AllByRecursion IsRow rows → length (hops_in rows) ≤ most_hops → rows_in (text_of rows) ≡ Ok rows
-unfolding rows_in
-text_again rows h few = ap (rows_after [] 1) (texts_again rows h) ∙ rows_again [] rows 1 h few
+unfolding rows_by
+text_again rows h few = ap (rows_after hops_in [] 1) (texts_again rows h) ∙ rows_again [] rows 1 h few

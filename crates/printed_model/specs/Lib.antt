@@ -4,3 +4,4 @@ pub mod Texts
 pub mod Whole
 pub mod Used
 pub mod Numbered
+pub mod Kinds

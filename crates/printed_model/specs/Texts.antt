@@ -43,17 +43,22 @@ pub record BadLine : Type 0 where
   pub line : ℕ
   pub why : ℕ
 
--- the rows with one more, which a line of this number has; it is bad where they have more hops than have numbers
-abbrev pub with_row : ℕ → List PrintedRow → Result PrintedRow ℕ → Result (List PrintedRow) BadLine
-with_row n rows (Err why) = Err (record { line = n; why = why })
-with_row n rows (Ok row) = if nat_lt most_hops (length (hops_in (rows ++ row ∷ []))) then Err (record { line = n; why = too_many_hops }) else Ok (rows ++ row ∷ [])
+-- The rows with one more, which a line of this number has. `hops` tells the hops that have numbers after rows; the line is bad where these
+-- are more than may have numbers.
+abbrev pub with_row : (List PrintedRow → List Address) → ℕ → List PrintedRow → Result PrintedRow ℕ → Result (List PrintedRow) BadLine
+with_row hops n rows (Err why) = Err (record { line = n; why = why })
+with_row hops n rows (Ok row) = if nat_lt most_hops (length (hops (rows ++ row ∷ []))) then Err (record { line = n; why = too_many_hops }) else Ok (rows ++ row ∷ [])
 
 -- these rows and those of lines that are numbered from n, or the first bad line; an empty line has no row, and is counted
-unfoldable pub rows_after : List PrintedRow → ℕ → List (List ℕ) → Result (List PrintedRow) BadLine
-rows_after rows n [] = Ok rows
-rows_after rows n ([] ∷ lines) = rows_after rows (n + 1) lines
-rows_after rows n ((b ∷ line) ∷ lines) = with_row n rows (line_in (b ∷ line)) >>= λ more. rows_after more (n + 1) lines
+unfoldable pub rows_after : (List PrintedRow → List Address) → List PrintedRow → ℕ → List (List ℕ) → Result (List PrintedRow) BadLine
+rows_after hops rows n [] = Ok rows
+rows_after hops rows n ([] ∷ lines) = rows_after hops rows (n + 1) lines
+rows_after hops rows n ((b ∷ line) ∷ lines) = with_row hops n rows (line_in (b ∷ line)) >>= λ more. rows_after hops more (n + 1) lines
 
--- the rows of a text, the first line being line 1
-unfoldable pub rows_in : List ℕ → Result (List PrintedRow) BadLine
-rows_in text = rows_after [] 1 (line_texts text)
+-- the rows of a text, the first line being line 1, where these hops have numbers
+unfoldable pub rows_by : (List PrintedRow → List Address) → List ℕ → Result (List PrintedRow) BadLine
+rows_by hops text = rows_after hops [] 1 (line_texts text)
+
+-- the rows of a text, where the hops of routes, of a least table and of leaves have numbers
+abbrev pub rows_in : List ℕ → Result (List PrintedRow) BadLine
+rows_in text = rows_by hops_in text

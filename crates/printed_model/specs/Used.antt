@@ -1,11 +1,13 @@
 -- What a checker uses of printed rows: the routes, the least table and the certificate, with numbers for the hops.
-use Rattle.std.specs.Prelude.{ℕ, List, [], ◌∷◌, Option, Some, None, Result, Ok, unwrap_or, flat_map}
+use Rattle.std.specs.Prelude.{ℕ, List, [], ◌∷◌, Option, Some, None, Result, Ok, option_to_list, unwrap_or, flat_map}
 use Rattle.octet_fields.specs.Field.{◌>>=◌}
-use Rattle.address_model.specs.Address.{Address}
+use Rattle.address_model.specs.Address.{Address, Prefix}
 use Rattle.table_model.specs.Entries.{Entries}
 use Rattle.fib_addr.specs.Hops.{number_of}
 use Rattle.cert_model.specs.Rows.{CertRow, leaf_row, join_row, bound_row}
-use Rattle.printed_model.specs.Rows.{PrintedRow, route_row, least_row, cert_leaf_row, cert_join_row, cert_bound_row}
+use Rattle.printed_model.specs.Rows.{PrintedRow, route_row, table_row, least_row, cert_leaf_row, cert_join_row, cert_bound_row}
+use Rattle.printed_model.specs.declared.kind.Kind.{Kind}
+use Rattle.printed_model.specs.declared.kind.Kind.TheVariants.{Route, Table, Least}
 use Rattle.printed_model.specs.Texts.{BadLine, hops_in, rows_in}
 
 -- the number of a hop among these, and 0 for none
@@ -13,15 +15,38 @@ abbrev pub hop_number : List Address → Option Address → ℕ
 hop_number hops None = 0
 hop_number hops (Some a) = unwrap_or (number_of hops a) 0
 
+-- the prefix and the hop of a row of this kind, if the row is of it
+abbrev pub said_by : Kind → PrintedRow → Option (Prefix × Option Address)
+said_by Route (route_row p a) = Some (p, Some a)
+said_by Table (table_row p hop) = Some (p, hop)
+said_by Least (least_row p hop) = Some (p, hop)
+said_by kind row = None
+
+-- the hop of what is said, if there is one
+abbrev pub hop_said : Option (Prefix × Option Address) → List Address
+hop_said None = []
+hop_said (Some said) = option_to_list said.1
+
+-- the entry of what is said, with the hop's number among these
+abbrev pub entry_said : List Address → Option (Prefix × Option Address) → Entries
+entry_said hops None = []
+entry_said hops (Some said) = (said.0, hop_number hops said.1) ∷ []
+
+-- the hop of a row of this kind
+abbrev pub kind_hop : Kind → PrintedRow → List Address
+kind_hop kind row = hop_said (said_by kind row)
+
+-- the entry of a row of this kind
+abbrev pub kind_entry : Kind → List Address → PrintedRow → Entries
+kind_entry kind hops row = entry_said hops (said_by kind row)
+
 -- the entry of a route row
 abbrev pub route_entry : List Address → PrintedRow → Entries
-route_entry hops (route_row p a) = (p, hop_number hops (Some a)) ∷ []
-route_entry hops row = []
+route_entry hops row = kind_entry Route hops row
 
 -- the entry of a row of the least table
 abbrev pub least_entry : List Address → PrintedRow → Entries
-least_entry hops (least_row p hop) = (p, hop_number hops hop) ∷ []
-least_entry hops row = []
+least_entry hops row = kind_entry Least hops row
 
 -- the part of a certificate that a row says
 abbrev pub cert_part : List Address → PrintedRow → List CertRow

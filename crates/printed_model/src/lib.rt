@@ -3,6 +3,8 @@
 //! The definitions stand in `specs/`. Each function here is a law: it does nothing, and its clauses hold for all values.
 #![tactic(auto)]
 
+mod kind;
+
 ghost use Rattle.std.specs.Prelude.{◌≡◌, ◌↔◌, ◌≤◌, List, ℕ, Ok, Err, Some, length, flat_map};
 ghost use Rattle.std.specs.List.{AllByRecursion, IsDistinct};
 ghost use Rattle.std.specs.Map.{keys_of};
@@ -13,10 +15,13 @@ ghost use Rattle.cert_model.specs.Right.{IsCertificate};
 ghost use Rattle.fib_addr.specs.Hops.{hop_at, most_hops};
 ghost use Rattle.printed_model.specs.Rows.{PrintedRow, IsRow, fields_of, text_of};
 ghost use Rattle.printed_model.specs.Reading.{row_in};
-ghost use Rattle.printed_model.specs.Texts.{BadLine, hops_in, line_texts, numbered_hop, rows_in};
+ghost use Rattle.printed_model.specs.Texts.{BadLine, hops_in, line_texts, numbered_hop, rows_by, rows_in};
+ghost use Rattle.printed_model.specs.Kinds.{hops_with};
 ghost use Rattle.printed_model.specs.Numbered.{IsCertRow, IsOther, HaveHops, Proves, rows_with};
-ghost use Rattle.printed_model.specs.Used.{hop_number, printed_in, used_of};
+ghost use Rattle.printed_model.specs.Used.{hop_number, kind_hop, printed_in, used_of};
 ghost use Rattle.printed_model.specs.Whole.{HaveRows, IsFirstBad};
+
+pub use kind::Kind;
 
 /// What is written of a row is read as it. The text of rows is read as these rows, where their hops have numbers.
 pub fn written_law()
@@ -29,15 +34,28 @@ pub fn written_law()
 /// numbers. It is bad exactly at its first line that has none or brings one hop too many.
 pub fn reading_law()
     ensures rows { (text : List ℕ) (rows : List PrintedRow) → rows_in text ≡ Ok rows
-        ↔ HaveRows (line_texts text) rows }
+        ↔ HaveRows hops_in (line_texts text) rows }
     ensures bad { (text : List ℕ) (bad : BadLine) → rows_in text ≡ Err bad
-        ↔ IsFirstBad (line_texts text) bad }
+        ↔ IsFirstBad hops_in (line_texts text) bad }
 {}
 
 /// Each hop that a route, least or leaf row brings has a number, and that number stands for it.
 pub fn numbers_law()
     ensures { (rows : List PrintedRow) → AllByRecursion (λ a. hop_at (hops_in rows)
         (hop_number (hops_in rows) (Some a)) ≡ Some a) (flat_map numbered_hop rows) }
+{}
+
+/// So it is of the rows of one kind, where only their hops get numbers, behind those that have numbers before. Each hop that such a row
+/// brings has a number then, which stands for it; and a number that stood for a hop before still does.
+pub fn kinds_law()
+    ensures rows { (kind : Kind) (before : List Address) (text : List ℕ) (rows : List PrintedRow) → length before ≤ most_hops
+        → rows_by (hops_with kind before) text ≡ Ok rows ↔ HaveRows (hops_with kind before) (line_texts text) rows }
+    ensures bad { (kind : Kind) (before : List Address) (text : List ℕ) (bad : BadLine) → length before ≤ most_hops
+        → rows_by (hops_with kind before) text ≡ Err bad ↔ IsFirstBad (hops_with kind before) (line_texts text) bad }
+    ensures numbers { (kind : Kind) (before : List Address) (rows : List PrintedRow) → AllByRecursion (λ a. hop_at (hops_with kind before rows)
+        (hop_number (hops_with kind before rows) (Some a)) ≡ Some a) (flat_map (kind_hop kind) rows) }
+    ensures stay { (kind : Kind) (before : List Address) (rows : List PrintedRow) (n : ℕ) (a : Address) → hop_at before n ≡ Some a
+        → hop_at (hops_with kind before rows) n ≡ Some a }
 {}
 
 /// The numbers of hops don't matter to a certificate: the printed rows of routes that have hops, of a table, and of a certificate
