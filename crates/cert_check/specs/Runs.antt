@@ -4,11 +4,13 @@ use Rattle.std.specs.List.{AllByRecursion}
 use Rattle.address_model.specs.Bits.{bits_of}
 use Rattle.address_model.specs.Width.{width}
 use Rattle.address_model.specs.declared.family.Family.{Family}
+use Rattle.address_model.specs.declared.family.Family.TheVariants.{V4, V6}
 use Rattle.table_model.specs.Table.{Table, lpm}
 use Rattle.table_model.specs.Table.{Entry as ModelEntry}
 use Rattle.table_model.specs.Entries.{Entries, of_family}
 use Rattle.cert_check.specs.declared.runs.Run.{Run}
 use Rattle.cert_check.specs.declared.runs.Part.{Part}
+use Rattle.cert_check.specs.declared.table_runs.TableRuns.{TableRuns}
 
 -- an entry within a region whose addresses have d more bits
 abbrev pub part_as : ℕ → Part → ModelEntry
@@ -51,3 +53,11 @@ RunsTell f L runs = Below (2 ^ width f) runs × AreRuns 0 runs × ((n : ℕ) →
 -- the first so many runs begin at the number or before it, the others after it
 abbrev pub IsBegun : ℕ → List Run → ℕ → Type 0
 IsBegun n runs i = AllByRecursion (λ r. r.start ≤ n) (take i runs) × AllByRecursion (λ r. n < r.start) (drop i runs)
+
+-- the runs are those of the table, in both families
+abbrev pub TellsBoth : Entries → TableRuns → Type 0
+TellsBoth L runs = RunsTell V4 L runs.v4.items × RunsTell V6 L runs.v6.items
+
+-- both families' runs are runs, of addresses alone
+abbrev pub AreOfBoth : TableRuns → Type 0
+AreOfBoth runs = (AreRuns 0 runs.v4.items × Below (2 ^ 32) runs.v4.items) × (AreRuns 0 runs.v6.items × Below (2 ^ 128) runs.v6.items)

@@ -1,5 +1,5 @@
 -- How far the rows of a certificate are read.
-use Rattle.std.specs.Prelude.{◌≡◌, ℕ, ◌+◌, ◌^◌, ◌≤◌, List, [], ◌∷◌, true, false, Option, Some, None, fold, nat_eq}
+use Rattle.std.specs.Prelude.{◌≡◌, ℕ, ◌+◌, ◌≤◌, List, [], ◌∷◌, true, false, Option, Some, None, fold, nat_eq}
 use Rattle.std.specs.List.{AllByRecursion}
 use Rattle.address_model.specs.Width.{width}
 use Rattle.address_model.specs.Address.{Prefix, same_prefix}
@@ -13,8 +13,6 @@ use Rattle.cert_model.specs.Right.{Item as ModelItem}
 use Rattle.cert_model.specs.Verdict.{No, Shape, LeafWrong, JoinWrong, all_get, are_halves, wrong_row}
 use Rattle.fib_addr.specs.Views.{prefix_as}
 use Rattle.cert_check.specs.declared.rows.Item.{Item}
-use Rattle.cert_check.specs.declared.rows.Runs.{Runs}
-use Rattle.cert_check.specs.Runs.{RunsTell, AreRuns, Below}
 
 abbrev pub item_as : Item → ModelItem
 item_as i = record { prefix = prefix_as i.prefix; hops = i.hops.items; k = i.k }
@@ -33,10 +31,6 @@ due_as (Some V6) = V6 ∷ []
 abbrev pub leaf_weight : List ModelItem → ℕ
 leaf_weight [] = 0
 leaf_weight (i ∷ st) = i.k + 1 + leaf_weight st
-
--- the runs are those of the routes
-abbrev pub TellsBoth : Entries → Runs → Type 0
-TellsBoth R runs = RunsTell V4 R runs.v4.items × RunsTell V6 R runs.v6.items
 
 -- each region on the stack has its right set and k
 abbrev pub AllRight : Entries → List ModelItem → Type 0
@@ -88,7 +82,3 @@ bound_due f R = bound (width f) (of_family f R)
 abbrev pub Popped : List ModelItem → List ModelItem → Option ModelItem → Type 0
 Popped st st' None = (st ≡ []) × (st' ≡ [])
 Popped st st' (Some i) = st ≡ i ∷ st'
-
--- both families' runs are runs, of addresses alone
-abbrev pub AreOfBoth : Runs → Type 0
-AreOfBoth runs = (AreRuns 0 runs.v4.items × Below (2 ^ 32) runs.v4.items) × (AreRuns 0 runs.v6.items × Below (2 ^ 128) runs.v6.items)

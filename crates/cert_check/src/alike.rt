@@ -9,7 +9,8 @@ ghost use Rattle.cert_check.specs.Runs.{AreRuns, Below, RunsTell};
 ghost use Rattle.cert_check.specs.Apart.{next_apart, no_of, IsFirstApart};
 ghost use Rattle.cert_check.specs.Views.{differ_as};
 
-use crate::runs::{Run, runs_of};
+use crate::runs::Run;
+use crate::table_runs::TableRuns;
 use fib_addr::{Addr, Entry, Family, Hop};
 use std::alloc::{AllocError, Global};
 use std::cmp::Ordering;
@@ -119,20 +120,6 @@ pub(crate) fn differ_in(a: &[Run], b: &[Run], family: Family) -> Option<Differ>
     differ_of(first_apart(a, b), family)
 }
 
-fn same_in(
-    alloc: Global,
-    a: &[Entry],
-    b: &[Entry],
-    family: Family,
-) -> Result<Option<Differ>, AllocError>
-    ensures { IfOk result (λ d. option_map differ_as d ≡ not_same_in (map entry_as a.now)
-        (map entry_as b.now) family) }
-{
-    let first = runs_of(alloc, a, family)?;
-    let second = runs_of(alloc, b, family)?;
-    Ok(differ_in(&first, &second, family))
-}
-
 /// The least address that gets different hops from two tables, IPv4 before IPv6; none exactly where the tables are alike in
 /// both families. An entry that drops answers as no entry does.
 ///
@@ -150,8 +137,6 @@ pub fn same(alloc: Global, a: &[Entry], b: &[Entry]) -> Result<Option<Differ>, A
         (λ x. (x.first.0 ≡ match_in (map entry_as a.now) (addr_as x.addr))
         × (x.second.0 ≡ match_in (map entry_as b.now) (addr_as x.addr)))) }
 {
-    if let Some(differ) = same_in(alloc, a, b, Family::V4)? {
-        return Ok(Some(differ));
-    }
-    same_in(alloc, a, b, Family::V6)
+    let runs = TableRuns::new(alloc, a)?;
+    runs.first_differ(alloc, b)
 }

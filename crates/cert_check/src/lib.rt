@@ -12,8 +12,11 @@ mod repeats;
 mod rows;
 mod runs;
 mod sets;
+mod table_runs;
 mod verdict;
 
 pub use alike::{Differ, same};
 pub use refusal::{CheckError, No};
+pub use repeats::first_twice;
+pub use table_runs::TableRuns;
 pub use verdict::check;

@@ -43,8 +43,13 @@ fn first_again(alloc: Global, entries: &[Entry]) -> Result<Option<Prefix>, Alloc
     Ok(first)
 }
 
-/// The first prefix that stands again later in the list.
-pub(crate) fn first_twice(alloc: Global, entries: &[Entry]) -> Result<Option<Prefix>, AllocError>
+/// The first prefix that stands again later in the list. It costs the list's length where that stands in the order of prefixes, else
+/// n log n.
+///
+/// # Errors
+///
+/// No memory.
+pub fn first_twice(alloc: Global, entries: &[Entry]) -> Result<Option<Prefix>, AllocError>
     ensures { IfOk result (λ p. option_map prefix_as p ≡ twice (map entry_as entries.now)) }
 {
     if are_in_order(entries) {

@@ -14,26 +14,18 @@ ghost use Rattle.cert_model.specs.Verdict.{wrong_row};
 ghost use Rattle.fib_addr.specs.Views.{prefix_as};
 ghost use Rattle.cert_rows.specs.Views.{row_as};
 ghost use Rattle.cert_check.specs.Marks.{AreMarks};
-ghost use Rattle.cert_check.specs.Runs.{RunsTell};
+ghost use Rattle.cert_check.specs.Runs.{TellsBoth};
 ghost use Rattle.cert_check.specs.Views.{no_as};
-ghost use Rattle.cert_check.specs.Stack.{item_as, stack_as, leaf_weight, TellsBoth, AllRight, BoundsTold, RowRead, LeafRead, JoinDone, JoinRead, WholeTaken, next_due, bound_due, Popped};
+ghost use Rattle.cert_check.specs.Stack.{item_as, stack_as, leaf_weight, AllRight, BoundsTold, RowRead, LeafRead, JoinDone, JoinRead, WholeTaken, next_due, bound_due, Popped};
 
 use crate::refusal::No;
-use crate::runs::{Run, holds};
+use crate::runs::holds;
 use crate::sets::{Hops, common_hops, one_if_none, or_all};
+use crate::table_runs::TableRuns;
 use cert_rows::Row;
 use fib_addr::{Family, Hop, Prefix};
 use smallvec::SmallVec;
 use std::alloc::{AllocError, Global};
-
-/// What the addresses of both families get from the routes.
-#[derive(Drop)]
-pub struct Runs {
-    /// IPv4.
-    pub v4: Vec<Run>,
-    /// IPv6.
-    pub v6: Vec<Run>,
-}
 
 /// A region on the stack.
 #[derive(Drop)]
@@ -60,19 +52,9 @@ pub struct Reading {
     pub v6: u64,
 }
 
-/// The runs of a family.
-fn runs_in(runs: &Runs, family: Family) -> &[Run]
-    ensures { (R : Entries) → TellsBoth R runs.now → RunsTell family R result.now }
-{
-    match family {
-        Family::V4 => &runs.v4,
-        Family::V6 => &runs.v6,
-    }
-}
-
 fn read_leaf(
     alloc: Global,
-    runs: &Runs,
+    runs: &TableRuns,
     prefix: &Prefix,
     hop: Hop,
     row: u64,
@@ -85,7 +67,7 @@ fn read_leaf(
         → LeafRead R (prefix_as prefix.now) hop.0 row (stack_as stack.old.items)
         (stack_as stack.new.items) (option_map no_as no)) }
 {
-    if !holds(runs_in(runs, prefix.family), prefix, hop.0, place) {
+    if !holds(runs.of(prefix.family), prefix, hop.0, place) {
         return Ok(Some(No::LeafWrong { row }));
     }
     let mut hops = SmallVec::new(alloc);
@@ -276,7 +258,7 @@ fn read_bound(family: Family, said: u64, row: u64, reading: &mut Reading) -> Opt
 /// Reads a row: what is wrong with it, if anything is.
 fn read_row(
     alloc: Global,
-    runs: &Runs,
+    runs: &TableRuns,
     row: &Row,
     number: u64,
     reading: &mut Reading,
@@ -330,7 +312,7 @@ fn read_row(
 /// Reads the rows to the first wrong one.
 pub(crate) fn read_rows(
     alloc: Global,
-    runs: &Runs,
+    runs: &TableRuns,
     rows: &[Row],
     reading: &mut Reading,
 ) -> Result<Option<No>, AllocError>

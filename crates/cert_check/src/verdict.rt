@@ -11,27 +11,18 @@ ghost use Rattle.cert_model.specs.Verdict.{not_same as model_not_same};
 ghost use Rattle.fib_addr.specs.Views.{entry_as};
 ghost use Rattle.cert_rows.specs.Views.{row_as};
 ghost use Rattle.cert_check.specs.Views.{differ_as, no_as, IfNo};
-ghost use Rattle.cert_check.specs.Stack.{TellsBoth, AreOfBoth, bound_due};
+ghost use Rattle.cert_check.specs.Runs.{AreOfBoth, TellsBoth};
+ghost use Rattle.cert_check.specs.Stack.{bound_due};
 
-use crate::alike::{Differ, differ_in};
+use crate::alike::Differ;
 use crate::refusal::{CheckError, No};
 use crate::repeats::first_twice;
-use crate::rows::{Reading, Runs, read_rows};
-use crate::runs::runs_of;
+use crate::rows::{Reading, read_rows};
 use crate::sets::no_marks;
+use crate::table_runs::TableRuns;
 use cert_rows::Row;
 use fib_addr::{Entry, Family};
 use std::alloc::{AllocError, Global};
-
-fn runs_in_both(alloc: Global, entries: &[Entry]) -> Result<Runs, AllocError>
-    ensures tells { IfOk result (λ r. TellsBoth (map entry_as entries.now) r) }
-    ensures runs { IfOk result (λ r. AreOfBoth r) }
-{
-    Ok(Runs {
-        v4: runs_of(alloc, entries, Family::V4)?,
-        v6: runs_of(alloc, entries, Family::V6)?,
-    })
-}
 
 /// A prefix that stands twice in the routes, or else in the table.
 fn find_repeat(alloc: Global, routes: &[Entry], table: &[Entry]) -> Result<Option<No>, AllocError>
@@ -59,20 +50,13 @@ fn not_same_no(differ: Differ) -> No
 }
 
 /// The least address that gets different hops.
-fn not_same(alloc: Global, runs: &Runs, table: &[Entry]) -> Result<Option<No>, AllocError>
+fn not_same(alloc: Global, runs: &TableRuns, table: &[Entry]) -> Result<Option<No>, AllocError>
     requires { AreOfBoth runs.now }
     ensures { IfOk result (λ no. (R : Entries) → TellsBoth R runs.now
         → option_map no_as no ≡ model_not_same R (map entry_as table.now)) }
 {
-    let has = runs_of(alloc, table, Family::V4)?;
-    if let Some(differ) = differ_in(&runs.v4, &has, Family::V4) {
-        return Ok(Some(not_same_no(differ)));
-    }
-    let has = runs_of(alloc, table, Family::V6)?;
-    if let Some(differ) = differ_in(&runs.v6, &has, Family::V6) {
-        return Ok(Some(not_same_no(differ)));
-    }
-    Ok(None)
+    let differ = runs.first_differ(alloc, table)?;
+    Ok(differ.map(not_same_no))
 }
 
 /// How many entries are of the family.
@@ -107,7 +91,7 @@ fn too_many(table: &[Entry], family: Family, bound: u64) -> Option<No>
 /// A row that is wrong, or else a family with too many entries.
 fn wrong_in(
     alloc: Global,
-    runs: &Runs,
+    runs: &TableRuns,
     table: &[Entry],
     rows: &[Row],
 ) -> Result<Option<No>, AllocError>
@@ -145,7 +129,7 @@ fn first_wrong(
     if let Some(no) = find_repeat(alloc, routes, table)? {
         return Ok(Some(no));
     }
-    let runs = runs_in_both(alloc, routes)?;
+    let runs = TableRuns::new(alloc, routes)?;
     if let Some(no) = not_same(alloc, &runs, table)? {
         return Ok(Some(no));
     }

@@ -4,7 +4,8 @@ use Rattle.table_model.specs.Entries.{Entries}
 use Rattle.cert_model.specs.Verdict.{wrong_row}
 use Rattle.cert_rows.specs.Views.{row_as}
 use Rattle.cert_check.specs.Marks.{AreMarks}
-use Rattle.cert_check.specs.Stack.{stack_as, due_as, leaf_weight, TellsBoth, AllRight, BoundsTold}
+use Rattle.cert_check.specs.Runs.{TellsBoth}
+use Rattle.cert_check.specs.Stack.{stack_as, due_as, leaf_weight, AllRight, BoundsTold}
 use Rattle.cert_check.proofs.rows.read_rows.Given as goal
 
 abbrev pub invariant-loop-i : goal.invariant-loop-i
