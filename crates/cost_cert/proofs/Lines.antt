@@ -8,18 +8,129 @@ use Rattle.bstr.specs.Text.{without_terminator, lines_of as cut_lines}
 use Rattle.address_model.specs.Address.{Address}
 use Rattle.table_model.specs.Entries.{Entries}
 use Rattle.cert_model.specs.Rows.{CertRow}
-use Rattle.fib_addr.specs.Hops.{most_hops}
+use Rattle.fib_addr.specs.Hops.{Hops, most_hops}
+use Rattle.fib_addr.specs.declared.entry.Entry.{Entry}
+use Rattle.std.specs.declared.vec.Vec.{Vec}
+use Rattle.printed_model.specs.declared.kind.Kind.{Kind}
+use Rattle.printed_model.specs.Kinds.{KindEntries, kind_entries, kind_hops, kind_in}
 use Rattle.printed_model.specs.Rows.{PrintedRow}
 use Rattle.printed_model.specs.Reading.{line_in}
-use Rattle.printed_model.specs.Texts.{BadLine, lines_of, hops_in, with_row, rows_after, rows_in}
+use Rattle.printed_model.specs.Texts.{BadLine, lines_of, hops_in, with_row, rows_after, rows_by, rows_in}
 use Rattle.printed_model.specs.Used.{Used, used_of, printed_in}
-use Rattle.printed_model.proofs.Hops.{hops_more, routes_more, least_more, cert_more}
+use Rattle.printed_model.proofs.Hops.{hops_more, routes_more, least_more, cert_more, kind_entries_more, kind_hops_more}
 use Rattle.printed_model.proofs.Lines.{lines_same, few_lines}
 use Rattle.cost_cert.specs.declared.error.PrintedError.{PrintedError}
 use Rattle.cost_cert.specs.declared.error.PrintedError.TheVariants as error
 use Rattle.cost_cert.specs.declared.printed.Printed.{Printed}
-use Rattle.cost_cert.specs.Printed.{IsRead}
-use Rattle.cost_cert.specs.Steps.{hops_after_row, used_after, Refused, Taken, TakesLine}
+use Rattle.cost_cert.specs.Printed.{IsKind, IsRead}
+use Rattle.cost_cert.specs.Steps.{kind_after, used_after, Refused, Taken, TakesLine}
+
+-- How rows are read one after another: which hops have numbers after rows; what is kept of rows; what one more row makes of that; and which
+-- hops it has.
+pub record Way (U : Type 0) : Type 0 where
+  pub hops : List PrintedRow → List Address
+  pub kept : List PrintedRow → U
+  pub after : U → PrintedRow → U
+  pub hops_of : U → List Address
+  pub more : (rows : List PrintedRow) (row : PrintedRow) → kept (rows ++ row ∷ []) ≡ after (kept rows) row
+  pub same : (rows : List PrintedRow) → hops_of (kept rows) ≡ hops rows
+
+-- what is kept of the rows of the n lines so far, and the lines left
+pub record Left {U : Type 0} (way : Way U) (p : U) (n : ℕ) (lines : List (List ℕ)) (text : List ℕ) : Type 0 where
+  pub rows : List PrintedRow
+  pub all : rows_after way.hops rows (n + 1) lines ≡ rows_by way.hops text
+  pub kept : p ≡ way.kept rows
+  pub few_hops : length (way.hops_of p) ≤ most_hops
+  pub few : n + length lines ≤ length text
+
+pub starts : {U : Type 0} (way : Way U) (text : List ℕ) (p : U) (lines : List (List ℕ)) → p ≡ way.kept [] → length (way.hops_of p) ≤ most_hops → lines ≡ map without_terminator (cut_lines text) → Left way p 0 lines text
+unfolding rows_by
+starts way text p lines e few l =
+    let same : lines ≡ map without_terminator (lines_of text) = l ∙ ap (map without_terminator) (lines_same text) in
+    record {
+      rows = [];
+      all = ap (rows_after way.hops [] 1) same;
+      kept = e;
+      few_hops = few;
+      few = omega (arith, few_lines text, ap length same, length-map (lines_of text) without_terminator);
+    }
+
+empty_here : (hops : List PrintedRow → List Address) (rows : List PrintedRow) (n : ℕ) (line : List ℕ) (lines : List (List ℕ)) → true ≡ (length line == 0) → rows_after hops rows n (line ∷ lines) ≡ rows_after hops rows (n + 1) lines
+unfolding rows_after
+empty_here hops rows n [] lines e = refl
+empty_here hops rows n (b ∷ line) lines e = absurd (not_empty (sym e)) where
+  not_empty : (suc (length line) == 0) ≡ true → ⊥
+  not_empty h = let z : suc (length line) ≡ 0 = eqb-true (suc (length line)) 0 h in omega arith
+
+filled_here : (hops : List PrintedRow → List Address) (rows : List PrintedRow) (n : ℕ) (line : List ℕ) (lines : List (List ℕ)) → false ≡ (length line == 0)
+    → rows_after hops rows n (line ∷ lines) ≡ (with_row hops n rows (line_in line) >>= λ more. rows_after hops more (n + 1) lines)
+unfolding rows_after
+filled_here hops rows n [] lines e = absurd cc
+filled_here hops rows n (b ∷ line) lines e = refl
+
+pub empty_line : {U : Type 0} (way : Way U) (p : U) (n : ℕ) (line : List ℕ) (lines left : List (List ℕ)) (text : List ℕ) → lines ≡ line ∷ left → true ≡ (length line == 0) → Left way p n lines text → Left way p (n + 1) left text
+empty_line way p n line lines left text e t l = record {
+  rows = l.rows;
+  all = sym (ap (rows_after way.hops l.rows (n + 1)) e ∙ empty_here way.hops l.rows (n + 1) line left t) ∙ l.all;
+  kept = l.kept;
+  few_hops = l.few_hops;
+  few = omega (arith, l.few, ap length e);
+}
+
+-- ---- a line with a row
+
+hops_are : {U : Type 0} (way : Way U) (old : U) (rows : List PrintedRow) (row : PrintedRow) → old ≡ way.kept rows → way.hops (rows ++ row ∷ []) ≡ way.hops_of (way.after old row)
+hops_are way old rows row k = sym (way.same (rows ++ row ∷ [])) ∙ ap way.hops_of (way.more rows row ∙ ap (λ u. way.after u row) (sym k))
+
+row_fits : {U : Type 0} (way : Way U) (n : ℕ) (old new : U) (rows : List PrintedRow) (row : PrintedRow) → old ≡ way.kept rows → new ≡ way.after old row → length (way.hops_of new) ≤ most_hops
+    → with_row way.hops n rows (Ok row) ≡ Ok (rows ++ row ∷ [])
+row_fits way n old new rows row k e few =
+    let len : length (way.hops (rows ++ row ∷ [])) ≡ length (way.hops_of new) = ap length (hops_are way old rows row k) ∙ sym (ap (λ u. length (way.hops_of u)) e) in
+    cond-false _ _ _ (le-ltb most_hops (length (way.hops (rows ++ row ∷ []))) (omega (arith, len, few)))
+
+pub taken_line : {U : Type 0} (way : Way U) (old new : U) (n : ℕ) (line : List ℕ) (lines left : List (List ℕ)) (text : List ℕ) → lines ≡ line ∷ left → false ≡ (length line == 0)
+    → Taken way.after way.hops_of old new (line_in line) → Left way old n lines text → Left way new (n + 1) left text
+taken_line {U} way old new n line lines left text e t taken l = by_read (line_in line) refl taken
+  where
+    by_read : (read : Result PrintedRow ℕ) → line_in line ≡ read → Taken way.after way.hops_of old new read → Left way new (n + 1) left text
+    by_read (Err why) r h = absurd h
+    by_read (Ok row) r h =
+        let rows = l.rows in
+        let next : with_row way.hops (n + 1) rows (line_in line) ≡ Ok (rows ++ row ∷ []) = ap (with_row way.hops (n + 1) rows) r ∙ row_fits way (n + 1) old new rows row l.kept h.0 h.1 in
+        record {
+          rows = rows ++ row ∷ [];
+          all = sym (ap (rows_after way.hops rows (n + 1)) e ∙ (filled_here way.hops rows (n + 1) line left t ∙ ap (λ read. read >>= λ more. rows_after way.hops more (n + 1 + 1) left) next)) ∙ l.all;
+          kept = h.0 ∙ (ap (λ u. way.after u row) l.kept ∙ sym (way.more rows row));
+          few_hops = h.1;
+          few = omega (arith, l.few, ap length e);
+        }
+
+-- ---- a bad line
+
+bad_row : {U : Type 0} (way : Way U) (n why : ℕ) (old : U) (rows : List PrintedRow) (read : Result PrintedRow ℕ) → old ≡ way.kept rows → Refused way.after way.hops_of why old read
+    → with_row way.hops n rows read ≡ Err (record { line = n; why = why })
+bad_row way n why old rows (Err reason) k h = ap (λ (w : ℕ). let bad : BadLine = record { line = n; why = w } in Err bad) (sym h)
+bad_row way n why old rows (Ok row) k h =
+    let len : length (way.hops (rows ++ row ∷ [])) ≡ length (way.hops_of (way.after old row)) = ap length (hops_are way old rows row k) in
+    cond-true _ _ _ (lt-ltb most_hops (length (way.hops (rows ++ row ∷ []))) (omega (arith, len, h.1)))
+    ∙ ap (λ (w : ℕ). let bad : BadLine = record { line = n; why = w } in Err bad) (sym h.0)
+
+pub wrong_line : {U : Type 0} (way : Way U) (bad : BadLine) (old : U) (n : ℕ) (line : List ℕ) (lines left : List (List ℕ)) (text : List ℕ)
+    → lines ≡ line ∷ left → false ≡ (length line == 0) → bad.line ≡ n + 1 → Refused way.after way.hops_of bad.why old (line_in line) → Left way old n lines text → rows_by way.hops text ≡ Err bad
+wrong_line way bad old n line lines left text e t number refused l =
+    sym (l.all)
+    ∙ (ap (rows_after way.hops l.rows (n + 1)) e
+    ∙ (filled_here way.hops l.rows (n + 1) line left t
+    ∙ (ap (λ read. read >>= λ more. rows_after way.hops more (n + 1 + 1) left) (bad_row way (n + 1) bad.why old l.rows (line_in line) l.kept refused)
+    ∙ ap (λ (m : ℕ). let b : BadLine = record { line = m; why = bad.why } in Err b) (sym number))))
+
+-- ---- no line more
+
+pub no_line : {U : Type 0} (way : Way U) (p : U) (n : ℕ) (lines : List (List ℕ)) (text : List ℕ) → lines ≡ [] → Left way p n lines text → (rows_by way.hops text >>= λ rows. Ok (way.kept rows)) ≡ Ok p
+unfolding rows_after
+no_line way p n lines text e l = ap (λ read. read >>= λ rows. Ok (way.kept rows)) (sym (l.all) ∙ ap (rows_after way.hops l.rows (n + 1)) e) ∙ ap Ok (sym l.kept)
+
+-- ---- the rows that a checker uses
 
 abbrev made : Entries → Entries → List CertRow → List Address → Used
 made routes least cert hops = record { routes = routes; least = least; cert = cert; hops = hops }
@@ -32,101 +143,34 @@ used_more rows row =
     ∙ (ap (λ least. made v.routes least u.cert u.hops) (least_more rows row)
     ∙ (ap (λ cert. made v.routes v.least cert u.hops) (cert_more rows row) ∙ ap (made v.routes v.least v.cert) (hops_more rows row)))
 
--- what is kept of the rows of the n lines so far, and the lines left
-pub record Left (p : Used) (n : ℕ) (lines : List (List ℕ)) (text : List ℕ) : Type 0 where
-  pub rows : List PrintedRow
-  pub all : rows_after rows (n + 1) lines ≡ rows_in text
-  pub kept : p ≡ used_of rows
-  pub few_hops : length p.hops ≤ most_hops
-  pub few : n + length lines ≤ length text
-
-pub starts : (text : List ℕ) (p : Used) (lines : List (List ℕ)) → p ≡ used_of [] → lines ≡ map without_terminator (cut_lines text) → Left p 0 lines text
-unfolding rows_in
-starts text p lines e l =
-    let same : lines ≡ map without_terminator (lines_of text) = l ∙ ap (map without_terminator) (lines_same text) in
-    let none : length p.hops ≡ 0 = ap (λ (u : Used). length u.hops) e in
-    record {
-      rows = [];
-      all = ap (rows_after [] 1) same;
-      kept = e;
-      few_hops = omega (arith, none);
-      few = omega (arith, few_lines text, ap length same, length-map (lines_of text) without_terminator);
-    }
-
-empty_here : (rows : List PrintedRow) (n : ℕ) (line : List ℕ) (lines : List (List ℕ)) → true ≡ (length line == 0) → rows_after rows n (line ∷ lines) ≡ rows_after rows (n + 1) lines
-unfolding rows_after
-empty_here rows n [] lines e = refl
-empty_here rows n (b ∷ line) lines e = absurd (not_empty (sym e)) where
-  not_empty : (suc (length line) == 0) ≡ true → ⊥
-  not_empty h = let z : suc (length line) ≡ 0 = eqb-true (suc (length line)) 0 h in omega arith
-
-filled_here : (rows : List PrintedRow) (n : ℕ) (line : List ℕ) (lines : List (List ℕ)) → false ≡ (length line == 0) → rows_after rows n (line ∷ lines) ≡ (with_row n rows (line_in line) >>= λ more. rows_after more (n + 1) lines)
-unfolding rows_after
-filled_here rows n [] lines e = absurd cc
-filled_here rows n (b ∷ line) lines e = refl
-
-pub empty_line : (p : Used) (n : ℕ) (line : List ℕ) (lines left : List (List ℕ)) (text : List ℕ) → lines ≡ line ∷ left → true ≡ (length line == 0) → Left p n lines text → Left p (n + 1) left text
-empty_line p n line lines left text e t l = record {
-  rows = l.rows;
-  all = sym (ap (rows_after l.rows (n + 1)) e ∙ empty_here l.rows (n + 1) line left t) ∙ l.all;
-  kept = l.kept;
-  few_hops = l.few_hops;
-  few = omega (arith, l.few, ap length e);
-}
-
--- ---- a line with a row
-
-hops_are : (old : Used) (rows : List PrintedRow) (row : PrintedRow) → old ≡ used_of rows → hops_in (rows ++ row ∷ []) ≡ hops_after_row old.hops row
-hops_are old rows row k = hops_more rows row ∙ ap (λ (u : Used). hops_after_row u.hops row) (sym k)
-
-row_fits : (n : ℕ) (old new : Used) (rows : List PrintedRow) (row : PrintedRow) → old ≡ used_of rows → new ≡ used_after old row → length new.hops ≤ most_hops → with_row n rows (Ok row) ≡ Ok (rows ++ row ∷ [])
-row_fits n old new rows row k e few =
-    let len : length (hops_in (rows ++ row ∷ [])) ≡ length new.hops = ap length (hops_are old rows row k) ∙ sym (ap (λ (u : Used). length u.hops) e) in
-    cond-false _ _ _ (le-ltb most_hops (length (hops_in (rows ++ row ∷ []))) (omega (arith, len, few)))
-
-pub taken_line : (old new : Used) (n : ℕ) (line : List ℕ) (lines left : List (List ℕ)) (text : List ℕ) → lines ≡ line ∷ left → false ≡ (length line == 0) → Taken old new (line_in line) → Left old n lines text → Left new (n + 1) left text
-taken_line old new n line lines left text e t taken l = by_read (line_in line) refl taken
-  where
-    by_read : (read : Result PrintedRow ℕ) → line_in line ≡ read → Taken old new read → Left new (n + 1) left text
-    by_read (Err why) r h = absurd h
-    by_read (Ok row) r h =
-        let rows = l.rows in
-        let next : with_row (n + 1) rows (line_in line) ≡ Ok (rows ++ row ∷ []) = ap (with_row (n + 1) rows) r ∙ row_fits (n + 1) old new rows row l.kept h.0 h.1 in
-        record {
-          rows = rows ++ row ∷ [];
-          all = sym (ap (rows_after rows (n + 1)) e ∙ (filled_here rows (n + 1) line left t ∙ ap (λ read. read >>= λ more. rows_after more (n + 1 + 1) left) next)) ∙ l.all;
-          kept = h.0 ∙ (ap (λ u. used_after u row) l.kept ∙ sym (used_more rows row));
-          few_hops = h.1;
-          few = omega (arith, l.few, ap length e);
-        }
-
--- ---- a bad line
-
-bad_row : (n why : ℕ) (old : Used) (rows : List PrintedRow) (read : Result PrintedRow ℕ) → old ≡ used_of rows → Refused why old read → with_row n rows read ≡ Err (record { line = n; why = why })
-bad_row n why old rows (Err reason) k h = ap (λ (w : ℕ). let bad : BadLine = record { line = n; why = w } in Err bad) (sym h)
-bad_row n why old rows (Ok row) k h =
-    let len : length (hops_in (rows ++ row ∷ [])) ≡ length (hops_after_row old.hops row) = ap length (hops_are old rows row k) in
-    cond-true _ _ _ (lt-ltb most_hops (length (hops_in (rows ++ row ∷ []))) (omega (arith, len, h.1)))
-    ∙ ap (λ (w : ℕ). let bad : BadLine = record { line = n; why = w } in Err bad) (sym h.0)
-
-wrong_line : (bad : BadLine) (old : Used) (n : ℕ) (line : List ℕ) (lines left : List (List ℕ)) (text : List ℕ)
-    → lines ≡ line ∷ left → false ≡ (length line == 0) → bad.line ≡ n + 1 → Refused bad.why old (line_in line) → Left old n lines text → printed_in text ≡ Err bad
-wrong_line bad old n line lines left text e t number refused l =
-    ap (λ read. read >>= λ rows. Ok (used_of rows))
-    (sym (l.all)
-    ∙ (ap (rows_after l.rows (n + 1)) e
-    ∙ (filled_here l.rows (n + 1) line left t
-    ∙ (ap (λ read. read >>= λ more. rows_after more (n + 1 + 1) left) (bad_row (n + 1) bad.why old l.rows (line_in line) l.kept refused)
-    ∙ ap (λ (m : ℕ). let b : BadLine = record { line = m; why = bad.why } in Err b) (sym number)))))
+abbrev pub printed_way : Way Used
+printed_way = record { hops = hops_in; kept = used_of; after = used_after; hops_of = λ u. u.hops; more = used_more; same = λ rows. refl }
 
 pub bad_line : (e : PrintedError) (s : Result Printed PrintedError) (old new : Used) (n : ℕ) (line : List ℕ) (lines left : List (List ℕ)) (text : List ℕ)
-    → lines ≡ line ∷ left → false ≡ (length line == 0) → s ≡ Err e → TakesLine {A = Unit {0}} (Err e) old new (n + 1) (line_in line) → Left old n lines text → IsRead s (printed_in text)
+    → lines ≡ line ∷ left → false ≡ (length line == 0) → s ≡ Err e → TakesLine {A = Unit {0}} used_after (λ u. u.hops) (Err e) old new (n + 1) (line_in line) → Left printed_way old n lines text → IsRead s (printed_in text)
 bad_line error.NoMemory s old new n line lines left text le t se taken l = subst (λ x. IsRead x (printed_in text)) (sym se) tt
 bad_line (error.BadRow bad) s old new n line lines left text le t se taken l =
-    subst (λ x. IsRead x (printed_in text)) (sym se) (wrong_line (record { line = bad.line; why = bad.why }) old n line lines left text le t taken.0 taken.1 l)
+    subst (λ x. IsRead x (printed_in text)) (sym se)
+    (ap (λ read. read >>= λ rows. Ok (used_of rows)) (wrong_line printed_way (record { line = bad.line; why = bad.why }) old n line lines left text le t taken.0 taken.1 l))
 
--- ---- no line more
+-- ---- the rows of one kind
 
-pub no_line : (p : Used) (n : ℕ) (lines : List (List ℕ)) (text : List ℕ) → lines ≡ [] → Left p n lines text → printed_in text ≡ Ok p
-unfolding rows_after
-no_line p n lines text e l = ap (λ read. read >>= λ rows. Ok (used_of rows)) (sym (l.all) ∙ ap (rows_after l.rows (n + 1)) e) ∙ ap Ok (sym l.kept)
+abbrev kind_made : Entries → List Address → KindEntries
+kind_made entries hops = record { entries = entries; hops = hops }
+
+kind_more : (kind : Kind) (before : List Address) (rows : List PrintedRow) (row : PrintedRow) → kind_entries kind before (rows ++ row ∷ []) ≡ kind_after kind (kind_entries kind before rows) row
+kind_more kind before rows row =
+    let k = kind_entries kind before (rows ++ row ∷ []) in
+    let v = kind_after kind (kind_entries kind before rows) row in
+    ap (λ entries. kind_made entries k.hops) (kind_entries_more kind before rows row) ∙ ap (kind_made v.entries) (kind_hops_more kind before rows row)
+
+abbrev pub kind_way : Kind → List Address → Way KindEntries
+kind_way kind before = record { hops = kind_hops kind before; kept = kind_entries kind before; after = kind_after kind; hops_of = λ k. k.hops; more = kind_more kind before; same = λ rows. refl }
+
+pub bad_kind_line : {A : Type 0} (kind : Kind) (before : List Address) (e : PrintedError) (s : Result (Vec Entry A) PrintedError) (hops : Hops) (old new : KindEntries) (n : ℕ) (line : List ℕ) (lines left : List (List ℕ)) (text : List ℕ)
+    → lines ≡ line ∷ left → false ≡ (length line == 0) → s ≡ Err e → TakesLine {A = Unit {0}} (kind_after kind) (λ k. k.hops) (Err e) old new (n + 1) (line_in line)
+    → Left (kind_way kind before) old n lines text → IsKind s hops (kind_in kind before text)
+bad_kind_line kind before error.NoMemory s hops old new n line lines left text le t se taken l = subst (λ x. IsKind x hops (kind_in kind before text)) (sym se) tt
+bad_kind_line kind before (error.BadRow bad) s hops old new n line lines left text le t se taken l =
+    subst (λ x. IsKind x hops (kind_in kind before text)) (sym se)
+    (ap (λ read. read >>= λ rows. Ok (kind_entries kind before rows)) (wrong_line (kind_way kind before) (record { line = bad.line; why = bad.why }) old n line lines left text le t taken.0 taken.1 l))

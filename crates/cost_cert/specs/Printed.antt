@@ -1,9 +1,13 @@
 -- What a clause sees of printed rows, and of what is kept of them.
 use Rattle.std.specs.Prelude.{◌≡◌, Result, Ok, Err, map, option_map}
+use Rattle.std.specs.declared.vec.Vec.{Vec}
+use Rattle.fib_addr.specs.Hops.{Hops}
 use Rattle.fib_addr.specs.Views.{addr_as, prefix_as, entry_as}
+use Rattle.fib_addr.specs.declared.entry.Entry.{Entry}
 use Rattle.printed_model.specs.Rows.{Count, Records, Skipped, Events, Routes, Entries, Nodes, Leaves, Treated, PrintedRow, route_row, add_row, replace_row, remove_row, answer_row, visits_row, table_row, least_row, cert_leaf_row, cert_join_row, cert_bound_row, report_row}
 use Rattle.printed_model.specs.Texts.{BadLine}
 use Rattle.printed_model.specs.Used.{Used}
+use Rattle.printed_model.specs.Kinds.{KindEntries}
 use Rattle.cert_rows.specs.Views.{row_as}
 use Rattle.cost_cert.specs.declared.printed_row.Count as code_count
 use Rattle.cost_cert.specs.declared.printed_row.Count.TheVariants as count
@@ -51,3 +55,13 @@ abbrev pub IsRead : Result code_text.Printed code_error.PrintedError → Result 
 IsRead (Ok p) due = due ≡ Ok (printed_as p)
 IsRead (Err (error.BadRow bad)) due = due ≡ Err (bad_as bad)
 IsRead (Err error.NoMemory) due = Unit {0}
+
+-- the entries that were read of a kind, and the hops after them
+abbrev pub kind_as : {A : Type 0} → Vec Entry A → Hops → KindEntries
+kind_as entries hops = record { entries = map entry_as entries.items; hops = hops.list }
+
+-- what a reader of one kind's rows returned, and the hops after it, are what the definition gives, unless memory ran out
+abbrev pub IsKind : {A : Type 0} → Result (Vec Entry A) code_error.PrintedError → Hops → Result KindEntries BadLine → Type 0
+IsKind (Ok entries) hops due = due ≡ Ok (kind_as entries hops)
+IsKind (Err (error.BadRow bad)) hops due = due ≡ Err (bad_as bad)
+IsKind (Err error.NoMemory) hops due = Unit {0}

@@ -7,7 +7,11 @@ use Rattle.fib_addr.specs.declared.hops.HopError.TheVariants as hop_error
 use Rattle.printed_model.specs.Rows.{PrintedRow}
 use Rattle.printed_model.specs.Reading.{too_many_hops}
 use Rattle.printed_model.specs.Texts.{numbered_hop}
-use Rattle.printed_model.specs.Used.{Used, route_entry, least_entry, cert_part}
+use Rattle.printed_model.specs.declared.kind.Kind.{Kind}
+use Rattle.printed_model.specs.Used.{Used, kind_entry, kind_hop, route_entry, least_entry, cert_part}
+use Rattle.printed_model.specs.Kinds.{KindEntries}
+use Rattle.cost_cert.specs.declared.printed_row.PrintedRow as code_row
+use Rattle.cost_cert.specs.Printed.{printed_row_as}
 use Rattle.cost_cert.specs.declared.error.PrintedError.{PrintedError}
 use Rattle.cost_cert.specs.declared.error.PrintedError.TheVariants as error
 
@@ -34,18 +38,44 @@ Numbers (Ok x) hops P = P x × (length hops ≤ most_hops)
 Numbers (Err hop_error.HopsFull) hops P = most_hops < length hops
 Numbers (Err hop_error.NoMemory) hops P = Unit {0}
 
+-- the row of the line of this number, or why it has none
+abbrev pub IsRowOf : Result code_row.PrintedRow PrintedError → ℕ → Result PrintedRow ℕ → Type 0
+IsRowOf (Ok row) number read = read ≡ Ok (printed_row_as row)
+IsRowOf (Err (error.BadRow bad)) number read = (bad.line ≡ number) × (read ≡ Err bad.why)
+IsRowOf (Err error.NoMemory) number read = ⊥
+
+-- why a line isn't taken, if its hop has no number for this reason
+abbrev pub IsHopRefused : ℕ → HopError → PrintedError → Type 0
+IsHopRefused number hop_error.HopsFull e = e ≡ error.BadRow (record { line = number; why = too_many_hops })
+IsHopRefused number hop_error.NoMemory e = e ≡ error.NoMemory
+
+-- ---- a line, where `after` says what a row makes of what was read, and `hops` which hops have numbers then
+
 -- why a line is bad that has this row, or that has none for this reason
-abbrev pub Refused : ℕ → Used → Result PrintedRow ℕ → Type 0
-Refused why old (Ok row) = (why ≡ too_many_hops) × (most_hops < length (hops_after_row old.hops row))
-Refused why old (Err reason) = why ≡ reason
+abbrev pub Refused : {U : Type 0} → (U → PrintedRow → U) → (U → List Address) → ℕ → U → Result PrintedRow ℕ → Type 0
+Refused after hops why old (Ok row) = (why ≡ too_many_hops) × (most_hops < length (hops (after old row)))
+Refused after hops why old (Err reason) = why ≡ reason
 
 -- the row is taken
-abbrev pub Taken : Used → Used → Result PrintedRow ℕ → Type 0
-Taken old new (Ok row) = (new ≡ used_after old row) × (length new.hops ≤ most_hops)
-Taken old new (Err reason) = ⊥
+abbrev pub Taken : {U : Type 0} → (U → PrintedRow → U) → (U → List Address) → U → U → Result PrintedRow ℕ → Type 0
+Taken after hops old new (Ok row) = (new ≡ after old row) × (length (hops new) ≤ most_hops)
+Taken after hops old new (Err reason) = ⊥
 
 -- what taking a line returned, whose number and row these are
-abbrev pub TakesLine : {A : Type 0} → Result A PrintedError → Used → Used → ℕ → Result PrintedRow ℕ → Type 0
-TakesLine (Ok x) old new number read = Taken old new read
-TakesLine (Err (error.BadRow bad)) old new number read = (bad.line ≡ number) × Refused bad.why old read
-TakesLine (Err error.NoMemory) old new number read = Unit {0}
+abbrev pub TakesLine : {A U : Type 0} → (U → PrintedRow → U) → (U → List Address) → Result A PrintedError → U → U → ℕ → Result PrintedRow ℕ → Type 0
+TakesLine after hops (Ok x) old new number read = Taken after hops old new read
+TakesLine after hops (Err (error.BadRow bad)) old new number read = (bad.line ≡ number) × Refused after hops bad.why old read
+TakesLine after hops (Err error.NoMemory) old new number read = Unit {0}
+
+-- ---- the rows of one kind
+
+-- the hops after a row of this kind
+abbrev pub hops_of_kind : Kind → List Address → PrintedRow → List Address
+hops_of_kind kind hops row = fold with_hop hops (kind_hop kind row)
+
+-- the entries before and that of this row, if it is of this kind
+abbrev pub kind_after : Kind → KindEntries → PrintedRow → KindEntries
+kind_after kind k row = record {
+  entries = k.entries ++ kind_entry kind (hops_of_kind kind k.hops row) row;
+  hops = hops_of_kind kind k.hops row;
+}

@@ -10,11 +10,14 @@
 
 mod error;
 mod fields;
+mod kind_rows;
 mod printed;
 mod printed_row;
 pub mod why;
 
 pub use cert_rows::Row;
 pub use error::{BadRow, PrintedError};
+pub use kind_rows::read_rows;
 pub use printed::{Printed, read_printed};
+pub use printed_model::Kind;
 pub use printed_row::{Count, PrintedRow, read_row};

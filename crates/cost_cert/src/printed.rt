@@ -7,7 +7,7 @@ ghost use Rattle.printed_model.specs.Reading.{line_in};
 ghost use Rattle.printed_model.specs.Used.{hop_number, printed_in, used_of};
 ghost use Rattle.cost_cert.specs.Printed.{IsRead, printed_as, printed_row_as};
 ghost use Rattle.cost_cert.specs.declared.error.PrintedError.TheVariants as printed_error;
-ghost use Rattle.cost_cert.specs.Steps.{Numbers, TakesLine, hops_after_row, hops_with, used_after};
+ghost use Rattle.cost_cert.specs.Steps.{IsHopRefused, IsRowOf, Numbers, TakesLine, hops_after_row, hops_with, used_after};
 
 use crate::error::{BadRow, PrintedError};
 use crate::printed_row::{PrintedRow, read_row};
@@ -38,8 +38,25 @@ fn bad_row(line: u64, why: u8) -> PrintedError
     PrintedError::BadRow(BadRow { line, why })
 }
 
+/// The row of the line of this number.
+pub(crate) fn row_of(number: u64, line: &[u8]) -> Result<PrintedRow, PrintedError>
+    ensures { IsRowOf result number (line_in line.now) }
+{
+    read_row(line).map_err(|why| bad_row(number, why))
+}
+
+/// Why the line of this number isn't taken, if its hop isn't.
+pub(crate) fn hop_refused(number: u64, error: HopError) -> PrintedError
+    ensures { IsHopRefused number error result }
+{
+    match error {
+        HopError::HopsFull => bad_row(number, why::TOO_MANY_HOPS),
+        HopError::NoMemory => PrintedError::NoMemory,
+    }
+}
+
 /// The number of a hop, and `Hop::NONE` for none.
-fn number_hop(hops: &mut HopTable, hop: Option<Addr>) -> Result<Hop, HopError>
+pub(crate) fn number_hop(hops: &mut HopTable, hop: Option<Addr>) -> Result<Hop, HopError>
     requires { length hops.old.list ≤ most_hops }
     ensures { Numbers result (hops_with hops.old.list (option_map addr_as hop))
         (λ h. (hops.new.list ≡ hops_with hops.old.list (option_map addr_as hop))
@@ -93,17 +110,13 @@ impl Printed {
     /// Takes the row of a line that isn't empty.
     fn take_line(&mut self, number: u64, line: &[u8]) -> Result<(), PrintedError>
         requires { length self.old.hops.list ≤ most_hops }
-        ensures { TakesLine result (printed_as self.old) (printed_as self.new) number
-            (line_in line.now) }
+        ensures { TakesLine used_after (λ u. u.hops) result (printed_as self.old)
+            (printed_as self.new) number (line_in line.now) }
     {
-        let row = match read_row(line) {
-            Ok(row) => row,
-            Err(why) => return Err(bad_row(number, why)),
-        };
+        let row = row_of(number, line)?;
         match self.take(&row) {
             Ok(()) => Ok(()),
-            Err(HopError::HopsFull) => Err(bad_row(number, why::TOO_MANY_HOPS)),
-            Err(HopError::NoMemory) => Err(PrintedError::NoMemory),
+            Err(error) => Err(hop_refused(number, error)),
         }
     }
 }

@@ -11,7 +11,7 @@ use Rattle.printed_model.specs.Rows.{PrintedRow}
 use Rattle.printed_model.specs.Reading.{too_many_hops, line_in}
 use Rattle.printed_model.specs.Texts.{BadLine, hops_in, numbered_hop, with_row, rows_after, rows_by, rows_in, line_texts}
 use Rattle.printed_model.specs.Used.{kind_hop}
-use Rattle.printed_model.specs.Kinds.{hops_with}
+use Rattle.printed_model.specs.Kinds.{kind_hops}
 use Rattle.printed_model.proofs.Texts.{few_before}
 use Rattle.printed_model.specs.Whole.{is_filled, HaveRows, IsWhy, IsFirstBad}
 
@@ -223,13 +223,13 @@ printed_rows text rows = rows_of_text hops_in printed_grows (omega arith) text r
 pub printed_bad : (text : List ℕ) (bad : BadLine) → rows_in text ≡ Err bad ↔ IsFirstBad hops_in (line_texts text) bad
 printed_bad text bad = bad_of_text hops_in printed_grows (omega arith) text bad
 
-kind_grows : (kind : Kind) (hops : List Address) → Grows (hops_with kind hops)
+kind_grows : (kind : Kind) (hops : List Address) → Grows (kind_hops kind hops)
 kind_grows kind hops before rows = few_before (kind_hop kind) hops before rows
 
 pub kind_rows : (kind : Kind) (hops : List Address) (text : List ℕ) (rows : List PrintedRow) → length hops ≤ most_hops
-    → rows_by (hops_with kind hops) text ≡ Ok rows ↔ HaveRows (hops_with kind hops) (line_texts text) rows
-kind_rows kind hops text rows few = rows_of_text (hops_with kind hops) (kind_grows kind hops) few text rows
+    → rows_by (kind_hops kind hops) text ≡ Ok rows ↔ HaveRows (kind_hops kind hops) (line_texts text) rows
+kind_rows kind hops text rows few = rows_of_text (kind_hops kind hops) (kind_grows kind hops) few text rows
 
 pub kind_bad : (kind : Kind) (hops : List Address) (text : List ℕ) (bad : BadLine) → length hops ≤ most_hops
-    → rows_by (hops_with kind hops) text ≡ Err bad ↔ IsFirstBad (hops_with kind hops) (line_texts text) bad
-kind_bad kind hops text bad few = bad_of_text (hops_with kind hops) (kind_grows kind hops) few text bad
+    → rows_by (kind_hops kind hops) text ≡ Err bad ↔ IsFirstBad (kind_hops kind hops) (line_texts text) bad
+kind_bad kind hops text bad few = bad_of_text (kind_hops kind hops) (kind_grows kind hops) few text bad

@@ -10,8 +10,8 @@ use Rattle.printed_model.specs.Texts.{BadLine, rows_by}
 use Rattle.printed_model.specs.Used.{kind_entry, kind_hop}
 
 -- the hops that have numbers before, and then the different ones of rows of this kind, in the order of their first use
-abbrev pub hops_with : Kind → List Address → List PrintedRow → List Address
-hops_with kind before rows = fold with_hop before (flat_map (kind_hop kind) rows)
+abbrev pub kind_hops : Kind → List Address → List PrintedRow → List Address
+kind_hops kind before rows = fold with_hop before (flat_map (kind_hop kind) rows)
 
 -- The entries of a kind, in the order of their rows, and the hops that have numbers after them.
 pub record KindEntries : Type 0 where
@@ -20,11 +20,11 @@ pub record KindEntries : Type 0 where
 
 abbrev pub kind_entries : Kind → List Address → List PrintedRow → KindEntries
 kind_entries kind before rows = record {
-  entries = flat_map (kind_entry kind (hops_with kind before rows)) rows;
-  hops = hops_with kind before rows;
+  entries = flat_map (kind_entry kind (kind_hops kind before rows)) rows;
+  hops = kind_hops kind before rows;
 }
 
 -- The entries that a text's rows of this kind say, where these hops have numbers before; or the text's first bad line. The hops of other
 -- rows get no number, so there are never too many of them.
 abbrev pub kind_in : Kind → List Address → List ℕ → Result KindEntries BadLine
-kind_in kind before text = rows_by (hops_with kind before) text >>= λ rows. Ok (kind_entries kind before rows)
+kind_in kind before text = rows_by (kind_hops kind before) text >>= λ rows. Ok (kind_entries kind before rows)

@@ -16,7 +16,7 @@ ghost use Rattle.fib_addr.specs.Hops.{hop_at, most_hops};
 ghost use Rattle.printed_model.specs.Rows.{PrintedRow, IsRow, fields_of, text_of};
 ghost use Rattle.printed_model.specs.Reading.{row_in};
 ghost use Rattle.printed_model.specs.Texts.{BadLine, hops_in, line_texts, numbered_hop, rows_by, rows_in};
-ghost use Rattle.printed_model.specs.Kinds.{hops_with};
+ghost use Rattle.printed_model.specs.Kinds.{kind_hops};
 ghost use Rattle.printed_model.specs.Numbered.{IsCertRow, IsOther, HaveHops, Proves, rows_with};
 ghost use Rattle.printed_model.specs.Used.{hop_number, kind_hop, printed_in, used_of};
 ghost use Rattle.printed_model.specs.Whole.{HaveRows, IsFirstBad};
@@ -49,13 +49,13 @@ pub fn numbers_law()
 /// brings has a number then, which stands for it; and a number that stood for a hop before still does.
 pub fn kinds_law()
     ensures rows { (kind : Kind) (before : List Address) (text : List ℕ) (rows : List PrintedRow) → length before ≤ most_hops
-        → rows_by (hops_with kind before) text ≡ Ok rows ↔ HaveRows (hops_with kind before) (line_texts text) rows }
+        → rows_by (kind_hops kind before) text ≡ Ok rows ↔ HaveRows (kind_hops kind before) (line_texts text) rows }
     ensures bad { (kind : Kind) (before : List Address) (text : List ℕ) (bad : BadLine) → length before ≤ most_hops
-        → rows_by (hops_with kind before) text ≡ Err bad ↔ IsFirstBad (hops_with kind before) (line_texts text) bad }
-    ensures numbers { (kind : Kind) (before : List Address) (rows : List PrintedRow) → AllByRecursion (λ a. hop_at (hops_with kind before rows)
-        (hop_number (hops_with kind before rows) (Some a)) ≡ Some a) (flat_map (kind_hop kind) rows) }
+        → rows_by (kind_hops kind before) text ≡ Err bad ↔ IsFirstBad (kind_hops kind before) (line_texts text) bad }
+    ensures numbers { (kind : Kind) (before : List Address) (rows : List PrintedRow) → AllByRecursion (λ a. hop_at (kind_hops kind before rows)
+        (hop_number (kind_hops kind before rows) (Some a)) ≡ Some a) (flat_map (kind_hop kind) rows) }
     ensures stay { (kind : Kind) (before : List Address) (rows : List PrintedRow) (n : ℕ) (a : Address) → hop_at before n ≡ Some a
-        → hop_at (hops_with kind before rows) n ≡ Some a }
+        → hop_at (kind_hops kind before rows) n ≡ Some a }
 {}
 
 /// The numbers of hops don't matter to a certificate: the printed rows of routes that have hops, of a table, and of a certificate
