@@ -9,20 +9,21 @@ use Rattle.address_model.specs.Address.{Address}
 use Rattle.table_model.specs.Entries.{Entries}
 use Rattle.cert_model.specs.Rows.{CertRow}
 use Rattle.fib_addr.specs.Hops.{Hops, most_hops}
+use Rattle.fib_addr.specs.Views.{entry_as}
 use Rattle.fib_addr.specs.declared.entry.Entry.{Entry}
 use Rattle.std.specs.declared.vec.Vec.{Vec}
 use Rattle.printed_model.specs.declared.kind.Kind.{Kind}
 use Rattle.printed_model.specs.Kinds.{KindEntries, kind_entries, kind_hops, kind_in}
 use Rattle.printed_model.specs.Rows.{PrintedRow}
 use Rattle.printed_model.specs.Reading.{line_in}
-use Rattle.printed_model.specs.Texts.{BadLine, lines_of, hops_in, with_row, rows_after, rows_by, rows_in}
+use Rattle.printed_model.specs.Texts.{BadLine, lines_of, hops_in, with_row, rows_after, rows_by}
 use Rattle.printed_model.specs.Used.{Used, used_of, printed_in}
 use Rattle.printed_model.proofs.Hops.{hops_more, routes_more, least_more, cert_more, kind_entries_more, kind_hops_more}
 use Rattle.printed_model.proofs.Lines.{lines_same, few_lines}
 use Rattle.cost_cert.specs.declared.error.PrintedError.{PrintedError}
 use Rattle.cost_cert.specs.declared.error.PrintedError.TheVariants as error
 use Rattle.cost_cert.specs.declared.printed.Printed.{Printed}
-use Rattle.cost_cert.specs.Printed.{IsKind, IsRead}
+use Rattle.cost_cert.specs.Printed.{IsKind, IsRead, kind_as}
 use Rattle.cost_cert.specs.Steps.{kind_after, used_after, Refused, Taken, TakesLine}
 
 -- How rows are read one after another: which hops have numbers after rows; what is kept of rows; what one more row makes of that; and which
@@ -135,7 +136,7 @@ no_line way p n lines text e l = ap (λ read. read >>= λ rows. Ok (way.kept row
 abbrev made : Entries → Entries → List CertRow → List Address → Used
 made routes least cert hops = record { routes = routes; least = least; cert = cert; hops = hops }
 
-used_more : (rows : List PrintedRow) (row : PrintedRow) → used_of (rows ++ row ∷ []) ≡ used_after (used_of rows) row
+pub used_more : (rows : List PrintedRow) (row : PrintedRow) → used_of (rows ++ row ∷ []) ≡ used_after (used_of rows) row
 used_more rows row =
     let u = used_of (rows ++ row ∷ []) in
     let v = used_after (used_of rows) row in
@@ -158,7 +159,7 @@ bad_line (error.BadRow bad) s old new n line lines left text le t se taken l =
 abbrev kind_made : Entries → List Address → KindEntries
 kind_made entries hops = record { entries = entries; hops = hops }
 
-kind_more : (kind : Kind) (before : List Address) (rows : List PrintedRow) (row : PrintedRow) → kind_entries kind before (rows ++ row ∷ []) ≡ kind_after kind (kind_entries kind before rows) row
+pub kind_more : (kind : Kind) (before : List Address) (rows : List PrintedRow) (row : PrintedRow) → kind_entries kind before (rows ++ row ∷ []) ≡ kind_after kind (kind_entries kind before rows) row
 kind_more kind before rows row =
     let k = kind_entries kind before (rows ++ row ∷ []) in
     let v = kind_after kind (kind_entries kind before rows) row in
@@ -166,6 +167,10 @@ kind_more kind before rows row =
 
 abbrev pub kind_way : Kind → List Address → Way KindEntries
 kind_way kind before = record { hops = kind_hops kind before; kept = kind_entries kind before; after = kind_after kind; hops_of = λ k. k.hops; more = kind_more kind before; same = λ rows. refl }
+
+pub kind_starts : {A : Type 0} (kind : Kind) (entries : Vec Entry A) (hops : Hops) (text : List ℕ) (lines : List (List ℕ)) → entries.items ≡ [] → length hops.list ≤ most_hops
+    → lines ≡ map without_terminator (cut_lines text) → Left (kind_way kind hops.list) (kind_as entries hops) 0 lines text
+kind_starts kind entries hops text lines e few l = starts (kind_way kind hops.list) text (kind_as entries hops) lines (ap (λ es. kind_made (map entry_as es) hops.list) e) few l
 
 pub bad_kind_line : {A : Type 0} (kind : Kind) (before : List Address) (e : PrintedError) (s : Result (Vec Entry A) PrintedError) (hops : Hops) (old new : KindEntries) (n : ℕ) (line : List ℕ) (lines left : List (List ℕ)) (text : List ℕ)
     → lines ≡ line ∷ left → false ≡ (length line == 0) → s ≡ Err e → TakesLine {A = Unit {0}} (kind_after kind) (λ k. k.hops) (Err e) old new (n + 1) (line_in line)
