@@ -5,7 +5,7 @@
 
 ghost use Rattle.std.specs.Prelude.{◌≡◌, ℕ, List, [], ◌∷◌, ◌++◌, length, Option, Some, None};
 ghost use Rattle.table_model.specs.Entries.{Entries, AlikeInBoth};
-ghost use Rattle.texts_model.specs.Texts.{Difference, IsLeastDifference, IsDifferenceOf, ComesTo, EveryTwo, SameBefore, lesser};
+ghost use Rattle.texts_model.specs.Texts.{Difference, IsLeastDifference, IsDifferenceOf, ComesTo, EveryTwo, SameBefore, difference_at, least_difference, lesser};
 
 /// With one table more, the lesser of two addresses is the least at which any of them differs from the first: the one found so far, and
 /// the least at which the new table does.
@@ -13,6 +13,14 @@ pub fn next_law()
     ensures { (first : Entries) (others : List Entries) (t : Entries) (best next : Option Difference)
         → ComesTo first others best → IsDifferenceOf first (length others) t next
         → ComesTo first (others ++ t ∷ []) (lesser best next) }
+{}
+
+/// What is computed of all tables is what comparing them comes to.
+pub fn found_law()
+    ensures one { (first : Entries) (n : ℕ) (t : Entries)
+        → IsDifferenceOf first n t (difference_at first n t) }
+    ensures all { (first : Entries) (others : List Entries)
+        → ComesTo first others (least_difference first others) }
 {}
 
 /// If none differs from the first, every two tables are alike.
