@@ -1,0 +1,4 @@
+pub mod Due
+pub mod Gives
+pub mod Passes
+pub mod Views

@@ -1,0 +1,12 @@
+//! Whether printed tables are the same: texts are read one after another, and their rows of one kind compared with the first one's.
+//!
+//! Each text is read whole, judged, compared, and let go before the next one is read. In memory stay the first one's entries as runs of
+//! addresses, the hops of all texts, and the least difference so far. Sorting aside, all of it is linear in the texts.
+#![tactic(auto)]
+
+mod compare;
+mod error;
+mod text;
+
+pub use compare::{Difference, compare_texts};
+pub use error::SameError;
