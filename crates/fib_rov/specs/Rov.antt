@@ -2,6 +2,7 @@
 use Rattle.std.specs.Prelude.{ℕ, Bool, false, not, ◌&&◌, ◌==◌, List, length, nat_lt, position, Option, Some, None}
 use Rattle.address_model.specs.Address.{Prefix}
 use Rattle.address_model.specs.Regions.{is_within}
+use Rattle.route_model.specs.Events.{Event, Announce, Withdraw, Down}
 use Rattle.fib_rov.specs.declared.state.State.{State}
 use Rattle.fib_rov.specs.declared.state.State.TheVariants.{Valid, Invalid, NotFound}
 
@@ -33,3 +34,18 @@ decided None None = NotFound
 -- the state of a route of the prefix with this origin
 abbrev pub state_of : List Vrp → Prefix → Option ℕ → State
 state_of vrps p origin = decided (position (matches p origin) vrps) (position (covers_route p) vrps)
+
+-- ---- what is left of an event where Invalid routes are dropped by policy (RFC 6811, 3)
+
+-- in this state of a route: its withdrawal with the number of the VRP where it is Invalid, else its announcement
+abbrev pub left_in : State → Event → Event → Event × Option ℕ
+left_in (Invalid n) announced withdrawn = (withdrawn, Some n)
+left_in (Valid n) announced withdrawn = (announced, None)
+left_in NotFound announced withdrawn = (announced, None)
+
+-- An announcement of an Invalid route is the withdrawal of its way and prefix, with the number of the first VRP that covers it; any other
+-- event stays as it is.
+abbrev pub judged : List Vrp → Event → Event × Option ℕ
+judged vrps (Announce via p path hop origin) = left_in (state_of vrps p origin) (Announce via p path hop origin) (Withdraw via p)
+judged vrps (Withdraw via p) = (Withdraw via p, None)
+judged vrps (Down peer) = (Down peer, None)

@@ -4,13 +4,15 @@ ghost use Rattle.std.specs.Prelude.{◌≡◌, ◌+◌, ◌≤◌, ◌&&◌, len
 ghost use Rattle.std.specs.List.{position_or_len};
 ghost use Rattle.indexmap.specs.IndexMap.{get};
 ghost use Rattle.fib_addr.specs.Views.{prefix_as};
-ghost use Rattle.fib_rov.specs.Rov.{decided, state_of};
+ghost use Rattle.fib_prefix.specs.Views.{event_as};
+ghost use Rattle.fib_rov.specs.Rov.{decided, judged, state_of};
 ghost use Rattle.fib_rov.specs.Views.{vrp_as, allows};
 ghost use Rattle.fib_rov.specs.Index.{AreChained, IsIndex, first_from, has_prefix, prefix_test, place_at};
 
 use crate::state::State;
 use crate::vrp::Vrp;
 use fib_addr::Prefix;
+use fib_prefix::Event;
 use indexmap::IndexMap;
 use std::alloc::{AllocError, Global};
 use std::marker::Model;
@@ -155,5 +157,19 @@ impl Vrps {
         ensures { result ≡ state_of self.now (prefix_as prefix.now) origin }
     {
         decide(&self.list, &self.next, &self.first, prefix, origin)
+    }
+
+    /// What is left of an event where routes that are Invalid are dropped (RFC 6811, section 3): an announcement of such a route is the
+    /// withdrawal of its way and prefix, with the number of the first VRP that covers it; any other event stays as it is. It costs what
+    /// `state` does, and takes no memory.
+    pub fn judge(&self, event: &Event) -> (Event, Option<u64>)
+        ensures { (event_as result.0, result.1) ≡ judged self.now (event_as event.now) }
+    {
+        if let Event::Announce(via, prefix, _, _, origin) = *event
+            && let State::Invalid(number) = self.state(&prefix, origin)
+        {
+            return (Event::Withdraw(via, prefix), Some(number));
+        }
+        (*event, None)
     }
 }
