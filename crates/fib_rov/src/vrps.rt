@@ -1,14 +1,15 @@
 //! Lists of VRPs.
 
-ghost use Rattle.std.specs.Prelude.{◌≡◌, ◌+◌, ◌≤◌, ◌&&◌, length, map, option_map, slice_get, unwrap_or, IfOk};
+ghost use Rattle.std.specs.Prelude.{◌≡◌, ◌+◌, ◌≤◌, ◌&&◌, if◌then◌else◌, false, get_or, length, map, option_map, slice_get, unwrap_or, IfOk};
 ghost use Rattle.std.specs.List.{position_or_len};
 ghost use Rattle.indexmap.specs.IndexMap.{get};
 ghost use Rattle.fib_addr.specs.Views.{prefix_as};
 ghost use Rattle.fib_prefix.specs.Views.{event_as};
 ghost use Rattle.fib_rov.specs.Rov.{decided, judged, state_of};
 ghost use Rattle.fib_rov.specs.Views.{vrp_as, allows};
-ghost use Rattle.fib_rov.specs.Index.{AreChained, IsIndex, first_from, has_prefix, prefix_test, place_at};
+ghost use Rattle.fib_rov.specs.Index.{AreChained, AreMarked, IsIndex, first_from, has_prefix, place_at, place_of, prefix_test};
 
+use crate::lengths::{LENGTHS, has_length, lengths_of};
 use crate::state::State;
 use crate::vrp::Vrp;
 use fib_addr::Prefix;
@@ -25,19 +26,21 @@ pub struct Vrps {
     next: Vec<usize>,
     // the number of the first VRP of a prefix
     first: IndexMap<Prefix, usize>,
+    // which lengths these prefixes have
+    lengths: [bool; LENGTHS],
 }
 
 impl Model for Vrps {
     ghost use Rattle.std.specs.Prelude.{List, map};
     ghost use Rattle.fib_rov.specs.Rov.{Vrp};
     ghost use Rattle.fib_rov.specs.Views.{vrp_as};
-    ghost use Rattle.fib_rov.specs.Index.{IsIndex};
+    ghost use Rattle.fib_rov.specs.Index.{AreMarked, IsIndex};
 
     ghost Value = { List Vrp };
 
     ghost view = { λ v. map vrp_as v.list.items };
 
-    ghost invariant = { λ v. IsIndex v.list.items v.next.items v.first };
+    ghost invariant = { λ v. IsIndex v.list.items v.next.items v.first × AreMarked v.list.items v.lengths };
 }
 
 /// The links from each VRP to the next one of its prefix, and the first one of each prefix. They are made from the last VRP to the
@@ -60,10 +63,19 @@ fn index_of(
     Ok((next, first))
 }
 
-/// The number of the first VRP of a prefix, or the count if there is none.
-fn first_at(first: &IndexMap<Prefix, usize>, prefix: &Prefix, count: usize) -> usize
-    ensures { result ≡ unwrap_or (get prefix_test first.now prefix.now) count }
+/// The number of the first VRP of a prefix, or the count if there is none. The map is asked only where some prefix has the length.
+fn first_at(
+    first: &IndexMap<Prefix, usize>,
+    lengths: &[bool; LENGTHS],
+    prefix: &Prefix,
+    count: usize,
+) -> usize
+    ensures { result ≡ (if get_or lengths.now (place_of prefix.now) false
+        then unwrap_or (get prefix_test first.now prefix.now) count else count) }
 {
+    if !has_length(lengths, prefix) {
+        return count;
+    }
     match first.get(prefix) {
         Some(number) => *number,
         None => count,
@@ -97,10 +109,12 @@ fn decide(
     list: &[Vrp],
     next: &[usize],
     first: &IndexMap<Prefix, usize>,
+    lengths: &[bool; LENGTHS],
     prefix: &Prefix,
     origin: Option<u32>,
 ) -> State
-    requires { IsIndex list.now next.now first.now }
+    requires index { IsIndex list.now next.now first.now }
+    requires marked { AreMarked list.now lengths.now }
     ensures { result ≡ state_of (map vrp_as list.now) (prefix_as prefix.now) origin }
 {
     let count = list.len();
@@ -109,7 +123,7 @@ fn decide(
     let address = prefix.first_addr();
     for len in 0..prefix.len + 1 {
         let wider = Prefix::new(&address, len);
-        let at = first_at(first, &wider, count);
+        let at = first_at(first, lengths, &wider, count);
         covering = covering.min(at);
         let allowing = first_allowing(list, next, &wider, at, prefix.len, origin);
         matching = matching.min(allowing);
@@ -140,7 +154,13 @@ impl Vrps {
         ensures { IfOk result (λ v. v ≡ map vrp_as list.items) }
     {
         let (next, first) = index_of(alloc, &list)?;
-        Ok(Vrps { list, next, first })
+        let lengths = lengths_of(&list);
+        Ok(Vrps {
+            list,
+            next,
+            first,
+            lengths,
+        })
     }
 
     /// The VRP of this number, from 0, if the list has one.
@@ -151,12 +171,19 @@ impl Vrps {
         self.list.get(number)
     }
 
-    /// The state of a route of the prefix with this origin. It costs a look-up for each prefix that contains the route's, and a step for
-    /// each VRP of these prefixes. It takes no memory.
+    /// The state of a route of the prefix with this origin. It costs a look-up for each prefix that contains the route's and is as long as
+    /// some VRP's, and a step for each VRP of these prefixes. It takes no memory.
     pub fn state(&self, prefix: &Prefix, origin: Option<u32>) -> State
         ensures { result ≡ state_of self.now (prefix_as prefix.now) origin }
     {
-        decide(&self.list, &self.next, &self.first, prefix, origin)
+        decide(
+            &self.list,
+            &self.next,
+            &self.first,
+            &self.lengths,
+            prefix,
+            origin,
+        )
     }
 
     /// What is left of an event where routes that are Invalid are dropped (RFC 6811, section 3): an announcement of such a route is the

@@ -9,6 +9,7 @@ use Rattle.fib_rov.specs.Rov.{matches, decided}
 use Rattle.fib_rov.specs.Views.{vrp_as, allows}
 use Rattle.fib_rov.specs.Index.{has_prefix, place_at}
 use Rattle.fib_rov.proofs.Covering.{covers_below, matches_below, covering_start, covering_more, covering_end, matching_start, matching_more, matching_end}
+use Rattle.fib_rov.proofs.Marks.{looked_up}
 use Rattle.fib_rov.proofs.vrps.decide.Goals as goal
 
 pub loop-len-init : goal.loop-len-init
@@ -27,7 +28,7 @@ loop-len-preserved c =
     let long : length p.bits ≡ c.args.prefix.now.len = length_prefix (width c.args.prefix.now.family) c.args.prefix.now.len c.args.prefix.now.bits c.args.prefix.now.fits in
     let few : c.loop-len.len ≤ length p.bits = omega (arith, long, c.loop-len-test.true) in
     let front = c.new-wider.ensures ∙ ap (first_bits c.loop-len.len) c.loop-len.invariant.address in
-    let at : c.first_at-at.result ≡ position_or_len (has_prefix wider) list = c.first_at-at.ensures ∙ (c.requires.heads wider ∙ zero-add (position_or_len (has_prefix wider) list)) in
+    let at : c.first_at-at.result ≡ position_or_len (has_prefix wider) list = c.first_at-at.ensures ∙ looked_up list c.args.next.now c.args.first.now c.args.lengths.now wider c.requires.index c.requires.marked in
     record {
       count = c.loop-len.invariant.count;
       address = c.loop-len.invariant.address;
