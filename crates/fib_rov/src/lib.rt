@@ -2,13 +2,21 @@
 //!
 //! `Vrps` is such a list with an index by prefix. A route of n bits is judged by at most n + 1 look-ups, one for each prefix that contains
 //! it and is as long as some VRP's, and by the VRPs of these prefixes, however long the list is.
+//!
+//! As text a list has a VRP `PREFIX,MAXLEN,AS` on each line that isn't empty. Lines end with a line feed, which the last may lack; one
+//! carriage return before it is dropped; an empty line has no VRP, but is counted.
 #![tactic(auto)]
 
 mod lengths;
+mod line;
+mod reading;
 mod state;
 mod vrp;
 mod vrps;
 
+pub use cost_cert::BadRow;
+pub use line::BAD_MAXLEN;
+pub use reading::RovError;
 pub use state::State;
 pub use vrp::Vrp;
 pub use vrps::Vrps;

@@ -5,11 +5,14 @@ ghost use Rattle.std.specs.List.{position_or_len};
 ghost use Rattle.indexmap.specs.IndexMap.{get};
 ghost use Rattle.fib_addr.specs.Views.{prefix_as};
 ghost use Rattle.fib_prefix.specs.Views.{event_as};
+ghost use Rattle.fib_rov.specs.Lines.{vrps_in};
+ghost use Rattle.fib_rov.specs.Lists.{IsRead};
 ghost use Rattle.fib_rov.specs.Rov.{decided, judged, state_of};
 ghost use Rattle.fib_rov.specs.Views.{vrp_as, allows};
 ghost use Rattle.fib_rov.specs.Index.{AreChained, AreMarked, IsIndex, first_from, has_prefix, place_at, place_of, prefix_test};
 
 use crate::lengths::{LENGTHS, has_length, lengths_of};
+use crate::reading::{RovError, read_vrps};
 use crate::state::State;
 use crate::vrp::Vrp;
 use fib_addr::Prefix;
@@ -161,6 +164,20 @@ impl Vrps {
             first,
             lengths,
         })
+    }
+
+    /// The list of a text with a VRP `PREFIX,MAXLEN,AS` on each line that isn't empty, in the order of its lines. MAXLEN is at least the
+    /// prefix's length, and at most its family's width. It costs the text's length.
+    ///
+    /// # Errors
+    ///
+    /// `BadRow` names the first line that is neither empty nor a VRP, and says why (`cost_cert::why` or `BAD_MAXLEN`); or no memory.
+    pub fn read(alloc: Global, text: &[u8]) -> Result<Vrps, RovError>
+        ensures { IsRead result (vrps_in text.now) }
+    {
+        let list = read_vrps(alloc, text)?;
+        let vrps = Vrps::new(alloc, list)?;
+        Ok(vrps)
     }
 
     /// The VRP of this number, from 0, if the list has one.

@@ -1,0 +1,21 @@
+use Rattle.std.proofs.Common.{rules, ◌+◌, ◌≡◌, ◌∷◌, [], ◌++◌, map, subst, sym, ap, ◌∙◌}
+use Rattle.std.proofs.lemmas.List.{map-append}
+use Rattle.std.specs.Prelude.{List}
+use Rattle.fib_rov.specs.Rov.{Vrp}
+use Rattle.fib_rov.specs.Views.{vrp_as}
+use Rattle.fib_rov.proofs.ReadLines.{Left, empty_line, taken_line, bad_line, no_line}
+use Rattle.fib_rov.proofs.reading.read_vrps.Goals as goal
+
+pub loop-line-preserved-in-Continue-1 : goal.loop-line-preserved-in-Continue-1
+loop-line-preserved-in-Continue-1 c =
+    let more : map vrp_as c.push.new.self.items ≡ map vrp_as c.loop-line.list.items ++ vrp_as c.in-Ok.vrp ∷ [] = ap (map vrp_as) c.in_ok-push-in-Ok.ensures.items ∙ map-append vrp_as c.loop-line.list.items (c.in-Ok.vrp ∷ []) in
+    subst (λ (vrps : List Vrp). Left vrps (c.loop-line.line_number + 1) c.next.new.self c.args.text.now) (sym more) (taken_line _ _ _ c.in-Some.line.now _ _ _ c.in-Some.ensures.steps c.if-not-is_empty.ensures c.in-Ok.ensures c.loop-line.invariant)
+
+pub returns-in-Err : goal.returns-in-Err
+returns-in-Err c = bad_line _ _ _ c.in-Some.line.now _ _ _ c.in-Some.ensures.steps c.if-not-is_empty.ensures c.in-Err.ensures c.loop-line.invariant
+
+pub loop-line-preserved : goal.loop-line-preserved
+loop-line-preserved c = empty_line _ _ c.in-Some.line.now _ _ _ c.in-Some.ensures.steps c.if-not-is_empty.ensures c.loop-line.invariant
+
+pub returns : goal.returns
+returns c = no_line _ _ _ _ c.in-None.ensures.steps.0 c.loop-line.invariant
