@@ -1,5 +1,5 @@
 -- VRPs that lead from one to the next of the same prefix.
-use Rattle.std.proofs.Common.{◌≡◌, ℕ, zero, suc, ◌+◌, ◌-◌, ◌<◌, ◌≤◌, Bool, true, false, cond, not, nat_eq, List, [], ◌∷◌, length, drop, get_or, set, Option, Some, None, refl, sym, ap, subst, ◌∙◌, zero-add, arith}
+use Rattle.std.proofs.Common.{◌≡◌, ℕ, zero, suc, ◌+◌, ◌-◌, ◌<◌, ◌≤◌, Bool, true, false, cond, not, List, [], ◌∷◌, length, drop, get_or, set, Some, refl, sym, ap, subst, ◌∙◌, zero-add, arith}
 use Rattle.std.specs.Prelude.{◌&&◌, unwrap_or}
 use Rattle.std.specs.List.{position_or_len}
 use Rattle.std.specs.Map.{lookup}
@@ -11,12 +11,11 @@ use Rattle.std.proofs.Math.Seq.{drop-length}
 use Rattle.indexmap.specs.IndexMap.{IndexMap, get, Updates}
 use Rattle.address_model.specs.Width.{width}
 use Rattle.address_model.specs.Address.{IsPrefix, same_prefix}
-use Rattle.address_model.proofs.Same.{same_prefix_is, same_prefix_itself}
+use Rattle.address_model.proofs.Same.{same_prefix_is}
 use Rattle.route_model.proofs.Keyed.{key_test}
 use Rattle.route_model.proofs.Places.{prefix_key}
 use Rattle.fib_addr.specs.Views.{prefix_as}
 use Rattle.fib_addr.specs.declared.prefix.Prefix as code
-use Rattle.fib_addr.specs.Order.{code_cmp}
 use Rattle.fib_addr.specs.OrderLaws.{tied}
 use Rattle.fib_addr.proofs.Ordering.{cmp_is}
 use Rattle.fib_addr.proofs.Parts.{length_prefix}

@@ -1,17 +1,17 @@
 -- The VRPs that cover a prefix, by how many bits theirs have.
-use Rattle.std.proofs.Common.{◌≡◌, ℕ, zero, suc, ◌+◌, ◌-◌, ◌<◌, ◌≤◌, Bool, true, false, cond, not, List, [], ◌∷◌, ◌++◌, length, map, take, replicate, min, Option, Some, None, refl, sym, ap, ◌∙◌, arith}
-use Rattle.std.specs.Prelude.{◌&&◌, ◌||◌, nat_lt, position, if◌then◌else◌}
+use Rattle.std.proofs.Common.{◌≡◌, ℕ, ◌+◌, ◌-◌, ◌≤◌, Bool, true, false, List, length, map, take, replicate, min, Option, refl, sym, ap, ◌∙◌}
+use Rattle.std.specs.Prelude.{◌&&◌, ◌||◌, nat_lt, position}
 use Rattle.std.specs.List.{position_or_len}
 use Rattle.std.proofs.lemmas.List.{take-append-le, length-map}
 use Rattle.address_model.specs.declared.family.Family.{Family}
 use Rattle.address_model.specs.declared.family.Family.TheVariants.{V4, V6}
 use Rattle.address_model.specs.Width.{width}
 use Rattle.address_model.specs.Bits.{begins, same_bits}
-use Rattle.address_model.specs.Address.{Prefix, IsPrefix, same_family, same_prefix, first_bits}
+use Rattle.address_model.specs.Address.{Prefix, same_family, same_prefix, first_bits}
 use Rattle.fib_addr.specs.Text.{first_address}
 use Rattle.fib_addr.specs.Views.{prefix_as}
 use Rattle.fib_addr.specs.declared.prefix.Prefix as code
-use Rattle.fib_rov.specs.Rov.{covers_route, matches, is_from}
+use Rattle.fib_rov.specs.Rov.{covers_route, matches}
 use Rattle.fib_rov.specs.Views.{vrp_as, allows}
 use Rattle.fib_rov.specs.Index.{has_prefix, place_at}
 use Rattle.fib_rov.specs.declared.vrp.Vrp.{Vrp}

@@ -1,5 +1,5 @@
 -- Lengths that no VRP's prefix has.
-use Rattle.std.proofs.Common.{◌≡◌, ℕ, zero, suc, ◌+◌, ◌<◌, ◌≤◌, Bool, true, false, cond, not, List, [], ◌∷◌, length, drop, get_or, set, refl, sym, ap, ◌∙◌, zero-add, arith, ◌≢◌}
+use Rattle.std.proofs.Common.{◌≡◌, ℕ, ◌+◌, ◌<◌, Bool, true, false, cond, not, List, ◌∷◌, length, drop, get_or, set, refl, sym, ap, ◌∙◌, zero-add, arith, ◌≢◌}
 use Rattle.std.specs.Prelude.{unwrap_or, if◌then◌else◌}
 use Rattle.std.specs.List.{position_or_len}
 use Rattle.std.proofs.lemmas.List.{drop_more, length-set, get_or-set_same, get_or-set_other}
@@ -11,7 +11,7 @@ use Rattle.fib_addr.specs.Views.{prefix_as}
 use Rattle.fib_addr.specs.declared.prefix.Prefix as code
 use Rattle.fib_addr.proofs.Parts.{length_prefix}
 use Rattle.fib_rov.specs.declared.vrp.Vrp.{Vrp}
-use Rattle.fib_rov.specs.Index.{has_prefix, first_from, prefix_test, length_place, place_of, AreMarked, IsIndex}
+use Rattle.fib_rov.specs.Index.{has_prefix, prefix_test, length_place, place_of, AreMarked, IsIndex}
 
 -- of the first k VRPs none has a prefix whose length isn't marked
 pub record Marked (k : ℕ) (list : List Vrp) (lengths : List Bool) : Type 0 where

@@ -1,4 +1,4 @@
-use Rattle.std.proofs.Common.{◌+◌, ◌<◌, sym, ap, subst, ◌∙◌, arith, replicate, false, true, set}
+use Rattle.std.proofs.Common.{◌+◌, ◌<◌, sym, subst, arith, replicate, false, true, set}
 use Rattle.std.proofs.lemmas.List.{length-replicate}
 use Rattle.fib_rov.proofs.Marks.{Marked, marked_start, marked_more, marked_all}
 use Rattle.fib_rov.proofs.lengths.lengths_of.Goals as goal

@@ -1,5 +1,4 @@
-use Rattle.std.proofs.Common.{◌∷◌, ap, sym, ◌∙◌}
-use Rattle.std.specs.List.{slice_split}
+use Rattle.std.proofs.Common.{◌∷◌, ap, ◌∙◌}
 use Rattle.printed_model.specs.Reading.{one_field}
 use Rattle.cost_cert.specs.Fields.{fields_left}
 use Rattle.fib_rov.proofs.More.{two_more}
