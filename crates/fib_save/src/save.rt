@@ -1,0 +1,106 @@
+//! Checkpoints of inputs.
+
+ghost use Rattle.std.specs.Prelude.{◌≡◌, option_map, IfErr, IfOk};
+ghost use Rattle.fib_io.specs.Reads.{Makes};
+ghost use Rattle.mrt_write.specs.Answers.{WriterAnswers};
+ghost use Rattle.fib_save.specs.Brings.{Brings};
+ghost use Rattle.fib_save.specs.Saves.{BringsNone, SaveAnswers, SaveFaults, SaveReads};
+
+use crate::input::take_input;
+use fib_io::Inputs;
+use fib_prefix::Cand;
+use mrt_write::{WriteError, write_dump};
+use route_choice::Candidates;
+use std::alloc::Global;
+use thiserror::Error;
+use whole_input::WholeError;
+
+/// Why there is no checkpoint.
+#[derive(Clone, Copy, Debug, PartialEq, Eq, Error)]
+pub enum SaveError {
+    /// The dump isn't read to its end.
+    #[error("dump: {0}")]
+    Dump(WholeError),
+    /// The updates aren't read to their end.
+    #[error("updates: {0}")]
+    Updates(WholeError),
+    /// The candidates aren't written.
+    #[error("the candidates aren't written")]
+    Unwritten(WriteError),
+}
+
+/// The candidates that the dump brings, and then the updates, if they are named.
+fn candidates_of<I: Inputs>(
+    alloc: Global,
+    inputs: &mut I,
+    dump: &str,
+    updates: Option<&str>,
+) -> Result<Candidates, SaveError>
+    ensures brings { IfOk result (λ candidates. Brings (I.content inputs.old) dump.now
+        (option_map (λ n. n.now) updates.entry) candidates.candidates) }
+    ensures none { IfErr result (BringsNone (I.content inputs.old) dump.now
+        (option_map (λ n. n.now) updates.entry)) }
+    ensures same { I.content inputs.new ≡ I.content inputs.old }
+    ensures cause { SaveFaults (I.faults inputs.old) (I.faults inputs.new) dump.now
+        (option_map (λ n. n.now) updates.entry) result }
+    ensures reads { Makes (I.reads inputs.old) (I.reads inputs.new)
+        (SaveReads (I.content inputs.old) dump.now (option_map (λ n. n.now) updates.entry) result) }
+{
+    let mut candidates = Candidates::new(alloc);
+    if let Err(error) = take_input(alloc, inputs, dump, &mut candidates) {
+        return Err(SaveError::Dump(error));
+    }
+    let Some(updates) = updates else {
+        return Ok(candidates);
+    };
+    if let Err(error) = take_input(alloc, inputs, updates, &mut candidates) {
+        return Err(SaveError::Updates(error));
+    }
+    Ok(candidates)
+}
+
+/// No list is as long as this: its candidates would take more octets than there are addresses.
+const TOO_MANY: usize = 1 << 60;
+
+/// The checkpoint of candidates.
+fn checkpoint(alloc: Global, candidates: &Candidates) -> Result<Vec<u8>, WriteError>
+    ensures { WriterAnswers candidates.now.candidates result }
+{
+    let list = candidates.all()?;
+    let cands: &[Cand] = &list;
+    if cands.len() >= TOO_MANY {
+        return Err(WriteError::NoMemory);
+    }
+    write_dump(alloc, cands)
+}
+
+/// The checkpoint of the candidates that the dump and then the updates, if they are named, bring: an MRT dump that is read as exactly
+/// these (`saved_model`).
+///
+/// All is read before the candidates are put into a list, and the list before it is written. In memory are one record, the peer
+/// table, the candidates, and at the end their list and the octets.
+///
+/// # Errors
+///
+/// The first input that isn't read to its end. Else more than 65,535 peers have a candidate, or a path is longer than 15,000, or
+/// there is no memory.
+pub fn save_inputs<I: Inputs>(
+    alloc: Global,
+    inputs: &mut I,
+    dump: &str,
+    updates: Option<&str>,
+) -> Result<Vec<u8>, SaveError>
+    ensures saves { SaveAnswers (I.content inputs.old) dump.now
+        (option_map (λ n. n.now) updates.entry) result }
+    ensures same { I.content inputs.new ≡ I.content inputs.old }
+    ensures cause { SaveFaults (I.faults inputs.old) (I.faults inputs.new) dump.now
+        (option_map (λ n. n.now) updates.entry) result }
+    ensures reads { Makes (I.reads inputs.old) (I.reads inputs.new)
+        (SaveReads (I.content inputs.old) dump.now (option_map (λ n. n.now) updates.entry) result) }
+{
+    let candidates = candidates_of(alloc, inputs, dump, updates)?;
+    match checkpoint(alloc, &candidates) {
+        Ok(octets) => Ok(octets),
+        Err(error) => Err(SaveError::Unwritten(error)),
+    }
+}
