@@ -12,7 +12,7 @@ use Rattle.printed_model.specs.Reading.{or_why, bad_prefix, line_in, row_in, nam
 use Rattle.printed_model.specs.Texts.{BadLine, hops_in, line_texts, rows_in}
 use Rattle.printed_model.specs.Used.{Used, cert_part, printed_in, used_of}
 use Rattle.printed_model.specs.Whole.{is_filled}
-use Rattle.printed_model.proofs.Whole.{rows_of_text}
+use Rattle.printed_model.proofs.Whole.{printed_rows}
 
 -- what the row says of a certificate is of prefixes, whatever numbers the hops have
 abbrev pub Fits : PrintedRow → Type 0
@@ -152,6 +152,6 @@ read_fits text used e = by_rows (rows_in text) refl e
   where
     by_rows : (r : Result (List PrintedRow) BadLine) → rows_in text ≡ r → (r >>= λ rows. Ok (used_of rows)) ≡ Ok used → AllByRecursion RowFits used.cert
     by_rows (Ok rows) is e =
-        let have = (rows_of_text text rows).0 is in
+        let have = (printed_rows text rows).0 is in
         subst (λ (u : Used). AllByRecursion RowFits u.cert) (same_used (used_of rows) used e) (all_fit (hops_in rows) (filter is_filled (line_texts text)) rows have.said)
     by_rows (Err bad) is e = absurd cc
