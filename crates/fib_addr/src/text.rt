@@ -192,7 +192,8 @@ fn put_addr(out: &mut [u8; MOST_TEXT], end: usize, addr: &Addr) -> usize
 /// The address's text, in the buffer: IPv4 as `IPv4address` of RFC 3986, section 3.2.2, and IPv6 as RFC 5952, section 4, has it,
 /// without a dotted part.
 pub fn addr_text<'a>(buffer: &'a mut [u8; MOST_TEXT], addr: &Addr) -> &'a [u8]
-    ensures { result.now ≡ address_text (addr_as addr.now) }
+    ensures text { result.now ≡ address_text (addr_as addr.now) }
+    ensures short { length result.now ≤ MOST_TEXT }
 {
     let start = put_addr(buffer, MOST_TEXT, addr);
     &buffer[start..]
@@ -200,7 +201,8 @@ pub fn addr_text<'a>(buffer: &'a mut [u8; MOST_TEXT], addr: &Addr) -> &'a [u8]
 
 /// The prefix's text, in the buffer: its first address, a slash and its length (RFC 4632, section 3.1).
 pub fn prefix_text<'a>(buffer: &'a mut [u8; MOST_TEXT], prefix: &Prefix) -> &'a [u8]
-    ensures { result.now ≡ prefix_text (prefix_as prefix.now) }
+    ensures text { result.now ≡ prefix_text (prefix_as prefix.now) }
+    ensures short { length result.now ≤ MOST_TEXT }
 {
     let len = put_octet(buffer, MOST_TEXT, prefix.len);
     let slash = put(buffer, len, b"/");

@@ -6,8 +6,8 @@ use Rattle.fib_addr.proofs.Backs.{all_behind}
 use Rattle.fib_addr.proofs.Parts.{length_prefix}
 use Rattle.fib_addr.proofs.text.prefix_text.Goals as goal
 
-pub returns : goal.returns
-returns c =
+pub returns-clause-text : goal.returns-clause-text
+returns-clause-text c =
     let p = c.put_addr-start in
     let prefix = c.args.prefix.now in
     let first = address_text (first_address (prefix_as prefix)) in
