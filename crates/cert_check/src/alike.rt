@@ -109,7 +109,7 @@ fn differ_of(apart: Option<Apart>, family: Family) -> Option<Differ>
 }
 
 /// Where the runs of a family first answer differently.
-pub(crate) fn differ_in(a: &[Run], b: &[Run], family: Family) -> Option<Differ>
+pub fn differ_in(a: &[Run], b: &[Run], family: Family) -> Option<Differ>
     requires first { AreRuns 0 a.now }
     requires second { AreRuns 0 b.now }
     requires below { Below (2 ^ width family) a.now }

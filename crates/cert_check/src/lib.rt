@@ -15,8 +15,9 @@ mod sets;
 mod table_runs;
 mod verdict;
 
-pub use alike::{Differ, same};
+pub use alike::{Differ, differ_in, same};
 pub use refusal::{CheckError, No};
 pub use repeats::first_twice;
+pub use runs::{Run, holds, runs_of};
 pub use table_runs::TableRuns;
 pub use verdict::check;

@@ -194,12 +194,12 @@ fn sweep(
     Ok(())
 }
 
-/// The runs of a family's addresses.
-pub(crate) fn runs_of(
-    alloc: Global,
-    entries: &[Entry],
-    family: Family,
-) -> Result<Vec<Run>, AllocError>
+/// The runs of a family's addresses that these entries make. They cost n log n in the entries.
+///
+/// # Errors
+///
+/// No memory.
+pub fn runs_of(alloc: Global, entries: &[Entry], family: Family) -> Result<Vec<Run>, AllocError>
     ensures { IfOk result (λ v. RunsTell family (map entry_as entries.now) v.items) }
 {
     let parts = parts_of(alloc, entries, family)?;
@@ -271,7 +271,7 @@ fn is_past(number: u128, prefix: &Prefix) -> bool
 
 /// Whether all addresses of the prefix get the hop. The place is how many runs begin at the prefix's first address or before
 /// it; that of a prefix shortly before, given here, makes it quick.
-pub(crate) fn holds(runs: &[Run], prefix: &Prefix, hop: u16, place: &mut usize) -> bool
+pub fn holds(runs: &[Run], prefix: &Prefix, hop: u16, place: &mut usize) -> bool
     ensures { (L : Entries) → RunsTell prefix.now.family L runs.now
         → result ≡ all_get L (prefix_as prefix.now) hop }
 {

@@ -2,15 +2,23 @@
 use Rattle.std.proofs.Common.{◌≡◌, ◌≢◌, ℕ, zero, suc, ◌-◌, List, [], ◌∷◌, ◌++◌, length, Bool, true, false, cond, ◌||◌, refl, sym, ap, ◌∙◌, subst, arith, Option, Some, None, nat_eq}
 use Rattle.std.proofs.lemmas.Bool.{eqb-true}
 use Rattle.std.specs.Option.{unwrap_or}
-use Rattle.table_model.specs.Table.{root, half, inherit, lpm}
+use Rattle.table_model.specs.Table.{Table, root, half, inherit, lpm}
 use Rattle.least_model.specs.Sets.{side, set_of, k_of, is_in, smallest, apart, one_if_empty}
 use Rattle.least_model.proofs.Sets.{same_smallest, filled, in_first}
 use Rattle.least_model.proofs.Cost.{set_uniform, set_filled, k_uniform}
 use Rattle.hop_sets.specs.Hops.{SameHops}
 use Rattle.orig_tree.specs.Walk.{Walks}
-use Rattle.orig_tree.specs.Arena.{node_at, half_place, from_half, IfHalf, walks_at, walks_by}
+use Rattle.orig_tree.specs.Arena.{Place, IsTree, IsArena, cover_of, node_at, half_place, from_half, IfHalf, walks_at, walks_by}
 use Rattle.orig_tree.specs.Bests.{Stands, AreBest}
-use Rattle.orig_tree.specs.Spots.{Spot, answers_in, spot_at, IsSpot}
+use Rattle.orig_tree.specs.Spots.{Spot, answers_in, spot_at, IsSpot, IsRooted, rows_in, EachFixed}
+use Rattle.orig_tree.specs.Cover.{Shows, Within, SomeGets, IsCover}
+use Rattle.orig_tree.specs.declared.cover.Cover.{Cover}
+use Rattle.orig_tree.specs.declared.node.Label.{Label}
+use Rattle.orig_tree.specs.Walk.{rows_of}
+use Rattle.orig_tree.specs.Views.{Fits}
+use Rattle.orig_tree.proofs.Arena.{cover_tree}
+use Rattle.std.proofs.Common.{replicate, not}
+use Rattle.std.proofs.lemmas.List.{length-replicate}
 use Rattle.orig_tree.specs.declared.node.Node.{Node}
 use Rattle.orig_tree.specs.declared.best.Best.{Best}
 use Rattle.orig_tree.proofs.Steps.{given_is, level_root, level_half}
@@ -224,3 +232,72 @@ below_nodes nodes below left q b z bit f = f (bits_of (left - 1) q) ∙ ap (λ p
 
 pub here_nodes : (nodes : List (List Bool)) (left q : ℕ) → left ≡ 0 → length nodes ≡ nodes_in (bits_of left q) nodes
 here_nodes nodes left q z = sym (ap (λ p. nodes_in p nodes) (no_bits left q z) ∙ all_in nodes)
+
+-- ---- whether a region is filled
+
+-- the rows of a node's region
+rows_spot : (label : Label) (cells : List Node) (j bits hop : ℕ) → rows_of label (walks_at (suc bits) cells j) ≡ rows_in label (spot_at cells (Some j) bits hop)
+rows_spot Route cells j bits hop = refl
+rows_spot Entry cells j bits hop = refl
+
+fixed_by : (L : Table) (a : List Bool) (x : Option ℕ) (c : Cover) → Shows L a x → Within c x → c.passes ≡ false → (g h : ℕ) → lpm L a g ≡ lpm L a h
+fixed_by L a None c s w n g h = let e : true ≡ false = sym w ∙ n in cc
+fixed_by L a (Some k) c s w n g h = s g ∙ sym (s h)
+
+cover_fixed : (d : ℕ) (L : Table) (c : Cover) → IsCover L c → Fits d L → c.passes ≡ false → EachFixed d L
+cover_fixed d L c k f n a l g h = let x = k.each d f a l in fixed_by L a x.0 c x.1 x.2 n g h
+
+cover_passed : (d : ℕ) (L : Table) (c : Cover) → IsCover L c → Fits d L → c.passes ≡ true → SomeGets d L None
+cover_passed d L c k f n = k.passed d f n
+
+spot_cover : (label : Label) (cells : List Node) (o : Option ℕ) (i bits hop : ℕ) → o ≡ Some i → IsRooted cells o bits → IsCover (rows_in label (spot_at cells o bits hop)) (cover_of label (node_at cells i))
+spot_cover label cells o i bits hop e r =
+    let t = subst (λ (x : Option ℕ). IsRooted cells x bits) e r in
+    subst (λ (x : Option ℕ). IsCover (rows_in label (spot_at cells x bits hop)) (cover_of label (node_at cells i))) (sym e)
+    (subst (λ (x : Table). IsCover x (cover_of label (node_at cells i))) (rows_spot label cells i bits hop) (cover_tree label (suc bits) cells t.0 i t.1 t.2))
+
+turned : (b c : Bool) → b ≡ not c → b ≡ true → c ≡ false
+turned b true e t = sym t ∙ e
+turned b false e t = refl
+
+turned_back : (b c : Bool) → b ≡ not c → b ≡ false → c ≡ true
+turned_back b true e t = refl
+turned_back b false e t = sym t ∙ e
+
+module _ (label : Label) (cells : List Node) (o : Option ℕ) (i bits hop : ℕ) (n : Node) (c : Cover) (b : Bool) (e : o ≡ Some i) (at : n ≡ node_at cells i) (k : c ≡ cover_of label n) (v : b ≡ not c.passes) (r : IsRooted cells o bits) where
+  the_cover : IsCover (rows_in label (spot_at cells o bits hop)) c
+  the_cover = subst (λ (x : Cover). IsCover (rows_in label (spot_at cells o bits hop)) x) (sym (k ∙ ap (cover_of label) at)) (spot_cover label cells o i bits hop e r)
+
+  pub spot_fixed : b ≡ true → Fits bits (rows_in label (spot_at cells o bits hop)) → EachFixed bits (rows_in label (spot_at cells o bits hop))
+  spot_fixed t f = cover_fixed bits (rows_in label (spot_at cells o bits hop)) c the_cover f (turned b c.passes v t)
+
+  pub spot_passed : b ≡ false → Fits bits (rows_in label (spot_at cells o bits hop)) → SomeGets bits (rows_in label (spot_at cells o bits hop)) None
+  spot_passed t f = cover_passed bits (rows_in label (spot_at cells o bits hop)) c the_cover f (turned_back b c.passes v t)
+
+bare_rows : (label : Label) (cells : List Node) (bits hop : ℕ) → rows_in label (spot_at cells None bits hop) ≡ []
+bare_rows Route cells bits hop = refl
+bare_rows Entry cells bits hop = refl
+
+pub bare_passed : (label : Label) (cells : List Node) (o : Option ℕ) (bits hop : ℕ) → o ≡ None → SomeGets bits (rows_in label (spot_at cells o bits hop)) None
+bare_passed label cells o bits hop e =
+    subst (λ (L : Table). SomeGets bits L None) (sym (ap (λ y. rows_in label (spot_at cells y bits hop)) e ∙ bare_rows label cells bits hop))
+    (replicate bits true, length-replicate bits true, λ g. refl)
+
+-- ---- the nodes of a region are in order
+
+rooted_node : (cells : List Node) (m i : ℕ) (b : Bool) → (name : ℕ → Place) × (p : List Bool) × IsTree (suc (suc m)) cells name i p → IsRooted cells (half_place (node_at cells i) b) m
+unfolding IsTree
+rooted_node cells m i b t = by_half (half_place (node_at cells i) b) (t.2.2.halves b)
+  where
+    by_half : (x : Option ℕ) → IfHalf (λ j. IsTree (suc m) cells t.0 j (t.1 ++ (b ∷ []))) x → IsRooted cells x m
+    by_half None y = tt
+    by_half (Some j) y = (t.0, t.1 ++ (b ∷ []), y)
+
+pub half_rooted : (cells : List Node) (o : Option ℕ) (bits m w i : ℕ) (b : Bool) (n : Node) (h : Option ℕ) → suc m ≡ bits → o ≡ Some i → w ≡ m → n ≡ node_at cells i → h ≡ half_place n b → IsRooted cells o bits → IsRooted cells h w
+half_rooted cells o bits m w i b n h z e y at g r =
+    subst (λ (x : ℕ). IsRooted cells h x) (sym y)
+    (subst (λ (x : Option ℕ). IsRooted cells x m) (sym (g ∙ ap (λ x. half_place x b) at))
+    (rooted_node cells m i b (subst (λ (x : ℕ). IsRooted cells (Some i) x) (sym z) (subst (λ (x : Option ℕ). IsRooted cells x bits) e r))))
+
+pub whole_rooted : (f : Family) (cells : List Node) (free w : ℕ) → w ≡ width f → IsArena f cells free → IsRooted cells (Some 0) w
+whole_rooted f cells free w e a = subst (λ (n : ℕ). IsRooted cells (Some 0) n) (sym e) (a.name, [], a.tree)

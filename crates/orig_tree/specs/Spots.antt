@@ -1,10 +1,12 @@
 -- What is seen of a region of a tree.
-use Rattle.std.specs.Prelude.{ℕ, suc, List, Bool, Option}
+use Rattle.std.specs.Prelude.{◌≡◌, ℕ, suc, List, length, Bool, Option}
 use Rattle.table_model.specs.Table.{Table, lpm}
-use Rattle.orig_tree.specs.Arena.{from_half, IfHalf, walks_at}
+use Rattle.orig_tree.specs.Arena.{Place, from_half, IfHalf, walks_at, IsTree}
 use Rattle.orig_tree.specs.Bests.{AreBest}
 use Rattle.orig_tree.specs.declared.node.Node.{Node}
 use Rattle.orig_tree.specs.declared.best.Best.{Best}
+use Rattle.orig_tree.specs.declared.node.Label.{Label}
+use Rattle.orig_tree.specs.declared.node.Label.TheVariants.{Route, Entry}
 
 -- A region of so many bits: the routes, the entries and the nodes within it, all told from the region, and the hop that its
 -- addresses get from the routes above where none within it has them.
@@ -32,3 +34,16 @@ spot_at cells half bits hop = record {
 -- what the nodes there keep stands for their regions
 abbrev pub IsSpot : List Node → (ℕ → Best) → Option ℕ → ℕ → ℕ → Type 0
 IsSpot cells kept half bits hop = IfHalf (λ j. AreBest (suc bits) cells kept (λ a. lpm (walks_at (suc bits) cells j).routes a hop) j) half
+
+-- the node there and those below it are in order
+abbrev pub IsRooted : List Node → Option ℕ → ℕ → Type 0
+IsRooted cells half bits = IfHalf (λ j. (name : ℕ → Place) × (p : List Bool) × IsTree (suc bits) cells name j p) half
+
+-- the routes or the entries
+abbrev pub rows_in : Label → Spot → Table
+rows_in Route s = s.routes
+rows_in Entry s = s.entries
+
+-- whatever the region inherits, each address of it gets the same
+abbrev pub EachFixed : ℕ → Table → Type 0
+EachFixed n L = (a : List Bool) → length a ≡ n → (g h : ℕ) → lpm L a g ≡ lpm L a h

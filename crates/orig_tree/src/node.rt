@@ -192,7 +192,7 @@ fn cover_behind(nodes: &Nodes, label: Label, half: Option<usize>) -> Cover
 }
 
 /// What the addresses of a node's region get from a label's table there.
-fn cover(node: Node, label: Label) -> Cover
+pub(crate) fn cover(node: Node, label: Label) -> Cover
     ensures { result ≡ cover_of label node }
 {
     match label {

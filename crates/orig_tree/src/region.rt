@@ -1,16 +1,21 @@
 //! A region of a tree, which is asked for its best hops and what it costs.
 
-ghost use Rattle.std.specs.Prelude.{◌≡◌, ◌≢◌, ◌≤◌, ◌+◌, ◌++◌, ◌∷◌, [], true, false, ℕ, suc, List, Bool, Option, length, IfSome, IfNone, IsTrue};
+ghost use Rattle.std.specs.Prelude.{◌≡◌, ◌≢◌, ◌≤◌, ◌+◌, ◌++◌, ◌∷◌, [], true, false, ℕ, suc, List, Bool, Option, None, length, IfSome, IfNone, IfOk, IsTrue};
 ghost use Rattle.address_model.specs.Bits.{bits_of};
 ghost use Rattle.table_model.specs.Table.{root, half, cut, inherit, lpm};
 ghost use Rattle.least_model.specs.Sets.{set_of, k_of, is_in, smallest};
-ghost use Rattle.orig_tree.specs.Spots.{answers_in};
+ghost use Rattle.hop_sets.specs.Hops.{SameHops};
+ghost use Rattle.orig_tree.specs.Spots.{answers_in, rows_in, EachFixed};
+ghost use Rattle.orig_tree.specs.Views.{Fits};
+ghost use Rattle.orig_tree.specs.Cover.{SomeGets};
 ghost use Rattle.orig_tree.specs.Within.{nodes_in};
 
 use crate::best::{Best, Bests, best_at};
 use crate::counter::Counter;
-use crate::node::{Nodes, read};
+use crate::node::{Label, Nodes, cover, read};
 use fib_addr::bit_at;
+use hop_sets::HopSet;
+use std::alloc::{AllocError, Global};
 use std::marker::Model;
 
 /// A region of a tree: the addresses of a prefix. Contracts see the routes and the entries within it, and the hop that its
@@ -31,13 +36,14 @@ impl<'a> Model for Region<'a> {
     ghost use Rattle.std.specs.Prelude.{◌≤◌};
     ghost use Rattle.orig_tree.specs.Arena.{cells_of};
     ghost use Rattle.orig_tree.specs.Bests.{best_in};
-    ghost use Rattle.orig_tree.specs.Spots.{Spot, spot_at, IsSpot};
+    ghost use Rattle.orig_tree.specs.Spots.{Spot, spot_at, IsSpot, IsRooted};
 
     ghost Value = { Spot };
 
     ghost view = { λ r. spot_at (cells_of r.nodes.now) r.place r.bits r.hop };
 
-    ghost invariant = { λ r. IsSpot (cells_of r.nodes.now) (best_in r.bests.now) r.place r.bits r.hop × (r.bits ≤ 128) };
+    ghost invariant = { λ r. IsSpot (cells_of r.nodes.now) (best_in r.bests.now) r.place r.bits r.hop × (r.bits ≤ 128)
+        × IsRooted (cells_of r.nodes.now) r.place r.bits };
 }
 
 impl<'a> Region<'a> {
@@ -101,6 +107,23 @@ impl<'a> Region<'a> {
         }
     }
 
+    /// The best hops of the routes here, as a set of its own.
+    ///
+    /// # Errors
+    ///
+    /// No memory.
+    pub fn hops(&self, alloc: Global) -> Result<HopSet, AllocError>
+        ensures { IfOk result (λ s. SameHops s (set_of self.now.bits (answers_in self.now))) }
+    {
+        match self.place {
+            None => Ok(HopSet::one(self.hop)),
+            Some(i) => {
+                let none = Best::one(0);
+                best_at(self.bests, i, &none).hops.copied(alloc)
+            }
+        }
+    }
+
     /// The hop of the entry at the region's prefix, if there is one.
     pub fn entry(&self) -> Option<u16>
         ensures { result ≡ root self.now.entries }
@@ -108,6 +131,23 @@ impl<'a> Region<'a> {
         match self.place {
             None => None,
             Some(i) => read(self.nodes, i).entry.hop,
+        }
+    }
+
+    /// Whether each address of the region is within a route, or within an entry, that is in the region: what the region inherits then
+    /// reaches none of them.
+    pub fn fills(&self, label: Label) -> bool
+        ensures all { result ≡ true → Fits self.now.bits (rows_in label self.now)
+            → EachFixed self.now.bits (rows_in label self.now) }
+        ensures some { result ≡ false → Fits self.now.bits (rows_in label self.now)
+            → SomeGets self.now.bits (rows_in label self.now) None }
+    {
+        match self.place {
+            None => false,
+            Some(i) => {
+                let cover = cover(read(self.nodes, i), label);
+                !cover.passes
+            }
         }
     }
 

@@ -3,7 +3,7 @@ use Rattle.table_model.specs.Table.{root, half, inherit}
 use Rattle.orig_tree.specs.Arena.{cells_of}
 use Rattle.orig_tree.specs.Bests.{best_in}
 use Rattle.orig_tree.specs.Spots.{Spot}
-use Rattle.orig_tree.proofs.Regions.{some_half, half_spot, half_nodes, no_nodes}
+use Rattle.orig_tree.proofs.Regions.{some_half, half_spot, half_rooted, half_nodes, no_nodes}
 use Rattle.orig_tree.proofs.region.Region.half.Goals as goal
 
 pub invariant_of-result : goal.invariant_of-result
@@ -12,6 +12,7 @@ invariant_of-result c =
       half_spot (cells_of r.nodes.now) r.place r.bits (r.bits - 1) r.hop (omega (arith, c.requires, ap (λ (s : Spot). s.bits) c.self.view_is)) c.args.bit (best_in r.bests.now) (r.bits - 1) c.in-Some.i c.unwrap_or.result c.read-node.result c.half.result
           c.in-Some.is refl c.read-node.ensures c.half.ensures c.unwrap_or.ensures c.self.invariant.0,
       omega (arith, c.self.invariant.1),
+      half_rooted (cells_of r.nodes.now) r.place r.bits (r.bits - 1) (r.bits - 1) c.in-Some.i c.args.bit c.read-node.result c.half.result (omega (arith, c.requires, ap (λ (s : Spot). s.bits) c.self.view_is)) c.in-Some.is refl c.read-node.ensures c.half.ensures c.self.invariant.2,
     )
 
 pub returns-in-Some-clause-routes : goal.returns-in-Some-clause-routes
