@@ -1,6 +1,9 @@
 -- What is written of a field is read again.
-use Rattle.std.proofs.Common.{arith, ◌≡◌, ℕ, List, Bool, true, false, cond, Option, Some, None, Result, Ok, decimal, codes, refl, sym, ap, ◌∙◌}
+use Rattle.std.proofs.Common.{arith, ◌≡◌, ℕ, List, Bool, true, false, cond, Option, Some, None, Result, Ok, decimal, codes, refl, sym, ap, subst, ◌∙◌}
 use Rattle.std.specs.Prelude.{bytes_eq}
+use Rattle.std.specs.Str.Parse.{AllDigits}
+use Rattle.std.proofs.lemmas.Fmt.{decimal_is_IsNumeral}
+use Rattle.std.proofs.lemmas.Str.Parse.{digit_from_value}
 use Rattle.octet_fields.specs.Field.{◌>>=◌}
 use Rattle.address_model.specs.Address.{Address, Prefix, IsAddress, IsPrefix}
 use Rattle.address_model.specs.declared.family.Family.{Family}
@@ -10,8 +13,8 @@ use Rattle.fib_addr.specs.Text.{address_in, address_text, prefix_text}
 use Rattle.fib_addr.proofs.Texts.{bytes_eq_is, bytes_eq_refl}
 use Rattle.fib_addr.proofs.TextLaws.{written_is_read}
 use Rattle.fib_addr.proofs.PrefixLaws.{prefix_written}
-use Rattle.printed_model.specs.Rows.{Count, Records, Skipped, Events, Routes, Entries, Nodes, Leaves, Treated, IsHop, IsNumber, count_name, family_name, hop_text}
-use Rattle.printed_model.specs.Reading.{bad_hop, bad_prefix, bad_number, or_why, address_field, prefix_field, number_field, hop_field, count_field, family_field}
+use Rattle.printed_model.specs.Rows.{Count, Records, Skipped, Events, Routes, Entries, Nodes, Leaves, Treated, IsHop, IsNumber, IsOrigin, count_name, family_name, hop_text, origin_text}
+use Rattle.printed_model.specs.Reading.{bad_hop, bad_prefix, bad_number, or_why, address_field, prefix_field, number_field, hop_field, origin_field, count_field, family_field}
 use Rattle.fib_addr.proofs.Numbers.{number_read}
 
 pub address_again : (a : Address) → IsAddress a → address_field (address_text a) ≡ Ok a
@@ -49,6 +52,15 @@ none_again hop h = hop_again (codes "none") hop no_address_none h
 
 pub drop_again : (hop : Option Address) → IsHop hop → hop_field (codes "drop") (hop_text (codes "drop") hop) ≡ Ok hop
 drop_again hop h = hop_again (codes "drop") hop no_address_drop h
+
+pub origin_again : (origin : Option ℕ) → IsOrigin origin → origin_field (origin_text origin) ≡ Ok origin
+unfolding origin_field
+origin_again None h = refl
+origin_again (Some n) h = by_test (bytes_eq (decimal n) (codes "none")) refl
+  where
+    by_test : (t : Bool) → bytes_eq (decimal n) (codes "none") ≡ t → cond t (Ok None) (number_field (decimal n) >>= λ n. Ok (Some n)) ≡ Ok (Some n)
+    by_test true e = absurd (omega (arith, digit_from_value 110 (subst (AllDigits 10) (bytes_eq_is (decimal n) (codes "none") e) (decimal_is_IsNumeral n h).0.1).0))
+    by_test false e = ap (λ (r : Result ℕ ℕ). r >>= λ m. Ok (Some m)) (number_again n h)
 
 pub count_again : (count : Count) → count_field (count_name count) ≡ Ok count
 unfolding count_field

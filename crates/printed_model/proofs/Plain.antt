@@ -15,7 +15,7 @@ use Rattle.fib_addr.specs.Groups.{groups_of}
 use Rattle.fib_addr.specs.Text.{bits_text, address_text, first_address, prefix_text}
 use Rattle.fib_addr.proofs.TextLaws.{octet_lt}
 use Rattle.fib_addr.proofs.GroupLaws.{is_mark, none_of_both, none_in_text}
-use Rattle.printed_model.specs.Rows.{Count, Records, Skipped, Events, Routes, Entries, Nodes, Leaves, Treated, PrintedRow, route_row, add_row, replace_row, remove_row, answer_row, visits_row, table_row, least_row, cert_leaf_row, cert_join_row, cert_bound_row, report_row, IsNumber, IsRow, fields_of, count_name, family_name, hop_text}
+use Rattle.printed_model.specs.Rows.{Count, Records, Skipped, Events, Routes, Entries, Nodes, Leaves, Treated, PrintedRow, route_row, invalid_row, add_row, replace_row, remove_row, answer_row, visits_row, table_row, least_row, cert_leaf_row, cert_join_row, cert_bound_row, report_row, IsNumber, IsOrigin, IsRow, fields_of, count_name, family_name, hop_text, origin_text}
 
 -- the mark doesn't stand in the text
 abbrev pub Lacks : ℕ → List ℕ → Type 0
@@ -74,6 +74,10 @@ plain_hop : (word : List ℕ) (hop : Option Address) → IsPlain word → IsPlai
 plain_hop word None h = h
 plain_hop word (Some a) h = plain_address a
 
+plain_origin : (origin : Option ℕ) → IsOrigin origin → IsPlain (origin_text origin)
+plain_origin None h = (refl, refl, refl)
+plain_origin (Some n) h = plain_number n h
+
 plain_count : (count : Count) → IsPlain (count_name count)
 plain_count Records = (refl, refl, refl)
 plain_count Skipped = (refl, refl, refl)
@@ -90,6 +94,22 @@ plain_family V6 = (refl, refl, refl)
 
 pub fields_plain : (row : PrintedRow) → IsRow row → AllByRecursion IsPlain (fields_of row)
 fields_plain (route_row p a) h = ((refl, refl, refl), (plain_prefix p h.0, (plain_address a, tt)))
+fields_plain (invalid_row a v) h = (
+  (refl, refl, refl),
+  (
+    plain_prefix a.prefix h.0,
+    (
+      plain_address a.peer,
+      (
+        plain_number a.peer_as h.2,
+        (
+          plain_origin a.origin h.3,
+          (plain_prefix v.prefix h.4, (plain_number v.maxlen h.5, (plain_number v.asn h.6, tt))),
+        ),
+      ),
+    ),
+  ),
+)
 fields_plain (add_row event p hop) h = ((refl, refl, refl), (plain_number event h.0, ((refl, refl, refl), (plain_prefix p h.1, (plain_hop (codes "drop") hop (refl, refl, refl), tt)))))
 fields_plain (replace_row event p hop) h = ((refl, refl, refl), (plain_number event h.0, ((refl, refl, refl), (plain_prefix p h.1, (plain_hop (codes "drop") hop (refl, refl, refl), tt)))))
 fields_plain (remove_row event p) h = ((refl, refl, refl), (plain_number event h.0, ((refl, refl, refl), (plain_prefix p h.1, tt))))

@@ -3,9 +3,9 @@ use Rattle.std.proofs.Common.{◌≡◌, ℕ, List, [], ◌∷◌, Option, Resul
 use Rattle.octet_fields.specs.Field.{◌>>=◌}
 use Rattle.address_model.specs.Address.{Address, Prefix, IsPrefix}
 use Rattle.fib_addr.specs.Text.{address_text, prefix_text}
-use Rattle.printed_model.specs.Rows.{PrintedRow, route_row, add_row, replace_row, remove_row, answer_row, visits_row, table_row, least_row, cert_leaf_row, cert_join_row, cert_bound_row, report_row, IsRow, fields_of, count_name, family_name, hop_text}
-use Rattle.printed_model.specs.Reading.{address_field, prefix_field, number_field, hop_field, count_field, family_field, entry_in, route_in, answer_in, visits_in, signed_in, change_in, join_in, bound_in, part_in, cert_in, report_in, named_in, row_in}
-use Rattle.printed_model.proofs.Fields.{address_again, prefix_again, number_again, none_again, drop_again, count_again, family_again}
+use Rattle.printed_model.specs.Rows.{Announced, Vrp, PrintedRow, route_row, invalid_row, add_row, replace_row, remove_row, answer_row, visits_row, table_row, least_row, cert_leaf_row, cert_join_row, cert_bound_row, report_row, IsRow, fields_of, count_name, family_name, hop_text, origin_text}
+use Rattle.printed_model.specs.Reading.{address_field, prefix_field, number_field, hop_field, origin_field, count_field, family_field, announced_fields, vrp_fields, announced_in, printed_vrp_in, invalid_in, entry_in, route_in, answer_in, visits_in, signed_in, change_in, join_in, bound_in, part_in, cert_in, report_in, named_in, row_in}
+use Rattle.printed_model.proofs.Fields.{address_again, prefix_again, number_again, none_again, drop_again, origin_again, count_again, family_again}
 
 -- two fields, one read after the other
 both : {A B C : Type 0} (r : Result A ℕ) (s : Result B ℕ) (f : A → B → C) (x : A) (y : B) → r ≡ Ok x → s ≡ Ok y → (r >>= λ u. s >>= λ v. Ok (f u v)) ≡ Ok (f x y)
@@ -15,9 +15,30 @@ entry_again : (word text : List ℕ) (p : Prefix) (hop : Option Address) → IsP
 unfolding entry_in
 entry_again word text p hop h e = both (prefix_field (prefix_text p)) (hop_field word text) (λ u v. (u, v)) p hop (prefix_again p h) e
 
+-- one field, and what is read after it
+then : {A C : Type 0} (r : Result A ℕ) (f : A → Result C ℕ) (x : A) → r ≡ Ok x → (r >>= f) ≡ f x
+then r f x e = ap (λ q. q >>= f) e
+
+announced_again : (a : Announced) (v : Vrp) → IsRow (invalid_row a v)
+    → announced_in (record { prefix = prefix_text a.prefix; peer = address_text a.peer; peer_as = decimal a.peer_as; origin = origin_text a.origin }) ≡ Ok a
+unfolding announced_in
+announced_again a v h =
+    then (prefix_field (prefix_text a.prefix)) _ a.prefix (prefix_again a.prefix h.0)
+    ∙ (then (address_field (address_text a.peer)) _ a.peer (address_again a.peer h.1)
+    ∙ both (number_field (decimal a.peer_as)) (origin_field (origin_text a.origin)) (λ n o. record { prefix = a.prefix; peer = a.peer; peer_as = n; origin = o }) a.peer_as a.origin (number_again a.peer_as h.2) (origin_again a.origin h.3))
+
+vrp_again : (a : Announced) (v : Vrp) → IsRow (invalid_row a v) → printed_vrp_in (record { prefix = prefix_text v.prefix; maxlen = decimal v.maxlen; asn = decimal v.asn }) ≡ Ok v
+unfolding printed_vrp_in
+vrp_again a v h =
+    then (prefix_field (prefix_text v.prefix)) _ v.prefix (prefix_again v.prefix h.4)
+    ∙ both (number_field (decimal v.maxlen)) (number_field (decimal v.asn)) (λ m n. record { prefix = v.prefix; maxlen = m; asn = n }) v.maxlen v.asn (number_again v.maxlen h.5) (number_again v.asn h.6)
+
 pub row_again : (row : PrintedRow) → IsRow row → row_in (fields_of row) ≡ Ok row
-unfolding row_in named_in route_in answer_in visits_in signed_in change_in join_in bound_in part_in cert_in report_in
+unfolding row_in named_in route_in invalid_in announced_fields vrp_fields answer_in visits_in signed_in change_in join_in bound_in part_in cert_in report_in
 row_again (route_row p a) h = both (prefix_field (prefix_text p)) (address_field (address_text a)) route_row p a (prefix_again p h.0) (address_again a h.1)
+row_again (invalid_row a v) h =
+    both (announced_in (record { prefix = prefix_text a.prefix; peer = address_text a.peer; peer_as = decimal a.peer_as; origin = origin_text a.origin }))
+    (printed_vrp_in (record { prefix = prefix_text v.prefix; maxlen = decimal v.maxlen; asn = decimal v.asn })) invalid_row a v (announced_again a v h) (vrp_again a v h)
 row_again (add_row event p hop) h =
     ap (λ (r : Result ℕ ℕ). r >>= λ n. entry_in (codes "drop") (prefix_text p ∷ hop_text (codes "drop") hop ∷ []) >>= λ e. Ok (add_row n e.0 e.1)) (number_again event h.0)
     ∙ ap (λ r. r >>= λ e. Ok (add_row event e.0 e.1)) (entry_again (codes "drop") (hop_text (codes "drop") hop) p hop h.1 (drop_again hop h.2))

@@ -6,7 +6,7 @@ use Rattle.address_model.specs.Address.{Address, Prefix}
 use Rattle.address_model.specs.declared.family.Family.{Family}
 use Rattle.address_model.specs.declared.family.Family.TheVariants.{V4, V6}
 use Rattle.fib_addr.specs.Text.{address_in, prefix_in, number_below}
-use Rattle.printed_model.specs.Rows.{Count, Records, Skipped, Events, Routes, Entries, Nodes, Leaves, Treated, PrintedRow, route_row, add_row, replace_row, remove_row, answer_row, visits_row, table_row, least_row, cert_leaf_row, cert_join_row, cert_bound_row, report_row}
+use Rattle.printed_model.specs.Rows.{Count, Records, Skipped, Events, Routes, Entries, Nodes, Leaves, Treated, Announced, Vrp, PrintedRow, route_row, invalid_row, add_row, replace_row, remove_row, answer_row, visits_row, table_row, least_row, cert_leaf_row, cert_join_row, cert_bound_row, report_row}
 
 -- ---- why
 
@@ -54,6 +54,10 @@ number_field text = or_why bad_number (number_below (2 ^ 64) text)
 unfoldable pub hop_field : List ℕ → List ℕ → Result (Option Address) ℕ
 hop_field word text = if bytes_eq text word then Ok None else (address_field text >>= λ a. Ok (Some a))
 
+-- the number of an AS, or `none`
+unfoldable pub origin_field : List ℕ → Result (Option ℕ) ℕ
+origin_field text = if bytes_eq text (codes "none") then Ok None else (number_field text >>= λ n. Ok (Some n))
+
 unfoldable pub count_field : List ℕ → Result Count ℕ
 count_field text =
     if bytes_eq text (codes "records") then Ok Records
@@ -87,6 +91,35 @@ abbrev pub next_field : List (List ℕ) → Result (List ℕ × List (List ℕ))
 next_field [] = Err bad_count
 next_field (x ∷ more) = Ok (x, more)
 
+-- the fields of an announcement
+pub record AnnouncedTexts : Type 0 where
+  pub prefix : List ℕ
+  pub peer : List ℕ
+  pub peer_as : List ℕ
+  pub origin : List ℕ
+
+-- those that stand first, and the fields after them
+unfoldable pub announced_fields : List (List ℕ) → Result (AnnouncedTexts × List (List ℕ)) ℕ
+announced_fields fields = do
+  prefix ← next_field fields
+  peer ← next_field prefix.1
+  peer_as ← next_field peer.1
+  origin ← next_field peer_as.1
+  Ok (record { prefix = prefix.0; peer = peer.0; peer_as = peer_as.0; origin = origin.0 }, origin.1)
+
+-- the fields of a VRP
+pub record VrpTexts : Type 0 where
+  pub prefix : List ℕ
+  pub maxlen : List ℕ
+  pub asn : List ℕ
+
+-- those that stand there, and no more
+unfoldable pub vrp_fields : List (List ℕ) → Result VrpTexts ℕ
+vrp_fields fields = do
+  prefix ← next_field fields
+  others ← two_fields prefix.1
+  Ok (record { prefix = prefix.0; maxlen = others.0; asn = others.1 })
+
 -- ---- one row, of the fields after the words that name it
 
 -- PREFIX,HOP, where this word is no hop
@@ -104,6 +137,32 @@ route_in fields = do
   p ← prefix_field f.0
   a ← address_field f.1
   Ok (route_row p a)
+
+-- PREFIX,ADDRESS,NUMBER,ORIGIN
+unfoldable pub announced_in : AnnouncedTexts → Result Announced ℕ
+announced_in texts = do
+  p ← prefix_field texts.prefix
+  a ← address_field texts.peer
+  n ← number_field texts.peer_as
+  origin ← origin_field texts.origin
+  Ok (record { prefix = p; peer = a; peer_as = n; origin = origin })
+
+-- PREFIX,NUMBER,NUMBER
+unfoldable pub printed_vrp_in : VrpTexts → Result Vrp ℕ
+printed_vrp_in texts = do
+  p ← prefix_field texts.prefix
+  maxlen ← number_field texts.maxlen
+  asn ← number_field texts.asn
+  Ok (record { prefix = p; maxlen = maxlen; asn = asn })
+
+-- an announcement, and then a VRP
+unfoldable pub invalid_in : List (List ℕ) → Result PrintedRow ℕ
+invalid_in fields = do
+  first ← announced_fields fields
+  second ← vrp_fields first.1
+  announced ← announced_in first.0
+  vrp ← printed_vrp_in second
+  Ok (invalid_row announced vrp)
 
 -- ADDRESS,HOP
 unfoldable pub answer_in : List (List ℕ) → Result PrintedRow ℕ
@@ -178,6 +237,7 @@ report_in fields = do
 unfoldable pub named_in : List ℕ → List (List ℕ) → Result PrintedRow ℕ
 named_in name fields =
     if bytes_eq name (codes "route") then route_in fields
+    else if bytes_eq name (codes "invalid") then invalid_in fields
     else if bytes_eq name (codes "change") then change_in fields
     else if bytes_eq name (codes "answer") then answer_in fields
     else if bytes_eq name (codes "visits") then visits_in fields

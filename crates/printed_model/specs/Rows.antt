@@ -17,11 +17,27 @@ pub data Count : Type 0 where
   Leaves : Count
   Treated : Count
 
--- A printed row: a chosen route; what the event of a number adds to the table, replaces in it or removes from it; the hop of an
--- address, and how many nodes its look-up visits; an entry of the kept table, and of a least one; what a certificate says of a region
--- with one hop, of one put together from its halves, and of a whole family; and a count. A hop is an address, or none.
+-- An announcement of a route: its prefix, the address and the AS of the peer that it came from, and the AS in which the route originates
+-- (RFC 6811, 2), if it has one.
+pub record Announced : Type 0 where
+  pub prefix : Prefix
+  pub peer : Address
+  pub peer_as : ℕ
+  pub origin : Option ℕ
+
+-- A validated ROA payload (RFC 6811, 2): the AS may announce the prefix, and prefixes within it of at most so many bits.
+pub record Vrp : Type 0 where
+  pub prefix : Prefix
+  pub maxlen : ℕ
+  pub asn : ℕ
+
+-- A printed row: a chosen route; an announcement that is Invalid (RFC 6811, 2), with a VRP that covers it; what the event of a number adds
+-- to the table, replaces in it or removes from it; the hop of an address, and how many nodes its look-up visits; an entry of the kept
+-- table, and of a least one; what a certificate says of a region with one hop, of one put together from its halves, and of a whole
+-- family; and a count. A hop is an address, or none.
 pub data PrintedRow : Type 0 where
   route_row : Prefix → Address → PrintedRow
+  invalid_row : Announced → Vrp → PrintedRow
   add_row : ℕ → Prefix → Option Address → PrintedRow
   replace_row : ℕ → Prefix → Option Address → PrintedRow
   remove_row : ℕ → Prefix → PrintedRow
@@ -54,9 +70,14 @@ family_name V6 = codes "6"
 abbrev pub hop_text : List ℕ → Option Address → List ℕ
 hop_text word hop = unwrap_or (option_map address_text hop) word
 
+-- the AS in which a route originates, or `none`
+abbrev pub origin_text : Option ℕ → List ℕ
+origin_text origin = unwrap_or (option_map decimal origin) (codes "none")
+
 -- The fields. No hop is `none` in an answer and a leaf, and `drop` in a table and its changes.
 abbrev pub fields_of : PrintedRow → List (List ℕ)
 fields_of (route_row p a) = codes "route" ∷ prefix_text p ∷ address_text a ∷ []
+fields_of (invalid_row a v) = codes "invalid" ∷ prefix_text a.prefix ∷ address_text a.peer ∷ decimal a.peer_as ∷ origin_text a.origin ∷ prefix_text v.prefix ∷ decimal v.maxlen ∷ decimal v.asn ∷ []
 fields_of (add_row event p hop) = codes "change" ∷ decimal event ∷ codes "+" ∷ prefix_text p ∷ hop_text (codes "drop") hop ∷ []
 fields_of (replace_row event p hop) = codes "change" ∷ decimal event ∷ codes "=" ∷ prefix_text p ∷ hop_text (codes "drop") hop ∷ []
 fields_of (remove_row event p) = codes "change" ∷ decimal event ∷ codes "-" ∷ prefix_text p ∷ []
@@ -88,9 +109,13 @@ IsNumber n = n < 2 ^ 64
 abbrev pub IsHop : Option Address → Type 0
 IsHop hop = IfSome hop IsAddress
 
+abbrev pub IsOrigin : Option ℕ → Type 0
+IsOrigin origin = IfSome origin IsNumber
+
 -- its addresses and prefixes are such, and its numbers are below 2^64
 abbrev pub IsRow : PrintedRow → Type 0
 IsRow (route_row p a) = IsPrefix p × IsAddress a
+IsRow (invalid_row a v) = IsPrefix a.prefix × IsAddress a.peer × IsNumber a.peer_as × IsOrigin a.origin × IsPrefix v.prefix × IsNumber v.maxlen × IsNumber v.asn
 IsRow (add_row event p hop) = IsNumber event × IsPrefix p × IsHop hop
 IsRow (replace_row event p hop) = IsNumber event × IsPrefix p × IsHop hop
 IsRow (remove_row event p) = IsNumber event × IsPrefix p
