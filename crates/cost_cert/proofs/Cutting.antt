@@ -1,6 +1,8 @@
 -- The fields of a line are cut at what stands between them.
-use Rattle.std.proofs.Common.{◌≡◌, ℕ, ◌+◌, ◌<◌, List, [], ◌∷◌, Bool, true, false, cond, Some, None, length, take, drop, refl, ap, ◌∙◌}
-use Rattle.std.specs.Prelude.{◌||◌, nat_lt, position}
+use Rattle.std.proofs.Common.{◌≡◌, ℕ, ◌+◌, ◌<◌, List, [], ◌∷◌, Bool, true, false, not, cond, Option, Some, None, length, take, drop, refl, sym, ap, ◌∙◌, is_some, IsTrue}
+use Rattle.std.specs.Prelude.{◌↔◌, ◌==◌, ◌||◌, nat_lt, position}
+use Rattle.std.specs.Borrow.{Bor}
+use Rattle.cost_cert.specs.Fields.{fields_left}
 use Rattle.std.specs.List.{slice_split, onto_first, list_any, position_or_len}
 use Rattle.std.proofs.lemmas.Bool.{ltb-true}
 use Rattle.std.proofs.lemmas.List.Splits.{slice_split_first, slice_split-cons_no}
@@ -34,3 +36,18 @@ none_between test text e = by_test (nat_lt (position_or_len test text) (length t
     by_test : (t : Bool) → nat_lt (position_or_len test text) (length text) ≡ t → None ≡ cond t (Some (position_or_len test text)) None → slice_split test text ≡ text ∷ []
     by_test true t f = absurd cc
     by_test false t f = none_there test text (any_before test text ∙ t)
+
+-- a text has a field at least
+pub never_none : (test : ℕ → Bool) (text : List ℕ) → slice_split test text ≡ [] → ⊥
+never_none test text e = by_place (position test text) refl
+  where
+    by_place : (p : Option ℕ) → p ≡ position test text → ⊥
+    by_place (Some place) f = let no : take place text ∷ slice_split test (drop (place + 1) text) ≡ [] = sym (at_first test text place f) ∙ e in absurd cc
+    by_place None f = let no : text ∷ [] ≡ [] = sym (none_between test text f) ∙ e in absurd cc
+
+-- so no field is left exactly where no text is
+pub none_left : (mark : ℕ) (left : Option (Bor (List ℕ))) (b : Bool) → is_some left ≡ not b → IsTrue b ↔ (fields_left mark left ≡ [])
+none_left mark None true e = (λ t. refl, λ n. refl)
+none_left mark None false e = absurd cc
+none_left mark (Some text) true e = absurd cc
+none_left mark (Some text) false e = (λ t. absurd cc, λ n. absurd (never_none (λ b. b == mark) text.now n))

@@ -4,11 +4,16 @@ use Rattle.std.specs.declared.vec.Vec.{Vec}
 use Rattle.fib_addr.specs.Hops.{Hops}
 use Rattle.fib_addr.specs.Views.{addr_as, prefix_as, entry_as}
 use Rattle.fib_addr.specs.declared.entry.Entry.{Entry}
-use Rattle.printed_model.specs.Rows.{Count, Records, Skipped, Events, Routes, Entries, Nodes, Leaves, Treated, PrintedRow, route_row, add_row, replace_row, remove_row, answer_row, visits_row, table_row, least_row, cert_leaf_row, cert_join_row, cert_bound_row, report_row}
+use Rattle.printed_model.specs.Rows.{Count, Records, Skipped, Events, Routes, Entries, Nodes, Leaves, Treated, Announced, Vrp, PrintedRow, route_row, invalid_row, add_row, replace_row, remove_row, answer_row, visits_row, table_row, least_row, cert_leaf_row, cert_join_row, cert_bound_row, report_row}
+use Rattle.printed_model.specs.Reading.{AnnouncedTexts, VrpTexts}
 use Rattle.printed_model.specs.Texts.{BadLine}
 use Rattle.printed_model.specs.Used.{Used}
 use Rattle.printed_model.specs.Kinds.{KindEntries}
 use Rattle.cert_rows.specs.Views.{row_as}
+use Rattle.cost_cert.specs.declared.fields.AnnouncedTexts as code_announced_texts
+use Rattle.cost_cert.specs.declared.fields.VrpTexts as code_vrp_texts
+use Rattle.cost_cert.specs.declared.invalid.Announced as code_announced
+use Rattle.cost_cert.specs.declared.invalid.PrintedVrp as code_vrp
 use Rattle.cost_cert.specs.declared.printed_row.Count as code_count
 use Rattle.cost_cert.specs.declared.printed_row.Count.TheVariants as count
 use Rattle.cost_cert.specs.declared.printed_row.PrintedRow as code_printed
@@ -28,9 +33,26 @@ count_as count.Nodes = Nodes
 count_as count.Leaves = Leaves
 count_as count.Treated = Treated
 
+-- ---- an announcement and a VRP
+
+abbrev pub announced_texts_as : code_announced_texts.AnnouncedTexts → AnnouncedTexts
+announced_texts_as t = record { prefix = t.prefix.now; peer = t.peer.now; peer_as = t.peer_as.now; origin = t.origin.now }
+
+abbrev pub vrp_texts_as : code_vrp_texts.VrpTexts → VrpTexts
+vrp_texts_as t = record { prefix = t.prefix.now; maxlen = t.maxlen.now; asn = t.asn.now }
+
+abbrev pub announced_as : code_announced.Announced → Announced
+announced_as a = record { prefix = prefix_as a.prefix; peer = addr_as a.peer; peer_as = a.peer_as; origin = a.origin }
+
+abbrev pub printed_vrp_as : code_vrp.PrintedVrp → Vrp
+printed_vrp_as v = record { prefix = prefix_as v.prefix; maxlen = v.maxlen; asn = v.asn }
+
+-- ---- rows and texts
+
 -- the row, with its addresses' and prefixes' bits
 abbrev pub printed_row_as : code_printed.PrintedRow → PrintedRow
 printed_row_as (printed.Route p a) = route_row (prefix_as p) (addr_as a)
+printed_row_as (printed.Invalid a v) = invalid_row (announced_as a) (printed_vrp_as v)
 printed_row_as (printed.Add n p hop) = add_row n (prefix_as p) (option_map addr_as hop)
 printed_row_as (printed.Replace n p hop) = replace_row n (prefix_as p) (option_map addr_as hop)
 printed_row_as (printed.Remove n p) = remove_row n (prefix_as p)

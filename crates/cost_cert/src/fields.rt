@@ -1,12 +1,14 @@
 //! The fields of a line: each is a slice of the line, and none takes memory.
+//!
+//! An `Err` says why there is none (`why`).
 
-ghost use Rattle.std.specs.Prelude.{◌≡◌, List, ℕ, bytes_eq, option_map, position};
+ghost use Rattle.std.specs.Prelude.{◌≡◌, ◌↔◌, ◌==◌, [], List, ℕ, IsTrue, bytes_eq, option_map, position};
 ghost use Rattle.std.specs.List.{slice_split};
 ghost use Rattle.octet_fields.specs.Gives.{Gives};
 ghost use Rattle.fib_addr.specs.Views.{addr_as, prefix_as};
-ghost use Rattle.printed_model.specs.Reading.{address_field, count_field, family_field, hop_field, is_comma, next_field, number_field, one_field, prefix_field, two_fields};
+ghost use Rattle.printed_model.specs.Reading.{address_field, announced_fields, count_field, family_field, hop_field, next_field, number_field, one_field, origin_field, prefix_field, two_fields, vrp_fields};
 ghost use Rattle.cost_cert.specs.Fields.{TakesField, fields_left};
-ghost use Rattle.cost_cert.specs.Printed.{count_as};
+ghost use Rattle.cost_cert.specs.Printed.{announced_texts_as, count_as, vrp_texts_as};
 
 use crate::printed_row::Count;
 use crate::why;
@@ -16,29 +18,41 @@ use std::marker::Model;
 /// The fields of a line that are left. Contracts see them as a list.
 #[derive(Drop)]
 pub struct Fields<'a> {
-    /// Their text; none where no field is left.
+    // their text; none where no field is left
     left: Option<&'a [u8]>,
+    // the octet between two of them
+    mark: u8,
 }
 
 impl<'a> Model for Fields<'a> {
     ghost Value = { List (List ℕ) };
 
-    ghost view = { λ fields. fields_left fields.left };
+    ghost view = { λ fields. fields_left fields.mark fields.left };
 }
 
-/// The place of the first comma.
-fn comma_at(text: &[u8]) -> Option<usize>
-    ensures { result ≡ position is_comma text.now }
+/// The place of the first octet that is the mark.
+fn mark_at(text: &[u8], mark: u8) -> Option<usize>
+    ensures { result ≡ position (λ b. b == mark) text.now }
 {
-    text.iter().position(|b| *b == b',')
+    text.iter().position(|b| *b == mark)
 }
 
 impl<'a> Fields<'a> {
-    /// The fields of a line: what stands between its commas.
-    pub(crate) fn of(line: &'a [u8]) -> Fields<'a>
-        ensures { result ≡ slice_split is_comma line.now }
+    /// The fields of a line: what stands between the octets that are the mark, as a comma.
+    pub fn of(line: &'a [u8], mark: u8) -> Fields<'a>
+        ensures { result ≡ slice_split (λ b. b == mark) line.now }
     {
-        Fields { left: Some(line) }
+        Fields {
+            left: Some(line),
+            mark,
+        }
+    }
+
+    /// Whether no field is left.
+    pub fn is_empty(&self) -> bool
+        ensures { IsTrue result ↔ (self.now ≡ []) }
+    {
+        self.left.is_none()
     }
 
     /// Takes the next field.
@@ -46,7 +60,7 @@ impl<'a> Fields<'a> {
         ensures { TakesField self.old self.new result }
     {
         let text = self.left?;
-        match comma_at(text) {
+        match mark_at(text, self.mark) {
             Some(place) => {
                 self.left = Some(&text[place + 1..]);
                 Some(&text[..place])
@@ -67,21 +81,21 @@ pub(crate) fn number_field(text: &[u8]) -> Result<u64, u8>
 }
 
 /// An address.
-pub(crate) fn address_field(text: &[u8]) -> Result<Addr, u8>
+pub fn address_field(text: &[u8]) -> Result<Addr, u8>
     ensures { Gives addr_as result (address_field text.now) }
 {
     read_addr(text).ok_or(why::HOP)
 }
 
 /// A prefix.
-pub(crate) fn prefix_field(text: &[u8]) -> Result<Prefix, u8>
+pub fn prefix_field(text: &[u8]) -> Result<Prefix, u8>
     ensures { Gives prefix_as result (prefix_field text.now) }
 {
     read_prefix(text).ok_or(why::PREFIX)
 }
 
 /// Whether the field is the word.
-pub(crate) fn is(text: &[u8], word: &[u8]) -> bool
+pub fn is(text: &[u8], word: &[u8]) -> bool
     ensures { result ≡ bytes_eq text.now word.now }
 {
     text == word
@@ -97,6 +111,18 @@ pub(crate) fn hop_field(word: &[u8], text: &[u8]) -> Result<Option<Addr>, u8>
     }
     let addr = address_field(text)?;
     Ok(Some(addr))
+}
+
+/// The number of an AS, or none where the field is `none`.
+#[tactic(auto, unfolding(printed_model::specs::Reading::origin_field))]
+pub(crate) fn origin_field(text: &[u8]) -> Result<Option<u64>, u8>
+    ensures { Gives (λ n. n) result (origin_field text.now) }
+{
+    if is(text, b"none") {
+        return Ok(None);
+    }
+    let number = number_field(text)?;
+    Ok(Some(number))
 }
 
 /// The name of a count.
@@ -140,7 +166,7 @@ pub(crate) fn family_field(text: &[u8]) -> Result<Family, u8>
 }
 
 /// The one field that is left.
-pub(crate) fn one_field<'a>(mut fields: Fields<'a>) -> Result<&'a [u8], u8>
+pub fn one_field<'a>(mut fields: Fields<'a>) -> Result<&'a [u8], u8>
     ensures { Gives (λ f. f.now) result (one_field fields.entry) }
 {
     match (fields.next(), fields.next()) {
@@ -150,7 +176,7 @@ pub(crate) fn one_field<'a>(mut fields: Fields<'a>) -> Result<&'a [u8], u8>
 }
 
 /// The two fields that are left.
-pub(crate) fn two_fields<'a>(mut fields: Fields<'a>) -> Result<(&'a [u8], &'a [u8]), u8>
+pub fn two_fields<'a>(mut fields: Fields<'a>) -> Result<(&'a [u8], &'a [u8]), u8>
     ensures { Gives (λ f. (f.0.now, f.1.now)) result (two_fields fields.entry) }
 {
     match (fields.next(), fields.next(), fields.next()) {
@@ -160,11 +186,65 @@ pub(crate) fn two_fields<'a>(mut fields: Fields<'a>) -> Result<(&'a [u8], &'a [u
 }
 
 /// The next field, and those after it.
-pub(crate) fn next_field<'a>(mut fields: Fields<'a>) -> Result<(&'a [u8], Fields<'a>), u8>
+pub fn next_field<'a>(mut fields: Fields<'a>) -> Result<(&'a [u8], Fields<'a>), u8>
     ensures { Gives (λ f. (f.0.now, f.1)) result (next_field fields.entry) }
 {
     match fields.next() {
         Some(field) => Ok((field, fields)),
         None => Err(why::FIELDS),
     }
+}
+
+/// The texts of an announcement's fields.
+#[derive(Clone, Copy, Debug)]
+pub(crate) struct AnnouncedTexts<'a> {
+    pub(crate) prefix: &'a [u8],
+    pub(crate) peer: &'a [u8],
+    pub(crate) peer_as: &'a [u8],
+    pub(crate) origin: &'a [u8],
+}
+
+/// The four fields of an announcement, and those after them.
+#[tactic(auto, unfolding(printed_model::specs::Reading::announced_fields))]
+pub(crate) fn announced_fields<'a>(
+    fields: Fields<'a>,
+) -> Result<(AnnouncedTexts<'a>, Fields<'a>), u8>
+    ensures { Gives (λ f. (announced_texts_as f.0, f.1)) result (announced_fields fields.entry) }
+{
+    let (prefix, fields) = next_field(fields)?;
+    let (peer, fields) = next_field(fields)?;
+    let (peer_as, fields) = next_field(fields)?;
+    let (origin, fields) = next_field(fields)?;
+    let texts = AnnouncedTexts {
+        prefix,
+        peer,
+        peer_as,
+        origin,
+    };
+    Ok((texts, fields))
+}
+
+/// The texts of the fields of a validated ROA payload (VRP; RFC 6811, section 2).
+#[derive(Clone, Copy, Debug)]
+pub struct VrpTexts<'a> {
+    /// The prefix.
+    pub prefix: &'a [u8],
+    /// The most bits that an announced prefix may have.
+    pub maxlen: &'a [u8],
+    /// The number of the AS.
+    pub asn: &'a [u8],
+}
+
+/// The three fields of a VRP, which are all that are left.
+#[tactic(auto, unfolding(printed_model::specs::Reading::vrp_fields))]
+pub fn vrp_fields<'a>(fields: Fields<'a>) -> Result<VrpTexts<'a>, u8>
+    ensures { Gives vrp_texts_as result (vrp_fields fields.entry) }
+{
+    let (prefix, fields) = next_field(fields)?;
+    let (maxlen, asn) = two_fields(fields)?;
+    Ok(VrpTexts {
+        prefix,
+        maxlen,
+        asn,
+    })
 }

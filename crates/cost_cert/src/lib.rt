@@ -9,7 +9,8 @@
 #![tactic(auto)]
 
 mod error;
-mod fields;
+pub mod fields;
+mod invalid;
 mod kind_rows;
 mod printed;
 mod printed_row;
@@ -17,6 +18,7 @@ pub mod why;
 
 pub use cert_rows::Row;
 pub use error::{BadRow, PrintedError};
+pub use invalid::{Announced, PrintedVrp};
 pub use kind_rows::read_rows;
 pub use printed::{Printed, read_printed};
 pub use printed_model::Kind;

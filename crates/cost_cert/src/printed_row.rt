@@ -1,6 +1,7 @@
 //! The rows of printed text, each read from the fields of its line.
 //!
 //!     route,PREFIX,ADDRESS
+//!     invalid,PREFIX,PEERADDR,PEERAS,ORIGIN,VPREFIX,MAXLEN,AS
 //!     change,EVENT,+,PREFIX,HOP     with = for a replaced entry
 //!     change,EVENT,-,PREFIX
 //!     answer,ADDRESS,HOP
@@ -12,18 +13,19 @@
 //!     cert,bound,FAMILY,NUMBER      with 4 or 6 for the family
 //!     report,NAME,NUMBER
 //!
-//! HOP is an address, or for no hop `none` in answer and leaf rows and `drop` in change, table and least rows.
+//! ORIGIN is a number, or `none` where the announcement has no origin. HOP is an address, or for no hop `none` in answer and leaf rows and `drop` in change, table and least rows.
 
 ghost use Rattle.std.specs.Prelude.{option_map};
 ghost use Rattle.octet_fields.specs.Gives.{Gives};
 ghost use Rattle.fib_addr.specs.Views.{prefix_as, addr_as};
-ghost use Rattle.printed_model.specs.Reading.{answer_in, bound_in, cert_in, change_in, entry_in, join_in, line_in, named_in, part_in, report_in, route_in, row_in, signed_in, visits_in};
+ghost use Rattle.printed_model.specs.Reading.{answer_in, bound_in, cert_in, change_in, entry_in, invalid_in, join_in, line_in, named_in, part_in, report_in, route_in, row_in, signed_in, visits_in};
 ghost use Rattle.cost_cert.specs.Printed.{printed_row_as};
 
 use crate::fields::{
-    Fields, address_field, count_field, family_field, hop_field, is, next_field, number_field,
-    one_field, prefix_field, two_fields,
+    Fields, address_field, announced_fields, count_field, family_field, hop_field, is, next_field,
+    number_field, one_field, prefix_field, two_fields, vrp_fields,
 };
+use crate::invalid::{Announced, PrintedVrp, announced_in, printed_vrp_in};
 use crate::why;
 use fib_addr::{Addr, Family, Prefix};
 
@@ -53,6 +55,8 @@ pub enum Count {
 pub enum PrintedRow {
     /// The route chosen at a prefix.
     Route(Prefix, Addr),
+    /// An announcement that is Invalid (RFC 6811, section 2), and a VRP that covers it.
+    Invalid(Announced, PrintedVrp),
     /// The event of this number adds an entry.
     Add(u64, Prefix, Option<Addr>),
     /// The event of this number gives an entry another hop.
@@ -98,6 +102,18 @@ fn route_in(fields: Fields<'_>) -> Result<PrintedRow, u8>
     let prefix = prefix_field(prefix)?;
     let addr = address_field(addr)?;
     Ok(PrintedRow::Route(prefix, addr))
+}
+
+/// An Invalid announcement. The fields are counted before any is read.
+#[tactic(auto, unfolding(printed_model::specs::Reading::invalid_in))]
+fn invalid_in(fields: Fields<'_>) -> Result<PrintedRow, u8>
+    ensures { Gives printed_row_as result (invalid_in fields.entry) }
+{
+    let (announced, fields) = announced_fields(fields)?;
+    let vrp = vrp_fields(fields)?;
+    let announced = announced_in(announced)?;
+    let vrp = printed_vrp_in(vrp)?;
+    Ok(PrintedRow::Invalid(announced, vrp))
 }
 
 /// An answer.
@@ -219,6 +235,8 @@ fn named_in(name: &[u8], fields: Fields<'_>) -> Result<PrintedRow, u8>
 {
     if is(name, b"route") {
         route_in(fields)
+    } else if is(name, b"invalid") {
+        invalid_in(fields)
     } else if is(name, b"change") {
         change_in(fields)
     } else if is(name, b"answer") {
@@ -253,5 +271,5 @@ fn row_in(fields: Fields<'_>) -> Result<PrintedRow, u8>
 pub fn read_row(line: &[u8]) -> Result<PrintedRow, u8>
     ensures { Gives printed_row_as result (line_in line.now) }
 {
-    row_in(Fields::of(line))
+    row_in(Fields::of(line, b','))
 }
