@@ -4,7 +4,7 @@ use Rattle.address_model.specs.Address.{Address, Prefix}
 use Rattle.table_model.specs.Changes.{Change, Add, Replace, Remove, additions}
 use Rattle.table_model.specs.Entries as table
 use Rattle.fib_addr.specs.Hops.{hop_at}
-use Rattle.printed_model.specs.Rows.{Records, Skipped, Events, Routes, Entries, Nodes, Leaves, Treated, PrintedRow, add_row, replace_row, remove_row, answer_row, visits_row, table_row, report_row, text_of}
+use Rattle.printed_model.specs.Rows.{Records, Skipped, Events, Routes, Entries, Nodes, Leaves, Treated, Announced, Vrp, PrintedRow, invalid_row, add_row, replace_row, remove_row, answer_row, visits_row, table_row, report_row, text_of}
 use Rattle.printed_model.specs.Numbered.{of_route, of_least, of_cert}
 use Rattle.fib_report.specs.Views.{Answer, Told}
 use Rattle.fib_report.specs.declared.run.Report.{Report}
@@ -12,6 +12,9 @@ use Rattle.fib_report.specs.declared.section.Section.{Section}
 use Rattle.fib_report.specs.declared.section.Section.TheVariants as section
 
 -- ---- the row of an item, with the address of its hop; a number that no hop has is no hop
+
+abbrev pub of_invalid : Announced × Vrp → PrintedRow
+of_invalid i = invalid_row i.0 i.1
 
 abbrev pub change_row : List Address → ℕ → Change → PrintedRow
 change_row hops event (Add p h) = add_row event p (hop_at hops h)
@@ -44,10 +47,11 @@ report_text r = text_of (report_rows r)
 
 -- ---- a run
 
--- all rows: the routes, the changes, the answers, the table, the least table, its certificate and the report
+-- all rows: the routes, the Invalid announcements, the changes, the answers, the table, the least table, its certificate and the report
 abbrev pub printed_rows : List Address → Told → List PrintedRow
 printed_rows hops run =
     flat_map (of_route hops) run.routes
+    ++ map of_invalid run.invalid
     ++ map (of_change hops) run.changes
     ++ flat_map (of_answer hops) run.answers
     ++ map (table_entry_row hops) run.table

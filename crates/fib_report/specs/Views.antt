@@ -4,11 +4,13 @@ use Rattle.address_model.specs.Address.{Address}
 use Rattle.table_model.specs.Entries.{Entries}
 use Rattle.table_model.specs.Changes.{Change}
 use Rattle.cert_model.specs.Rows.{CertRow}
-use Rattle.fib_addr.specs.Views.{addr_as, entry_as}
+use Rattle.printed_model.specs.Rows.{Announced, Vrp}
+use Rattle.fib_addr.specs.Views.{addr_as, entry_as, prefix_as}
 use Rattle.cert_rows.specs.Views.{row_as}
 use Rattle.fib_delta.specs.Views.{change_as}
 use Rattle.fib_report.specs.declared.run.Report.{Report}
 use Rattle.fib_report.specs.declared.run.Answer as code_answer
+use Rattle.fib_report.specs.declared.run.Invalid as code_invalid
 use Rattle.fib_report.specs.declared.run.Run as code_run
 
 -- an address that was asked for, the number of its hop, and how many nodes its look-up visits
@@ -20,9 +22,14 @@ pub record Answer : Type 0 where
 abbrev pub answer_as : code_answer.Answer → Answer
 answer_as answer = record { addr = addr_as answer.addr; hop = answer.hop.0; visits = answer.visits }
 
--- What a run tells: the routes, the changes with their events' numbers, the answers, the table, the least table, the certificate that it is least, and what was counted.
+-- an announcement that is Invalid, and a VRP that covers it
+abbrev pub invalid_as : code_invalid.Invalid → Announced × Vrp
+invalid_as i = (record { prefix = prefix_as i.prefix; peer = addr_as i.peer; peer_as = i.peer_as; origin = i.origin }, record { prefix = prefix_as i.vrp_prefix; maxlen = i.maxlen; asn = i.vrp_as })
+
+-- What a run tells: the routes, the Invalid announcements with the VRPs that cover them, the changes with their events' numbers, the answers, the table, the least table, the certificate that it is least, and what was counted.
 pub record Told : Type 0 where
   pub routes : Entries
+  pub invalid : List (Announced × Vrp)
   pub changes : List (ℕ × Change)
   pub answers : List Answer
   pub table : Entries
@@ -34,6 +41,7 @@ pub record Told : Type 0 where
 abbrev pub run_as : code_run.Run → Told
 run_as run = record {
   routes = map entry_as run.routes.items;
+  invalid = map invalid_as run.invalid.items;
   changes = map (λ c. (c.0, change_as c.1)) run.changes.items;
   answers = map answer_as run.answers.items;
   table = map entry_as run.table.items;

@@ -5,11 +5,12 @@
 
 ghost use Rattle.std.specs.Prelude.{◌≡◌, option_map};
 ghost use Rattle.fib_addr.specs.Views.{addr_as};
-ghost use Rattle.printed_model.specs.Rows.{count_name, family_name, hop_text};
+ghost use Rattle.printed_model.specs.Rows.{count_name, family_name, hop_text, origin_text};
 ghost use Rattle.cost_cert.specs.Printed.{count_as};
 
 use cost_cert::Count;
 use fib_addr::{Addr, Family, MOST_TEXT, addr_text};
+use itoa::Buffer;
 
 /// The address of a hop, or the word for none.
 pub fn hop_field<'a>(buffer: &'a mut [u8; MOST_TEXT], hop: Option<Addr>, word: &'a [u8]) -> &'a [u8]
@@ -18,6 +19,16 @@ pub fn hop_field<'a>(buffer: &'a mut [u8; MOST_TEXT], hop: Option<Addr>, word: &
     match hop {
         Some(addr) => addr_text(buffer, &addr),
         None => word,
+    }
+}
+
+/// The number of the AS in which a route originates, or `none`.
+pub(crate) fn origin_field<'a>(digits: &'a mut Buffer, origin: Option<u64>) -> &'a [u8]
+    ensures { result.now ≡ origin_text origin }
+{
+    match origin {
+        Some(number) => digits.format(number).as_bytes(),
+        None => b"none",
     }
 }
 

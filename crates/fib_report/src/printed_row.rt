@@ -4,12 +4,12 @@
 ghost use Rattle.std.specs.Prelude.{◌≤◌, ◌∷◌, [], codes, decimal, length, map, option_map, OnOk};
 ghost use Rattle.fib_addr.specs.Views.{addr_as, prefix_as};
 ghost use Rattle.fib_addr.specs.Text.{address_text, prefix_text};
-ghost use Rattle.printed_model.specs.Rows.{IsRow, count_name, family_name, hop_text, line_of, line};
-ghost use Rattle.cost_cert.specs.Printed.{count_as, printed_row_as};
+ghost use Rattle.printed_model.specs.Rows.{IsRow, count_name, family_name, hop_text, invalid_row, line_of, line};
+ghost use Rattle.cost_cert.specs.Printed.{announced_as, count_as, printed_row_as, printed_vrp_as};
 ghost use Rattle.fib_report.specs.Writing.{AddsRows, IsAtRow};
 
-use crate::fields::{count_field, family_field, hop_field};
-use cost_cert::{Count, PrintedRow};
+use crate::fields::{count_field, family_field, hop_field, origin_field};
+use cost_cert::{Announced, Count, PrintedRow, PrintedVrp};
 use csv::Writer;
 use fib_addr::{Addr, Family, MOST_TEXT, Prefix, addr_text, prefix_text};
 use itoa::Buffer;
@@ -73,6 +73,38 @@ fn put_entry<W: Write + Drop>(
     let prefix = prefix_text(&mut text, prefix);
     let hop = hop_field(&mut hop_text, hop, b"drop");
     put_three(out, name, prefix, hop)
+}
+
+/// Writes an announcement that is Invalid, and a VRP that covers it.
+fn put_invalid<W: Write + Drop>(
+    out: &mut Writer<W>,
+    announced: &Announced,
+    vrp: &PrintedVrp,
+) -> Result<(), AllocError>
+    requires { IsAtRow out.old }
+    ensures { OnOk result (AddsRows W.contents out.old out.new
+        (line_of (invalid_row (announced_as announced.now) (printed_vrp_as vrp.now)))) }
+{
+    let mut prefix = [0; MOST_TEXT];
+    let mut peer = [0; MOST_TEXT];
+    let mut peer_as = Buffer::new();
+    let mut origin = Buffer::new();
+    let mut vrp_prefix = [0; MOST_TEXT];
+    let mut maxlen = Buffer::new();
+    let mut asn = Buffer::new();
+    let prefix = prefix_text(&mut prefix, &announced.prefix);
+    let peer = addr_text(&mut peer, &announced.peer);
+    let peer_as = peer_as.format(announced.peer_as).as_bytes();
+    let origin = origin_field(&mut origin, announced.origin);
+    let vrp_prefix = prefix_text(&mut vrp_prefix, &vrp.prefix);
+    let maxlen = maxlen.format(vrp.maxlen).as_bytes();
+    let asn = asn.format(vrp.asn).as_bytes();
+    put_fields(
+        out,
+        &[
+            b"invalid", prefix, peer, peer_as, origin, vrp_prefix, maxlen, asn,
+        ],
+    )
 }
 
 /// Writes what the event of a number adds or replaces, by its sign.
@@ -225,6 +257,7 @@ pub(crate) fn put_row<W: Write + Drop>(
 {
     match row {
         PrintedRow::Route(prefix, addr) => put_entry(out, b"route", &prefix, Some(addr)),
+        PrintedRow::Invalid(announced, vrp) => put_invalid(out, &announced, &vrp),
         PrintedRow::Add(event, prefix, hop) => put_change(out, event, b"+", &prefix, hop),
         PrintedRow::Replace(event, prefix, hop) => put_change(out, event, b"=", &prefix, hop),
         PrintedRow::Remove(event, prefix) => put_remove(out, event, &prefix),

@@ -1,6 +1,7 @@
 //! The rows of a run, written in their order: our own text rows, with numbers in plain decimal.
 //!
 //!     route,PREFIX,HOP
+//!     invalid,PREFIX,PEERADDR,PEERAS,ORIGIN,VPREFIX,MAXLEN,AS
 //!     change,EVENT,+,PREFIX,HOP    with = for a Replace
 //!     change,EVENT,-,PREFIX        for a Remove
 //!     answer,ADDRESS,HOP
@@ -12,7 +13,7 @@
 //!     cert,bound,FAMILY,COUNT      with 4 or 6 for the family
 //!     report,NAME,COUNT            for records, skipped, events, routes, entries, nodes, leaves and treated
 //!
-//! HOP is the hop's address. Where no hop has the number it is `none` in an answer and a leaf, and `drop` in a change and a
+//! ORIGIN is a number, or `none` where the announcement has no origin. HOP is the hop's address. Where no hop has the number it is `none` in an answer and a leaf, and `drop` in a change and a
 //! table; a route without a hop has no row.
 
 ghost use Rattle.std.specs.Prelude.{◌≡◌, ◌≤◌, [], ◌∷◌, flat_map, length, map, IfOk, OnOk, Some};
@@ -22,17 +23,17 @@ ghost use Rattle.fib_addr.specs.Views.{entry_as};
 ghost use Rattle.cost_cert.specs.Printed.{printed_row_as};
 ghost use Rattle.cert_rows.specs.Views.{row_as};
 ghost use Rattle.printed_model.specs.Rows.{IsRow, text_of, line};
-ghost use Rattle.fib_report.specs.Rows.{of_answer, of_change, report_rows, report_text, section_rows};
+ghost use Rattle.fib_report.specs.Rows.{of_answer, of_change, of_invalid, report_rows, report_text, section_rows};
 ghost use Rattle.printed_model.specs.Numbered.{of_cert};
 ghost use Rattle.fib_delta.specs.Views.{change_as};
-ghost use Rattle.fib_report.specs.Views.{answer_as, run_as};
+ghost use Rattle.fib_report.specs.Views.{answer_as, invalid_as, run_as};
 ghost use Rattle.csv.specs.Writing.{text_written};
 ghost use Rattle.fib_report.specs.Writing.{AddsRows, IsAtRow};
 
 use crate::printed_row::{put_fields, put_row};
-use crate::run::{Answer, Report, Run};
+use crate::run::{Answer, Invalid, Report, Run};
 use crate::section::Section;
-use cost_cert::{Count, PrintedRow, Row};
+use cost_cert::{Announced, Count, PrintedRow, PrintedVrp, Row};
 use csv::{QuoteStyle, Writer, WriterBuilder};
 use fib_addr::{Entry, HopTable};
 use fib_delta::Change;
@@ -52,6 +53,24 @@ pub(crate) fn entry_row(section: Section, entry: &Entry, hops: &HopTable) -> Opt
         Section::Table => Some(PrintedRow::Table(prefix, hop)),
         Section::Least => Some(PrintedRow::Least(prefix, hop)),
     }
+}
+
+/// The row of an Invalid announcement.
+pub(crate) fn invalid_row(invalid: &Invalid) -> PrintedRow
+    ensures { printed_row_as result ≡ of_invalid (invalid_as invalid.now) }
+{
+    let announced = Announced {
+        prefix: invalid.prefix,
+        peer: invalid.peer,
+        origin: invalid.origin.map(u64::from),
+        peer_as: u64::from(invalid.peer_as),
+    };
+    let vrp = PrintedVrp {
+        prefix: invalid.vrp_prefix,
+        maxlen: u64::from(invalid.maxlen),
+        asn: u64::from(invalid.vrp_as),
+    };
+    PrintedRow::Invalid(announced, vrp)
 }
 
 /// The row of a change.

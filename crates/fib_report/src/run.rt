@@ -4,7 +4,7 @@
 //! is given beside the run. `specs/Views.antt` says what contracts see of it.
 
 use cost_cert::Row;
-use fib_addr::{Addr, Entry, Hop};
+use fib_addr::{Addr, Entry, Hop, Prefix};
 use fib_delta::Change;
 
 /// What a run counted.
@@ -28,6 +28,25 @@ pub struct Report {
     pub treated: u64,
 }
 
+/// An announcement that is Invalid by a list of validated ROA payloads (VRPs; RFC 6811, section 2), and a VRP that covers it.
+#[derive(Clone, Copy, Debug, PartialEq, Eq)]
+pub struct Invalid {
+    /// The prefix that is announced.
+    pub prefix: Prefix,
+    /// The VRP's prefix.
+    pub vrp_prefix: Prefix,
+    /// The address of the peer that announces it.
+    pub peer: Addr,
+    /// The AS in which the route originates, if it has one.
+    pub origin: Option<u32>,
+    /// The peer's AS.
+    pub peer_as: u32,
+    /// The VRP's AS.
+    pub vrp_as: u32,
+    /// The most bits that the VRP allows.
+    pub maxlen: u8,
+}
+
 /// An address that was asked for.
 #[derive(Clone, Copy, Debug, PartialEq, Eq)]
 pub struct Answer {
@@ -39,12 +58,14 @@ pub struct Answer {
     pub visits: u8,
 }
 
-/// What a run tells: the routes that it ended with, the changes with their events, the answers, the table, the least table with
-/// its certificate, and the counts.
+/// What a run tells: the routes that it ended with, the announcements that are Invalid, the changes with their events, the answers, the
+/// table, the least table with its certificate, and the counts.
 #[derive(Debug, Drop)]
 pub struct Run {
     /// The routes after the last event, in the order of prefixes.
     pub routes: Vec<Entry>,
+    /// The announcements that are Invalid, in their order; none in a run without a list of VRPs.
+    pub invalid: Vec<Invalid>,
     /// The changes to the table, each with its event's number.
     pub changes: Vec<(u64, Change)>,
     /// The addresses asked for, with their answers.

@@ -8,14 +8,14 @@ ghost use Rattle.fib_addr.specs.Views.{entry_as};
 ghost use Rattle.fib_delta.specs.Views.{change_as};
 ghost use Rattle.cert_rows.specs.Views.{row_as};
 ghost use Rattle.printed_model.specs.Numbered.{of_cert};
-ghost use Rattle.fib_report.specs.Rows.{of_answer, of_change, report_rows, section_rows};
-ghost use Rattle.fib_report.specs.Views.{answer_as};
+ghost use Rattle.fib_report.specs.Rows.{of_answer, of_change, of_invalid, report_rows, section_rows};
+ghost use Rattle.fib_report.specs.Views.{answer_as, invalid_as};
 
 use crate::printed_row::put_row;
 use crate::rows::{
-    cert_row, entry_row, put_answers, put_cert, put_changes, put_report, row_writer,
+    cert_row, entry_row, invalid_row, put_answers, put_cert, put_changes, put_report, row_writer,
 };
-use crate::run::{Answer, Report};
+use crate::run::{Answer, Invalid, Report};
 use crate::section::Section;
 use cert_rows::{Row, RowSink};
 use csv::Writer;
@@ -65,6 +65,27 @@ impl<'a> RunText<'a> {
     {
         for entry in entries {
             self.entry(section, entry)?;
+        }
+        Ok(())
+    }
+
+    /// Writes the row of an Invalid announcement.
+    pub fn invalid(&mut self, invalid: &Invalid) -> Result<(), AllocError>
+        requires { IsReady self.old }
+        ensures { OnOk result (Writes self.old self.new
+            (of_invalid (invalid_as invalid.now) ∷ [])) }
+    {
+        put_row(&mut self.out, invalid_row(invalid))
+    }
+
+    /// Writes the rows of Invalid announcements from a list.
+    pub fn invalids(&mut self, invalids: &[Invalid]) -> Result<(), AllocError>
+        requires { IsReady self.old }
+        ensures { OnOk result (Writes self.old self.new
+            (map of_invalid (map invalid_as invalids.now))) }
+    {
+        for invalid in invalids {
+            self.invalid(invalid)?;
         }
         Ok(())
     }

@@ -20,6 +20,7 @@ fn text_of_run(alloc: Global, run: &Run, hops: &HopTable) -> Result<Vec<u8>, All
 {
     let mut text = RunText::new(alloc, hops);
     text.entries(Section::Routes, &run.routes)?;
+    text.invalids(&run.invalid)?;
     text.changes(&run.changes)?;
     text.answers(&run.answers)?;
     text.entries(Section::Table, &run.table)?;
@@ -29,8 +30,8 @@ fn text_of_run(alloc: Global, run: &Run, hops: &HopTable) -> Result<Vec<u8>, All
     text.finish()
 }
 
-/// Appends the rows of a run to a text: first the routes, then the changes, the answers, the table, the least table, its certificate
-/// and the report. Where the hop table does not hold a hop's number, an answer and a leaf say `none`, a change and a table `drop`,
+/// Appends the rows of a run to a text: first the routes, then the Invalid announcements, the changes, the answers, the table, the least
+/// table, its certificate and the report. Where the hop table does not hold a hop's number, an answer and a leaf say `none`, a change and a table `drop`,
 /// and a route has no row. An `Err` changes nothing and means that memory ran out, as does each failure of csv's writer, which
 /// writes to memory here. Each row that was written is one that a checker reads as it is.
 pub fn write_run(
