@@ -5,9 +5,9 @@ use Rattle.octet_fields.specs.Field.{◌>>=◌}
 use Rattle.address_model.specs.Width.{width}
 use Rattle.address_model.specs.Address.{Prefix}
 use Rattle.fib_addr.specs.Text.{number_below}
-use Rattle.printed_model.specs.Reading.{bad_number, is_comma, next_field, or_why, prefix_field, two_fields}
+use Rattle.printed_model.specs.Reading.{bad_number, is_comma, or_why, prefix_field, vrp_fields}
+use Rattle.printed_model.specs.Rows.{Vrp}
 use Rattle.printed_model.specs.Texts.{BadLine, line_texts}
-use Rattle.fib_rov.specs.Rov.{Vrp}
 
 -- ---- a line
 
@@ -33,11 +33,10 @@ with_maxlen p maxlen asn = if is_maxlen p maxlen then Ok (record { prefix = p; m
 -- prefix.
 unfoldable pub vrp_in : List ℕ → Result Vrp ℕ
 vrp_in line = do
-  first ← next_field (slice_split is_comma line)
-  others ← two_fields first.1
-  p ← prefix_field first.0
-  maxlen ← maxlen_field others.0
-  asn ← as_field others.1
+  texts ← vrp_fields (slice_split is_comma line)
+  p ← prefix_field texts.prefix
+  maxlen ← maxlen_field texts.maxlen
+  asn ← as_field texts.asn
   with_maxlen p maxlen asn
 
 -- ---- a text

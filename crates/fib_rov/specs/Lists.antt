@@ -3,7 +3,7 @@ use Rattle.std.specs.Prelude.{◌≡◌, List, Result, Ok, Err, map}
 use Rattle.std.specs.declared.vec.Vec.{Vec}
 use Rattle.printed_model.specs.Texts.{BadLine}
 use Rattle.cost_cert.specs.Printed.{bad_as}
-use Rattle.fib_rov.specs.Rov.{Vrp}
+use Rattle.printed_model.specs.Rows.{Vrp}
 use Rattle.fib_rov.specs.Views.{vrp_as}
 use Rattle.fib_rov.specs.declared.vrp.Vrp as code
 use Rattle.fib_rov.specs.declared.reading.RovError.{RovError}

@@ -2,15 +2,10 @@
 use Rattle.std.specs.Prelude.{ℕ, Bool, false, not, ◌&&◌, ◌==◌, List, length, nat_lt, position, Option, Some, None}
 use Rattle.address_model.specs.Address.{Prefix}
 use Rattle.address_model.specs.Regions.{is_within}
+use Rattle.printed_model.specs.Rows.{Vrp}
 use Rattle.route_model.specs.Events.{Event, Announce, Withdraw, Down}
 use Rattle.fib_rov.specs.declared.state.State.{State}
 use Rattle.fib_rov.specs.declared.state.State.TheVariants.{Valid, Invalid, NotFound}
-
--- A validated ROA payload: the AS may announce the prefix, and prefixes within it of at most so many bits.
-pub record Vrp : Type 0 where
-  pub prefix : Prefix
-  pub maxlen : ℕ
-  pub asn : ℕ
 
 -- it covers a route if its prefix contains the route's
 abbrev pub covers_route : Prefix → Vrp → Bool

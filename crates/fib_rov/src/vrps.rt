@@ -35,7 +35,7 @@ pub struct Vrps {
 
 impl Model for Vrps {
     ghost use Rattle.std.specs.Prelude.{List, map};
-    ghost use Rattle.fib_rov.specs.Rov.{Vrp};
+    ghost use Rattle.printed_model.specs.Rows.{Vrp};
     ghost use Rattle.fib_rov.specs.Views.{vrp_as};
     ghost use Rattle.fib_rov.specs.Index.{AreMarked, IsIndex};
 

@@ -1,10 +1,10 @@
 -- One line after another.
-use Rattle.std.proofs.Common.{◌≡◌, ℕ, suc, ◌+◌, ◌≤◌, List, [], ◌∷◌, ◌++◌, true, false, Result, Ok, Err, length, map, refl, sym, ap, subst, ◌∙◌, arith}
+use Rattle.std.proofs.Common.{◌≡◌, ℕ, suc, ◌+◌, ◌≤◌, List, [], ◌∷◌, ◌++◌, true, false, Ok, Err, length, map, refl, sym, ap, ◌∙◌, arith}
 use Rattle.std.specs.Prelude.{◌==◌}
 use Rattle.octet_fields.specs.Field.{◌>>=◌}
 use Rattle.std.proofs.lemmas.Bool.{eqb-true}
 use Rattle.bstr.specs.Text.{without_terminator, lines_of as cut_lines}
-use Rattle.printed_model.specs.Texts.{BadLine, lines_of}
+use Rattle.printed_model.specs.Texts.{lines_of}
 use Rattle.printed_model.proofs.Lines.{lines_same, few_lines}
 use Rattle.std.proofs.lemmas.List.{length-map}
 use Rattle.step_model.specs.Script.{Step, step_in, with_step, steps_after, script_in}

@@ -1,13 +1,11 @@
--- What a clause sees of steps, and of what is left of a line.
-use Rattle.std.specs.Prelude.{◌≡◌, ℕ, List, [], Option, Some, None, Result, Ok, Err, map}
-use Rattle.std.specs.List.{slice_split}
-use Rattle.std.specs.Borrow.{Bor}
+-- What a clause sees of steps.
+use Rattle.std.specs.Prelude.{◌≡◌, List, Result, Ok, Err, map}
 use Rattle.std.specs.declared.vec.Vec.{Vec}
 use Rattle.fib_addr.specs.Views.{addr_as}
 use Rattle.printed_model.specs.Texts.{BadLine}
 use Rattle.cost_cert.specs.Printed.{bad_as}
 use Rattle.step_model.specs.Script as script
-use Rattle.step_model.specs.Script.{is_space, opens, goes, prepares, stores, ends, cancels}
+use Rattle.step_model.specs.Script.{opens, goes, prepares, stores, ends, cancels}
 use Rattle.step_script.specs.declared.step.Step.{Step}
 use Rattle.step_script.specs.declared.step.Step.TheVariants as step
 use Rattle.step_script.specs.declared.script.ScriptError.{ScriptError}
@@ -20,11 +18,6 @@ step_as step.Prepare = prepares
 step_as step.Store = stores
 step_as step.End = ends
 step_as step.Cancel = cancels
-
--- the fields of what is left of a line, if anything is
-abbrev pub fields_left : Option (Bor (List ℕ)) → List (List ℕ)
-fields_left None = []
-fields_left (Some text) = slice_split is_space text.now
 
 -- what a reader of a script returned is what the definition gives, unless memory ran out
 abbrev pub IsRead : {X : Type 0} → Result (Vec Step X) ScriptError → Result (List script.Step) BadLine → Type 0

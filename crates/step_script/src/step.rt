@@ -1,15 +1,13 @@
 //! A step, and the line that it stands on.
 
-ghost use Rattle.std.specs.Prelude.{◌≡◌, ◌∷◌, bytes_eq, position};
-ghost use Rattle.std.specs.List.{slice_split};
 ghost use Rattle.octet_fields.specs.Gives.{Gives};
 ghost use Rattle.fib_addr.specs.Views.{addr_as};
-ghost use Rattle.printed_model.specs.Reading.{address_field, one_field};
-ghost use Rattle.step_model.specs.Script.{bare, cursor_field, is_space, step_in, step_of};
-ghost use Rattle.step_script.specs.Steps.{fields_left, step_as};
+ghost use Rattle.step_model.specs.Script.{bare, cursor_field, step_in, step_of};
+ghost use Rattle.step_script.specs.Steps.{step_as};
 
+use cost_cert::fields::{Fields, address_field, is, next_field, one_field};
 use cost_cert::why;
-use fib_addr::{Addr, read_addr, read_number};
+use fib_addr::{Addr, read_number};
 
 /// A step of a run.
 #[derive(Clone, Copy, Debug, PartialEq, Eq)]
@@ -28,51 +26,16 @@ pub enum Step {
     Cancel,
 }
 
-/// The place of the first space.
-fn space_at(text: &[u8]) -> Option<usize>
-    ensures { result ≡ position is_space text.now }
-{
-    text.iter().position(|b| *b == b' ')
-}
-
-/// The first field, and what follows the space after it.
-fn cut(text: &[u8]) -> (&[u8], Option<&[u8]>)
-    ensures { slice_split is_space text.now ≡ result.0.now ∷ fields_left result.1 }
-{
-    match space_at(text) {
-        Some(place) => (&text[..place], Some(&text[place + 1..])),
-        None => (text, None),
-    }
-}
-
-/// The one field that is left.
-fn one_left(left: Option<&[u8]>) -> Result<&[u8], u8>
-    ensures { Gives (λ f. f.now) result (one_field (fields_left left.entry)) }
-{
-    let Some(text) = left else {
-        return Err(why::FIELDS);
-    };
-    match cut(text) {
-        (field, None) => Ok(field),
-        (_, Some(_)) => Err(why::FIELDS),
-    }
-}
-
 /// A step without more fields.
-fn bare_step(step: Step, left: Option<&[u8]>) -> Result<Step, u8>
-    ensures { Gives step_as result (bare (step_as step) (fields_left left.entry)) }
+#[tactic(auto, using(crate::proofs::More::bare_more))]
+fn bare_step(step: Step, fields: Fields<'_>) -> Result<Step, u8>
+    ensures { Gives step_as result (bare (step_as step) fields.entry) }
 {
-    match left {
-        None => Ok(step),
-        Some(_) => Err(why::FIELDS),
+    if fields.is_empty() {
+        Ok(step)
+    } else {
+        Err(why::FIELDS)
     }
-}
-
-/// An address.
-fn address(text: &[u8]) -> Result<Addr, u8>
-    ensures { Gives addr_as result (address_field text.now) }
-{
-    read_addr(text).ok_or(why::HOP)
 }
 
 /// The printed number of a look-up.
@@ -85,37 +48,30 @@ fn cursor(text: &[u8]) -> Result<u8, u8>
     }
 }
 
-/// Whether the field is the word.
-fn is(text: &[u8], word: &[u8]) -> bool
-    ensures { result ≡ bytes_eq text.now word.now }
-{
-    text == word
-}
-
-/// The step of this word and what is left behind it.
+/// The step of this word and the fields after it.
 #[tactic(auto, unfolding(step_model::specs::Script::step_of))]
-fn step_of(word: &[u8], left: Option<&[u8]>) -> Result<Step, u8>
-    ensures { Gives step_as result (step_of word.now (fields_left left.entry)) }
+fn step_of(word: &[u8], fields: Fields<'_>) -> Result<Step, u8>
+    ensures { Gives step_as result (step_of word.now fields.entry) }
 {
     if is(word, b"open") {
-        let addr = address(one_left(left)?)?;
+        let addr = address_field(one_field(fields)?)?;
         return Ok(Step::Open(addr));
     }
     if is(word, b"go") {
-        let number = cursor(one_left(left)?)?;
+        let number = cursor(one_field(fields)?)?;
         return Ok(Step::Go(number));
     }
     if is(word, b"prepare") {
-        return bare_step(Step::Prepare, left);
+        return bare_step(Step::Prepare, fields);
     }
     if is(word, b"store") {
-        return bare_step(Step::Store, left);
+        return bare_step(Step::Store, fields);
     }
     if is(word, b"end") {
-        return bare_step(Step::End, left);
+        return bare_step(Step::End, fields);
     }
     if is(word, b"cancel") {
-        return bare_step(Step::Cancel, left);
+        return bare_step(Step::Cancel, fields);
     }
     Err(why::WORD)
 }
@@ -129,6 +85,6 @@ fn step_of(word: &[u8], left: Option<&[u8]>) -> Result<Step, u8>
 pub fn read_step(line: &[u8]) -> Result<Step, u8>
     ensures { Gives step_as result (step_in line.now) }
 {
-    let (word, left) = cut(line);
-    step_of(word, left)
+    let (word, fields) = next_field(Fields::of(line, b' '))?;
+    step_of(word, fields)
 }
