@@ -5,7 +5,7 @@ use fib_addr::{Addr, Entry, Family, Hop, MOST_TEXT, Prefix, addr_text};
 use std::test::Fail;
 
 /// Texts, and the first line of each that is no row, with its why.
-const TEXTS: [(&str, Option<(u64, u8)>); 48] = [
+const TEXTS: [(&str, Option<(u64, u8)>); 61] = [
     ("foo\n", Some((1, 2))),
     ("route,10.0.0.0/8\n", Some((1, 3))),
     ("route,10.0.0.0/33,192.0.2.1\n", Some((1, 4))),
@@ -44,6 +44,28 @@ const TEXTS: [(&str, Option<(u64, u8)>); 48] = [
     ("cert,leaf,x,y", Some((1, 4))),
     ("least,::/0,none", Some((1, 1))),
     ("cert,leaf,::/0,drop", Some((1, 1))),
+    ("invalid", Some((1, 3))),
+    ("invalid,x,y,z,none,x,y", Some((1, 3))),
+    ("invalid,x,y,z,none,x,y,z,", Some((1, 3))),
+    ("invalid,x,y,z,drop,x,y,z", Some((1, 4))),
+    ("invalid,10.0.0.0/8,y,z,drop,x,y,z", Some((1, 1))),
+    ("invalid,10.0.0.0/8,::1,z,drop,x,y,z", Some((1, 5))),
+    ("invalid,10.0.0.0/8,::1,1,drop,x,y,z", Some((1, 5))),
+    ("invalid,10.0.0.0/8,::1,1,none,x,y,z", Some((1, 4))),
+    ("invalid,10.0.0.0/8,::1,1,none,::/0,y,z", Some((1, 5))),
+    ("invalid,10.0.0.0/8,::1,1,none,::/0,1,none", Some((1, 5))),
+    (
+        "invalid,10.0.0.0/8,192.0.2.1,64500,18446744073709551616,10.0.0.0/8,8,64501",
+        Some((1, 5)),
+    ),
+    (
+        "invalid,10.0.0.0/8,192.0.2.1,64500,64500,10.0.0.0/8,8,64501",
+        None,
+    ),
+    (
+        "invalid,10.0.0.0/8,::1,0,none,::/0,999,18446744073709551615",
+        None,
+    ),
     ("", None),
     ("\n\r\n\n", None),
     (

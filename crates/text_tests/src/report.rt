@@ -3,7 +3,7 @@
 use cert_rows::Row;
 use fib_addr::{Addr, Entry, Family, Hop, HopTable, Prefix};
 use fib_delta::Change;
-use fib_report::{Answer, Report, Run, report_text, write_run};
+use fib_report::{Answer, Invalid, Report, Run, RunText, report_text, write_run};
 use std::test::Fail;
 
 #[test]
@@ -16,6 +16,7 @@ fn one_route(rt: HostRuntime) -> Result<(), Fail> {
     let hop = hops.number(&Addr::v4(0xc000_0201))?;
     let run = Run {
         routes: vec![in rt.alloc(); Entry { prefix: ten, hop }]?,
+        invalid: Vec::new(rt.alloc()),
         changes: vec![in rt.alloc(); (0, Change::Add(ten, hop))]?,
         answers: vec![in rt.alloc();
             Answer {
@@ -78,5 +79,39 @@ report,treated,3
     let report = report_text(rt.alloc(), &run.report)?;
     assert!(rt; want.as_bytes().ends_with(&report));
     assert!(rt; report.starts_with(b"report,records,2\n"));
+    Ok(())
+}
+
+#[test]
+fn invalid_announcements(rt: HostRuntime) -> Result<(), Fail> {
+    let ten = Prefix::new(&Addr::v4(0x0a00_0000), 8);
+    let hops = HopTable::new(rt.alloc());
+    let mut text = RunText::new(rt.alloc(), &hops);
+    text.invalids(&[
+        Invalid {
+            prefix: ten,
+            vrp_prefix: ten,
+            peer: Addr::v4(0xc000_0201),
+            origin: Some(64_500),
+            peer_as: 64_500,
+            vrp_as: 64_501,
+            maxlen: 8,
+        },
+        Invalid {
+            prefix: Prefix::new(&Addr::v6(0x2001_0db8 << 96), 32),
+            vrp_prefix: Prefix::new(&Addr::v6(0), 0),
+            peer: Addr::v6(1),
+            origin: None,
+            peer_as: u32::MAX,
+            vrp_as: 0,
+            maxlen: 128,
+        },
+    ])?;
+    let text = text.finish()?;
+    let want = "\
+invalid,10.0.0.0/8,192.0.2.1,64500,64500,10.0.0.0/8,8,64501
+invalid,2001:db8::/32,::1,4294967295,none,::/0,128,0
+";
+    assert_eq!(rt; text.as_slice(), want.as_bytes());
     Ok(())
 }
