@@ -1,0 +1,4 @@
+pub mod Counts
+pub mod Allowed
+pub mod Near
+pub mod Keeps
