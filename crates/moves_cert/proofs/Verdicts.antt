@@ -20,7 +20,8 @@ use Rattle.cert_model.proofs.Differing.{none_differs, none_from}
 use Rattle.cert_model.proofs.Reading.{all_get_is, all_get_from}
 use Rattle.moves_model.specs.Sets.{Allowed}
 use Rattle.moves_model.specs.Nearest.{near_bound}
-use Rattle.moves_cert.specs.Demands.{Demand, leaf_demand, join_demand, change_bound, none_below, DemandsRead, HaveChangeBound, IsShortest}
+use Rattle.moves_cert.specs.Demands.{Demand, leaf_demand, join_demand, change_bound, none_below, DemandsRead, HaveChangeBound}
+use Rattle.moves_cert.specs.Shortest.{AreProvedShortest}
 use Rattle.moves_cert.specs.Verdict.{NoMoves, Twice, Apply, Shape, LeafWrong, JoinWrong, NotShortest, changed_by, changed_by_all, first_refused, answers_differ_at, answers_differ, have_halves, no_row_more, wrong_moves_row, too_many, moves_verdict}
 use Rattle.moves_cert.proofs.Rules.{bound_is}
 
@@ -184,7 +185,7 @@ few_from R T f cs n = cond-false _ _ _ (le-ltb (near_bound (width f) (of_family 
 
 -- ---- the whole
 
-pub verdict_is : (f : Family) (T R : Entries) (cs : List Change) (rows : List CertRow) → AllByRecursion RowFits rows → moves_verdict f T R cs rows ≡ None → IsShortest f R T cs rows
+pub verdict_is : (f : Family) (T R : Entries) (cs : List Change) (rows : List CertRow) → AllByRecursion RowFits rows → moves_verdict f T R cs rows ≡ None → AreProvedShortest f R T cs rows
 verdict_is f T R cs rows a e =
     let wrong = wrong_moves_row R T f rows [] 1 in
     let after = changed_by_all cs (in_order T) in
@@ -208,7 +209,7 @@ verdict_is f T R cs rows a e =
       few = omega (arith, bound_is R T f front m h, few_is R T f cs x5.1);
     }
 
-pub verdict_from : (f : Family) (T R : Entries) (cs : List Change) (rows : List CertRow) → IsShortest f R T cs rows → moves_verdict f T R cs rows ≡ None
+pub verdict_from : (f : Family) (T R : Entries) (cs : List Change) (rows : List CertRow) → AreProvedShortest f R T cs rows → moves_verdict f T R cs rows ≡ None
 verdict_from f T R cs rows c =
     let x = made_from cs (in_order T) c.after 1 c.makes in
     let y : answers_differ R (changed_by_all cs (in_order T)) f ≡ None = ap (λ E. answers_differ R E f) x.1 ∙ alike_from R c.after f c.alike in
@@ -218,7 +219,7 @@ verdict_from f T R cs rows c =
     (both_none (option_map Apply (first_refused cs (in_order T) 1)) _ (ap (option_map Apply) x.0)
     (both_none (answers_differ R (changed_by_all cs (in_order T)) f) _ y (both_none (wrong_moves_row R T f rows [] 1) _ z (few_from R T f cs (omega (arith, bound_is R T f c.regions c.bound c.right, c.few)))))))
 
-pub verdict_law : (f : Family) (T R : Entries) (cs : List Change) (rows : List CertRow) → AllByRecursion RowFits rows → (moves_verdict f T R cs rows ≡ None) ↔ IsShortest f R T cs rows
+pub verdict_law : (f : Family) (T R : Entries) (cs : List Change) (rows : List CertRow) → AllByRecursion RowFits rows → (moves_verdict f T R cs rows ≡ None) ↔ AreProvedShortest f R T cs rows
 verdict_law f T R cs rows a = (verdict_is f T R cs rows a, verdict_from f T R cs rows)
 
 -- ---- the bound that is told last

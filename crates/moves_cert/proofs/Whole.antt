@@ -20,7 +20,7 @@ use Rattle.cert_model.specs.Rows.{CertRow}
 use Rattle.moves_model.specs.Dist.{distance}
 use Rattle.moves_model.specs.Nearest.{nearest, near_bound}
 use Rattle.moves_model.proofs.Near.{near_law}
-use Rattle.moves_cert.specs.Demands.{IsShortest}
+use Rattle.moves_cert.specs.Shortest.{AreProvedShortest, AreShortest}
 use Rattle.moves_cert.specs.Rows.{near_rows, near_in}
 use Rattle.moves_cert.proofs.Rules.{bound_holds}
 use Rattle.moves_cert.proofs.Changes.{changes_dist}
@@ -28,11 +28,20 @@ use Rattle.moves_cert.proofs.Postorder.{have_bound}
 use Rattle.moves_cert.proofs.Sound.{changes_dist_most}
 
 -- no table that answers as the routes differs at fewer prefixes than there are changes
-pub no_fewer : (f : Family) (R T : Entries) (cs : List Change) (rows : List CertRow) → IsShortest f R T cs rows → (U : Table) → Alike (width f) (of_family f R) U → length cs ≤ distance (of_family f T) U
+pub no_fewer : (f : Family) (R T : Entries) (cs : List Change) (rows : List CertRow) → AreProvedShortest f R T cs rows → (U : Table) → Alike (width f) (of_family f R) U → length cs ≤ distance (of_family f T) U
 no_fewer f R T cs rows s U e = omega (arith, s.few, bound_holds R T f s.regions s.bound U s.right e)
 
+-- changes that rows prove shortest are so
+pub are_shortest : (f : Family) (R T : Entries) (cs : List Change) (rows : List CertRow) → AreProvedShortest f R T cs rows → AreShortest f R T cs
+are_shortest f R T cs rows s = record {
+  after = s.after;
+  makes = s.makes;
+  alike = s.alike;
+  fewest = no_fewer f R T cs rows s;
+}
+
 -- and what they make differs at just so many
-pub just_so_many : (f : Family) (R T : Entries) (cs : List Change) (rows : List CertRow) (s : IsShortest f R T cs rows) → AllByRecursion IsPrefix (keys_of T) → AllByRecursion (λ c. IsPrefix (place_of c)) cs → distance (of_family f T) (of_family f s.after) ≡ length cs
+pub just_so_many : (f : Family) (R T : Entries) (cs : List Change) (rows : List CertRow) (s : AreProvedShortest f R T cs rows) → AllByRecursion IsPrefix (keys_of T) → AllByRecursion (λ c. IsPrefix (place_of c)) cs → distance (of_family f T) (of_family f s.after) ≡ length cs
 just_so_many f R T cs rows s p q = omega (arith, changes_dist_most f T s.after cs (p, s.old_once) q s.makes, no_fewer f R T cs rows s (of_family f s.after) s.alike)
 
 -- ---- the nearest table
@@ -64,7 +73,7 @@ module _ (f : Family) (R T : Entries) (t : AreEntries T) (all : AllByRecursion (
       changes_dist f T (near_in f R T) t near_entries all (table_of f (nearest w (of_family f R) (of_family f T)))
       ∙ (ap (distance (of_family f T)) (family_is f (nearest w (of_family f R) (of_family f T))) ∙ (near_law w (of_family f R) (of_family f T) is_table).2)
 
-  pub near_shortest : IsDistinct same_prefix (keys_of R) → IsShortest f R T (between T (near_in f R T)) (near_rows f R T)
+  pub near_shortest : IsDistinct same_prefix (keys_of R) → AreProvedShortest f R T (between T (near_in f R T)) (near_rows f R T)
   near_shortest r = record {
     old_once = t.1;
     routes_once = r;

@@ -1,17 +1,14 @@
 -- What rows must be that prove at how few prefixes an old table must change to answer as routes do, whoever wrote them. R are
 -- the routes and T is the old table. The rows are those of a certificate of leastness (`cert_model`), and say something else: a
 -- join's k is how many changes its region needs.
-use Rattle.std.specs.Prelude.{◌≡◌, ℕ, ◌+◌, ◌<◌, ◌≤◌, List, [], ◌∷◌, ◌++◌, Bool, true, false, cond, length, Option, Some, ◌&&◌}
-use Rattle.std.specs.List.{IsDistinct}
-use Rattle.std.specs.Map.{keys_of}
+use Rattle.std.specs.Prelude.{◌≡◌, ℕ, ◌+◌, ◌<◌, List, [], ◌∷◌, Bool, true, false, cond, length, Option, ◌&&◌}
 use Rattle.address_model.specs.Width.{width}
-use Rattle.address_model.specs.Address.{Prefix, IsPrefix, same_prefix}
+use Rattle.address_model.specs.Address.{Prefix, IsPrefix}
 use Rattle.address_model.specs.Regions.{half_at}
 use Rattle.address_model.specs.declared.family.Family.{Family}
-use Rattle.table_model.specs.Table.{Table, Alike, half, cut}
-use Rattle.table_model.specs.Entries.{Entries, in_order, of_family}
+use Rattle.table_model.specs.Table.{Table, half, cut}
+use Rattle.table_model.specs.Entries.{Entries, of_family}
 use Rattle.table_model.specs.Uniform.{AllGet}
-use Rattle.table_model.specs.Changes.{Change, after_changes}
 use Rattle.least_model.specs.Regions.{entry_at}
 use Rattle.cert_model.specs.Rows.{CertRow, leaf_row, join_row, bound_row, whole_prefix}
 use Rattle.moves_model.specs.Sets.{Allowed, these, is_allowed, allowed_by_both, gap, set_over, k_over}
@@ -76,17 +73,3 @@ DemandsRead R T (bound_row f n ∷ rows) st end = ⊥
 -- the rows lead from nothing to the whole region of the family, and this is its bound
 abbrev pub HaveChangeBound : Entries → Entries → Family → List CertRow → ℕ → Type 0
 HaveChangeBound R T f rows n = (S : Allowed) × (k : ℕ) × DemandsRead R T rows [] (record { prefix = whole_prefix f; hops = S; k = k } ∷ []) × (n ≡ change_bound S k)
-
--- The changes make of T a table that answers as R in the family, and the rows prove that no table that does differs from T at
--- fewer prefixes than there are changes.
-pub record IsShortest (f : Family) (R T : Entries) (changes : List Change) (rows : List CertRow) : Type 0 where
-  pub old_once : IsDistinct same_prefix (keys_of T)
-  pub routes_once : IsDistinct same_prefix (keys_of R)
-  pub after : Entries
-  pub makes : after_changes changes (in_order T) ≡ Some after
-  pub alike : Alike (width f) (of_family f R) (of_family f after)
-  pub regions : List CertRow
-  pub bound : ℕ
-  pub parts : rows ≡ regions ++ (bound_row f bound ∷ [])
-  pub right : HaveChangeBound R T f regions bound
-  pub few : length changes ≤ bound

@@ -1,3 +1,4 @@
 pub mod Demands
+pub mod Shortest
 pub mod Rows
 pub mod Verdict

@@ -3,13 +3,12 @@
 //! The definitions stand in `specs/`. Each function here is a law: it does nothing, and its clause holds for all values.
 #![tactic(auto)]
 
-ghost use Rattle.std.specs.Prelude.{◌≡◌, ◌≤◌, ◌↔◌, ℕ, List, None, length};
+ghost use Rattle.std.specs.Prelude.{◌≡◌, ◌↔◌, ℕ, List, None, length};
 ghost use Rattle.std.specs.List.{AllByRecursion, IsDistinct};
 ghost use Rattle.std.specs.Map.{keys_of};
 ghost use Rattle.address_model.specs.Width.{width};
-ghost use Rattle.address_model.specs.Address.{Prefix, IsPrefix, same_prefix};
+ghost use Rattle.address_model.specs.Address.{IsPrefix, same_prefix};
 ghost use Rattle.address_model.specs.declared.family.Family.{Family};
-ghost use Rattle.table_model.specs.Table.{Table, Alike};
 ghost use Rattle.table_model.specs.Entries.{Entries, of_family};
 ghost use Rattle.table_model.specs.Changes.{Change};
 ghost use Rattle.delta_model.specs.Between.{AreEntries, place_of, between};
@@ -17,7 +16,8 @@ ghost use Rattle.cert_model.specs.Rows.{CertRow};
 ghost use Rattle.cert_model.specs.Verdict.{RowFits};
 ghost use Rattle.moves_model.specs.Dist.{distance};
 ghost use Rattle.moves_model.specs.Nearest.{near_bound};
-ghost use Rattle.moves_cert.specs.Demands.{HaveChangeBound, IsShortest};
+ghost use Rattle.moves_cert.specs.Demands.{HaveChangeBound};
+ghost use Rattle.moves_cert.specs.Shortest.{AreProvedShortest, AreShortest};
 ghost use Rattle.moves_cert.specs.Rows.{near_in, near_rows};
 ghost use Rattle.moves_cert.specs.Verdict.{moves_verdict};
 
@@ -34,27 +34,26 @@ pub fn count_law()
         length (between old new) ≡ distance (of_family f old) (of_family f new) }
 {}
 
-/// Changes with right rows are shortest, whoever wrote them: no table that answers as the routes differs from the old one at
-/// fewer prefixes than there are changes, whatever its prefixes and its hops; and the table that they make differs at just so
-/// many.
+/// Changes that rows prove shortest are so, whoever wrote them; and the table that they make differs from the old one at just as
+/// many prefixes as there are changes.
 pub fn soundness_law()
-    ensures fewest { (f : Family) (R T : Entries) (cs : List Change) (rows : List CertRow) → IsShortest f R T cs rows →
-        (U : Table) → Alike (width f) (of_family f R) U → length cs ≤ distance (of_family f T) U }
-    ensures reached { (f : Family) (R T : Entries) (cs : List Change) (rows : List CertRow) (s : IsShortest f R T cs rows) →
+    ensures shortest { (f : Family) (R T : Entries) (cs : List Change) (rows : List CertRow) →
+        AreProvedShortest f R T cs rows → AreShortest f R T cs }
+    ensures reached { (f : Family) (R T : Entries) (cs : List Change) (rows : List CertRow) (s : AreProvedShortest f R T cs rows) →
         AllByRecursion IsPrefix (keys_of T) → AllByRecursion (λ c. IsPrefix (place_of c)) cs →
         distance (of_family f T) (of_family f s.after) ≡ length cs }
 {}
 
-/// The changes to the nearest table, with its rows, are shortest, and as many as the bound says.
+/// The changes to the nearest table are shortest, its rows prove it, and they are as many as the bound says.
 pub fn near_law()
-    ensures shortest { (f : Family) (R T : Entries) → AreEntries T → AllByRecursion (λ p. p.family ≡ f) (keys_of T) →
-        IsDistinct same_prefix (keys_of R) → IsShortest f R T (between T (near_in f R T)) (near_rows f R T) }
+    ensures proved { (f : Family) (R T : Entries) → AreEntries T → AllByRecursion (λ p. p.family ≡ f) (keys_of T) →
+        IsDistinct same_prefix (keys_of R) → AreProvedShortest f R T (between T (near_in f R T)) (near_rows f R T) }
     ensures count { (f : Family) (R T : Entries) → AreEntries T → AllByRecursion (λ p. p.family ≡ f) (keys_of T) →
         length (between T (near_in f R T)) ≡ near_bound (width f) (of_family f R) (of_family f T) }
 {}
 
-/// Nothing is wrong exactly where the changes are shortest by these rows.
+/// Nothing is wrong exactly where the rows prove the changes shortest.
 pub fn verdict_law()
     ensures { (f : Family) (T R : Entries) (cs : List Change) (rows : List CertRow) → AllByRecursion RowFits rows
-        → (moves_verdict f T R cs rows ≡ None) ↔ IsShortest f R T cs rows }
+        → (moves_verdict f T R cs rows ≡ None) ↔ AreProvedShortest f R T cs rows }
 {}

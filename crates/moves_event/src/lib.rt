@@ -11,7 +11,7 @@ ghost use Rattle.least_model.specs.Regions.{SameEntries, SameOutside, entry_at, 
 ghost use Rattle.least_model.specs.Sets.{answers, side};
 ghost use Rattle.moves_model.specs.Sets.{is_allowed, inner_set, near_set, near_k, near_of};
 ghost use Rattle.moves_model.specs.Nearest.{GivesAnswers, nearest};
-ghost use Rattle.moves_event.specs.Way.{fills, allowed_beside, GivesBeside, allowed_at, is_clear, turn, AlikeBeside, SameBut, event_set, turn_entry, event_hop, is_blocked, turn_by, FilledGive};
+ghost use Rattle.moves_event.specs.Way.{fills, allowed_beside, GivesBeside, allowed_at, is_clear, turn, AlikeBeside, SameBut, turn_entry, event_hop, is_blocked, turn_by, FilledGive};
 
 /// A region in which the table gives the answers under h may inherit any hop where all its addresses are within its entries, else
 /// h alone; it needs no change then. Under another hop it has no entry of its own, gets one of h, and all below it stays.

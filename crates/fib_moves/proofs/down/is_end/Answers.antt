@@ -1,0 +1,14 @@
+use Rattle.std.proofs.Common.{sym, arith}
+use Rattle.orig_tree.specs.Spots.{answers_in}
+use Rattle.fib_moves.proofs.Passing.{end_last, end_some}
+use Rattle.fib_moves.proofs.down.is_end.Goals as goal
+
+pub returns-then-prefix-width-clause-end : goal.returns-then-prefix-width-clause-end
+returns-then-prefix-width-clause-end c = λ z.
+    let r = c.args.region.now in
+    end_last r.bits (answers_in r) r.entries c.requires.table (omega (arith, c.requires.bits, c.if-prefix-width.true, c.width.ensures))
+
+pub returns-in-None-clause-end : goal.returns-in-None-clause-end
+returns-in-None-clause-end c = λ z.
+    let r = c.args.region.now in
+    end_some r.bits (answers_in r) r.entries c.args.needs.now c.leaf.result c.is_some.result c.requires.table c.requires.knows c.in-None.is c.leaf.ensures.one (sym c.is_some.ensures) z

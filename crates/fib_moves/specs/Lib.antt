@@ -1,0 +1,4 @@
+pub mod Needs
+pub mod Passes
+pub mod Ways
+pub mod Turns

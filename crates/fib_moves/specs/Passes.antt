@@ -1,0 +1,37 @@
+-- What the pass down tells of a region, and of the whole table.
+use Rattle.std.specs.Prelude.{◌≡◌, ℕ, List, [], ◌++◌, Bool, map}
+use Rattle.address_model.specs.Address.{Prefix}
+use Rattle.table_model.specs.Table.{Table, IsTable, half}
+use Rattle.table_model.specs.Entries.{of_table}
+use Rattle.least_model.specs.Regions.{lift}
+use Rattle.stays_model.specs.Parts.{ArePart}
+use Rattle.address_model.specs.declared.family.Family.{Family}
+use Rattle.table_model.specs.Changes.{Change}
+use Rattle.delta_model.specs.Between.{between}
+use Rattle.fib_addr.specs.Views.{entry_as}
+use Rattle.orig_tree.specs.Spots.{Spot, answers_in}
+use Rattle.moves_model.specs.Sets.{near_of}
+use Rattle.fib_moves.specs.declared.down.Differing.{Differing}
+
+-- a pass over a region of d more bits with the answers f has entries in no half, and T has none there
+abbrev pub EndsThere : ℕ → (List Bool → ℕ) → Table → Type 0
+EndsThere d f T = (b : Bool) (h : ℕ) → (half b T ≡ []) × (half b (near_of d f T h) ≡ [])
+
+-- at each prefix of the region at which the old table and the pass under h differ both are told, behind those that there are
+pub record ListsDiffering (p : Prefix) (s : Spot) (h : ℕ) (before after : Differing) : Type 0 where
+  pub had : Table
+  pub gets : Table
+  pub old : map entry_as after.had.items ≡ map entry_as before.had.items ++ of_table p.family (lift p.bits had)
+  pub new : map entry_as after.gets.items ≡ map entry_as before.gets.items ++ of_table p.family (lift p.bits gets)
+  pub had_table : IsTable s.bits had
+  pub gets_table : IsTable s.bits gets
+  pub part : ArePart s.entries (near_of s.bits (answers_in s) s.entries h) had gets
+
+-- the changes of a family's whole space: those between two tables that have what the old one and the pass have where they differ
+pub record ListsChanges (f : Family) (s : Spot) (changes : List Change) : Type 0 where
+  pub had : Table
+  pub gets : Table
+  pub told : changes ≡ between (of_table f had) (of_table f gets)
+  pub had_table : IsTable s.bits had
+  pub gets_table : IsTable s.bits gets
+  pub part : ArePart s.entries (near_of s.bits (answers_in s) s.entries 0) had gets

@@ -1,0 +1,282 @@
+//! What regions need, from those within them up.
+//!
+//! A region without an old entry strictly within it needs what the tree keeps of it: its best hops are those that its own entry
+//! may have, and its k is how many changes are needed within it. What any other needs is kept here.
+
+ghost use Rattle.std.specs.Prelude.{◌≡◌, ◌+◌, ◌≢◌, suc, [], true, false, Some, IfOk};
+ghost use Rattle.address_model.specs.Width.{width};
+ghost use Rattle.table_model.specs.Table.{root, half, inherit};
+ghost use Rattle.orig_tree.specs.Spots.{answers_in};
+ghost use Rattle.orig_tree.specs.Walk.{behind};
+ghost use Rattle.moves_model.specs.Sets.{is_allowed, least_allowed, inner_set, inner_k, near_k, near_set};
+ghost use Rattle.moves_cert.specs.Demands.{is_bare};
+ghost use Rattle.fib_moves.specs.Needs.{Knows, IsBoxed, IsJoined, IsNodeOf, half_needs};
+ghost use Rattle.allowed_hops.specs.Views.{SameAllowed, allowed_as};
+
+use allowed_hops::{AllowedHops, one_more_if, sum};
+use fib_addr::Prefix;
+use orig_tree::{NodeRef, Region};
+use std::alloc::{AllocError, Global};
+
+/// What a region needs that has old entries strictly within it.
+#[derive(Drop)]
+pub(crate) struct RegionNeeds {
+    /// The hops that its own entry should have, or what it inherits where it has none.
+    pub(crate) hops: AllowedHops,
+    /// How many changes strictly within it are needed then.
+    pub(crate) k: u64,
+    pub(crate) low: Option<Box<RegionNeeds>>,
+    pub(crate) high: Option<Box<RegionNeeds>>,
+}
+
+/// A region with its node in the tree, if it is one: below a region that is none no entry stands.
+#[derive(Drop)]
+pub(crate) struct Place<'a> {
+    pub(crate) region: Region<'a>,
+    pub(crate) node: Option<NodeRef<'a>>,
+}
+
+fn half_node<'a>(node: &Option<NodeRef<'a>>, bit: bool) -> Option<NodeRef<'a>>
+    ensures { (behind result).entries ≡ half bit (behind node.now).entries }
+{
+    match node {
+        Some(node) => node.half(bit),
+        None => None,
+    }
+}
+
+impl<'a> Place<'a> {
+    /// One half.
+    pub(crate) fn half(&self, bit: bool) -> Place<'a>
+        requires { self.now.region.bits ≢ 0 }
+        ensures bits { suc result.region.bits ≡ self.now.region.bits }
+        ensures routes { result.region.routes ≡ half bit self.now.region.routes }
+        ensures entries { result.region.entries ≡ half bit self.now.region.entries }
+        ensures hop { result.region.hop ≡ inherit (root self.now.region.routes) self.now.region.hop }
+        ensures node { (behind result.node).entries ≡ half bit (behind self.now.node).entries }
+    {
+        Place {
+            region: self.region.half(bit),
+            node: half_node(&self.node, bit),
+        }
+    }
+
+    /// Whether no node stands below its own, so that no old entry stands strictly within it.
+    fn is_end(&self, prefix: &Prefix) -> bool
+        requires bits { self.now.region.bits + prefix.now.len ≡ width prefix.now.family }
+        requires place { IsNodeOf self.now }
+        ensures end { result ≡ true → is_bare self.now.region.entries ≡ true }
+        ensures more { result ≡ false → self.now.region.bits ≢ 0 }
+    {
+        if prefix.len == prefix.family.width() {
+            return true;
+        }
+        self.node.is_none()
+    }
+}
+
+/// Whether a region's own entry should have this hop, or what it inherits if it has none.
+pub(crate) fn allows(region: &Region<'_>, needs: &Option<Box<RegionNeeds>>, hop: u16) -> bool
+    requires { Knows region.now.bits (answers_in region.now) region.now.entries needs.now }
+    ensures { result ≡ is_allowed hop (inner_set region.now.bits (answers_in region.now) region.now.entries) }
+{
+    match needs {
+        Some(needs) => needs.hops.contains(hop),
+        None => region.is_best(hop),
+    }
+}
+
+/// The least such hop, if not any will do.
+pub(crate) fn least_hop(region: &Region<'_>, needs: &Option<Box<RegionNeeds>>) -> u16
+    requires { Knows region.now.bits (answers_in region.now) region.now.entries needs.now }
+    ensures { result ≡ least_allowed (inner_set region.now.bits (answers_in region.now) region.now.entries) }
+{
+    match needs {
+        Some(needs) => needs.hops.least(),
+        None => region.least(),
+    }
+}
+
+/// All such hops.
+fn due_hops(
+    alloc: Global,
+    region: &Region<'_>,
+    needs: &Option<Box<RegionNeeds>>,
+) -> Result<AllowedHops, AllocError>
+    requires { Knows region.now.bits (answers_in region.now) region.now.entries needs.now }
+    ensures { IfOk result (λ w. SameAllowed (allowed_as w)
+        (inner_set region.now.bits (answers_in region.now) region.now.entries)) }
+{
+    match needs {
+        Some(needs) => needs.hops.copied(alloc),
+        None => {
+            let set = region.hops(alloc)?;
+            Ok(AllowedHops::These(set))
+        }
+    }
+}
+
+/// The hops that a region may inherit at no further change.
+pub(crate) fn may_inherit(
+    alloc: Global,
+    region: &Region<'_>,
+    needs: &Option<Box<RegionNeeds>>,
+) -> Result<AllowedHops, AllocError>
+    requires { Knows region.now.bits (answers_in region.now) region.now.entries needs.now }
+    ensures { IfOk result (λ w. SameAllowed (allowed_as w)
+        (near_set region.now.bits (answers_in region.now) region.now.entries)) }
+{
+    match region.entry() {
+        Some(_) => Ok(AllowedHops::Any),
+        None => due_hops(alloc, region, needs),
+    }
+}
+
+/// How many changes strictly within a region are needed, if it gets one of its hops.
+fn changes_within(region: &Region<'_>, needs: &Option<Box<RegionNeeds>>) -> u64
+    requires { Knows region.now.bits (answers_in region.now) region.now.entries needs.now }
+    ensures { result ≡ inner_k region.now.bits (answers_in region.now) region.now.entries }
+{
+    match needs {
+        Some(needs) => needs.k,
+        None => region.k(),
+    }
+}
+
+/// How many changes a region needs if it inherits one of the hops that it may.
+pub(crate) fn changes_of(
+    region: &Region<'_>,
+    needs: &Option<Box<RegionNeeds>>,
+) -> Result<u64, AllocError>
+    requires { Knows region.now.bits (answers_in region.now) region.now.entries needs.now }
+    ensures { IfOk result (λ k. k ≡ near_k region.now.bits (answers_in region.now) region.now.entries) }
+{
+    let k = changes_within(region, needs);
+    match region.entry() {
+        Some(hop) => one_more_if(!allows(region, needs, hop), k),
+        None => Ok(k),
+    }
+}
+
+/// Whether no old entry stands in a region, its own prefix counted.
+fn has_none(region: &Region<'_>, needs: &Option<Box<RegionNeeds>>) -> bool
+    requires { Knows region.now.bits (answers_in region.now) region.now.entries needs.now }
+    ensures none { result ≡ true → region.now.entries ≡ [] }
+    ensures some { result ≡ false → region.now.entries ≢ [] }
+{
+    if needs.is_some() {
+        return false;
+    }
+    region.entry().is_none()
+}
+
+/// Whether none stands in either half.
+fn are_none(
+    low: &Region<'_>,
+    high: &Region<'_>,
+    under_low: &Option<Box<RegionNeeds>>,
+    under_high: &Option<Box<RegionNeeds>>,
+) -> bool
+    requires low { Knows low.now.bits (answers_in low.now) low.now.entries under_low.now }
+    requires high { Knows high.now.bits (answers_in high.now) high.now.entries under_high.now }
+    ensures none { result ≡ true → (low.now.entries ≡ []) × (high.now.entries ≡ []) }
+    ensures some { result ≡ false → low.now.entries ≡ [] → high.now.entries ≡ [] → ⊥ }
+{
+    if has_none(low, under_low) {
+        has_none(high, under_high)
+    } else {
+        false
+    }
+}
+
+/// What is kept of a half, `bare` if nothing is.
+pub(crate) fn half_of<'a>(
+    needs: &'a Option<Box<RegionNeeds>>,
+    bit: bool,
+    bare: &'a Option<Box<RegionNeeds>>,
+) -> &'a Option<Box<RegionNeeds>>
+    ensures { result.now ≡ half_needs bit needs.now bare.now }
+{
+    match needs {
+        Some(needs) => { if bit { &needs.high } else { &needs.low } }
+        None => bare,
+    }
+}
+
+/// What a region needs, in a box.
+fn boxed(
+    alloc: Global,
+    hops: AllowedHops,
+    k: u64,
+    low: Option<Box<RegionNeeds>>,
+    high: Option<Box<RegionNeeds>>,
+) -> Result<Box<RegionNeeds>, AllocError>
+    ensures { IfOk result (IsBoxed hops k low high) }
+{
+    let needs = RegionNeeds { hops, k, low, high };
+    let needs = Box::new(alloc, needs)?;
+    Ok(needs)
+}
+
+/// What a region needs that has old entries in its halves, from what these need.
+fn put_together(
+    alloc: Global,
+    low: &Region<'_>,
+    high: &Region<'_>,
+    under_low: Option<Box<RegionNeeds>>,
+    under_high: Option<Box<RegionNeeds>>,
+) -> Result<Box<RegionNeeds>, AllocError>
+    requires low { Knows low.now.bits (answers_in low.now) low.now.entries under_low }
+    requires high { Knows high.now.bits (answers_in high.now) high.now.entries under_high }
+    requires some { low.now.entries ≡ [] → high.now.entries ≡ [] → ⊥ }
+    ensures { IfOk result (λ b. IsJoined low.now high.now (Some b)) }
+{
+    let first = may_inherit(alloc, low, &under_low)?;
+    let second = may_inherit(alloc, high, &under_high)?;
+    let joined = AllowedHops::joint(alloc, first, second)?;
+    let low_k = changes_of(low, &under_low)?;
+    let high_k = changes_of(high, &under_high)?;
+    let k = sum(low_k, high_k)?;
+    let k = one_more_if(joined.apart, k)?;
+    boxed(alloc, joined.hops, k, under_low, under_high)
+}
+
+/// What a region needs, from what its halves need, if an old entry stands in one.
+fn join(
+    alloc: Global,
+    low: &Region<'_>,
+    high: &Region<'_>,
+    under_low: Option<Box<RegionNeeds>>,
+    under_high: Option<Box<RegionNeeds>>,
+) -> Result<Option<Box<RegionNeeds>>, AllocError>
+    requires low { Knows low.now.bits (answers_in low.now) low.now.entries under_low }
+    requires high { Knows high.now.bits (answers_in high.now) high.now.entries under_high }
+    ensures { IfOk result (IsJoined low.now high.now) }
+{
+    if are_none(low, high, &under_low, &under_high) {
+        return Ok(None);
+    }
+    let needs = put_together(alloc, low, high, under_low, under_high)?;
+    Ok(Some(needs))
+}
+
+/// What a region needs, if an old entry stands strictly within it.
+pub(crate) fn climb(
+    alloc: Global,
+    place: &Place<'_>,
+    prefix: &Prefix,
+) -> Result<Option<Box<RegionNeeds>>, AllocError>
+    requires bits { place.now.region.bits + prefix.now.len ≡ width prefix.now.family }
+    requires place { IsNodeOf place.now }
+    ensures { IfOk result (Knows place.now.region.bits (answers_in place.now.region)
+        place.now.region.entries) }
+{
+    if place.is_end(prefix) {
+        return Ok(None);
+    }
+    let low = place.half(false);
+    let high = place.half(true);
+    let under_low = climb(alloc, &low, &prefix.half(false))?;
+    let under_high = climb(alloc, &high, &prefix.half(true))?;
+    join(alloc, &low.region, &high.region, under_low, under_high)
+}
