@@ -14,8 +14,8 @@ use Rattle.fib_moves.specs.declared.needs.RegionNeeds.TheViews.{out-RegionNeeds}
 use Rattle.fib_moves.specs.declared.needs.Place.{Place}
 use Rattle.allowed_hops.specs.Views.{SameAllowed, allowed_as}
 
--- of a region of d more bits with the answers f and the old entries T: none stands strictly within, or one does, and its set and
--- its k are kept, and so on in its halves
+-- Of a region of d more bits with the answers f and the old entries T nothing is kept if none stands strictly within it; else the hops
+-- that its own entry should have, and how many changes are needed within it then, and so on in its halves.
 abbrev pub Knows : ℕ → (List Bool → ℕ) → Table → Option (Box RegionNeeds Global) → Type 0
 Knows d f T None = is_bare T ≡ true
 Knows zero f T (Some b) = ⊥
@@ -23,16 +23,16 @@ Knows (suc d) f T (Some b) =
     (is_bare T ≡ false) × SameAllowed (allowed_as (out-RegionNeeds (box_value b)).hops) (inner_set (suc d) f T) × ((out-RegionNeeds (box_value b)).k ≡ inner_k (suc d) f T)
     × Knows d (side false f) (half false T) (out-RegionNeeds (box_value b)).low × Knows d (side true f) (half true T) (out-RegionNeeds (box_value b)).high
 
--- what is known of a half, x where of none
+-- what is kept of a half, x if nothing is kept of the region
 abbrev pub half_needs : Bool → Option (Box RegionNeeds Global) → Option (Box RegionNeeds Global) → Option (Box RegionNeeds Global)
 half_needs b None x = x
 half_needs b (Some s) x = cond b (out-RegionNeeds (box_value s)).high (out-RegionNeeds (box_value s)).low
 
--- what is kept, in a box
+-- the box has these
 abbrev pub IsBoxed : AllowedHops → ℕ → Option (Box RegionNeeds Global) → Option (Box RegionNeeds Global) → Box RegionNeeds Global → Type 0
 IsBoxed hops k low high b = ((out-RegionNeeds (box_value b)).hops ≡ hops) × ((out-RegionNeeds (box_value b)).k ≡ k) × ((out-RegionNeeds (box_value b)).low ≡ low) × ((out-RegionNeeds (box_value b)).high ≡ high)
 
--- neither half has old entries, or what is told is right of both halves together
+-- no old entry stands in either half, or what is kept is right of both together
 abbrev pub IsJoined : Spot → Spot → Option (Box RegionNeeds Global) → Type 0
 IsJoined low high None = (low.entries ≡ []) × (high.entries ≡ [])
 IsJoined low high (Some b) =
@@ -41,7 +41,7 @@ IsJoined low high (Some b) =
     + gap (near_set low.bits (answers_in low) low.entries) (near_set high.bits (answers_in high) high.entries))
     × Knows low.bits (answers_in low) low.entries (out-RegionNeeds (box_value b)).low × Knows high.bits (answers_in high) high.entries (out-RegionNeeds (box_value b)).high
 
--- the place's node is the region's
+-- the place's node is its region's
 pub record IsNodeOf (p : Place) : Type 0 where
   pub node : (behind p.node).entries ≡ p.region.entries
   pub table : IsTable p.region.bits p.region.entries

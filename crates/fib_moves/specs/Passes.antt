@@ -1,4 +1,4 @@
--- What the pass down tells of a region, and of the whole table.
+-- What the way down adds for a region, and the changes of the whole space.
 use Rattle.std.specs.Prelude.{◌≡◌, ℕ, List, [], ◌++◌, Bool, map}
 use Rattle.address_model.specs.Address.{Prefix}
 use Rattle.table_model.specs.Table.{Table, IsTable, half}
@@ -13,11 +13,11 @@ use Rattle.orig_tree.specs.Spots.{Spot, answers_in}
 use Rattle.moves_model.specs.Sets.{near_of}
 use Rattle.fib_moves.specs.declared.down.Differing.{Differing}
 
--- a pass over a region of d more bits with the answers f has entries in no half, and T has none there
+-- neither T nor the pass over a region of d more bits with the answers f has entries in a half, whatever it inherits
 abbrev pub EndsThere : ℕ → (List Bool → ℕ) → Table → Type 0
 EndsThere d f T = (b : Bool) (h : ℕ) → (half b T ≡ []) × (half b (near_of d f T h) ≡ [])
 
--- at each prefix of the region at which the old table and the pass under h differ both are told, behind those that there are
+-- at each prefix within p at which the region's old entries and the pass under h differ, both are added behind what there was
 pub record ListsDiffering (p : Prefix) (s : Spot) (h : ℕ) (before after : Differing) : Type 0 where
   pub had : Table
   pub gets : Table
@@ -27,7 +27,7 @@ pub record ListsDiffering (p : Prefix) (s : Spot) (h : ℕ) (before after : Diff
   pub gets_table : IsTable s.bits gets
   pub part : ArePart s.entries (near_of s.bits (answers_in s) s.entries h) had gets
 
--- the changes of a family's whole space: those between two tables that have what the old one and the pass have where they differ
+-- the changes of the whole space: those between two lists that have what the old table and the pass have where these differ
 pub record ListsChanges (f : Family) (s : Spot) (changes : List Change) : Type 0 where
   pub had : Table
   pub gets : Table

@@ -1,4 +1,4 @@
--- What is told at the turn, and then within the event's prefix.
+-- What is added at the turn, and then within the event's prefix.
 use Rattle.std.specs.Prelude.{◌≡◌, ◌≢◌, ◌⊎◌, ℕ, List, Bool, ◌++◌, Option, None, map}
 use Rattle.std.specs.Option.{option_to_list}
 use Rattle.table_model.specs.Table.{Table, IsTable, here, inherit}
@@ -22,14 +22,14 @@ around r o p L = lift r (here o) ++ lift p L
 abbrev pub gets_at : Spot → Turn → Option ℕ
 gets_at s t = new_entry (inner_set s.bits (answers_in s) s.entries) t.old t.inherited
 
--- nothing is told at the event's own prefix, where what the turn inherits comes; else both hops where they differ, and what comes
--- is from the new one
+-- If the turn is the event's prefix nothing is added, and that inherits what it did; else both hops are if they differ, and it inherits
+-- what comes from the new entry.
 abbrev pub TurnCase : Spot → ℕ → Turn → Option ℕ → Option ℕ → ℕ → Type 0
 TurnCase s len t o n hop =
     ((t.prefix.len ≡ len) × (o ≡ None) × (n ≡ None) × (hop ≡ t.inherited))
     ⊎ ((t.prefix.len ≢ len) × BothOrNeither t.old (gets_at s t) o n × (hop ≡ inherit (gets_at s t) t.inherited))
 
--- the turn's part is behind what there is
+-- the turn's entries are added behind what there was
 pub record IsTurned (s : Spot) (len : ℕ) (t : Turn) (before after : Differing) (hop : ℕ) : Type 0 where
   pub o : Option ℕ
   pub n : Option ℕ
@@ -37,7 +37,7 @@ pub record IsTurned (s : Spot) (len : ℕ) (t : Turn) (before after : Differing)
   pub new : map entry_as after.gets.items ≡ map entry_as before.gets.items ++ map (λ k. (prefix_as t.prefix, k)) (option_to_list n)
   pub which : TurnCase s len t o n hop
 
--- the changes are those between two tables: the turn's part and that of the prefix's region
+-- the changes are those between two lists: the turn's entries, and those within the prefix
 pub record AreTurned (s : Spot) (p : code.Prefix) (t : Turn) (changes : List Change) : Type 0 where
   pub o : Option ℕ
   pub n : Option ℕ

@@ -1,8 +1,8 @@
 //! The way down to an event's prefix, and the one prefix on it at which an entry may change.
 //!
 //! The old table answers as the routes do outside the event's prefix. From the turn on the way is clear: no entry stands on it, and
-//! each half beside it is wholly within entries, which may inherit any hop. Above the turn what is inherited in the old table is
-//! wanted as it is.
+//! entries fill each half beside it, which so may inherit any hop. Above the turn what each region inherits in the old table will do,
+//! and its entry stays.
 
 ghost use Rattle.std.specs.Prelude.{◌≡◌, ◌≢◌, ◌+◌, [], ◌||◌, not, is_some};
 ghost use Rattle.address_model.specs.Width.{width};

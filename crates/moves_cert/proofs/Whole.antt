@@ -1,5 +1,6 @@
 -- What changes with right rows come to, and that the nearest table's are such.
-use Rattle.std.proofs.Common.{◌≡◌, ℕ, ◌≤◌, List, length, refl, sym, ap, ◌∙◌, arith, subst}
+use Rattle.std.proofs.Common.{◌≡◌, ◌≢◌, ℕ, ◌<◌, ◌≤◌, List, Bool, true, false, cond, Option, Some, None, length, nat_lt, refl, sym, ap, ◌∙◌, arith, subst, ◌↔◌}
+use Rattle.std.proofs.lemmas.Bool.{lt-ltb, ltb-true}
 use Rattle.std.specs.List.{AllByRecursion, IsDistinct}
 use Rattle.std.specs.Map.{keys_of}
 use Rattle.address_model.specs.Width.{width}
@@ -18,10 +19,11 @@ use Rattle.kept_model.proofs.Patches.{family_hop, family_table}
 use Rattle.kept_model.proofs.Repairs.{table_entries}
 use Rattle.cert_model.specs.Rows.{CertRow}
 use Rattle.moves_model.specs.Dist.{distance}
-use Rattle.moves_model.specs.Nearest.{nearest, near_bound}
-use Rattle.moves_model.proofs.Near.{near_law}
+use Rattle.moves_model.specs.Nearest.{Nearest, nearest, near_bound}
+use Rattle.moves_model.proofs.Near.{near_law, bound_law}
 use Rattle.moves_cert.specs.Shortest.{AreProvedShortest, AreShortest}
 use Rattle.moves_cert.specs.Rows.{near_rows, near_in}
+use Rattle.moves_cert.specs.Verdict.{NotShortest, too_many}
 use Rattle.moves_cert.proofs.Rules.{bound_holds}
 use Rattle.moves_cert.proofs.Changes.{changes_dist}
 use Rattle.moves_cert.proofs.Postorder.{have_bound}
@@ -43,6 +45,33 @@ are_shortest f R T cs rows s = record {
 -- and what they make differs at just so many
 pub just_so_many : (f : Family) (R T : Entries) (cs : List Change) (rows : List CertRow) (s : AreProvedShortest f R T cs rows) → AllByRecursion IsPrefix (keys_of T) → AllByRecursion (λ c. IsPrefix (place_of c)) cs → distance (of_family f T) (of_family f s.after) ≡ length cs
 just_so_many f R T cs rows s p q = omega (arith, changes_dist_most f T s.after cs (p, s.old_once) q s.makes, no_fewer f R T cs rows s (of_family f s.after) s.alike)
+
+-- ---- too many changes
+
+-- they are told exactly where some table that answers as the routes is nearer than they are many
+pub not_shortest_law : (f : Family) (R T : Entries) (cs : List Change) → AreEntries T
+    → (too_many R T f cs ≢ None) ↔ ((U : Table) × IsTable (width f) U × Alike (width f) (of_family f R) U × (distance (of_family f T) U < length cs))
+not_shortest_law f R T cs t = (there (nat_lt bound (length cs)) refl, back)
+  where
+    bound : ℕ
+    bound = near_bound (width f) (of_family f R) (of_family f T)
+
+    near : IsTable (width f) (nearest (width f) (of_family f R) (of_family f T)) × Nearest (width f) (of_family f R) (of_family f T) (nearest (width f) (of_family f R) (of_family f T))
+        × (distance (of_family f T) (nearest (width f) (of_family f R) (of_family f T)) ≡ bound)
+    near = near_law (width f) (of_family f R) (of_family f T) (family_table f T t)
+
+    said : (b : Bool) → nat_lt bound (length cs) ≡ b → too_many R T f cs ≡ cond b (Some (NotShortest (length cs) bound)) None
+    said b e = ap (λ (c : Bool). cond c (Some (NotShortest (length cs) bound)) None) e
+
+    there : (b : Bool) → nat_lt bound (length cs) ≡ b → too_many R T f cs ≢ None → (U : Table) × IsTable (width f) U × Alike (width f) (of_family f R) U × (distance (of_family f T) U < length cs)
+    there false e x = absurd (x (said false e))
+    there true e x = (nearest (width f) (of_family f R) (of_family f T), near.0, near.1.0, omega (arith, near.2, ltb-true bound (length cs) e))
+
+    back : ((U : Table) × IsTable (width f) U × Alike (width f) (of_family f R) U × (distance (of_family f T) U < length cs)) → too_many R T f cs ≢ None
+    back (U, u, a, l) z =
+        let few : bound < length cs = omega (arith, l, bound_law (width f) (of_family f R) (of_family f T) U a) in
+        let x : Some (NotShortest (length cs) bound) ≡ None = sym (said true (lt-ltb bound (length cs) few)) ∙ z in
+        cc
 
 -- ---- the nearest table
 

@@ -3,12 +3,13 @@
 //! The definitions stand in `specs/`. Each function here is a law: it does nothing, and its clause holds for all values.
 #![tactic(auto)]
 
-ghost use Rattle.std.specs.Prelude.{◌≡◌, ◌↔◌, ℕ, List, None, length};
+ghost use Rattle.std.specs.Prelude.{◌≡◌, ◌≢◌, ◌<◌, ◌↔◌, ℕ, List, None, length};
 ghost use Rattle.std.specs.List.{AllByRecursion, IsDistinct};
 ghost use Rattle.std.specs.Map.{keys_of};
 ghost use Rattle.address_model.specs.Width.{width};
 ghost use Rattle.address_model.specs.Address.{IsPrefix, same_prefix};
 ghost use Rattle.address_model.specs.declared.family.Family.{Family};
+ghost use Rattle.table_model.specs.Table.{Table, IsTable, Alike};
 ghost use Rattle.table_model.specs.Entries.{Entries, of_family};
 ghost use Rattle.table_model.specs.Changes.{Change};
 ghost use Rattle.delta_model.specs.Between.{AreEntries, place_of, between};
@@ -19,7 +20,7 @@ ghost use Rattle.moves_model.specs.Nearest.{near_bound};
 ghost use Rattle.moves_cert.specs.Demands.{HaveChangeBound};
 ghost use Rattle.moves_cert.specs.Shortest.{AreProvedShortest, AreShortest};
 ghost use Rattle.moves_cert.specs.Rows.{near_in, near_rows};
-ghost use Rattle.moves_cert.specs.Verdict.{moves_verdict};
+ghost use Rattle.moves_cert.specs.Verdict.{moves_verdict, too_many};
 
 /// Right rows lead to the bound of the changes, whoever wrote them.
 pub fn right_law()
@@ -50,6 +51,12 @@ pub fn near_law()
         IsDistinct same_prefix (keys_of R) → AreProvedShortest f R T (between T (near_in f R T)) (near_rows f R T) }
     ensures count { (f : Family) (R T : Entries) → AreEntries T → AllByRecursion (λ p. p.family ≡ f) (keys_of T) →
         length (between T (near_in f R T)) ≡ near_bound (width f) (of_family f R) (of_family f T) }
+{}
+
+/// There are too many changes exactly where some table that answers as the routes differs from the old one at fewer prefixes.
+pub fn not_shortest_law()
+    ensures { (f : Family) (R T : Entries) (cs : List Change) → AreEntries T → (too_many R T f cs ≢ None) ↔
+        ((U : Table) × IsTable (width f) U × Alike (width f) (of_family f R) U × (distance (of_family f T) U < length cs)) }
 {}
 
 /// Nothing is wrong exactly where the rows prove the changes shortest.

@@ -1,5 +1,5 @@
-//! The model of one event's shortest list of changes: where the old table is right outside one prefix, what of the nearest table
-//! must be looked for, and where.
+//! The model of the shortest list of changes after one event. The old table answers as the routes do outside one prefix, the event's.
+//! Then the nearest table differs from it within the prefix and at one prefix above at most, which the old table alone tells.
 //!
 //! The definitions stand in `specs/`. Each function here is a law: it does nothing, and its clauses hold for all values.
 #![tactic(auto)]
@@ -13,8 +13,9 @@ ghost use Rattle.moves_model.specs.Sets.{is_allowed, inner_set, near_set, near_k
 ghost use Rattle.moves_model.specs.Nearest.{GivesAnswers, nearest};
 ghost use Rattle.moves_event.specs.Way.{fills, allowed_beside, GivesBeside, allowed_at, is_clear, turn, AlikeBeside, SameBut, turn_entry, event_hop, is_blocked, turn_by, FilledGive};
 
-/// A region in which the table gives the answers under h may inherit any hop where all its addresses are within its entries, else
-/// h alone; it needs no change then. Under another hop it has no entry of its own, gets one of h, and all below it stays.
+/// A region in which the table gives the answers under h may inherit any hop if each of its addresses is within an entry there, else
+/// h alone, and it needs no change then. Under another hop it gets one entry at its prefix, where none stood, of h, and all below
+/// stays.
 pub fn aside_law()
     ensures set { (d : ℕ) (f : List Bool → ℕ) (T : Table) (h : ℕ) → GivesAnswers d f T h → near_set d f T ≡ allowed_beside d T h }
     ensures free { (d : ℕ) (f : List Bool → ℕ) (T : Table) (h : ℕ) → GivesAnswers d f T h → near_k d f T ≡ 0 }
@@ -26,8 +27,8 @@ pub fn aside_law()
         GivesAnswers d f T h → is_allowed g (allowed_beside d T h) ≡ false → entry_at (b ∷ q) (near_of d f T g) ≡ entry_at (b ∷ q) T }
 {}
 
-/// On the way to p, outside which the table gives the answers: where the way is clear from here on, what the region may inherit is
-/// what p may; else what the table has here is among it.
+/// On the way to p, outside which the table gives the answers: if the way is clear from a region on, the hops that its own entry may
+/// have are those that p's may; else what comes from its entry in the table, or from above, is one of those that it may have.
 pub fn way_law()
     ensures clear { (p : List Bool) (d : ℕ) (f : List Bool → ℕ) (T : Table) (h : ℕ) → length p ≤ d →
         GivesBeside p d f T h → is_clear p d T ≡ true → inner_set d f T ≡ allowed_at d f T p }
@@ -35,9 +36,9 @@ pub fn way_law()
         GivesBeside p d f T h → is_clear p d T ≡ false → is_allowed (inherit (root T) h) (inner_set d f T) ≡ true }
 {}
 
-/// A table that answers as R outside p differs from the nearest one within p, at the turn, and nowhere else. At the turn stands
-/// what p's set makes of the entry there; within p stands what the pass over p's region alone gives, under the hop that comes
-/// from the turn. So all changes are within the turn, which p is within.
+/// The nearest table to one that answers as R outside p differs from it within p and at the turn, and nowhere else. At the turn
+/// stands what the hops that p's entry may have make of the entry there; within p stands what the pass over p's region alone gives,
+/// under the hop that comes from the turn. So all changes are within the turn, and p is within it.
 pub fn event_law()
     ensures off { (w : ℕ) (R T : Table) (p q : List Bool) → length p ≤ w → IsTable w T → AlikeBeside w p R T →
         begins p q ≡ false → q ≢ turn p w T → entry_at q (nearest w R T) ≡ entry_at q T }
@@ -50,8 +51,8 @@ pub fn event_law()
         SameOutside (turn p w T) (nearest w R T) T }
 {}
 
-/// A table that answered as the routes before these changed within p answers as they do outside p. Where they changed at p
-/// alone, a region that p isn't in, and all whose addresses are within routes there, gets its answers from the table as it is.
+/// A table that answered as the routes before these changed within p answers as they do outside p. If they changed at p alone, it
+/// also gives the answers in each region that p isn't in, and each of whose addresses is within a route there.
 pub fn before_law()
     ensures beside { (w : ℕ) (R S T : Table) (p : List Bool) → Alike w R T → SameOutside p R S → AlikeBeside w p S T }
     ensures filled { (w : ℕ) (R S T : Table) (p q : List Bool) → length q ≤ w → Alike w R T → SameBut p R S →
@@ -59,7 +60,7 @@ pub fn before_law()
         GivesAnswers (w - length q) (answers S q) (cut q T) (above q T 0) }
 {}
 
-/// The turn is found on the way down: it is the last step that isn't clear, or the region's own prefix.
+/// The turn is found on the way down: it is the last prefix at which the way is blocked, or the first if it never is.
 pub fn turn_law()
     ensures start { (p : List Bool) (d : ℕ) (T : Table) → turn p d T ≡ turn_by [] [] p d T }
     ensures step { (q r : List Bool) (b : Bool) (s : List Bool) (d : ℕ) (T : Table) → turn_by q r (b ∷ s) (suc d) T
@@ -67,8 +68,8 @@ pub fn turn_law()
     ensures end { (q r : List Bool) (d : ℕ) (T : Table) → turn_by q r [] d T ≡ r }
 {}
 
-/// Where the routes changed at p alone, in each half of p's region the parts that routes fill get their answers from the table as
-/// it is; so it is in the halves of a region, and in the region itself where routes fill it.
+/// If the routes changed at p alone, the table gives the answers in each part of a half of p's region that routes fill. What holds of
+/// all such parts of a region holds of those of its halves, and of the region itself if routes fill it.
 pub fn filled_law()
     ensures event { (w : ℕ) (R S T : Table) (p : List Bool) (b : Bool) (d : ℕ) → w ≡ length p + suc d → Alike w R T →
         SameBut p R S → FilledGive d (side b (answers S p)) (half b (cut p S)) (half b (cut p T))
@@ -79,8 +80,7 @@ pub fn filled_law()
         fills d S ≡ true → GivesAnswers d f T h }
 {}
 
-/// Whether what a region inherits is nothing to any of its addresses, or is what one gets, tells whether they are all within
-/// entries.
+/// Entries fill a region if what it inherits reaches none of its addresses, and don't if it reaches one.
 pub fn fills_law()
     ensures all { (d : ℕ) (T : Table) → ((a : List Bool) → length a ≡ d → (g h : ℕ) → lpm T a g ≡ lpm T a h) → fills d T ≡ true }
     ensures some { (d : ℕ) (T : Table) (a : List Bool) → length a ≡ d → ((h : ℕ) → lpm T a h ≡ h) → fills d T ≡ false }
