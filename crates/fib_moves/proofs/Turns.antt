@@ -35,7 +35,7 @@ use Rattle.moves_cert.specs.Rows.{near_in}
 use Rattle.moves_cert.proofs.Whole.{near_entries}
 use Rattle.moves_cert.proofs.Regions.{inner_alike}
 use Rattle.moves_event.specs.Way.{AlikeBeside, turn, event_set, turn_entry, event_hop}
-use Rattle.moves_event.proofs.Event.{event_off, event_turn, event_within, turn_on}
+use Rattle.moves_event.proofs.Event.{event_off, event_turn, event_within, turn_on, same_or}
 use Rattle.fib_addr.proofs.Parts.{length_prefix}
 use Rattle.std.proofs.lemmas.Bool.{cases_lt}
 use Rattle.fib_moves.specs.declared.way.Turn.{Turn}
@@ -73,29 +73,6 @@ not_within p q (e ∷ L) n = other q (p ++ e.prefix) e.hop (lift p L) (λ x. apa
 none_more : (r : List Bool) → r ++ [] ≡ r
 none_more [] = refl
 none_more (b ∷ r) = ap (λ x. b ∷ x) (none_more r)
-
-same_or : (q r : List Bool) → (q ≡ r) ⊎ (q ≢ r)
-same_or [] [] = inl refl
-same_or [] (b ∷ r) = inr (λ e. cc)
-same_or (b ∷ q) [] = inr (λ e. cc)
-same_or (true ∷ q) (true ∷ r) = elim (same_or q r) [
-  | inl e ↦ inl (ap (λ x. true ∷ x) e)
-  | inr n ↦ inr (λ e. n (ap tail e))
-]
-  where
-    tail : List Bool → List Bool
-    tail [] = []
-    tail (b ∷ x) = x
-same_or (false ∷ q) (false ∷ r) = elim (same_or q r) [
-  | inl e ↦ inl (ap (λ x. false ∷ x) e)
-  | inr n ↦ inr (λ e. n (ap tail e))
-]
-  where
-    tail : List Bool → List Bool
-    tail [] = []
-    tail (b ∷ x) = x
-same_or (true ∷ q) (false ∷ r) = inr (λ e. cc)
-same_or (false ∷ q) (true ∷ r) = inr (λ e. cc)
 
 -- ---- the two together
 

@@ -1,5 +1,5 @@
 -- The nearest table after one event.
-use Rattle.std.proofs.Common.{◌≡◌, ◌≢◌, ℕ, zero, suc, ◌-◌, ◌≤◌, List, [], ◌∷◌, ◌++◌, Bool, true, false, cond, length, refl, sym, ap, ◌∙◌, arith}
+use Rattle.std.proofs.Common.{◌≡◌, ◌≢◌, ◌⊎◌, inl, inr, ℕ, zero, suc, ◌-◌, ◌≤◌, List, [], ◌∷◌, ◌++◌, Bool, true, false, cond, length, drop, refl, sym, ap, ◌∙◌, arith}
 use Rattle.address_model.specs.Bits.{begins}
 use Rattle.table_model.specs.Table.{Table, IsTable, Alike, root, half, inherit, cut}
 use Rattle.least_model.specs.Regions.{entry_at, above, SameEntries, SameOutside}
@@ -101,6 +101,29 @@ event_mark w R T p l t y q n =
     event_off w R T p q l t y
     (not_true (begins p q) (λ e. never (begins (turn p w T) q) (begins_trans (turn p w T) p q (turn_on p w T) e) n))
     (λ e. never (begins (turn p w T) q) (ap (begins (turn p w T)) e ∙ begins_self (turn p w T)) n)
+
+-- two lists of bits are one or not
+pub same_or : (q r : List Bool) → (q ≡ r) ⊎ (q ≢ r)
+same_or [] [] = inl refl
+same_or [] (b ∷ r) = inr (λ e. cc)
+same_or (b ∷ q) [] = inr (λ e. cc)
+same_or (true ∷ q) (true ∷ r) = elim (same_or q r) [
+  | inl e ↦ inl (ap (λ x. true ∷ x) e)
+  | inr n ↦ inr (λ e. n (ap (drop 1) e))
+]
+same_or (false ∷ q) (false ∷ r) = elim (same_or q r) [
+  | inl e ↦ inl (ap (λ x. false ∷ x) e)
+  | inr n ↦ inr (λ e. n (ap (drop 1) e))
+]
+same_or (true ∷ q) (false ∷ r) = inr (λ e. cc)
+same_or (false ∷ q) (true ∷ r) = inr (λ e. cc)
+
+-- all changes are within p if the turn's entry stays
+pub event_kept : (w : ℕ) (R T : Table) (p : List Bool) → length p ≤ w → IsTable w T → AlikeBeside w p R T → entry_at (turn p w T) (nearest w R T) ≡ entry_at (turn p w T) T → SameOutside p (nearest w R T) T
+event_kept w R T p l t y k q n = elim (same_or q (turn p w T)) [
+  | inl x ↦ ap (λ r. entry_at r (nearest w R T)) x ∙ (k ∙ ap (λ r. entry_at r T) (sym x))
+  | inr x ↦ event_off w R T p q l t y n x
+]
 
 -- T alike to the routes before a change within p is alike to those after it beside p
 pub alike_beside : (w : ℕ) (R S T : Table) (p : List Bool) → Alike w R T → SameOutside p R S → AlikeBeside w p S T

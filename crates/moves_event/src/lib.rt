@@ -38,7 +38,8 @@ pub fn way_law()
 
 /// The nearest table to one that answers as R outside p differs from it within p and at the turn, and nowhere else. At the turn
 /// stands what the hops that p's entry may have make of the entry there; within p stands what the pass over p's region alone gives,
-/// under the hop that comes from the turn. So all changes are within the turn, and p is within it.
+/// under the hop that comes from the turn. So all changes are within the turn, and p is within it; and
+/// they are within p if the turn's entry stays.
 pub fn event_law()
     ensures off { (w : ℕ) (R T : Table) (p q : List Bool) → length p ≤ w → IsTable w T → AlikeBeside w p R T →
         begins p q ≡ false → q ≢ turn p w T → entry_at q (nearest w R T) ≡ entry_at q T }
@@ -49,6 +50,8 @@ pub fn event_law()
     ensures way { (p : List Bool) (d : ℕ) (T : Table) → begins (turn p d T) p ≡ true }
     ensures mark { (w : ℕ) (R T : Table) (p : List Bool) → length p ≤ w → IsTable w T → AlikeBeside w p R T →
         SameOutside (turn p w T) (nearest w R T) T }
+    ensures kept { (w : ℕ) (R T : Table) (p : List Bool) → length p ≤ w → IsTable w T → AlikeBeside w p R T →
+        entry_at (turn p w T) (nearest w R T) ≡ entry_at (turn p w T) T → SameOutside p (nearest w R T) T }
 {}
 
 /// A table that answered as the routes before these changed within p answers as they do outside p. If they changed at p alone, it
