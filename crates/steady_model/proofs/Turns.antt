@@ -43,7 +43,7 @@ all_append P (c ∷ cs) ds a b = (a.0, all_append P cs ds a.1 b)
 
 -- ---- they are in turn
 
-have_turn : (n : ℕ) (cs : List Change) → AllByRecursion (λ c. turn_of c ≡ n) (in_turn n cs)
+pub have_turn : (n : ℕ) (cs : List Change) → AllByRecursion (λ c. turn_of c ≡ n) (in_turn n cs)
 have_turn n [] = tt
 have_turn n (c ∷ cs) = by_test (nat_eq (turn_of c) n) refl (have_turn n cs)
   where
@@ -55,7 +55,7 @@ all_weaker : (P Q : Change → Type 0) (cs : List Change) → ((c : Change) → 
 all_weaker P Q [] h a = tt
 all_weaker P Q (c ∷ cs) h a = (h c a.0, all_weaker P Q cs h a.1)
 
-not_before : (k n : ℕ) (cs : List Change) → AllByRecursion (λ c. n ≤ turn_of c) (in_turns k n cs)
+pub not_before : (k n : ℕ) (cs : List Change) → AllByRecursion (λ c. n ≤ turn_of c) (in_turns k n cs)
 unfolding in_turns
 not_before zero n cs = tt
 not_before (suc k) n cs =

@@ -9,13 +9,14 @@
 
 ghost use Rattle.std.specs.Prelude.{◌≡◌, ◌++◌, List, Some, map};
 ghost use Rattle.std.specs.List.{AllByRecursion};
-ghost use Rattle.std.specs.List.Sorted.{IsPermutation};
+ghost use Rattle.std.specs.List.Sorted.{IsPermutation, IsSorted, IsStrictlySortedBy};
 ghost use Rattle.address_model.specs.Address.{IsPrefix};
+ghost use Rattle.address_model.specs.Order.{prefix_cmp};
 ghost use Rattle.table_model.specs.Entries.{Entries, AlikeInBoth, in_order};
 ghost use Rattle.table_model.specs.Changes.{Change, after_changes};
 ghost use Rattle.delta_model.specs.Between.{AreEntries, place_of, between};
 ghost use Rattle.steady_model.specs.Steady.{in_steady_order, LeadSteadily};
-ghost use Rattle.steady_model.specs.Turns.{AreInTurn};
+ghost use Rattle.steady_model.specs.Turns.{AreInTurn, steady_cmp};
 
 /// The changes between two tables, in steady order, lead steadily from the first to the second.
 pub fn steady_law()
@@ -29,6 +30,13 @@ pub fn order_law()
         IsPermutation cs (in_steady_order cs) }
     ensures turns { (cs : List Change) → AllByRecursion IsPrefix (map place_of cs) →
         AreInTurn (in_steady_order cs) }
+{}
+
+/// Changes in the order of prefixes have one list in steady order: the one that is sorted by turns, and then by prefixes.
+pub fn sorted_law()
+    ensures { (cs ds : List Change) → IsStrictlySortedBy prefix_cmp (map place_of cs) →
+        AllByRecursion IsPrefix (map place_of cs) → IsPermutation cs ds →
+        IsSorted steady_cmp ds → ds ≡ in_steady_order cs }
 {}
 
 /// If both tables answer alike, no answer changes on the way.
