@@ -22,8 +22,8 @@ use Rattle.steady_model.specs.Turns.{all_turns, turn_of, steady_cmp}
 use Rattle.steady_model.proofs.Turns.{ArePlaced, in_turn, in_turns, all_filter, all_append, have_turn, not_before, by_turns, steady_same}
 use Rattle.steady_model.proofs.Goes.{places_are}
 
-total : IsTotalOrder steady_cmp
-total = then_total (on_total turn_of nat_cmp_total) (on_total place_of prefix_key.total)
+pub steady_total : IsTotalOrder steady_cmp
+steady_total = then_total (on_total turn_of nat_cmp_total) (on_total place_of prefix_key.total)
 
 -- each comes before those behind it
 abbrev Rise : List Change → Type 0
@@ -31,7 +31,7 @@ Rise [] = Unit {0}
 Rise (c ∷ cs) = AllByRecursion (λ d. steady_cmp c d ≡ Less) cs × Rise cs
 
 never_both : (c d : Change) → steady_cmp c d ≡ Less → steady_cmp d c ≡ Less → ⊥
-never_both c d h k = let e : steady_cmp c d ≡ ordering_reverse Less = total.antisymm c d ∙ ap ordering_reverse k in let z : Less ≡ Greater = sym h ∙ e in absurd cc
+never_both c d h k = let e : steady_cmp c d ≡ ordering_reverse Less = steady_total.antisymm c d ∙ ap ordering_reverse k in let z : Less ≡ Greater = sym h ∙ e in absurd cc
 
 never_itself : (c : Change) → steady_cmp c c ≡ Less → ⊥
 never_itself c h = never_both c c h h
@@ -174,7 +174,7 @@ all_less c (d ∷ ds) x a n s = (by_order (steady_cmp c d) refl, all_less c ds x
         let h : hits (place_of c) d ≡ 1 = ap (λ q. hits q d) p ∙ next_hit d in
         absurd (omega (arith, n, h, sum_by-cons (hits (place_of c)) d ds))
     by_order Greater e =
-        let b : steady_cmp d c ≡ Less = total.antisymm d c ∙ ap ordering_reverse e in
+        let b : steady_cmp d c ≡ Less = steady_total.antisymm d c ∙ ap ordering_reverse e in
         let z : true ≡ false = sym (ap is_lt b) ∙ s.0 in
         absurd cc
 
@@ -207,7 +207,7 @@ module _ {X : Type 0} (f : X → Change) where
       let q : IsPermutation cs ds = IsPermutation-map f xs ys p in
       let placed : ArePlaced cs = places_are cs a in
       let once : (r : Prefix) → sum_by (hits r) ds ≤ 1 = λ r. let e : sum_by (hits r) ds ≡ sum_by (hits r) cs = sum_by-IsPermutation (hits r) cs ds q in omega (arith, e, hit_once r cs (in_places cs s)) in
-      let rise : Rise ds = sorted_rise ds (all_placed cs ds q placed) once (sorted_from ys (λ i j d l u. sorted_far (λ x y. is_lt (steady_cmp (f x) (f y))) (ranks_by total f) ys up i j d l u)) in
+      let rise : Rise ds = sorted_rise ds (all_placed cs ds q placed) once (sorted_from ys (λ i j d l u. sorted_far (λ x y. is_lt (steady_cmp (f x) (f y))) (ranks_by steady_total f) ys up i j d l u)) in
       let r : IsPermutation cs (in_steady_order cs) = steady_same cs placed in
       one_list ds (in_steady_order cs) rise (steady_rises cs (in_places cs s) placed) (same_members ds (in_steady_order cs) (IsPermutation-trans _ _ _ (IsPermutation-sym cs ds q) r)) (same_members (in_steady_order cs) ds (IsPermutation-trans _ _ _ (IsPermutation-sym cs (in_steady_order cs) r) q))
 
