@@ -4,9 +4,10 @@ ghost use Rattle.std.specs.Prelude.{◌≡◌, ◌≤◌, ◌++◌, List, length
 ghost use Rattle.std.specs.List.Sorted.{IsPermutation, IsStrictlySortedBy};
 ghost use Rattle.std.specs.Map.{keys_of};
 ghost use Rattle.address_model.specs.Order.{prefix_cmp};
+ghost use Rattle.table_model.specs.Entries.{Entries, in_order};
 ghost use Rattle.table_model.specs.Changes.{Change as model_change, additions};
-ghost use Rattle.delta_model.specs.Between.{place_of};
-ghost use Rattle.steady_model.specs.Steady.{in_steady_order};
+ghost use Rattle.delta_model.specs.Between.{AreEntries, between, place_of};
+ghost use Rattle.steady_model.specs.Steady.{LeadSteadily, in_steady_order};
 ghost use Rattle.fib_addr.specs.Views.{entry_as};
 ghost use Rattle.fib_delta.specs.Views.{change_as};
 
@@ -14,11 +15,15 @@ use crate::turns::{compare, compare_added};
 use fib_addr::Entry;
 use fib_delta::Change;
 
-/// Puts changes that stand in the order of prefixes, one at each prefix at most, in steady order. It takes no memory.
+/// Puts changes that stand in the order of prefixes, one at each prefix at most, in steady order. Those between two tables lead
+/// from the first to the second then without sending a packet astray. It takes no memory.
 pub fn put_in_steady_order(changes: &mut [Change])
     ensures same { IsPermutation changes.old changes.new }
     ensures steady { IsStrictlySortedBy prefix_cmp (map place_of (map change_as changes.old))
         → map change_as changes.new ≡ in_steady_order (map change_as changes.old) }
+    ensures leads { (T U : Entries) → AreEntries T → AreEntries U →
+        map change_as changes.old ≡ between T U →
+        LeadSteadily (map change_as changes.new) (in_order T) (in_order U) }
 {
     changes.sort_unstable_by(|a, b| compare(a, b));
 }

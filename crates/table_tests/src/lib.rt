@@ -14,4 +14,6 @@ mod least;
 #[cfg(test)]
 mod sets;
 #[cfg(test)]
+mod steady;
+#[cfg(test)]
 mod tree;
