@@ -12,7 +12,7 @@ use Rattle.address_model.specs.declared.family.Family.TheVariants.{V4, V6}
 use Rattle.table_model.specs.Changes.{Change, Add, Replace, Remove}
 use Rattle.delta_model.specs.Between.{place_of}
 use Rattle.steady_model.specs.Steady.{sets, removes, longest_first, shortest_first, steady_of, in_steady_order}
-use Rattle.steady_model.specs.Turns.{first_turn, all_turns, set_turn, remove_turn, turn_of, AreInTurn}
+use Rattle.steady_model.specs.Turns.{first_turn, set_turn, remove_turn, turn_of, AreInTurn}
 
 -- the changes whose turn is the n-th, as they stand
 abbrev pub in_turn : ℕ → List Change → List Change
@@ -22,6 +22,10 @@ in_turn n cs = filter (λ c. nat_eq (turn_of c) n) cs
 unfoldable pub in_turns : ℕ → ℕ → List Change → List Change
 in_turns zero n cs = []
 in_turns (suc k) n cs = in_turn n cs ++ in_turns k (n + 1) cs
+
+-- IPv4's 66 turns and IPv6's 258
+abbrev pub all_turns : ℕ
+all_turns = 324
 
 -- each is at a prefix
 abbrev pub ArePlaced : List Change → Type 0

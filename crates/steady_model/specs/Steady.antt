@@ -27,12 +27,12 @@ removes f n (Add p h) = false
 removes f n (Replace p h) = false
 removes f n (Remove p) = has_length f n p
 
--- of these tests, one for each length, what passes them from n bits down to none, that of one length as it stands
+-- what passes the test of each length, from n bits down to none; what is of one length as it stands
 abbrev pub longest_first : (ℕ → Change → Bool) → ℕ → List Change → List Change
 longest_first test zero cs = filter (test 0) cs
 longest_first test (suc n) cs = filter (test (suc n)) cs ++ longest_first test n cs
 
--- the same from no bits up to n
+-- the same from none up to n bits
 abbrev pub shortest_first : (ℕ → Change → Bool) → ℕ → List Change → List Change
 shortest_first test zero cs = filter (test 0) cs
 shortest_first test (suc n) cs = shortest_first test n cs ++ filter (test (suc n)) cs

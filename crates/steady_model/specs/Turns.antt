@@ -15,9 +15,6 @@ abbrev pub first_turn : Family → ℕ
 first_turn V4 = 0
 first_turn V6 = 66
 
-abbrev pub all_turns : ℕ
-all_turns = 324
-
 -- the turn of what sets an entry at a prefix of n bits, the longest first
 abbrev pub set_turn : Family → ℕ → ℕ
 set_turn f n = first_turn f + (width f - n)
@@ -26,6 +23,7 @@ set_turn f n = first_turn f + (width f - n)
 abbrev pub remove_turn : Family → ℕ → ℕ
 remove_turn f n = first_turn f + (width f + 1 + n)
 
+-- the turn of a change
 abbrev pub turn_of : Change → ℕ
 turn_of (Add p h) = set_turn p.family (length p.bits)
 turn_of (Replace p h) = set_turn p.family (length p.bits)
