@@ -1,0 +1,25 @@
+"""Rows of a text that `fib run` printed, for the scripts beside this file."""
+
+from common import Refused, opened_text
+
+KINDS = {"route", "invalid", "change", "answer", "visits", "table", "least", "cert", "report"}
+
+
+def take_rows(name, takes):
+    """Has a row of each kind taken as its fields by what `takes` has for the kind, and passes rows of other kinds over.
+
+    Where an IndexError or a ValueError comes of it, or there is no such kind, the line is no row.  The program writes nothing before all
+    was read and accepted, so a text with its last row is one of a run that ended well.
+    """
+    line = ""
+    for number, line in enumerate(opened_text(name), 1):
+        kind = line.split(",", 1)[0]
+        try:
+            if kind in takes:
+                takes[kind](line.rstrip("\n").split(","))
+            elif kind not in KINDS:
+                raise ValueError
+        except (IndexError, ValueError):
+            raise Refused(f"{name}: line {number} is no row that fib run prints") from None
+    if not line.startswith("report,treated,"):
+        raise Refused(f"{name}: the text is cut before its last row, report,treated")
