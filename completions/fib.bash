@@ -3,12 +3,22 @@
 _fib() {
     local word=${COMP_WORDS[COMP_CWORD]} before=${COMP_WORDS[COMP_CWORD - 1]} words=
     COMPREPLY=()
+    # Of --option=value bash makes three words.
+    [ "$word" = = ] && word=
+    [ "$before" = = ] && before=${COMP_WORDS[COMP_CWORD - 2]}
+    case $before in
+    --every | --direct | --nodes | --leaves | --seed | make) return 0 ;; # a number follows
+    esac
     if [ "$COMP_CWORD" -eq 1 ]; then
-        words="run check make steps"
+        words="run check same save make steps"
+    elif [ "$before" = --rows ]; then
+        words="route table least"
     elif [[ $word == -* && $before != --* ]]; then
         # An option may be given once.
         local option options=
-        [[ ${COMP_WORDS[1]} == run ]] && options="--updates --ask --every --direct --nodes --leaves"
+        [[ ${COMP_WORDS[1]} == run ]] && options="--updates --ask --vrps --every --direct --nodes --leaves"
+        [[ ${COMP_WORDS[1]} == same ]] && options="--rows"
+        [[ ${COMP_WORDS[1]} == save ]] && options="--updates"
         [[ ${COMP_WORDS[1]} == make ]] && options="--seed"
         [[ ${COMP_WORDS[1]} == steps ]] && options="--direct --nodes --leaves"
         for option in $options; do
