@@ -156,7 +156,7 @@ def labelled(lengths, places, width):
     """The lengths whose numbers there is room for: first those of eight, then of four, then the others."""
     found = []
     for length in sorted(lengths, key=lambda length: (length % 8 != 0, length % 4 != 0, length)):
-        if all(abs(places[length] - places[other]) * width > LETTER * 3.4 for other in found):
+        if all(abs(places[length] - places[other]) * width > LETTER * 4 for other in found):
             found.append(length)
     return found
 
