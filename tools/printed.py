@@ -8,7 +8,7 @@ KINDS = {"route", "invalid", "change", "answer", "visits", "table", "least", "ce
 def take_rows(name, takes):
     """Has a row of each kind taken as its fields by what `takes` has for the kind, and passes rows of other kinds over.
 
-    Where an IndexError or a ValueError comes of it, or there is no such kind, the line is no row.  The program writes nothing before all
+    If an IndexError or a ValueError comes of it, or there is no such kind, the line is no row.  The program writes nothing before all
     was read and accepted, so a text with its last row is one of a run that ended well.
     """
     line = ""

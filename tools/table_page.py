@@ -3,12 +3,12 @@
 
 Usage:  table_page.py FOLDER [--every K] PRINTED..
 
-Each PRINTED is a text that `fib run` printed, called NAME.txt, also where bzip2, gzip, xz or zstd has compressed it; a pipe will do.
+Each PRINTED is a text that `fib run` printed, called NAME.txt, also if bzip2, gzip, xz or zstd has compressed it; a pipe will do.
 FOLDER gets README.md, with a section for each, and its pictures (SVG): entries by prefix length of the routes and of the least
 table, in each family; the kept and the least table's size, of 100 routes, by family; of a run with updates their changes by event,
-and the entries of the kept table over time.  There the least table is drawn too where its size is known: at the load, at the end,
-and, where --every K says so of the texts behind it, at each event at which the run made the table least again.  Equal texts give
-equal pages.  Where a text can't be read nothing is written.
+and the entries of the kept table over time.  There the least table is drawn too so far as its size is known: at the load, at the
+end, and, if --every K says so of the texts behind it, at each event at which the run made the table least again.  Equal texts give
+equal pages.  If a text can't be read nothing is written.
 """
 
 import collections
@@ -76,7 +76,7 @@ class Printed:
 
 
 class Picture:
-    """An SVG picture with a title, a legend and two named axes; what goes up begins at a round number, 0 where no other is given."""
+    """An SVG picture with a title, a legend and two named axes; what goes up begins at a round number, 0 if no other is given."""
 
     def __init__(self, title, across, up, most, least=0):
         step = round_step(most - least, 5)
@@ -142,7 +142,7 @@ def round_step(most, count):
 
 
 def places_of(lengths):
-    """Each length's place, in bars: lengths that nothing has leave a gap, of a few bars where they are many."""
+    """Each length's place, in bars: lengths that nothing has leave a gap, of a few bars if they are many."""
     places = {}
     at = 0
     for before, length in zip([lengths[0] - 1] + lengths, lengths):
@@ -223,7 +223,7 @@ def changes_picture(printed, path):
 
 
 def entries_picture(printed, path):
-    """The kept table's entries over the events, and the least table's where the text tells it."""
+    """The kept table's entries over the events, and the least table's so far as the text says it."""
     sizes = printed.sizes()
     last = max(sizes)
     least = {0: printed.load, last: sum(printed.entries("least", family) for family in (4, 6))}
