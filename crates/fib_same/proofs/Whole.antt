@@ -91,7 +91,7 @@ answer_is t (Some x) f =
 
 ends : (content : Content) (kind : Kind) (first : List ℕ) (rest : List (List ℕ)) (t : Compared) (answer : Option Difference) → IsDueIfTold (same_at content kind first rest) (Ok t) → option_map difference_as answer ≡ answer_of t
     → EndsCompared (same_at content kind first rest) answer
-ends content kind first rest t answer told is = (t, told, (least_difference t.first t.others, all_found t.first t.others, is))
+ends content kind first rest t answer told is = (t, told, (all_found t.first t.others, is))
 
 -- ---- what was found of all texts
 

@@ -111,9 +111,9 @@ told_of t x = record {
 abbrev pub answer_of : Compared → Option TextDifference
 answer_of t = option_map (told_of t) (least_difference t.first t.others)
 
--- the answer is what comparing these tables comes to
+-- The least difference is what comparing these tables comes to, and the answer tells it.
 abbrev pub Answers : Compared → Option TextDifference → Type 0
-Answers t answer = (x : Option Difference) × ComesTo t.first t.others x × (answer ≡ option_map (told_of t) x)
+Answers t answer = ComesTo t.first t.others (least_difference t.first t.others) × (answer ≡ answer_of t)
 
 -- the answer that is due
 abbrev pub answer_at : (List ℕ → Option (List ℕ)) → Kind → List ℕ → List (List ℕ) → Result (Option TextDifference) Stop

@@ -1,5 +1,5 @@
 -- A checkpoint of inputs, why there is none, and which reads are made for it.
-use Rattle.std.specs.Prelude.{◌≡◌, List, [], ◌∷◌, ◌++◌, ℕ, Option, Some, option_to_list, Result, Ok, Err, IfSome}
+use Rattle.std.specs.Prelude.{◌≡◌, List, [], ◌∷◌, ◌++◌, ℕ, Option, Some, option_to_list, Result, Ok, Err, IfSome, OnOk}
 use Rattle.std.specs.declared.vec.Vec.{Vec}
 use Rattle.route_model.specs.Events.{Event}
 use Rattle.route_model.specs.Choice.{Candidates}
@@ -11,12 +11,13 @@ use Rattle.whole_input.specs.declared.whole.WholeError.TheVariants as whole
 use Rattle.mrt_write.specs.Answers.{WriterAnswers}
 use Rattle.mrt_write.specs.declared.write.WriteError.{WriteError}
 use Rattle.fib_save.specs.Brings.{Brings}
+use Rattle.fib_save.specs.Restores.{Restores}
 use Rattle.fib_save.specs.declared.save.SaveError.{SaveError}
 use Rattle.fib_save.specs.declared.save.SaveError.TheVariants.{Dump, Updates, Unwritten}
 
--- what a writer of checkpoints answers to the candidates that the inputs bring
+-- what a writer of checkpoints answers to the candidates that the inputs bring; the checkpoint restores them
 abbrev pub Written : {A : Type 0} → (List ℕ → Option (List ℕ)) → List ℕ → Option (List ℕ) → Result (Vec ℕ A) WriteError → Type 0
-Written content dump updates result = (held : Candidates) × Brings content dump updates held × WriterAnswers held result
+Written content dump updates result = (held : Candidates) × (brings : Brings content dump updates held) × WriterAnswers held result × OnOk result (Restores (brings.load ++ brings.later))
 
 -- why the updates aren't read to their end: the dump is, and theirs is the refusal
 abbrev pub UpdatesRefused : (List ℕ → Option (List ℕ)) → List ℕ → Option (List ℕ) → WholeError → Type 0

@@ -1,6 +1,9 @@
 //! Checkpoints of inputs.
 
-ghost use Rattle.std.specs.Prelude.{◌≡◌, option_map, IfErr, IfOk};
+ghost use Rattle.std.specs.Prelude.{◌≡◌, option_map, IfErr, IfOk, OnOk};
+ghost use Rattle.std.specs.List.{AllByRecursion};
+ghost use Rattle.fib_prefix.specs.Views.{IsOfOctets};
+ghost use Rattle.route_model.specs.Choice.{AreCandidates};
 ghost use Rattle.fib_io.specs.Reads.{Makes};
 ghost use Rattle.mrt_write.specs.Answers.{WriterAnswers};
 ghost use Rattle.fib_save.specs.Brings.{Brings};
@@ -64,7 +67,9 @@ const TOO_MANY: usize = 1 << 60;
 
 /// The checkpoint of candidates.
 fn checkpoint(alloc: Global, candidates: &Candidates) -> Result<Vec<u8>, WriteError>
-    ensures { WriterAnswers candidates.now.candidates result }
+    ensures written { WriterAnswers candidates.now.candidates result }
+    ensures octets { OnOk result (AllByRecursion IsOfOctets candidates.now.candidates) }
+    ensures held { AreCandidates candidates.now.candidates }
 {
     let list = candidates.all()?;
     let cands: &[Cand] = &list;
