@@ -11,7 +11,8 @@ use Rattle.fib_main.specs.Due.{due}
 use Rattle.fib_main.specs.Ends.{Completes, Meets, OneRose, reads, ReadsFrom, status_of, TellsOf, text_due, Writes, WritesBy}
 use Rattle.fib_main.specs.Owned.{IsOf}
 use Rattle.fib_main.specs.Passes.{ReadsAt}
-use Rattle.fib_main.specs.Proves.{AddsFrontOfYes, AddsYes, IfRan, IsRun, PrintsYes}
+use Rattle.fib_save.specs.Restores.{Restores}
+use Rattle.fib_main.specs.Proves.{AddsCheckpoint, AddsFrontOfYes, AddsYes, IfRan, IfSaved, IsRun, IsSaving, PrintsYes}
 use Rattle.fib_main.specs.Stepped.{FitsSteps}
 use Rattle.fib_main.specs.Untold.{FitsSome}
 
@@ -40,7 +41,7 @@ moment content read_faults made out out_faults err err_faults = record {
   reads = made;
 }
 
--- All that the top call says of these words, between two moments. The outcome is the due one, but for faults and want of memory, and it is one of these words. Faults have their causes, and where a count rose the outcome says so; where none did, the due outcome comes or memory ran out. The inputs that the words name are read one after another, each in order. No content changes, output has the text due, and standard error has the outcome's line. At Done of a run the output has a text more to which a check says yes.
+-- All that the top call says of these words, between two moments. The outcome is the due one, but for faults and want of memory, and it is one of these words. Faults have their causes, and where a count rose the outcome says so; where none did, the due outcome comes or memory ran out. The inputs that the words name are read one after another, each in order. No content changes, output has the text due, and standard error has the outcome's line. At Done of a run the output has a text more to which a check says yes, and at Done of a checkpoint one more, which restores what was said.
 pub record Ends (words : List (List ℕ)) (old new : Moment) (outcome : Outcome) : Type 0 where
   pub exact : Meets (due words old.content) outcome
   pub own : IsOf (command_of words) outcome
@@ -57,6 +58,8 @@ pub record Ends (words : List (List ℕ)) (old new : Moment) (outcome : Outcome)
   pub printed : outcome ≡ Done → IsRun (command_of words) → AddsYes old.out new.out
   pub front : outcome ≡ WriteFault → IsRun (command_of words) → AddsFrontOfYes old.out new.out
   pub due_yes : outcome ≡ Done → IfRan (due words old.content) PrintsYes
+  pub saves : outcome ≡ Done → IsSaving (command_of words) → AddsCheckpoint old.out new.out
+  pub due_saves : outcome ≡ Done → IfSaved (due words old.content) Restores
   pub reads : Makes old.reads new.reads (ReadsAt old.content (command_of words) outcome)
 
 -- So it ends of a command line: with this outcome of some words, which are those of the command line, where it tells them.

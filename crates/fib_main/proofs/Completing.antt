@@ -2,7 +2,7 @@
 use Rattle.std.proofs.Common.{ℕ, List, Result, inl, inr, refl}
 use Rattle.fib_io.specs.Causes.{Rose}
 use Rattle.fib_main.specs.declared.outcome.Outcome.{Outcome}
-use Rattle.fib_main.specs.declared.outcome.Outcome.TheVariants.{Done, CheckNo, Usage, ReadFault, WriteFault, NoMemory, TooLarge, Malformed, HopsFull, TrieFull, BadLine}
+use Rattle.fib_main.specs.declared.outcome.Outcome.TheVariants.{Done, CheckNo, Differ, Usage, ReadFault, WriteFault, NoMemory, TooLarge, Malformed, HopsFull, TrieFull, BadLine, PeersFull, PathTooLong}
 use Rattle.fib_main.specs.Stops.{Stop}
 use Rattle.fib_main.specs.Due.{Output}
 use Rattle.fib_main.specs.Ends.{Meets, ReadsBy, WritesBy, Completes}
@@ -14,6 +14,9 @@ completes d f before now b n WriteFault m r w = λ nr nw. absurd (nw w)
 completes d f before now b n NoMemory m r w = λ nr nw. inr refl
 completes d f before now b n Done m r w = λ nr nw. inl m
 completes d f before now b n (CheckNo x) m r w = λ nr nw. inl m
+completes d f before now b n (Differ x) m r w = λ nr nw. inl m
+completes d f before now b n (PeersFull peers) m r w = λ nr nw. inl m
+completes d f before now b n (PathTooLong p k) m r w = λ nr nw. inl m
 completes d f before now b n Usage m r w = λ nr nw. inl m
 completes d f before now b n (TooLarge input) m r w = λ nr nw. inl m
 completes d f before now b n (Malformed input number rule) m r w = λ nr nw. inl m

@@ -2,14 +2,14 @@
 use Rattle.std.proofs.Common.{◌≡◌, ℕ, false, List, [], ◌++◌, map, Option, Some, None, Result, Ok, Err, inr, refl, sym, ap, ◌∙◌, subst, append-nil, arith}
 use Rattle.std.specs.Prelude.{option_to_list}
 use Rattle.octet_fields.specs.Field.{◌>>=◌}
-use Rattle.address_model.specs.Address.{Address}
+use Rattle.address_model.specs.Address.{Address, Prefix}
 use Rattle.table_model.specs.Changes.{additions}
 use Rattle.fib_words.specs.Commands.{Named}
 use Rattle.fib_main.specs.declared.outcome.Outcome.{Outcome}
-use Rattle.fib_main.specs.declared.outcome.Outcome.TheVariants.{Done, CheckNo, Usage, ReadFault, WriteFault, NoMemory, TooLarge, Malformed, HopsFull, TrieFull, BadLine}
+use Rattle.fib_main.specs.declared.outcome.Outcome.TheVariants.{Done, CheckNo, Differ, Usage, ReadFault, WriteFault, NoMemory, TooLarge, Malformed, HopsFull, TrieFull, BadLine, PeersFull, PathTooLong}
 use Rattle.fib_main.specs.declared.outcome.MrtInput.TheVariants.{Dump, Updates}
 use Rattle.fib_main.specs.declared.state.State.{State}
-use Rattle.fib_main.specs.Stops.{Stop, Untold, Refused, IsDueIfTold, FailsDue, outcome_at, with_room}
+use Rattle.fib_main.specs.Stops.{Stop, Untold, Refused, LongPath, IsDueIfTold, FailsDue, outcome_at, with_room}
 use Rattle.route_tries.specs.Sizes.{Shortage, Sizes, shortage, shortage_as}
 use Rattle.route_tries.specs.declared.sizes.TrieFull.{TrieFull as CodeFull}
 use Rattle.fib_main.specs.Refusals.{Limits, Short, routes_by, stop_at}
@@ -24,13 +24,16 @@ use Rattle.fib_main.specs.declared.outcome.Which.TheVariants as which
 use Rattle.fib_main.specs.declared.state.FeedError.{FeedError}
 use Rattle.fib_main.specs.declared.state.FeedError.TheVariants as feed
 use Rattle.feed_model.specs.Feed.{at_event, entries_of, hops_after}
-use Rattle.fib_addr.specs.Views.{entry_as}
+use Rattle.fib_addr.specs.Views.{entry_as, prefix_as}
+
+long_not_ok : {X : Type 0} (p : Prefix) (n : ℕ) (x : X) → Err (LongPath p n) ≡ Ok x → ⊥
+long_not_ok p n x e = cc
 
 refused_not_ok : {X : Type 0} (o : Outcome) (x : X) → Err (Refused o) ≡ Ok x → ⊥
 refused_not_ok o x e = cc
 
-ok_not_refused : {X : Type 0} (x : X) (o : Outcome) → Ok x ≡ Err (Refused o) → ⊥
-ok_not_refused x o e = cc
+ok_not_stop : {X : Type 0} (x : X) (stop : Stop) → Ok x ≡ Err stop → ⊥
+ok_not_stop x stop e = cc
 
 abbrev fine : {X : Type 0} → X → Result X Stop
 fine x = Ok x
@@ -40,46 +43,52 @@ same_ok x y e = cc
 
 -- ---- one part after another
 
-is_then : {X Y : Type 0} (d : Result X Stop) (f : X → Result Y Stop) (x : X) (y : Y) → IsDueIfTold d (Ok x) → IsDueIfTold (f x) (Ok y) → IsDueIfTold (d >>= f) (Ok y)
+pub is_then : {X Y : Type 0} (d : Result X Stop) (f : X → Result Y Stop) (x : X) (y : Y) → IsDueIfTold d (Ok x) → IsDueIfTold (f x) (Ok y) → IsDueIfTold (d >>= f) (Ok y)
 is_then (Err Untold) f x y i j = tt
 is_then (Err (Refused o)) f x y i j = absurd (refused_not_ok o x i)
+is_then (Err (LongPath p n)) f x y i j = absurd (long_not_ok p n x i)
 is_then {Y = Y} (Ok z) f x y i j = subst (λ w. IsDueIfTold (f w) (fine y)) (sym (same_ok z x i)) j
 
 -- the refusal that is due, of whatever else was due
-pub retyped : (A B : Type 0) (stop : Stop) (o : Outcome) → IsDueIfTold {Y = A} (Err stop) (Err (Refused o)) → IsDueIfTold {Y = B} (Err stop) (Err (Refused o))
-retyped A B Untold o i = tt
-retyped A B (Refused p) o i = let same : p ≡ o = cc in ap (λ (q : Outcome). Err (Refused q)) same
+pub retyped : (A B : Type 0) (stop other : Stop) → IsDueIfTold {Y = A} (Err stop) (Err other) → IsDueIfTold {Y = B} (Err stop) (Err other)
+retyped A B Untold other i = tt
+retyped A B (Refused o) other i = let same : Refused o ≡ other = cc in ap (λ (s : Stop). Err s) same
+retyped A B (LongPath p n) other i = let same : LongPath p n ≡ other = cc in ap (λ (s : Stop). Err s) same
 
 -- an error that is due of one result is due of another where each refusal is
-pub fails_by : {A B : Type 0} (d : Result A Stop) (e : Result B Stop) → ((o : Outcome) → IsDueIfTold d (Err (Refused o)) → IsDueIfTold e (Err (Refused o))) → (o : Outcome) → FailsDue o d → FailsDue o e
+pub fails_by : {A B : Type 0} (d : Result A Stop) (e : Result B Stop) → ((stop : Stop) → IsDueIfTold d (Err stop) → IsDueIfTold e (Err stop)) → (o : Outcome) → FailsDue o d → FailsDue o e
 fails_by d e g Done f = absurd f
 fails_by d e g (CheckNo x) f = absurd f
+fails_by d e g (Differ x) f = absurd f
 fails_by d e g WriteFault f = absurd f
 fails_by d e g NoMemory f = tt
 fails_by d e g ReadFault f = tt
-fails_by d e g Usage f = g Usage f
-fails_by d e g (TooLarge input) f = g (TooLarge input) f
-fails_by d e g (Malformed input number rule) f = g (Malformed input number rule) f
-fails_by d e g (HopsFull event) f = g (HopsFull event) f
-fails_by d e g (TrieFull event need have arena) f = g (TrieFull event need have arena) f
-fails_by d e g (BadLine input line why) f = g (BadLine input line why) f
+fails_by d e g Usage f = g (Refused Usage) f
+fails_by d e g (TooLarge input) f = g (Refused (TooLarge input)) f
+fails_by d e g (Malformed input number rule) f = g (Refused (Malformed input number rule)) f
+fails_by d e g (HopsFull event) f = g (Refused (HopsFull event)) f
+fails_by d e g (TrieFull event need have arena) f = g (Refused (TrieFull event need have arena)) f
+fails_by d e g (BadLine input line why) f = g (Refused (BadLine input line why)) f
+fails_by d e g (PeersFull peers) f = g (Refused (PeersFull peers)) f
+fails_by d e g (PathTooLong p n) f = g (LongPath (prefix_as p) n) f
 
 fails_untold : {X : Type 0} (Y : Type 0) (o : Outcome) (d : Result X Stop) → FailsDue o d → FailsDue {Y = Y} o (Err Untold)
 fails_untold Y o d f = fails_by d (Err Untold) (λ p i. tt) o f
 
-fails_then : {X Y : Type 0} (o : Outcome) (d : Result X Stop) (f : X → Result Y Stop) (x : X) → IsDueIfTold d (Ok x) → FailsDue o (f x) → FailsDue o (d >>= f)
+pub fails_then : {X Y : Type 0} (o : Outcome) (d : Result X Stop) (f : X → Result Y Stop) (x : X) → IsDueIfTold d (Ok x) → FailsDue o (f x) → FailsDue o (d >>= f)
 fails_then {Y = Y} o (Err Untold) f x i j = fails_untold Y o (f x) j
 fails_then o (Err (Refused p)) f x i j = absurd (refused_not_ok p x i)
+fails_then o (Err (LongPath p n)) f x i j = absurd (long_not_ok p n x i)
 fails_then o (Ok z) f x i j = subst (λ w. FailsDue o (f w)) (sym (same_ok z x i)) j
 
 abbrev stopped : {X : Type 0} → Outcome → Result X Stop
 stopped o = Err (Refused o)
 
-is_first : {X Y : Type 0} (o : Outcome) (d : Result X Stop) (f : X → Result Y Stop) → IsDueIfTold d (Err (Refused o)) → IsDueIfTold (d >>= f) (Err (Refused o))
-is_first {X = X} {Y = Y} o (Err stop) f i = retyped X Y stop o i
-is_first o (Ok z) f i = absurd (ok_not_refused z o i)
+pub is_first : {X Y : Type 0} (other : Stop) (d : Result X Stop) (f : X → Result Y Stop) → IsDueIfTold d (Err other) → IsDueIfTold (d >>= f) (Err other)
+is_first {X = X} {Y = Y} other (Err stop) f i = retyped X Y stop other i
+is_first other (Ok z) f i = absurd (ok_not_stop z other i)
 
-fails_first : {X Y : Type 0} (o : Outcome) (d : Result X Stop) (f : X → Result Y Stop) → FailsDue o d → FailsDue o (d >>= f)
+pub fails_first : {X Y : Type 0} (o : Outcome) (d : Result X Stop) (f : X → Result Y Stop) → FailsDue o d → FailsDue o (d >>= f)
 fails_first o d f j = fails_by d (d >>= f) (λ p i. is_first p d f i) o j
 
 -- ---- the dump, and then the updates
@@ -166,12 +175,16 @@ all_due content named asks view feeds y i e =
 pub after_is : {X : Type 0} (d : Result X Stop) (x : X) (names : List (List ℕ)) → IsDueIfTold d (Ok x) → after d names ≡ names
 after_is (Err Untold) x names i = refl
 after_is (Err (Refused o)) x names i = absurd (refused_not_ok o x i)
+after_is (Err (LongPath p n)) x names i = absurd (long_not_ok p n x i)
 after_is (Ok y) x names i = refl
 
 pub reads_more : (cause more : Type 0) (before now : List ℕ → ℕ) (o : Outcome) → (cause → more) → ReadsBy cause before now o → ReadsBy more before now o
 reads_more cause more before now ReadFault f r = f r
 reads_more cause more before now Done f r = r
 reads_more cause more before now (CheckNo x) f r = r
+reads_more cause more before now (Differ x) f r = r
+reads_more cause more before now (PeersFull peers) f r = r
+reads_more cause more before now (PathTooLong p n) f r = r
 reads_more cause more before now WriteFault f r = r
 reads_more cause more before now NoMemory f r = r
 reads_more cause more before now Usage f r = r

@@ -8,7 +8,7 @@ use Rattle.cert_model.specs.Verdict.{RowFits}
 use Rattle.fib_addr.specs.Text.{prefix_in}
 use Rattle.fib_addr.proofs.PrefixLaws.{read_is_prefix}
 use Rattle.printed_model.specs.Rows.{PrintedRow}
-use Rattle.printed_model.specs.Reading.{or_why, bad_prefix, line_in, row_in, named_in, route_in, change_in, signed_in, answer_in, visits_in, cert_in, part_in, join_in, bound_in, report_in, entry_in, next_field, one_field, two_fields, prefix_field, address_field, number_field, hop_field, count_field, family_field}
+use Rattle.printed_model.specs.Reading.{or_why, bad_prefix, line_in, row_in, named_in, route_in, change_in, signed_in, answer_in, visits_in, cert_in, part_in, join_in, bound_in, report_in, entry_in, next_field, one_field, two_fields, prefix_field, address_field, number_field, hop_field, count_field, family_field, invalid_in, announced_fields, vrp_fields, announced_in, printed_vrp_in}
 use Rattle.printed_model.specs.Texts.{BadLine, hops_in, line_texts, rows_in}
 use Rattle.printed_model.specs.Used.{Used, cert_part, printed_in, used_of}
 use Rattle.printed_model.specs.Whole.{is_filled}
@@ -108,17 +108,22 @@ report_fits : (fields : List (List ℕ)) → FitsIn (report_in fields)
 unfolding report_in
 report_fits fields = before (two_fields fields) _ (λ f e. before (count_field f.0) _ (λ count e. before (number_field f.1) _ (λ n e hops. tt)))
 
+invalid_fits : (fields : List (List ℕ)) → FitsIn (invalid_in fields)
+unfolding invalid_in
+invalid_fits fields = before (announced_fields fields) _ (λ a e. before (vrp_fields a.1) _ (λ v e. before (announced_in a.0) _ (λ x e. before (printed_vrp_in v) _ (λ y e hops. tt))))
+
 named_fits : (name : List ℕ) (fields : List (List ℕ)) → FitsIn (named_in name fields)
 unfolding named_in
 named_fits name fields =
     either (bytes_eq name (codes "route")) _ _ (route_fits fields)
+    (either (bytes_eq name (codes "invalid")) _ _ (invalid_fits fields)
     (either (bytes_eq name (codes "change")) _ _ (change_fits fields)
     (either (bytes_eq name (codes "answer")) _ _ (answer_fits fields)
     (either (bytes_eq name (codes "visits")) _ _ (visits_fits fields)
     (either (bytes_eq name (codes "table")) _ _ (before (entry_in (codes "drop") fields) _ (λ e is hops. tt))
     (either (bytes_eq name (codes "least")) _ _ (before (entry_in (codes "drop") fields) _ (λ e is hops. tt))
     (either (bytes_eq name (codes "cert")) _ _ (cert_fits fields)
-    (either (bytes_eq name (codes "report")) _ _ (report_fits fields) tt)))))))
+    (either (bytes_eq name (codes "report")) _ _ (report_fits fields) tt))))))))
 
 row_fits : (fields : List (List ℕ)) → FitsIn (row_in fields)
 unfolding row_in

@@ -10,7 +10,7 @@ use Rattle.fib_main.specs.declared.outcome.Which.TheVariants.{Dump, Updates, Scr
 use Rattle.fib_main.specs.Due.{Feed, load_at, sizes_of, steps_sizes}
 use Rattle.fib_main.specs.InTime.{AreTaken, FeedMayGoOn, TextMayGoOn, RunMayGoOn, StepsMayGoOn}
 use Rattle.fib_main.specs.Passes.{AllRead, Content, StopsReading, input_for}
-use Rattle.fib_main.specs.Stops.{IsDueIfTold, Refused, Stop, Untold}
+use Rattle.fib_main.specs.Stops.{IsDueIfTold, Refused, LongPath, Stop, Untold}
 use Rattle.fib_main.proofs.Passes.{Lets, all_lets, stopped_lets}
 
 -- ---- the dump
@@ -40,6 +40,7 @@ if_loaded : (d : Result Feed Stop) (load : Feed) (P : Feed → Type 0) → IsDue
 if_loaded (Ok x) load P is p = subst P (let same : x ≡ load = cc in sym same) p
 if_loaded (Err Untold) load P is p = tt
 if_loaded (Err (Refused o)) load P is p = tt
+if_loaded (Err (LongPath q n)) load P is p = tt
 
 update_lets : (content : Content) (named : Named) (load : Feed) → IsDueIfTold (load_at (sizes_of named) content named.dump) (Ok load) → (octets : List ℕ) → FeedMayGoOn (sizes_of named) mrt.Updates load.elems octets → RunMayGoOn content named Updates octets
 update_lets content named load is octets p = (p.whole, if_loaded (load_at (sizes_of named) content named.dump) load (λ l. AreTaken (sizes_of named) mrt.Updates l.elems octets) is p.taken)

@@ -26,3 +26,5 @@ pub mod Stepped
 pub mod Scripts
 pub mod Whole
 pub mod Judging
+pub mod Comparing
+pub mod Saving

@@ -12,9 +12,9 @@ use Rattle.made_model.specs.Files.{dump_octets, updates_octets}
 use Rattle.fib_report.specs.Rows.{report_text}
 use Rattle.fib_words.specs.Commands.{Named, Asked, Run, Make}
 use Rattle.fib_main.specs.declared.outcome.Outcome.{Outcome}
-use Rattle.fib_main.specs.declared.outcome.Outcome.TheVariants.{Done, CheckNo, Usage, ReadFault, WriteFault, NoMemory, TooLarge, Malformed, HopsFull, TrieFull, BadLine}
+use Rattle.fib_main.specs.declared.outcome.Outcome.TheVariants.{Done, CheckNo, Differ, Usage, ReadFault, WriteFault, NoMemory, TooLarge, Malformed, HopsFull, TrieFull, BadLine, PeersFull, PathTooLong}
 use Rattle.fib_main.specs.declared.outcome.Which.{Which}
-use Rattle.fib_main.specs.declared.outcome.Which.TheVariants.{Asks, Dump, Updates, Printed, Script}
+use Rattle.fib_main.specs.declared.outcome.Which.TheVariants.{Asks, Dump, Updates, Printed, Script, Text}
 use Rattle.fib_main.specs.Stops.{Stop, FailsDue, IsDueIfTold}
 use Rattle.fib_main.specs.Owned.{HasInput, StopsIn}
 use Rattle.fib_main.specs.Ends.{OneRose, ReadsBy}
@@ -78,6 +78,7 @@ made_stops routes seed o s = (s.0, input s.0 s.1, s.2)
     input Updates h = tt
     input Printed h = h
     input Script h = h
+    input (Text n) h = h
 
 -- inputs that can't fail have no fault
 none_rose : (names : List (List ℕ)) → OneRose names (λ n. 0) (λ n. 0) → ⊥
@@ -96,6 +97,9 @@ pub kept_reads : (cause : Type 0) (before now : List ℕ → ℕ) (o : Outcome) 
 kept_reads cause before now ReadFault same sure = absurd (sure refl)
 kept_reads cause before now Done same sure = same
 kept_reads cause before now (CheckNo x) same sure = same
+kept_reads cause before now (Differ x) same sure = same
+kept_reads cause before now (PeersFull peers) same sure = same
+kept_reads cause before now (PathTooLong p n) same sure = same
 kept_reads cause before now WriteFault same sure = same
 kept_reads cause before now NoMemory same sure = same
 kept_reads cause before now Usage same sure = same

@@ -1,7 +1,7 @@
 -- The reads of one call after another.
-use Rattle.std.specs.Prelude.{IfErr, IsErrAnd, IsErrOf, MatchResult}
+use Rattle.std.specs.Prelude.{IfErr, IsErrAnd, IsErrOf, MatchResult, option_map}
 use Rattle.std.proofs.lemmas.Result.{err_from_is_err_and}
-use Rattle.std.proofs.Common.{◌≡◌, ◌∙◌, ℕ, zero, suc, ◌≤◌, List, [], ◌∷◌, ◌++◌, Option, Some, None, Result, Ok, Err, refl, sym, ap, subst, append_assoc, append-nil, arith}
+use Rattle.std.proofs.Common.{◌≡◌, ◌∙◌, ℕ, zero, suc, ◌≤◌, List, [], ◌∷◌, ◌++◌, Option, Some, None, Result, Ok, Err, inl, inr, refl, sym, ap, subst, append_assoc, append-nil, arith}
 use Rattle.fib_io.specs.Reads.{Anywhere, AtEnd, Makes, Pass, PassEnd, PassInTime, Read}
 use Rattle.fib_io.specs.declared.pieces.ReadError.{ReadError}
 use Rattle.fib_io.specs.declared.pieces.ReadError.TheVariants as pieces
@@ -27,20 +27,22 @@ use Rattle.fib_main.specs.declared.asks.AskError.TheVariants as ask
 use Rattle.fib_main.specs.declared.outcome.MrtInput.{MrtInput}
 use Rattle.fib_main.specs.declared.outcome.MrtInput.TheVariants as mrt
 use Rattle.fib_main.specs.declared.outcome.Outcome.{Outcome}
-use Rattle.fib_main.specs.declared.outcome.Outcome.TheVariants.{Done, CheckNo, Usage, ReadFault, WriteFault, NoMemory, TooLarge, Malformed, HopsFull, TrieFull, BadLine}
+use Rattle.fib_main.specs.declared.outcome.Outcome.TheVariants.{Done, CheckNo, Differ, Usage, ReadFault, WriteFault, NoMemory, TooLarge, Malformed, HopsFull, TrieFull, BadLine, PeersFull, PathTooLong}
 use Rattle.fib_main.specs.declared.outcome.Which.{Which}
 use Rattle.fib_main.specs.declared.outcome.Which.TheVariants.{Asks, Dump, Updates}
 use Rattle.fib_main.specs.declared.state.State.{State}
 use Rattle.fib_main.specs.declared.state.FeedError.{FeedError}
 use Rattle.fib_main.specs.declared.state.FeedError.TheVariants as feed
-use Rattle.cert_model.specs.Verdict.{No}
-use Rattle.cert_check.specs.declared.refusal.No as code
-use Rattle.fib_words.specs.Commands.{Asked, Check, Make, Run, Steps}
+use Rattle.fib_main.specs.declared.reply.Reply as code_reply
+use Rattle.fib_main.specs.declared.reply.Wrong as code_wrong
+use Rattle.fib_main.specs.declared.reply.Wrong.TheVariants as wrong
+use Rattle.fib_main.specs.Views.{wrong_as}
+use Rattle.fib_words.specs.Commands.{Asked, Check, Make, Run, Same, Save, Steps}
 use Rattle.fib_main.specs.Ends.{EndsBy}
 use Rattle.fib_main.specs.Asking.{ask_of_input, ask_refusal}
 use Rattle.fib_main.specs.Loaded.{of_step}
-use Rattle.fib_main.specs.InTime.{TextMayGoOn, RunMayGoOn, StepsMayGoOn}
-use Rattle.fib_main.specs.Passes.{AllRead, Content, Input, Judge, IsNumbered, MayBegin, ReadInPart, ReadUpTo, ReadsAsked, ReadsAt, ReadsOf, ReadsTo, StopsReading, ask_end, asks_end, check_inputs, feed_end, feeds_end, run_inputs, steps_inputs}
+use Rattle.fib_main.specs.InTime.{TextMayGoOn, RunMayGoOn, SaveMayGoOn, StepsMayGoOn}
+use Rattle.fib_main.specs.Passes.{AllRead, Content, Input, Judge, IsNumbered, MayBegin, ReadInPart, ReadUpTo, ReadsAsked, ReadsAt, ReadsFound, ReadsOf, ReadsTexts, ReadsTo, StopsReading, same_inputs, save_inputs, ask_end, asks_end, check_inputs, feed_end, feeds_end, run_inputs, steps_inputs}
 use Rattle.fib_main.specs.Standing.{IsOfLoad, StateTakesAll, of_input, of_read, refusal_at, refusal_of}
 use Rattle.fib_main.specs.Stepped.{arena_of}
 use Rattle.fib_main.specs.Stepping.{refusal_of_whole}
@@ -110,7 +112,7 @@ part_later content Goes xs ys first next p q = record {
   all = ap (λ reads. first ++ reads) q.all ∙ sym (append_assoc first q.first q.last);
 }
 
-part_all : (content : Content) (Goes : Judge) (xs : List Input) (reads : List Read) → AllRead content Goes xs reads → ReadInPart content Goes xs reads
+pub part_all : (content : Content) (Goes : Judge) (xs : List Input) (reads : List Read) → AllRead content Goes xs reads → ReadInPart content Goes xs reads
 part_all content Goes xs reads p = record { before = xs; after = []; order = sym (append-nil xs); first = reads; whole = p; last = []; begun = refl; all = sym (append-nil reads) }
 
 stops_sooner : (content : Content) (Goes : Judge) (xs ys : List Input) (o : Outcome) (reads : List Read) → StopsReading content Goes xs o reads → StopsReading content Goes (xs ++ ys) o reads
@@ -125,6 +127,9 @@ stops_sooner content Goes xs ys (TrieFull zero need have arena) reads p = up_to_
 stops_sooner content Goes xs ys (TrieFull (suc event) need have arena) reads p = up_to_sooner content Goes xs ys Updates Anywhere reads p
 stops_sooner content Goes xs ys Done reads p = absurd p
 stops_sooner content Goes xs ys (CheckNo x) reads p = absurd p
+stops_sooner content Goes xs ys (Differ x) reads p = absurd p
+stops_sooner content Goes xs ys (PeersFull peers) reads p = absurd p
+stops_sooner content Goes xs ys (PathTooLong q n) reads p = absurd p
 stops_sooner content Goes xs ys WriteFault reads p = absurd p
 stops_sooner content Goes xs ys Usage reads p = absurd p
 
@@ -140,6 +145,9 @@ stops_later content Goes xs ys (TrieFull zero need have arena) first next p q = 
 stops_later content Goes xs ys (TrieFull (suc event) need have arena) first next p q = up_to_later content Goes xs ys Updates Anywhere first next p q
 stops_later content Goes xs ys Done first next p q = absurd q
 stops_later content Goes xs ys (CheckNo x) first next p q = absurd q
+stops_later content Goes xs ys (Differ x) first next p q = absurd q
+stops_later content Goes xs ys (PeersFull peers) first next p q = absurd q
+stops_later content Goes xs ys (PathTooLong x n) first next p q = absurd q
 stops_later content Goes xs ys WriteFault first next p q = absurd q
 stops_later content Goes xs ys Usage first next p q = absurd q
 
@@ -207,6 +215,9 @@ stops_let content Goes Other xs (TrieFull zero need have arena) reads lets p = u
 stops_let content Goes Other xs (TrieFull (suc event) need have arena) reads lets p = up_to_let content Goes Other xs Updates Anywhere reads lets p
 stops_let content Goes Other xs Done reads lets p = absurd p
 stops_let content Goes Other xs (CheckNo x) reads lets p = absurd p
+stops_let content Goes Other xs (Differ x) reads lets p = absurd p
+stops_let content Goes Other xs (PeersFull peers) reads lets p = absurd p
+stops_let content Goes Other xs (PathTooLong q n) reads lets p = absurd p
 stops_let content Goes Other xs WriteFault reads lets p = absurd p
 stops_let content Goes Other xs Usage reads lets p = absurd p
 
@@ -400,30 +411,47 @@ step_stops_reading content Goes w script before now name step.NoMemory ends made
 
 -- ---- the top call
 
-ends_asked : {X : Type 0} (content : Content) (asked : Option Asked) (x : X) (reads : List Read) → ReadsAsked {X = X} content asked (Ok x) reads → ReadsAt content asked Done reads
-ends_asked content None x reads p = p
-ends_asked content (Some (Run named)) x reads p = p
-ends_asked content (Some (Check name)) x reads p = p
-ends_asked content (Some (Make routes seed)) x reads p = p
-ends_asked content (Some (Steps named)) x reads p = p
+-- texts that were compared, by what was found
+found_read : (content : Content) (inputs : List Input) (w : Option code_wrong.Wrong) (o : Outcome) (reads : List Read) → EndsBy (option_map wrong_as w) o → ReadsFound content inputs w reads → ReadsTexts content inputs o reads
+found_read content inputs None o reads e p = rw e p
+found_read content inputs (Some (wrong.No x)) o reads e p = rw e.1 p
+found_read content inputs (Some (wrong.Differ x)) o reads e p = rw e.1 p
 
-no_asked : {X : Type 0} (content : Content) (asked : Option Asked) (x : X) (found : code.No) (reads : List Read) → ReadsAsked {X = X} content asked (Ok x) reads → ReadsAt content asked (CheckNo found) reads
-no_asked content None x found reads p = p
-no_asked content (Some (Run named)) x found reads p = p
-no_asked content (Some (Check name)) x found reads p = p
-no_asked content (Some (Make routes seed)) x found reads p = p
-no_asked content (Some (Steps named)) x found reads p = p
+found_unwritten : (content : Content) (inputs : List Input) (w : Option code_wrong.Wrong) (reads : List Read) → ReadsFound content inputs w reads → ReadsTexts content inputs WriteFault reads
+found_unwritten content inputs None reads p = inl p
+found_unwritten content inputs (Some (wrong.No x)) reads p = inr p
+found_unwritten content inputs (Some (wrong.Differ x)) reads p = inl p
 
-unwritten_asked : {X : Type 0} (content : Content) (asked : Option Asked) (x : X) (reads : List Read) → ReadsAsked {X = X} content asked (Ok x) reads → ReadsAt content asked WriteFault reads
-unwritten_asked content None x reads p = p
-unwritten_asked content (Some (Run named)) x reads p = p
-unwritten_asked content (Some (Check name)) x reads p = p
-unwritten_asked content (Some (Make routes seed)) x reads p = p
-unwritten_asked content (Some (Steps named)) x reads p = p
+-- inputs that were all read
+all_ended : (content : Content) (Goes : Judge) (inputs : List Input) (w : Option code_wrong.Wrong) (o : Outcome) (reads : List Read) → EndsBy (option_map wrong_as w) o → AllRead content Goes inputs reads → ReadsTo content Goes inputs o reads
+all_ended content Goes inputs None o reads e p = rw e p
+all_ended content Goes inputs (Some (wrong.No x)) o reads e p = rw e.1 p
+all_ended content Goes inputs (Some (wrong.Differ x)) o reads e p = rw e.1 p
 
-reads_stopped : (content : Content) (Goes : Judge) (inputs : List Input) (o : Outcome) (reads : List Read) → StopsReading content Goes inputs o reads → ReadsTo content Goes inputs o reads
+asked_ended : (content : Content) (asked : Option Asked) (reply : code_reply.Reply) (o : Outcome) (reads : List Read) → EndsBy (option_map wrong_as reply.wrong) o → ReadsAsked content asked (Ok reply) reads → ReadsAt content asked o reads
+asked_ended content None reply o reads e p = p
+asked_ended content (Some (Run named)) reply o reads e p = all_ended content (RunMayGoOn content named) (run_inputs named) reply.wrong o reads e p
+asked_ended content (Some (Check name)) reply o reads e p = all_ended content TextMayGoOn (check_inputs name) reply.wrong o reads e p
+asked_ended content (Some (Make routes seed)) reply o reads e p = p
+asked_ended content (Some (Steps named)) reply o reads e p = all_ended content (StepsMayGoOn named) (steps_inputs named) reply.wrong o reads e p
+asked_ended content (Some (Same named)) reply o reads e p = found_read content (same_inputs named) reply.wrong o reads e p
+asked_ended content (Some (Save named)) reply o reads e p = all_ended content SaveMayGoOn (save_inputs named) reply.wrong o reads e p
+
+unwritten_asked : (content : Content) (asked : Option Asked) (reply : code_reply.Reply) (reads : List Read) → ReadsAsked content asked (Ok reply) reads → ReadsAt content asked WriteFault reads
+unwritten_asked content None reply reads p = p
+unwritten_asked content (Some (Run named)) reply reads p = p
+unwritten_asked content (Some (Check name)) reply reads p = p
+unwritten_asked content (Some (Make routes seed)) reply reads p = p
+unwritten_asked content (Some (Steps named)) reply reads p = p
+unwritten_asked content (Some (Same named)) reply reads p = found_unwritten content (same_inputs named) reply.wrong reads p
+unwritten_asked content (Some (Save named)) reply reads p = p
+
+pub reads_stopped : (content : Content) (Goes : Judge) (inputs : List Input) (o : Outcome) (reads : List Read) → StopsReading content Goes inputs o reads → ReadsTo content Goes inputs o reads
 reads_stopped content Goes inputs Done reads p = absurd p
 reads_stopped content Goes inputs (CheckNo x) reads p = absurd p
+reads_stopped content Goes inputs (Differ x) reads p = absurd p
+reads_stopped content Goes inputs (PeersFull peers) reads p = absurd p
+reads_stopped content Goes inputs (PathTooLong q n) reads p = absurd p
 reads_stopped content Goes inputs WriteFault reads p = absurd p
 reads_stopped content Goes inputs Usage reads p = p
 reads_stopped content Goes inputs ReadFault reads p = p
@@ -434,41 +462,60 @@ reads_stopped content Goes inputs (HopsFull event) reads p = p
 reads_stopped content Goes inputs (TrieFull event need have arena) reads p = p
 reads_stopped content Goes inputs (BadLine which line why) reads p = p
 
-stopped_asked : (content : Content) (X : Type 0) (asked : Option Asked) (o : Outcome) (reads : List Read) → ReadsAsked {X = X} content asked (Err o) reads → ReadsAt content asked o reads
-stopped_asked content X None o reads p = p
-stopped_asked content X (Some (Run named)) o reads p = reads_stopped content (RunMayGoOn content named) (run_inputs named) o reads p
-stopped_asked content X (Some (Check name)) o reads p = reads_stopped content TextMayGoOn (check_inputs name) o reads p
-stopped_asked content X (Some (Make routes seed)) o reads p = p
-stopped_asked content X (Some (Steps named)) o reads p = reads_stopped content (StepsMayGoOn named) (steps_inputs named) o reads p
+texts_stopped : (content : Content) (inputs : List Input) (o : Outcome) (reads : List Read) → StopsReading content TextMayGoOn inputs o reads → ReadsTexts content inputs o reads
+texts_stopped content inputs Done reads p = absurd p
+texts_stopped content inputs (CheckNo x) reads p = absurd p
+texts_stopped content inputs (Differ x) reads p = absurd p
+texts_stopped content inputs (PeersFull peers) reads p = absurd p
+texts_stopped content inputs (PathTooLong q n) reads p = absurd p
+texts_stopped content inputs WriteFault reads p = absurd p
+texts_stopped content inputs Usage reads p = p
+texts_stopped content inputs ReadFault reads p = p
+texts_stopped content inputs NoMemory reads p = p
+texts_stopped content inputs (TooLarge which) reads p = p
+texts_stopped content inputs (Malformed which number rule) reads p = p
+texts_stopped content inputs (HopsFull event) reads p = p
+texts_stopped content inputs (TrieFull event need have arena) reads p = p
+texts_stopped content inputs (BadLine which line why) reads p = p
 
--- all was read
-pub reads_ended : {X : Type 0} (content : Content) (before now : Option (List Read)) (asked : Option Asked) (x : X) (wrong : Option No) (o : Outcome) → EndsBy wrong o → Makes before now (ReadsAsked {X = X} content asked (Ok x)) → Makes before now (ReadsAt content asked o)
-reads_ended {X = X} content before now asked x None o ends made = rw ends (makes_as before now (ReadsAsked {X = X} content asked (Ok x)) (ReadsAt content asked Done) made (ends_asked content asked x))
-reads_ended {X = X} content before now asked x (Some wrong) o ends made = rw ends.1 (makes_as before now (ReadsAsked {X = X} content asked (Ok x)) (ReadsAt content asked (CheckNo ends.0)) made (no_asked content asked x ends.0))
+stopped_asked : (content : Content) (asked : Option Asked) (o : Outcome) (reads : List Read) → ReadsAsked content asked (Err o) reads → ReadsAt content asked o reads
+stopped_asked content None o reads p = p
+stopped_asked content (Some (Run named)) o reads p = reads_stopped content (RunMayGoOn content named) (run_inputs named) o reads p
+stopped_asked content (Some (Check name)) o reads p = reads_stopped content TextMayGoOn (check_inputs name) o reads p
+stopped_asked content (Some (Make routes seed)) o reads p = p
+stopped_asked content (Some (Steps named)) o reads p = reads_stopped content (StepsMayGoOn named) (steps_inputs named) o reads p
+stopped_asked content (Some (Same named)) o reads p = texts_stopped content (same_inputs named) o reads p
+stopped_asked content (Some (Save named)) o reads p = p
 
-pub reads_unwritten : {X : Type 0} (content : Content) (before now : Option (List Read)) (asked : Option Asked) (x : X) → Makes before now (ReadsAsked {X = X} content asked (Ok x)) → Makes before now (ReadsAt content asked WriteFault)
-reads_unwritten {X = X} content before now asked x made = makes_as before now (ReadsAsked {X = X} content asked (Ok x)) (ReadsAt content asked WriteFault) made (unwritten_asked content asked x)
+-- the reply was written
+pub reads_ended : (content : Content) (before now : Option (List Read)) (asked : Option Asked) (reply : code_reply.Reply) (o : Outcome) → EndsBy (option_map wrong_as reply.wrong) o → Makes before now (ReadsAsked content asked (Ok reply)) → Makes before now (ReadsAt content asked o)
+reads_ended content before now asked reply o ends made = makes_as before now (ReadsAsked content asked (Ok reply)) (ReadsAt content asked o) made (λ reads p. asked_ended content asked reply o reads ends p)
+
+pub reads_unwritten : (content : Content) (before now : Option (List Read)) (asked : Option Asked) (reply : code_reply.Reply) → Makes before now (ReadsAsked content asked (Ok reply)) → Makes before now (ReadsAt content asked WriteFault)
+reads_unwritten content before now asked reply made = makes_as before now (ReadsAsked content asked (Ok reply)) (ReadsAt content asked WriteFault) made (unwritten_asked content asked reply)
 
 -- an input was refused
-pub reads_refused : (content : Content) (X : Type 0) (before now : Option (List Read)) (asked : Option Asked) (o : Outcome) → Makes before now (ReadsAsked {X = X} content asked (Err o)) → Makes before now (ReadsAt content asked o)
-reads_refused content X before now asked o made = makes_as before now (ReadsAsked {X = X} content asked (Err o)) (ReadsAt content asked o) made (stopped_asked content X asked o)
+pub reads_refused : (content : Content) (before now : Option (List Read)) (asked : Option Asked) (o : Outcome) → Makes before now (ReadsAsked content asked (Err o)) → Makes before now (ReadsAt content asked o)
+reads_refused content before now asked o made = makes_as before now (ReadsAsked content asked (Err o)) (ReadsAt content asked o) made (stopped_asked content asked o)
 
 -- words whose inputs weren't begun
 part_none : (content : Content) (Goes : Judge) (inputs : List Input) → ReadInPart content Goes inputs []
 part_none content Goes inputs = record { before = []; after = inputs; order = refl; first = []; whole = refl; last = []; begun = begun_none content Goes inputs; all = refl }
 
-memory_asked : (content : Content) (X : Type 0) (asked : Option Asked) → ReadsAsked {X = X} content asked (Err NoMemory) []
-memory_asked content X None = refl
-memory_asked content X (Some (Run named)) = part_none content (RunMayGoOn content named) (run_inputs named)
-memory_asked content X (Some (Check name)) = part_none content TextMayGoOn (check_inputs name)
-memory_asked content X (Some (Make routes seed)) = refl
-memory_asked content X (Some (Steps named)) = part_none content (StepsMayGoOn named) (steps_inputs named)
+memory_asked : (content : Content) (asked : Option Asked) → ReadsAsked content asked (Err NoMemory) []
+memory_asked content None = refl
+memory_asked content (Some (Run named)) = part_none content (RunMayGoOn content named) (run_inputs named)
+memory_asked content (Some (Check name)) = part_none content TextMayGoOn (check_inputs name)
+memory_asked content (Some (Make routes seed)) = refl
+memory_asked content (Some (Steps named)) = part_none content (StepsMayGoOn named) (steps_inputs named)
+memory_asked content (Some (Same named)) = part_none content TextMayGoOn (same_inputs named)
+memory_asked content (Some (Save named)) = part_none content SaveMayGoOn (save_inputs named)
 
-pub memory_read : (content : Content) (X : Type 0) (now : Option (List Read)) (asked : Option Asked) → Makes now now (ReadsAsked {X = X} content asked (Err NoMemory))
-memory_read content X now asked = makes_none now (ReadsAsked {X = X} content asked (Err NoMemory)) (memory_asked content X asked)
+pub memory_read : (content : Content) (now : Option (List Read)) (asked : Option Asked) → Makes now now (ReadsAsked content asked (Err NoMemory))
+memory_read content now asked = makes_none now (ReadsAsked content asked (Err NoMemory)) (memory_asked content asked)
 
-pub usage_read : (content : Content) (X : Type 0) (now : Option (List Read)) (asked : Option Asked) (o : Outcome) → asked ≡ None → Makes now now (ReadsAsked {X = X} content asked (Err o))
-usage_read content X now asked o none = rw none (makes_none now (λ reads. reads ≡ []) refl)
+pub usage_read : (content : Content) (now : Option (List Read)) (asked : Option Asked) (o : Outcome) → asked ≡ None → Makes now now (ReadsAsked content asked (Err o))
+usage_read content now asked o none = rw none (makes_none now (λ reads. reads ≡ []) refl)
 
 -- nothing was read
 pub nothing_read : (now : Option (List Read)) → Makes now now (λ reads. reads ≡ [])

@@ -1,5 +1,5 @@
 -- Replies: of a run its text, and of a check the verdict, whose yes proves the table least.
-use Rattle.std.proofs.Common.{◌≡◌, ℕ, List, Option, Some, None, Result, Ok, Err, refl, ap}
+use Rattle.std.proofs.Common.{◌≡◌, ℕ, Bool, true, false, cond, List, [], length, Option, Some, None, Result, Ok, Err, refl, ap, subst}
 use Rattle.std.specs.List.{AllByRecursion}
 use Rattle.octet_fields.specs.Field.{◌>>=◌}
 use Rattle.cert_model.proofs.Rules.{soundness_law}
@@ -7,13 +7,26 @@ use Rattle.cert_model.proofs.Verdicts.{verdict_is, verdict_law}
 use Rattle.cert_model.specs.Verdict.{RowFits}
 use Rattle.printed_model.specs.Texts.{BadLine as BadRow}
 use Rattle.printed_model.specs.Used.{Used, printed_in}
-use Rattle.fib_words.specs.Commands.{Named, Asked, Run, Check, Make, Steps, command_of}
+use Rattle.fib_words.specs.Commands.{Named, NamedSave, Asked, Run, Check, Make, Steps, Same, Save, command_of}
 use Rattle.fib_main.specs.declared.outcome.Which.TheVariants as which
 use Rattle.fib_main.specs.declared.outcome.Outcome.{Outcome}
-use Rattle.fib_main.specs.Stops.{Stop, Untold, Refused, rowed, FailsDue, IsDueIfTold}
+use Rattle.fib_main.specs.Stops.{Stop, Untold, Refused, LongPath, rowed, FailsDue, IsDueIfTold}
 use Rattle.step_run.specs.Stepping.{Stepping}
-use Rattle.fib_main.specs.Due.{Printed, Reply, stepped, stepping_at, ran, checked, due, made, made_at, input_at, output_at, run_at, usage, used_at, printed_text, with_text, with_reply}
-use Rattle.fib_main.specs.Proves.{IfChecked, Decides, YesProves}
+use Rattle.std.specs.Prelude.{OnOk, nat_lt, option_map}
+use Rattle.route_model.specs.Events.{Event}
+use Rattle.route_model.specs.Choice.{Offer, Place}
+use Rattle.saved_model.specs.Saved.{long_one, most_peers, peers_with_candidates}
+use Rattle.texts_model.specs.Texts.{ComesTo, Difference, least_difference}
+use Rattle.texts_model.proofs.Found.{all_found}
+use Rattle.texts_model.proofs.Told.{all_alike}
+use Rattle.fib_save.specs.Brings.{after_events}
+use Rattle.fib_save.specs.Restores.{Restores}
+use Rattle.fib_same.specs.Due.{Compared, same_at, told_of}
+use Rattle.fib_same.specs.Due as same
+use Rattle.fib_main.specs.declared.outcome.Outcome.TheVariants.{PeersFull}
+use Rattle.fib_main.specs.Owned.{IsSave}
+use Rattle.fib_main.specs.Due.{Alike, Checked, Made, Output, Printed, Ran, Repeats, Reply, Saved, compared, said_at, saved_at, saved_of, unless_long, stepped, stepping_at, ran, checked, due, made, made_at, input_at, output_at, run_at, usage, used_at, printed_text, with_text, with_reply}
+use Rattle.fib_main.specs.Proves.{Compares, IfChecked, IfCompared, IfRan, IfSaved, IsRun, Decides, PrintsYes, YesProves}
 use Rattle.fib_main.proofs.Due.{fails_by, retyped}
 use Rattle.fib_main.proofs.Fitting.{read_fits}
 
@@ -37,6 +50,7 @@ ran_replied content named asked text reply a r i = rw (a, r) (by_run (run_at con
     by_run (Ok p) i = ap (λ t. fine (plain t)) (same_fine (printed_text p) text i)
     by_run (Err Untold) i = tt
     by_run (Err (Refused o)) i = absurd cc
+    by_run (Err (LongPath p n)) i = absurd cc
 
 -- a view of what is printed
 abbrev viewed : {A : Type 0} → (Printed → A) → Result Printed Stop → Result A Stop
@@ -46,13 +60,44 @@ viewed view d = d >>= λ p. Ok (view p)
 refused_alike : {A B : Type 0} (view : Printed → A) (h : Result Printed Stop → Result B Stop) → ((stop : Stop) → h (Err stop) ≡ Err stop) → (d : Result Printed Stop) (o : Outcome) → FailsDue o (viewed view d) → FailsDue o (h d)
 refused_alike {A = A} {B = B} view h s d o f = fails_by (viewed view d) (h d) (is_first d) o f
   where
-    is_first : (d : Result Printed Stop) (o : Outcome) → IsDueIfTold (viewed view d) (Err (Refused o)) → IsDueIfTold (h d) (Err (Refused o))
-    is_first (Ok p) o i = absurd cc
-    is_first (Err stop) o i = rw (s stop) (retyped A B stop o i)
+    is_first : (d : Result Printed Stop) (other : Stop) → IsDueIfTold (viewed view d) (Err other) → IsDueIfTold (h d) (Err other)
+    is_first (Ok p) other i = absurd cc
+    is_first (Err stop) other i = rw (s stop) (retyped A B stop other i)
 
 -- a refusal of its text is one of what is to be replied
 pub ran_refused : (d : Result Printed Stop) (o : Outcome) → FailsDue o (with_text d) → FailsDue o (with_reply (ran d))
 ran_refused d o f = refused_alike printed_text (λ d. with_reply (ran d)) (λ stop. refl) d o f
+
+pub ran_stops : (content : List ℕ → Option (List ℕ)) (named : Named) (asked : Asked) (o : Outcome) → asked ≡ Run named → FailsDue o (with_text (run_at content named)) → FailsDue o (with_reply (output_at content asked))
+unfolding output_at
+ran_stops content named asked o a f = rw a (ran_refused (run_at content named) o f)
+
+-- ---- a checkpoint alone comes of one
+
+abbrev pub IsSavedOnly : Result Output Stop → Type 0
+IsSavedOnly (Ok (Saved said)) = Unit {0}
+IsSavedOnly (Ok (Ran p)) = ⊥
+IsSavedOnly (Ok (Checked used)) = ⊥
+IsSavedOnly (Ok (Made p)) = ⊥
+IsSavedOnly (Ok (Alike texts)) = ⊥
+IsSavedOnly (Ok (Repeats p)) = ⊥
+IsSavedOnly (Err stop) = Unit {0}
+
+long_only : (said : List Event) (c : Option (Place × Offer)) → IsSavedOnly (unless_long said c)
+long_only said None = tt
+long_only said (Some c) = tt
+
+full_only : (b : Bool) (n : ℕ) (d : Result Output Stop) → IsSavedOnly d → IsSavedOnly (cond b (Err (Refused (PeersFull n))) d)
+full_only true n d s = tt
+full_only false n d s = s
+
+said_only : (d : Result (List Event) Stop) → IsSavedOnly (d >>= saved_of)
+said_only (Ok said) = full_only (nat_lt most_peers (length (peers_with_candidates (after_events [] said)))) (length (peers_with_candidates (after_events [] said))) (unless_long said (long_one (after_events [] said))) (long_only said (long_one (after_events [] said)))
+said_only (Err stop) = tt
+
+pub saved_only : (content : List ℕ → Option (List ℕ)) (named : NamedSave) → IsSavedOnly (saved_at content named)
+unfolding saved_at
+saved_only content named = said_only (said_at content named)
 
 -- ---- what holds of each text that is checked
 
@@ -84,6 +129,22 @@ none_checked : (P : Used → Type 0) (p : Result Printed Stop) → IfChecked (ra
 none_checked P (Ok p) = tt
 none_checked P (Err stop) = tt
 
+none_compared : (P : Used → Type 0) (t : Result Compared same.Stop) → IfChecked (compared t) P
+none_compared P (Ok t) = tt
+none_compared P (Err same.Untold) = tt
+none_compared P (Err (same.Refused (same.TooLarge n))) = tt
+none_compared P (Err (same.Refused (same.BadLine n line why))) = tt
+none_compared P (Err (same.Refused (same.Twice n p))) = tt
+
+none_saved : (P : Used → Type 0) (d : Result Output Stop) → IsSavedOnly d → IfChecked d P
+none_saved P (Ok (Saved said)) s = tt
+none_saved P (Ok (Ran p)) s = absurd s
+none_saved P (Ok (Checked used)) s = absurd s
+none_saved P (Ok (Made p)) s = absurd s
+none_saved P (Ok (Alike texts)) s = absurd s
+none_saved P (Ok (Repeats p)) s = absurd s
+none_saved P (Err stop) s = tt
+
 words_checked : (P : Used → Type 0) → OfEachText P → (content : List ℕ → Option (List ℕ)) (o : Option Asked) → IfChecked (usage o >>= output_at content) P
 unfolding output_at
 words_checked P each content None = tt
@@ -91,6 +152,8 @@ words_checked P each content (Some (Run named)) = none_checked P (run_at content
 words_checked P each content (Some (Check name)) = name_checked P each content name
 words_checked P each content (Some (Make routes seed)) = none_made P (made_at routes seed)
 words_checked P each content (Some (Steps named)) = none_stepped P (stepping_at content named)
+words_checked P each content (Some (Same named)) = none_compared P (same_at content named.rows named.first named.rest)
+words_checked P each content (Some (Save named)) = none_saved P (saved_at content named) (saved_only content named)
 
 each_checked : (P : Used → Type 0) → OfEachText P → (words : List (List ℕ)) (content : List ℕ → Option (List ℕ)) → IfChecked (due words content) P
 unfolding due
@@ -101,3 +164,81 @@ decides = each_checked Decides (λ used fit. verdict_law used.routes used.least 
 
 pub yes_proves : (words : List (List ℕ)) (content : List ℕ → Option (List ℕ)) → IfChecked (due words content) YesProves
 yes_proves = each_checked YesProves (λ used fit none. soundness_law used.routes used.least used.cert (verdict_is used.routes used.least used.cert fit none))
+
+-- ---- what holds of all texts that are compared
+
+all_compare : (texts : Compared) → Compares texts
+all_compare texts = record { found = all_found texts.first texts.others; alike = λ none. all_alike texts.first texts.others (subst (ComesTo texts.first texts.others) (by_none (least_difference texts.first texts.others) none) (all_found texts.first texts.others)) }
+  where
+    by_none : (x : Option Difference) → option_map (told_of texts) x ≡ None → x ≡ None
+    by_none None e = refl
+    by_none (Some x) e = absurd cc
+
+texts_compare : (t : Result Compared same.Stop) → IfCompared (compared t) Compares
+texts_compare (Ok t) = all_compare t
+texts_compare (Err same.Untold) = tt
+texts_compare (Err (same.Refused (same.TooLarge n))) = tt
+texts_compare (Err (same.Refused (same.BadLine n line why))) = tt
+texts_compare (Err (same.Refused (same.Twice n p))) = tt
+
+ran_none : (p : Result Printed Stop) → IfCompared (ran p) Compares
+ran_none (Ok p) = tt
+ran_none (Err stop) = tt
+
+checked_none : (u : Result Used Stop) → IfCompared (checked u) Compares
+checked_none (Ok u) = tt
+checked_none (Err stop) = tt
+
+made_none : (p : Result Printed Stop) → IfCompared (made p) Compares
+made_none (Ok p) = tt
+made_none (Err stop) = tt
+
+stepped_none : (s : Result Stepping Stop) → IfCompared (stepped s) Compares
+stepped_none (Ok s) = tt
+stepped_none (Err stop) = tt
+
+saved_none : (d : Result Output Stop) → IsSavedOnly d → IfCompared d Compares
+saved_none (Ok (Saved said)) s = tt
+saved_none (Ok (Ran p)) s = absurd s
+saved_none (Ok (Checked used)) s = absurd s
+saved_none (Ok (Made p)) s = absurd s
+saved_none (Ok (Alike texts)) s = absurd s
+saved_none (Ok (Repeats p)) s = absurd s
+saved_none (Err stop) s = tt
+
+words_compare : (content : List ℕ → Option (List ℕ)) (o : Option Asked) → IfCompared (usage o >>= output_at content) Compares
+unfolding output_at
+words_compare content None = tt
+words_compare content (Some (Run named)) = ran_none (run_at content named)
+words_compare content (Some (Check name)) = checked_none (used_at content name)
+words_compare content (Some (Make routes seed)) = made_none (made_at routes seed)
+words_compare content (Some (Steps named)) = stepped_none (stepping_at content named)
+words_compare content (Some (Same named)) = texts_compare (same_at content named.rows named.first named.rest)
+words_compare content (Some (Save named)) = saved_none (saved_at content named) (saved_only content named)
+
+pub compares : (words : List (List ℕ)) (content : List ℕ → Option (List ℕ)) → IfCompared (due words content) Compares
+unfolding due
+compares words content = words_compare content (command_of words)
+
+-- what holds of a run that is due holds of a comparison and of a checkpoint, which are none
+pub same_ran : (P : Printed → Type 0) (t : Result Compared same.Stop) → IfRan (compared t) P
+same_ran P (Ok t) = tt
+same_ran P (Err same.Untold) = tt
+same_ran P (Err (same.Refused (same.TooLarge n))) = tt
+same_ran P (Err (same.Refused (same.BadLine n line why))) = tt
+same_ran P (Err (same.Refused (same.Twice n p))) = tt
+
+pub save_ran : (P : Printed → Type 0) (d : Result Output Stop) → IsSavedOnly d → IfRan d P
+save_ran P (Ok (Saved said)) s = tt
+save_ran P (Ok (Ran p)) s = absurd s
+save_ran P (Ok (Checked used)) s = absurd s
+save_ran P (Ok (Made p)) s = absurd s
+save_ran P (Ok (Alike texts)) s = absurd s
+save_ran P (Ok (Repeats p)) s = absurd s
+save_ran P (Err stop) s = tt
+
+-- a checkpoint is no run
+pub save_runs_none : {X E : Type 0} (content : List ℕ → Option (List ℕ)) (named : NamedSave) (asked : Asked) (r : Result X E) → asked ≡ Save named → OnOk r (IfRan (output_at content asked) PrintsYes)
+unfolding output_at
+save_runs_none content named asked (Ok x) a = rw a (save_ran PrintsYes (saved_at content named) (saved_only content named))
+save_runs_none content named asked (Err e) a = tt

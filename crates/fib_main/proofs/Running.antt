@@ -23,7 +23,9 @@ use Rattle.feed_model.proofs.Tables.{entries_sorted}
 use Rattle.kept_feed.specs.Kept.{changed_at, kept_at_load, kept_by}
 use Rattle.kept_feed.proofs.Steps.{kept_step}
 use Rattle.kept_feed.proofs.Sums.{all}
-use Rattle.fib_words.specs.Commands.{Named, Asked, Run, Check, Make, Steps, command_of}
+use Rattle.fib_same.specs.Due.{same_at}
+use Rattle.fib_words.specs.Commands.{Named, Asked, Run, Check, Make, Steps, Same, Save, command_of}
+use Rattle.fib_main.proofs.Replies.{same_ran, save_ran, saved_only}
 use Rattle.printed_model.specs.Used.{Used}
 use Rattle.fib_main.specs.declared.outcome.MrtInput.{MrtInput}
 use Rattle.fib_main.specs.declared.outcome.MrtInput.TheVariants.{Dump, Updates}
@@ -36,7 +38,7 @@ use Rattle.fib_main.specs.Stops.{Stop, bad_record, records_due, told_content, un
 use Rattle.fib_main.specs.Refusals.{Limits, Refusal, routes_by, stop_at, too_much}
 use Rattle.route_tries.specs.Sizes.{Shortage, Sizes, shortage}
 use Rattle.step_run.specs.Stepping.{Stepping}
-use Rattle.fib_main.specs.Due.{Feed, Printed, stepped, stepping_at, printed, asks_at, feed_at, feeds_at, limits_of, load_at, made, made_at, sizes_of, feed_of, feed_in, elems_in, read_part, changes_of, kept_of, told_at, run_at, used_at, output_at, ran, checked, due, usage, answers_to}
+use Rattle.fib_main.specs.Due.{Feed, Printed, stepped, stepping_at, printed, asks_at, feed_at, feeds_at, limits_of, load_at, made, made_at, sizes_of, feed_of, feed_in, elems_in, read_part, changes_of, kept_of, told_at, run_at, used_at, output_at, ran, checked, due, usage, answers_to, saved_at}
 use Rattle.fib_main.specs.Proves.{IfRan}
 use Rattle.fib_main.specs.Runs.{IfDue, SumsUp, Forwards, Answers, HasLeast, HasAggregate, Certified, InPrefixOrder, IsInOrder, HasHops}
 use Rattle.fib_main.specs.Keeps.{Follows, HasTable, KeepsTables, RenewsLeast, RepairsFewest, RepairsWithin, changes_to, entries_besides}
@@ -133,6 +135,8 @@ words_due P each content (Some (Run named)) = asks_due P each content named (ask
 words_due P each content (Some (Check name)) = check_due P (used_at content name)
 words_due P each content (Some (Make routes seed)) = made_due P (made_at routes seed)
 words_due P each content (Some (Steps named)) = steps_due P (stepping_at content named)
+words_due P each content (Some (Same named)) = same_ran P (same_at content named.rows named.first named.rest)
+words_due P each content (Some (Save named)) = save_ran P (saved_at content named) (saved_only content named)
 
 each_due : (P : Printed → Type 0) → OfEach P → (words : List (List ℕ)) (content : List ℕ → Option (List ℕ)) → IfRan (due words content) P
 unfolding due

@@ -4,8 +4,6 @@ use Rattle.std.specs.Prelude.{◌⊎◌, option_map}
 use Rattle.std.specs.declared.vec.Vec.{Vec}
 use Rattle.octet_fields.specs.Field.{◌>>=◌}
 use Rattle.route_model.specs.Events.{Event}
-use Rattle.cert_check.specs.declared.refusal.No as code
-use Rattle.cert_check.specs.Views.{no_as}
 use Rattle.step_model.specs.Script.{Step}
 use Rattle.step_model.specs.Machine.{World}
 use Rattle.stepper.specs.declared.error.StepError.{StepError}
@@ -13,12 +11,13 @@ use Rattle.stepper.specs.declared.error.StepError.TheVariants as step
 use Rattle.stepper.specs.Runs.{EndsBy}
 use Rattle.step_run.specs.Stepping.{Stepping, IsTextOf, world_of}
 use Rattle.fib_io.specs.Causes.{Rose}
-use Rattle.fib_words.specs.Commands.{Asked, Named, NamedSteps, Run, Check, Make, Steps}
-use Rattle.fib_main.specs.declared.check.Reply as code_reply
+use Rattle.fib_words.specs.Commands.{Asked, Named, NamedSame, NamedSave, NamedSteps, Run, Check, Make, Steps, Same, Save}
+use Rattle.fib_main.specs.declared.reply.Reply as code_reply
+use Rattle.fib_main.specs.declared.reply.Wrong as code_wrong
 use Rattle.fib_main.specs.declared.outcome.Outcome.{Outcome}
-use Rattle.fib_main.specs.declared.outcome.Outcome.TheVariants.{Done, CheckNo, Usage, ReadFault, WriteFault, NoMemory, TooLarge, Malformed, HopsFull, TrieFull, BadLine}
-use Rattle.fib_main.specs.Views.{reply_as}
-use Rattle.fib_main.specs.Stops.{Stop, Untold, Refused, GivesDue, IsDueIfTold, FailsDue}
+use Rattle.fib_main.specs.declared.outcome.Outcome.TheVariants.{Done, CheckNo, Differ, Usage, ReadFault, WriteFault, NoMemory, TooLarge, Malformed, HopsFull, TrieFull, BadLine, PeersFull, PathTooLong}
+use Rattle.fib_main.specs.Views.{reply_as, wrong_as}
+use Rattle.fib_main.specs.Stops.{Stop, Untold, Refused, LongPath, GivesDue, IsDueIfTold, FailsDue}
 use Rattle.fib_main.specs.Stepping.{events_at}
 use Rattle.fib_main.specs.Due.{Feed, Reply, load_at, output_at, script_at, stepped, stepping_at, steps_sizes, with_reply, with_world, world_at}
 use Rattle.fib_main.specs.declared.outcome.Which.TheVariants as which
@@ -40,6 +39,9 @@ spared x NoMemory f = inl refl
 spared x ReadFault f = inr refl
 spared x Done f = absurd f
 spared x (CheckNo n) f = absurd f
+spared x (Differ d) f = absurd f
+spared x (PeersFull peers) f = absurd cc
+spared x (PathTooLong p n) f = absurd cc
 spared x WriteFault f = absurd f
 spared x Usage f = absurd cc
 spared x (TooLarge input) f = absurd cc
@@ -92,11 +94,13 @@ module _ (content : Content) (named : NamedSteps) where
       by_events (Ok y) j = let same : y ≡ events = cc in ap (fine load) same
       by_events (Err Untold) j = tt
       by_events (Err (Refused o)) j = absurd cc
+      by_events (Err (LongPath p n)) j = absurd cc
 
       by_load : (l : Result Feed Stop) → IsDueIfTold l (Ok load) → IsDueIfTold (l >>= λ x. with_later x Later) (fine load events)
       by_load (Ok x) i = let same : x ≡ load = cc in subst (λ (z : Feed). IsDueIfTold (with_later z Later) (fine load events)) (sym same) (by_events Later j)
       by_load (Err Untold) i = tt
       by_load (Err (Refused o)) i = absurd cc
+      by_load (Err (LongPath p n)) i = absurd cc
 
   -- a dump that isn't accepted
   pub dump_stops : (X : Type 0) (script : List Step) (o : Outcome) → FailsDue o Loaded → GivesText {X = X} (with_world script (world_at content named)) (Err o)
@@ -112,12 +116,14 @@ module _ (content : Content) (named : NamedSteps) where
       by_load (Ok x) i = part_gives (List Event) X (λ e. with_world script (with_later x e)) (λ stop. refl) Later o f
       by_load (Err Untold) i = untold_gives (List Event) X Later o f
       by_load (Err (Refused p)) i = absurd cc
+      by_load (Err (LongPath p n)) i = absurd cc
 
 -- the text of a run in the world that is due, or how it ends early
 pub text_due : (X : Type 0) (script : List Step) (due : Result World Stop) (w : World) (text : Vec ℕ X) → IsDueIfTold due (Ok w) → IsTextOf (record { script = script; world = w }) text.items → GivesText (with_world script due) (Ok text)
 text_due X script (Ok v) w text i x = let same : v ≡ w = cc in (tt, subst (λ (z : World). IsTextOf (record { script = script; world = z }) text.items) (sym same) x)
 text_due X script (Err Untold) w text i x = (tt, tt)
 text_due X script (Err (Refused o)) w text i x = absurd cc
+text_due X script (Err (LongPath p n)) w text i x = absurd cc
 
 -- an outcome that a step may have
 abbrev pub IsOfStep : Outcome → Type 0
@@ -133,11 +139,15 @@ early_due X script due w o i s x = (fails o s due i, ends due i)
     told o (Ok v) i = tt
     told o (Err Untold) i = tt
     told o (Err (Refused p)) i = absurd cc
+    told o (Err (LongPath p n)) i = absurd cc
 
     fails : (o : Outcome) → IsOfStep o → (d : Result World Stop) → IsDueIfTold d (Ok w) → FailsDue o (untold_text (with_world script d))
     fails (HopsFull event) s d i = told (HopsFull event) d i
     fails (TrieFull event need have arena) s d i = told (TrieFull event need have arena) d i
     fails NoMemory s d i = tt
+    fails (Differ x) s d i = absurd s
+    fails (PeersFull peers) s d i = absurd s
+    fails (PathTooLong p n) s d i = absurd s
     fails Done s d i = absurd s
     fails (CheckNo n) s d i = absurd s
     fails WriteFault s d i = absurd s
@@ -206,28 +216,30 @@ module _ (content : Content) (named : NamedSteps) where
       by_script (Ok x) i = let same : x ≡ script = cc in subst (λ (z : List Step). GivesText (with_world z (world_at content named)) result) (sym same) g
       by_script (Err Untold) i = untold result g
       by_script (Err (Refused o)) i = absurd cc
+      by_script (Err (LongPath p n)) i = absurd cc
 
 -- ---- the reply
 
 abbrev plain : List ℕ → Reply
 plain text = record { text = text; wrong = None }
 
-none_wrong : (o : Option code.No) → option_map no_as o ≡ None → o ≡ None
+none_wrong : (o : Option code_wrong.Wrong) → option_map wrong_as o ≡ None → o ≡ None
 none_wrong None e = refl
 none_wrong (Some x) e = absurd cc
 
 -- the reply with the text of a run is one to it
 text_replied : (X : Type 0) (d : Result Stepping Stop) (text : Vec ℕ X) (reply : code_reply.Reply) → reply_as reply ≡ plain text.items → GivesText d (Ok text) → GivesStepping d (Ok reply)
-text_replied X (Ok s) text reply r g = (tt, (subst (λ (t : List ℕ). IsTextOf s t) (sym (ap (λ (x : Reply). x.text) r)) g.1, none_wrong reply.no (ap (λ (x : Reply). x.wrong) r)))
+text_replied X (Ok s) text reply r g = (tt, (subst (λ (t : List ℕ). IsTextOf s t) (sym (ap (λ (x : Reply). x.text) r)) g.1, none_wrong reply.wrong (ap (λ (x : Reply). x.wrong) r)))
 text_replied X (Err Untold) text reply r g = (tt, tt)
 text_replied X (Err (Refused o)) text reply r g = absurd cc
+text_replied X (Err (LongPath p n)) text reply r g = absurd cc
 
 text_refused : (X : Type 0) (d : Result Stepping Stop) (o : Outcome) → GivesText {X = X} d (Err o) → GivesStepping d (Err o)
 text_refused X d o g = (fails_by (untold_text d) (with_reply (stepped d)) (λ p i. passed d p i) o g.0, g.1)
   where
-    passed : (d : Result Stepping Stop) (p : Outcome) → IsDueIfTold (untold_text d) (Err (Refused p)) → IsDueIfTold (with_reply (stepped d)) (Err (Refused p))
-    passed (Ok s) p i = tt
-    passed (Err stop) p i = retyped (List ℕ) Reply stop p i
+    passed : (d : Result Stepping Stop) (other : Stop) → IsDueIfTold (untold_text d) (Err other) → IsDueIfTold (with_reply (stepped d)) (Err other)
+    passed (Ok s) other i = tt
+    passed (Err stop) other i = retyped (List ℕ) Reply stop other i
 
 module _ (content : Content) (named : NamedSteps) (asked : Asked) (a : asked ≡ Steps named) where
   pub steps_replied : (X : Type 0) (text : Vec ℕ X) (reply : code_reply.Reply) → reply_as reply ≡ plain text.items → GivesText (stepping_at content named) (Ok text) → GivesDue reply_as (Ok reply) (with_reply (output_at content asked)) × GivesSteps content (Some asked) (Ok reply)
@@ -261,3 +273,9 @@ check_gives content name asked result a = rw a tt
 
 pub make_gives : (content : Content) (routes seed : ℕ) (asked : Asked) (result : Result code_reply.Reply Outcome) → asked ≡ Make routes seed → GivesSteps content (Some asked) result
 make_gives content routes seed asked result a = rw a tt
+
+pub same_gives : (content : Content) (named : NamedSame) (asked : Asked) (result : Result code_reply.Reply Outcome) → asked ≡ Same named → GivesSteps content (Some asked) result
+same_gives content named asked result a = rw a tt
+
+pub save_gives : (content : Content) (named : NamedSave) (asked : Asked) (result : Result code_reply.Reply Outcome) → asked ≡ Save named → GivesSteps content (Some asked) result
+save_gives content named asked result a = rw a tt

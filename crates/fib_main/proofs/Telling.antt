@@ -30,7 +30,7 @@ counted load updates fed R T n m needs l u len long = rw (l.records, l.skipped, 
 
 -- of routes R and a table T, with tries of so many direct bits
 abbrev pub told_by : ℕ → Entries → Entries → List (ℕ × Change) → List Address → Report → Told
-told_by direct R T changes asks report = record { routes = R; changes = changes; answers = answers_to direct R asks; table = T; least = aggregate_in_both R T; cert = certificate_of R; report = report }
+told_by direct R T changes asks report = record { routes = R; invalid = []; changes = changes; answers = answers_to direct R asks; table = T; least = aggregate_in_both R T; cert = certificate_of R; report = report }
 
 pub told_is : (limits : Limits) (load updates : Feed) (fed : Fed) (state : State) (asks : List Address) (direct : ℕ) (routes table : Entries) (report : Report) (n m : ℕ) (needs : FamilyNeeds)
     → direct ≡ state.engine.sizes.direct → routes ≡ routes_in state.engine → table ≡ state.engine.table → report ≡ totals fed.load fed.updates n m needs → needs ≡ needs_of direct routes → n ≡ length routes → m ≡ length table → IsFed limits load updates fed state

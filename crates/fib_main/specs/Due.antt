@@ -1,13 +1,13 @@
 -- What a run and a check are to come to.
-use Rattle.std.specs.Prelude.{ℕ, ◌+◌, List, [], ◌++◌, bytes_eq, codes, length, Option, Some, None, Result, Ok, Err, map, if◌then◌else◌}
+use Rattle.std.specs.Prelude.{ℕ, ◌+◌, List, [], ◌∷◌, ◌++◌, bytes_eq, codes, decimal, length, nat_lt, Option, Some, None, Result, Ok, Err, map, option_map, if◌then◌else◌}
 use Rattle.octet_fields.specs.Field.{◌>>=◌}
-use Rattle.address_model.specs.Address.{Address}
+use Rattle.address_model.specs.Address.{Address, Prefix}
 use Rattle.table_model.specs.Entries.{Entries, match_in}
 use Rattle.table_model.specs.Changes.{Change}
 use Rattle.least_model.specs.Both.{aggregate_in_both}
 use Rattle.cert_model.specs.Rows.{certificate_of}
-use Rattle.route_model.specs.Events.{Elem}
-use Rattle.route_model.specs.Choice.{after_elems, elems_after}
+use Rattle.route_model.specs.Events.{Elem, Event}
+use Rattle.route_model.specs.Choice.{Candidates, Offer, Place, after_elems, elems_after}
 use Rattle.reading_model.specs.Input.{Progress, Stopped, input}
 use Rattle.feed_model.specs.Feed.{hops_after, entries_of}
 use Rattle.kept_feed.specs.Kept.{kept_at_load, kept_changes_from, kept_from, kept_load_changes}
@@ -18,15 +18,21 @@ use Rattle.made_model.specs.Files.{dump_octets, updates_octets}
 use Rattle.fib_report.specs.Views.{Answer, Told}
 use Rattle.fib_report.specs.Rows.{report_text, run_text}
 use Rattle.fib_report.specs.declared.run.Report.{Report}
-use Rattle.cert_model.specs.Verdict.{No}
+use Rattle.cert_model.specs.Verdict.{No, Twice}
+use Rattle.fib_addr.specs.Text.{address_text}
+use Rattle.printed_model.specs.Rows.{hop_text, line}
+use Rattle.saved_model.specs.Saved.{long_one, most_peers, peers_with_candidates, saved}
+use Rattle.fib_save.specs.Brings.{after_events}
+use Rattle.fib_same.specs.Due.{Compared, TextDifference, answer_of, same_at}
+use Rattle.fib_same.specs.Due as same
 use Rattle.printed_model.specs.Used.{Used, printed_in}
-use Rattle.fib_words.specs.Commands.{Named, NamedSteps, Asked, Run, Check, Make, Steps, command_of}
-use Rattle.fib_main.specs.declared.outcome.Outcome.TheVariants.{Usage}
+use Rattle.fib_words.specs.Commands.{Named, NamedSame, NamedSave, NamedSteps, Asked, Run, Check, Make, Steps, Same, Save, command_of}
+use Rattle.fib_main.specs.declared.outcome.Outcome.TheVariants.{BadLine, PeersFull, TooLarge, Usage}
 use Rattle.fib_main.specs.declared.outcome.MrtInput.{MrtInput}
 use Rattle.fib_main.specs.declared.outcome.MrtInput.TheVariants.{Dump, Updates}
 use Rattle.fib_main.specs.declared.outcome.Which.{Which}
 use Rattle.fib_main.specs.declared.outcome.Which.TheVariants as all
-use Rattle.fib_main.specs.Stops.{Stop, Refused, Untold, told_content, sized, lined, lined_past, rowed, scripted, records_due, unless_stopped, with_room}
+use Rattle.fib_main.specs.Stops.{Stop, Refused, LongPath, Untold, told_content, sized, lined, lined_past, rowed, scripted, records_due, unless_stopped, with_room}
 use Rattle.fib_main.specs.Refusals.{Limits, routes_by, stop_at, too_much}
 use Rattle.fib_io.specs.Pieces.{octets_read}
 use Rattle.whole_input.specs.Cuts.{is_small}
@@ -35,7 +41,7 @@ use Rattle.fib_main.specs.Checks.{verdict_of, verdict_text}
 use Rattle.step_model.specs.Script.{Step, script_in}
 use Rattle.step_model.specs.Machine.{World}
 use Rattle.step_run.specs.Stepping.{Stepping, world_of}
-use Rattle.fib_main.specs.Stepping.{events_at}
+use Rattle.fib_main.specs.Stepping.{events_at, events_of}
 
 abbrev pub usage : Option Asked → Result Asked Stop
 usage None = Err (Refused Usage)
@@ -170,6 +176,7 @@ changes_of every hops load updates = kept_load_changes hops (after_elems [] load
 abbrev pub run_of : ℕ → Entries → Entries → List (ℕ × Change) → List Address → Feed → Feed → Told
 run_of s routes kept changes asks load updates = record {
   routes = routes;
+  invalid = [];
   changes = changes;
   answers = answers_to s routes asks;
   table = kept;
@@ -257,11 +264,14 @@ made_named = record { dump = codes "dump"; updates = Some (codes "updates"); ask
 unfoldable pub made_at : ℕ → ℕ → Result Printed Stop
 made_at routes seed = told_at (made_content routes seed) made_named []
 
--- What is to be printed: the rows of a run, the verdict on what a printed text has, or the counts alone of a run on inputs that are made.
+-- What is to be printed: the rows of a run, the verdict on what a printed text has, the counts alone of a run on inputs that are made, what comparing texts comes to, a prefix that stands twice in one of them, or the checkpoint of what was said.
 pub data Output : Type 0 where
   Ran : Printed → Output
   Checked : Used → Output
   Made : Printed → Output
+  Alike : Compared → Output
+  Repeats : Prefix → Output
+  Saved : List Event → Output
 
 abbrev pub ran : Result Printed Stop → Result Output Stop
 ran printed = printed >>= λ p. Ok (Ran p)
@@ -276,12 +286,59 @@ made printed = printed >>= λ p. Ok (Made p)
 abbrev pub stepped : Result Stepping Stop → Result Output Stop
 stepped stepping = stepping >>= λ s. Err Untold
 
--- of a run, of a check, of a run on made inputs, or of a run in steps
+-- ---- texts that are compared
+
+-- What comparing texts comes to. A text that can't be read is refused, and one in which a prefix stands twice has the verdict of a check on it.
+abbrev pub compared : Result Compared same.Stop → Result Output Stop
+compared (Ok texts) = Ok (Alike texts)
+compared (Err same.Untold) = Err Untold
+compared (Err (same.Refused (same.TooLarge n))) = Err (Refused (TooLarge (all.Text n)))
+compared (Err (same.Refused (same.BadLine n line why))) = Err (Refused (BadLine (all.Text n) line why))
+compared (Err (same.Refused (same.Twice n p))) = Ok (Repeats p)
+
+-- the texts of these names, with their rows of this kind
+abbrev pub compared_at : (List ℕ → Option (List ℕ)) → NamedSame → Result Output Stop
+compared_at content named = compared (same_at content named.rows named.first named.rest)
+
+-- ---- a checkpoint
+
+-- the events of the updates, none where none are named
+unfoldable pub later_at : (List ℕ → Option (List ℕ)) → Option (List ℕ) → Result (List Event) Stop
+later_at content None = Ok []
+later_at content (Some name) = events_of Updates content name
+
+-- all events that the dump says, and then the updates
+unfoldable pub said_at : (List ℕ → Option (List ℕ)) → NamedSave → Result (List Event) Stop
+said_at content named = do
+  load ← events_of Dump content named.dump
+  later ← later_at content named.updates
+  Ok (load ++ later)
+
+-- unless the path of a candidate is too long
+abbrev pub unless_long : List Event → Option (Place × Offer) → Result Output Stop
+unless_long said None = Ok (Saved said)
+unless_long said (Some c) = Err (LongPath c.0.prefix c.1.path)
+
+-- the checkpoint of these candidates, which are those of what was said, unless too many peers have one or a path is too long
+abbrev pub saved_with : List Event → Candidates → Result Output Stop
+saved_with said held = if nat_lt most_peers (length (peers_with_candidates held)) then Err (Refused (PeersFull (length (peers_with_candidates held)))) else unless_long said (long_one held)
+
+abbrev pub saved_of : List Event → Result Output Stop
+saved_of said = saved_with said (after_events [] said)
+
+unfoldable pub saved_at : (List ℕ → Option (List ℕ)) → NamedSave → Result Output Stop
+saved_at content named = said_at content named >>= saved_of
+
+-- ---- of all commands
+
+-- of a run, of a check, of a run on made inputs, of a run in steps, of texts, or of a checkpoint
 unfoldable pub output_at : (List ℕ → Option (List ℕ)) → Asked → Result Output Stop
 output_at content (Run named) = ran (run_at content named)
 output_at content (Check name) = checked (used_at content name)
 output_at content (Make routes seed) = made (made_at routes seed)
 output_at content (Steps named) = stepped (stepping_at content named)
+output_at content (Same named) = compared_at content named
+output_at content (Save named) = saved_at content named
 
 -- What is to be printed, or the first refusal: of the words, and then of the inputs that they name.
 unfoldable pub due : List (List ℕ) → (List ℕ → Option (List ℕ)) → Result Output Stop
@@ -289,22 +346,38 @@ due words content = do
   asked ← usage (command_of words)
   output_at content asked
 
--- what a check finds wrong; a run finds nothing wrong
-abbrev pub wrong_in : Output → Option No
+-- what is wrong: with a printed text, or between two of them
+pub data Wrong : Type 0 where
+  Refuted : No → Wrong
+  Differs : TextDifference → Wrong
+
+-- what a check or a comparison finds wrong; all else finds nothing wrong
+abbrev pub wrong_in : Output → Option Wrong
 wrong_in (Ran p) = None
-wrong_in (Checked used) = verdict_of used
+wrong_in (Checked used) = option_map Refuted (verdict_of used)
 wrong_in (Made p) = None
+wrong_in (Alike texts) = option_map Differs (answer_of texts)
+wrong_in (Repeats p) = Some (Refuted (Twice p))
+wrong_in (Saved said) = None
+
+-- `alike`, or `differ,TEXT,ADDRESS,FIRST,OTHER`: where a text differs from the first, and the address's hops from both
+abbrev pub answer_text : Option TextDifference → List ℕ
+answer_text None = line (codes "alike" ∷ [])
+answer_text (Some d) = line (codes "differ" ∷ decimal d.text ∷ address_text d.addr ∷ hop_text (codes "none") d.first ∷ hop_text (codes "none") d.other ∷ [])
 
 -- the text of the rows
 abbrev pub output_text : Output → List ℕ
 output_text (Ran p) = printed_text p
 output_text (Checked used) = verdict_text used.hops (verdict_of used)
 output_text (Made p) = report_text p.told.report
+output_text (Alike texts) = answer_text (answer_of texts)
+output_text (Repeats p) = verdict_text [] (Some (Twice p))
+output_text (Saved said) = saved (after_events [] said)
 
 -- a text, and what is wrong where it says so
 pub record Reply : Type 0 where
   pub text : List ℕ
-  pub wrong : Option No
+  pub wrong : Option Wrong
 
 abbrev pub reply_of : Output → Reply
 reply_of output = record { text = output_text output; wrong = wrong_in output }

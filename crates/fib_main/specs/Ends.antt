@@ -3,38 +3,50 @@ use Rattle.std.specs.Prelude.{◌≡◌, ℕ, List, [], ◌∷◌, ◌++◌, cod
 use Rattle.fib_io.specs.Causes.{Rose}
 use Rattle.fib_io.specs.Octets.{Adds, AddsSome}
 use Rattle.cert_model.specs.Verdict.{No}
+use Rattle.fib_addr.specs.Text.{prefix_text}
+use Rattle.fib_addr.specs.Views.{prefix_as}
+use Rattle.fib_addr.specs.declared.prefix.Prefix as code_prefix
+use Rattle.fib_same.specs.Gives.{names_at}
+use Rattle.fib_same.specs.Views.{difference_as}
+use Rattle.fib_same.specs.declared.compare.Difference as code_difference
 use Rattle.cert_check.specs.declared.refusal.No as code
 use Rattle.cert_check.specs.Views.{no_as}
 use Rattle.fib_main.specs.declared.outcome.Which.{Which}
-use Rattle.fib_main.specs.declared.outcome.Which.TheVariants.{Asks, Dump, Updates, Printed, Script}
+use Rattle.fib_main.specs.declared.outcome.Which.TheVariants.{Asks, Dump, Updates, Printed, Script, Text}
 use Rattle.fib_main.specs.declared.outcome.Outcome.{Outcome}
-use Rattle.fib_main.specs.declared.outcome.Outcome.TheVariants.{Done, CheckNo, Usage, ReadFault, WriteFault, NoMemory, TooLarge, Malformed, HopsFull, TrieFull, BadLine}
-use Rattle.fib_main.specs.Stops.{Stop, Untold, Refused}
-use Rattle.fib_words.specs.Commands.{Named, NamedSteps, Asked, Run, Check, Make, Steps, command_of}
-use Rattle.fib_main.specs.Due.{Output, asks_at, load_at, output_text, script_at, sizes_of, steps_sizes, wrong_in}
+use Rattle.fib_main.specs.declared.outcome.Outcome.TheVariants.{Done, CheckNo, Differ, Usage, ReadFault, WriteFault, NoMemory, TooLarge, Malformed, HopsFull, TrieFull, BadLine, PeersFull, PathTooLong}
+use Rattle.fib_main.specs.declared.outcome.MrtInput.TheVariants as mrt
+use Rattle.fib_main.specs.Stepping.{events_of}
+use Rattle.fib_main.specs.Stops.{Stop, Untold, Refused, LongPath}
+use Rattle.fib_words.specs.Commands.{Named, NamedSave, NamedSteps, Asked, Run, Check, Make, Steps, Same, Save, command_of}
+use Rattle.fib_main.specs.Due.{Output, Wrong, Refuted, Differs, asks_at, load_at, output_text, script_at, sizes_of, steps_sizes, wrong_in}
 
--- the outcome at the end: Done, or what a check finds wrong
-abbrev pub EndsBy : Option No → Outcome → Type 0
+-- the outcome at the end: Done, what a check finds wrong, or where texts differ
+abbrev pub EndsBy : Option Wrong → Outcome → Type 0
 EndsBy None outcome = outcome ≡ Done
-EndsBy (Some wrong) outcome = (x : code.No) × (outcome ≡ CheckNo x) × (no_as x ≡ wrong)
+EndsBy (Some (Refuted fault)) outcome = (x : code.No) × (outcome ≡ CheckNo x) × (no_as x ≡ fault)
+EndsBy (Some (Differs d)) outcome = (x : code_difference.Difference) × (outcome ≡ Differ x) × (difference_as x ≡ d)
 
 -- the outcome is the one that is due, if all that it rests on is told
 abbrev pub IsDue : Result Output Stop → Outcome → Type 0
 IsDue (Ok output) outcome = EndsBy (wrong_in output) outcome
 IsDue (Err Untold) outcome = Unit {0}
 IsDue (Err (Refused o)) outcome = outcome ≡ o
+IsDue (Err (LongPath p n)) outcome = (q : code_prefix.Prefix) × (outcome ≡ PathTooLong q n) × (prefix_as q ≡ p)
 
 -- nothing is refused
 abbrev pub IsAccepted : Result Output Stop → Type 0
 IsAccepted (Ok output) = Unit {0}
 IsAccepted (Err Untold) = Unit {0}
 IsAccepted (Err (Refused o)) = ⊥
+IsAccepted (Err (LongPath p n)) = ⊥
 
 -- what is to be written then
 abbrev pub text_due : Result Output Stop → Option (List ℕ)
 text_due (Ok output) = Some (output_text output)
 text_due (Err Untold) = None
 text_due (Err (Refused o)) = Some []
+text_due (Err (LongPath p n)) = Some []
 
 -- The outcome is the one that is due. A fault of reading or want of memory may come in its place, and a fault of writing where nothing is refused.
 abbrev pub Meets : Result Output Stop → Outcome → Type 0
@@ -43,16 +55,18 @@ Meets d ReadFault = Unit {0}
 Meets d WriteFault = IsAccepted d
 Meets d outcome = IsDue d outcome
 
--- out has the whole text at Done and where a check says no, a front of it at a fault of writing, and nothing new else
+-- out has the whole text at Done, where a check says no and where texts differ, a front of it at a fault of writing, and nothing new else
 abbrev pub Writes : Option (List ℕ) → Option (List ℕ) → Option (List ℕ) → Outcome → Type 0
 Writes text old new Done = IfSome text (λ t. Adds old new t)
 Writes text old new (CheckNo x) = IfSome text (λ t. Adds old new t)
+Writes text old new (Differ x) = IfSome text (λ t. Adds old new t)
 Writes text old new WriteFault = IfSome text (λ t. AddsSome old new t)
 Writes text old new outcome = new ≡ old
 
 -- names that come after an input which isn't refused
 abbrev pub after : {A : Type 0} → Result A Stop → List (List ℕ) → List (List ℕ)
 after (Err (Refused o)) names = []
+after (Err (LongPath p n)) names = []
 after (Err Untold) names = names
 after (Ok x) names = names
 
@@ -68,6 +82,10 @@ reads_named content named = option_to_list named.asks ++ after (asks_at content 
 abbrev pub reads_steps : (List ℕ → Option (List ℕ)) → NamedSteps → List (List ℕ)
 reads_steps content named = named.script ∷ after (script_at content named.script) (named.dump ∷ after (load_at (steps_sizes named) content named.dump) (named.updates ∷ []))
 
+-- the dump, and then the updates where it is accepted
+abbrev pub reads_saved : (List ℕ → Option (List ℕ)) → NamedSave → List (List ℕ)
+reads_saved content named = named.dump ∷ after (events_of mrt.Dump content named.dump) (option_to_list named.updates)
+
 -- the same of what the words ask for
 abbrev pub reads_asked : (List ℕ → Option (List ℕ)) → Option Asked → List (List ℕ)
 reads_asked content None = []
@@ -75,6 +93,8 @@ reads_asked content (Some (Run named)) = reads_named content named
 reads_asked content (Some (Check name)) = name ∷ []
 reads_asked content (Some (Make routes seed)) = []
 reads_asked content (Some (Steps named)) = reads_steps content named
+reads_asked content (Some (Same named)) = names_at content named.rows named.first named.rest
+reads_asked content (Some (Save named)) = reads_saved content named
 
 unfoldable pub reads : List (List ℕ) → (List ℕ → Option (List ℕ)) → List (List ℕ)
 reads words content = reads_asked content (command_of words)
@@ -117,11 +137,13 @@ name_of Dump = codes "dump"
 name_of Updates = codes "updates"
 name_of Printed = codes "printed"
 name_of Script = codes "script"
+name_of (Text n) = codes "text" ++ decimal n
 
 -- the line for an outcome
 abbrev pub outcome_line : Outcome → List ℕ
 outcome_line Done = []
 outcome_line (CheckNo x) = codes "fib: no\n"
+outcome_line (Differ x) = codes "fib: differ\n"
 outcome_line Usage = codes "fib: usage\n"
 outcome_line ReadFault = codes "fib: read fault\n"
 outcome_line WriteFault = codes "fib: write fault\n"
@@ -130,6 +152,8 @@ outcome_line (TooLarge input) = codes "fib: too large " ++ name_of input ++ code
 outcome_line (Malformed input number rule) = codes "fib: malformed " ++ name_of input ++ codes " record " ++ decimal number ++ codes " rule " ++ decimal rule ++ codes "\n"
 outcome_line (HopsFull event) = codes "fib: too many hops at event " ++ decimal event ++ codes "\n"
 outcome_line (TrieFull event need have arena) = codes "fib: trie full at event " ++ decimal event ++ codes ": arena " ++ decimal arena ++ codes " needs " ++ decimal need ++ codes " of " ++ decimal have ++ codes "\n"
+outcome_line (PeersFull peers) = codes "fib: too many peers: " ++ decimal peers ++ codes "\n"
+outcome_line (PathTooLong p n) = codes "fib: path too long at " ++ prefix_text (prefix_as p) ++ codes ": " ++ decimal n ++ codes "\n"
 outcome_line (BadLine input line why) = codes "fib: bad line " ++ name_of input ++ codes " " ++ decimal line ++ codes " why " ++ decimal why ++ codes "\n"
 
 abbrev pub status_of : Outcome → ℕ
@@ -144,6 +168,9 @@ status_of (Malformed input number rule) = 5
 status_of (TrieFull event need have arena) = 6
 status_of (HopsFull event) = 7
 status_of (BadLine input line why) = 8
+status_of (PathTooLong p n) = 11
+status_of (PeersFull peers) = 12
+status_of (Differ x) = 13
 
 -- err has the line at its end, or its count rose and it has a front of the line
 abbrev pub LineTold : List ℕ → Option (List ℕ) → Option (List ℕ) → ℕ → ℕ → Type 0

@@ -8,7 +8,7 @@ use Rattle.whole_input.specs.Whole.{MayGoOn}
 use Rattle.fib_main.specs.declared.outcome.MrtInput.{MrtInput}
 use Rattle.fib_main.specs.declared.outcome.MrtInput.TheVariants as mrt
 use Rattle.fib_main.specs.declared.outcome.Which.{Which}
-use Rattle.fib_main.specs.declared.outcome.Which.TheVariants.{Asks, Dump, Updates, Printed, Script}
+use Rattle.fib_main.specs.declared.outcome.Which.TheVariants.{Asks, Dump, Updates, Printed, Script, Text}
 use Rattle.fib_main.specs.Asks.{ended_asks_in}
 use Rattle.fib_main.specs.Due.{elems_in, load_at, read_part, sizes_of, steps_sizes}
 use Rattle.fib_main.specs.Refusals.{stop_at, too_much}
@@ -37,6 +37,7 @@ RunMayGoOn content named Dump = FeedMayGoOn (sizes_of named) mrt.Dump []
 RunMayGoOn content named Updates = λ octets. MayGoOn octets × IfOk (load_at (sizes_of named) content named.dump) (λ load. AreTaken (sizes_of named) mrt.Updates load.elems octets)
 RunMayGoOn content named Printed = λ octets. Unit {0}
 RunMayGoOn content named Script = λ octets. Unit {0}
+RunMayGoOn content named (Text n) = λ octets. Unit {0}
 
 -- the same of a run in steps, which takes the events of the updates once they were read to their end
 abbrev pub StepsMayGoOn : NamedSteps → Which → List ℕ → Type 0
@@ -45,3 +46,13 @@ StepsMayGoOn named Updates = MayGoOn
 StepsMayGoOn named Asks = λ octets. Unit {0}
 StepsMayGoOn named Printed = λ octets. Unit {0}
 StepsMayGoOn named Script = λ octets. Unit {0}
+StepsMayGoOn named (Text n) = λ octets. Unit {0}
+
+-- the same of a checkpoint: records alone are judged
+abbrev pub SaveMayGoOn : Which → List ℕ → Type 0
+SaveMayGoOn Dump = MayGoOn
+SaveMayGoOn Updates = MayGoOn
+SaveMayGoOn Asks = λ octets. Unit {0}
+SaveMayGoOn Printed = λ octets. Unit {0}
+SaveMayGoOn Script = λ octets. Unit {0}
+SaveMayGoOn (Text n) = λ octets. Unit {0}

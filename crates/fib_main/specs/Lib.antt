@@ -20,3 +20,5 @@ pub mod Stepping
 pub mod Loaded
 pub mod InTime
 pub mod Passes
+pub mod Comparing
+pub mod Saving

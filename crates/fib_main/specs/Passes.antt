@@ -1,18 +1,21 @@
 -- Which reads are made of the inputs that words name.
-use Rattle.std.specs.Prelude.{◌≡◌, ◌≤◌, ℕ, zero, suc, List, [], ◌∷◌, ◌++◌, map, Option, Some, None, option_to_list, Result, Ok, Err}
+use Rattle.std.specs.Prelude.{◌≡◌, ◌≤◌, ◌+◌, ℕ, zero, suc, List, [], ◌∷◌, ◌++◌, map, Option, Some, None, option_to_list, Result, Ok, Err, ◌⊎◌}
 use Rattle.fib_io.specs.Reads.{Anywhere, AtEnd, AtFault, PassEnd, PassInTime, PastMost, Read}
-use Rattle.fib_words.specs.Commands.{Asked, Check, Make, Named, NamedSteps, Run, Steps}
+use Rattle.fib_words.specs.Commands.{Asked, Check, Make, Named, NamedSame, NamedSave, NamedSteps, Run, Same, Save, Steps}
 use Rattle.fib_main.specs.declared.asks.AskError.{AskError}
 use Rattle.fib_main.specs.declared.asks.AskError.TheVariants as ask
 use Rattle.fib_main.specs.declared.outcome.MrtInput.{MrtInput}
 use Rattle.fib_main.specs.declared.outcome.MrtInput.TheVariants.{Updates as OfUpdates}
 use Rattle.fib_main.specs.declared.outcome.Outcome.{Outcome}
-use Rattle.fib_main.specs.declared.outcome.Outcome.TheVariants.{Done, CheckNo, Usage, ReadFault, WriteFault, NoMemory, TooLarge, Malformed, HopsFull, TrieFull, BadLine}
+use Rattle.fib_main.specs.declared.outcome.Outcome.TheVariants.{Done, CheckNo, Differ, Usage, ReadFault, WriteFault, NoMemory, TooLarge, Malformed, HopsFull, TrieFull, BadLine, PeersFull, PathTooLong}
 use Rattle.fib_main.specs.declared.outcome.Which.{Which}
-use Rattle.fib_main.specs.declared.outcome.Which.TheVariants.{Asks, Dump, Updates, Printed, Script}
+use Rattle.fib_main.specs.declared.outcome.Which.TheVariants.{Asks, Dump, Updates, Printed, Script, Text}
 use Rattle.fib_main.specs.declared.state.FeedError.{FeedError}
 use Rattle.fib_main.specs.declared.state.FeedError.TheVariants as feed
-use Rattle.fib_main.specs.InTime.{TextMayGoOn, RunMayGoOn, StepsMayGoOn}
+use Rattle.fib_main.specs.declared.reply.Reply.{Reply}
+use Rattle.fib_main.specs.declared.reply.Wrong.{Wrong}
+use Rattle.fib_main.specs.declared.reply.Wrong.TheVariants as wrong
+use Rattle.fib_main.specs.InTime.{TextMayGoOn, RunMayGoOn, SaveMayGoOn, StepsMayGoOn}
 
 -- an input, by what it is for, and its name
 abbrev pub Input : Type 0
@@ -40,6 +43,19 @@ load_inputs named = (Dump, named.dump) ∷ (Updates, named.updates) ∷ []
 
 abbrev pub steps_inputs : NamedSteps → List Input
 steps_inputs named = (Script, named.script) ∷ load_inputs named
+
+-- texts of these names, numbered from n
+abbrev pub texts_from : ℕ → List (List ℕ) → List Input
+texts_from n [] = []
+texts_from n (name ∷ names) = (Text n, name) ∷ texts_from (n + 1) names
+
+-- those that are compared: the first is text 1
+abbrev pub same_inputs : NamedSame → List Input
+same_inputs named = texts_from 1 (named.first ∷ named.rest)
+
+-- those of a checkpoint: the dump, and then the updates
+abbrev pub save_inputs : NamedSave → List Input
+save_inputs named = (Dump, named.dump) ∷ input_for Updates named.updates
 
 -- ---- passes over inputs, one after another
 
@@ -100,8 +116,11 @@ StopsReading content Goes inputs (HopsFull zero) reads = ReadUpTo content Goes i
 StopsReading content Goes inputs (HopsFull (suc event)) reads = ReadUpTo content Goes inputs Updates Anywhere reads
 StopsReading content Goes inputs (TrieFull zero need have arena) reads = ReadUpTo content Goes inputs Dump AtEnd reads
 StopsReading content Goes inputs (TrieFull (suc event) need have arena) reads = ReadUpTo content Goes inputs Updates Anywhere reads
+StopsReading content Goes inputs (PeersFull peers) reads = ⊥
+StopsReading content Goes inputs (PathTooLong p n) reads = ⊥
 StopsReading content Goes inputs Done reads = ⊥
 StopsReading content Goes inputs (CheckNo x) reads = ⊥
+StopsReading content Goes inputs (Differ x) reads = ⊥
 StopsReading content Goes inputs WriteFault reads = ⊥
 StopsReading content Goes inputs Usage reads = ⊥
 
@@ -110,12 +129,25 @@ abbrev pub ReadsOf : {X : Type 0} → Content → Judge → List Input → Resul
 ReadsOf content Goes inputs (Ok x) reads = AllRead content Goes inputs reads
 ReadsOf content Goes inputs (Err o) reads = StopsReading content Goes inputs o reads
 
--- The reads of inputs with this outcome. Each is read to its end at Done, where a check says no and at a fault of writing; else they are read up to the refusal.
+-- The reads of inputs with this outcome. Each is read to its end at Done, where a check says no, where texts differ, where candidates can't be written and at a fault of writing; else they are read up to the refusal.
 abbrev pub ReadsTo : Content → Judge → List Input → Outcome → List Read → Type 0
 ReadsTo content Goes inputs Done reads = AllRead content Goes inputs reads
 ReadsTo content Goes inputs (CheckNo x) reads = AllRead content Goes inputs reads
+ReadsTo content Goes inputs (Differ x) reads = AllRead content Goes inputs reads
+ReadsTo content Goes inputs (PeersFull peers) reads = AllRead content Goes inputs reads
+ReadsTo content Goes inputs (PathTooLong p n) reads = AllRead content Goes inputs reads
 ReadsTo content Goes inputs WriteFault reads = AllRead content Goes inputs reads
 ReadsTo content Goes inputs o reads = StopsReading content Goes inputs o reads
+
+-- texts up to one in which something is wrong, which is read to its end
+abbrev pub ReadToOne : Content → List Input → List Read → Type 0
+ReadToOne content inputs reads = (which : Which) × ReadUpTo content TextMayGoOn inputs which AtEnd reads
+
+-- The reads of texts that are compared: a text in which a prefix stands twice is the last one that is read.
+abbrev pub ReadsTexts : Content → List Input → Outcome → List Read → Type 0
+ReadsTexts content inputs (CheckNo x) reads = ReadToOne content inputs reads
+ReadsTexts content inputs WriteFault reads = AllRead content TextMayGoOn inputs reads ⊎ ReadToOne content inputs reads
+ReadsTexts content inputs o reads = ReadsTo content TextMayGoOn inputs o reads
 
 -- The reads of what words ask for: those of the inputs that they name. No read of an input is made once what was read of it before is to be refused, where the input tells what it holds. Words that are no command read nothing, and what is made of a number isn't read.
 abbrev pub ReadsAt : Content → Option Asked → Outcome → List Read → Type 0
@@ -124,14 +156,34 @@ ReadsAt content (Some (Run named)) o reads = ReadsTo content (RunMayGoOn content
 ReadsAt content (Some (Check name)) o reads = ReadsTo content TextMayGoOn (check_inputs name) o reads
 ReadsAt content (Some (Make routes seed)) o reads = reads ≡ []
 ReadsAt content (Some (Steps named)) o reads = ReadsTo content (StepsMayGoOn named) (steps_inputs named) o reads
+ReadsAt content (Some (Same named)) o reads = ReadsTexts content (same_inputs named) o reads
+ReadsAt content (Some (Save named)) o reads = ReadsTo content SaveMayGoOn (save_inputs named) o reads
 
--- the same of a call that gives something
-abbrev pub ReadsAsked : {X : Type 0} → Content → Option Asked → Result X Outcome → List Read → Type 0
+-- the reads of texts that are compared, by what was found wrong
+abbrev pub ReadsFound : Content → List Input → Option Wrong → List Read → Type 0
+ReadsFound content inputs None reads = AllRead content TextMayGoOn inputs reads
+ReadsFound content inputs (Some (wrong.Differ d)) reads = AllRead content TextMayGoOn inputs reads
+ReadsFound content inputs (Some (wrong.No x)) reads = ReadToOne content inputs reads
+
+-- the same of a call that gives a reply
+abbrev pub ReadsCompared : Content → List Input → Result Reply Outcome → List Read → Type 0
+ReadsCompared content inputs (Ok reply) reads = ReadsFound content inputs reply.wrong reads
+ReadsCompared content inputs (Err o) reads = StopsReading content TextMayGoOn inputs o reads
+
+-- the same of a checkpoint
+abbrev pub ReadsSaved : Content → List Input → Result Reply Outcome → List Read → Type 0
+ReadsSaved content inputs (Ok reply) reads = AllRead content SaveMayGoOn inputs reads
+ReadsSaved content inputs (Err o) reads = ReadsTo content SaveMayGoOn inputs o reads
+
+-- the same of all commands
+abbrev pub ReadsAsked : Content → Option Asked → Result Reply Outcome → List Read → Type 0
 ReadsAsked content None r reads = reads ≡ []
 ReadsAsked content (Some (Run named)) r reads = ReadsOf content (RunMayGoOn content named) (run_inputs named) r reads
 ReadsAsked content (Some (Check name)) r reads = ReadsOf content TextMayGoOn (check_inputs name) r reads
 ReadsAsked content (Some (Make routes seed)) r reads = reads ≡ []
 ReadsAsked content (Some (Steps named)) r reads = ReadsOf content (StepsMayGoOn named) (steps_inputs named) r reads
+ReadsAsked content (Some (Same named)) r reads = ReadsCompared content (same_inputs named) r reads
+ReadsAsked content (Some (Save named)) r reads = ReadsSaved content (save_inputs named) r reads
 
 -- ---- the parts
 

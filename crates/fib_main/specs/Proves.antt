@@ -1,13 +1,21 @@
 -- What a check's yes says, and the text of a run, to which a check says yes.
-use Rattle.std.specs.Prelude.{◌≡◌, ◌↔◌, ℕ, List, Option, Some, None, Result, Ok, Err}
+use Rattle.std.specs.Prelude.{◌≡◌, ◌↔◌, ℕ, List, [], ◌∷◌, Option, Some, None, Result, Ok, Err}
 use Rattle.fib_io.specs.Octets.{Adds, AddsSome}
 use Rattle.least_model.specs.Both.{LeastInBoth}
 use Rattle.cert_model.specs.Right.{IsCertificate}
 use Rattle.printed_model.specs.Used.{Used, printed_in}
-use Rattle.fib_words.specs.Commands.{Asked, Run, Check, Make, Steps}
+use Rattle.table_model.specs.Entries.{AlikeInBoth}
+use Rattle.route_model.specs.Events.{Event}
+use Rattle.texts_model.specs.Texts.{ComesTo, EveryTwo, least_difference}
+use Rattle.saved_model.specs.Saved.{saved}
+use Rattle.fib_same.specs.Due.{Compared, answer_of}
+use Rattle.fib_save.specs.Brings.{after_events}
+use Rattle.fib_save.specs.Restores.{Restores}
+use Rattle.fib_words.specs.Commands.{Asked, Run, Check, Make, Steps, Same, Save}
 use Rattle.fib_main.specs.Stops.{Stop}
 use Rattle.fib_main.specs.Checks.{verdict_of}
-use Rattle.fib_main.specs.Due.{Output, Ran, Checked, Made, Printed, printed_text}
+use Rattle.fib_main.specs.Owned.{IsSave}
+use Rattle.fib_main.specs.Due.{Output, Ran, Checked, Made, Alike, Repeats, Saved, Printed, printed_text}
 
 -- nothing is wrong exactly where the rows are a certificate that the least table is least for the routes
 abbrev pub Decides : Used → Type 0
@@ -22,6 +30,9 @@ abbrev pub IfChecked : Result Output Stop → (Used → Type 0) → Type 0
 IfChecked (Ok (Ran p)) P = Unit {0}
 IfChecked (Ok (Checked used)) P = P used
 IfChecked (Ok (Made p)) P = Unit {0}
+IfChecked (Ok (Alike texts)) P = Unit {0}
+IfChecked (Ok (Repeats p)) P = Unit {0}
+IfChecked (Ok (Saved said)) P = Unit {0}
 IfChecked (Err stop) P = Unit {0}
 
 -- The text, if it isn't too large for an input, is one that a check says yes to: each of its lines is a printed row, the rows have a certificate that proves their least table least for their routes, and so nothing is wrong with them.
@@ -40,6 +51,9 @@ abbrev pub IfRan : Result Output Stop → (Printed → Type 0) → Type 0
 IfRan (Ok (Ran p)) P = P p
 IfRan (Ok (Checked used)) P = Unit {0}
 IfRan (Ok (Made p)) P = Unit {0}
+IfRan (Ok (Alike texts)) P = Unit {0}
+IfRan (Ok (Repeats p)) P = Unit {0}
+IfRan (Ok (Saved said)) P = Unit {0}
 IfRan (Err stop) P = Unit {0}
 
 -- the words are those of a run
@@ -48,6 +62,8 @@ IsRun (Some (Run named)) = Unit {0}
 IsRun (Some (Check name)) = ⊥
 IsRun (Some (Make routes seed)) = ⊥
 IsRun (Some (Steps named)) = ⊥
+IsRun (Some (Same named)) = ⊥
+IsRun (Some (Save named)) = ⊥
 IsRun None = ⊥
 
 -- a text that a check says yes to was added, where out tells it
@@ -57,3 +73,47 @@ AddsYes old new = (text : List ℕ) × Adds old new text × ChecksYes text
 -- a front of such a text was added
 abbrev pub AddsFrontOfYes : Option (List ℕ) → Option (List ℕ) → Type 0
 AddsFrontOfYes old new = (text : List ℕ) × AddsSome old new text × ChecksYes text
+
+-- ---- texts that are compared
+
+-- this holds of texts, where they are compared
+abbrev pub IfCompared : Result Output Stop → (Compared → Type 0) → Type 0
+IfCompared (Ok (Alike texts)) P = P texts
+IfCompared (Ok (Ran p)) P = Unit {0}
+IfCompared (Ok (Checked used)) P = Unit {0}
+IfCompared (Ok (Made p)) P = Unit {0}
+IfCompared (Ok (Repeats p)) P = Unit {0}
+IfCompared (Ok (Saved said)) P = Unit {0}
+IfCompared (Err stop) P = Unit {0}
+
+-- The answer is what comparing the tables comes to: none differs from the first, or the least address at which one does and the first that does there. Where none differs, every two tables send every address to the same hop.
+pub record Compares (texts : Compared) : Type 0 where
+  pub found : ComesTo texts.first texts.others (least_difference texts.first texts.others)
+  pub alike : answer_of texts ≡ None → EveryTwo AlikeInBoth (texts.first ∷ texts.others)
+
+-- ---- checkpoints
+
+-- this holds of what was said, where it is saved
+abbrev pub IfSaved : Result Output Stop → (List Event → Type 0) → Type 0
+IfSaved (Ok (Saved said)) P = P said
+IfSaved (Ok (Ran p)) P = Unit {0}
+IfSaved (Ok (Checked used)) P = Unit {0}
+IfSaved (Ok (Made p)) P = Unit {0}
+IfSaved (Ok (Alike texts)) P = Unit {0}
+IfSaved (Ok (Repeats p)) P = Unit {0}
+IfSaved (Err stop) P = Unit {0}
+
+-- the words are those of a checkpoint
+abbrev pub IsSaving : Option Asked → Type 0
+IsSaving (Some asked) = IsSave asked
+IsSaving None = ⊥
+
+-- the octets are the checkpoint of what some events bring, and restore it
+pub record IsCheckpoint (octets : List ℕ) : Type 0 where
+  pub said : List Event
+  pub are : octets ≡ saved (after_events [] said)
+  pub restores : Restores said
+
+-- such octets were added, where out tells it
+abbrev pub AddsCheckpoint : Option (List ℕ) → Option (List ℕ) → Type 0
+AddsCheckpoint old new = (octets : List ℕ) × Adds old new octets × IsCheckpoint octets

@@ -5,7 +5,7 @@ use Rattle.printed_model.specs.Used.{Used}
 use Rattle.cost_cert.specs.Printed.{bad_as}
 use Rattle.cost_cert.specs.declared.error.PrintedError.{PrintedError}
 use Rattle.cost_cert.specs.declared.error.PrintedError.TheVariants as printed
-use Rattle.fib_main.specs.declared.check.Reply as code_reply
+use Rattle.fib_main.specs.declared.reply.Reply as code_reply
 use Rattle.fib_main.specs.Due.{Checked, reply_of}
 use Rattle.fib_main.specs.Views.{reply_as}
 use Rattle.fib_main.specs.declared.asks.AskError.{AskError}

@@ -5,8 +5,8 @@ use Rattle.address_model.specs.declared.family.Family.{Family}
 use Rattle.address_model.specs.declared.family.Family.TheVariants.{V4, V6}
 use Rattle.step_model.specs.Machine.{ComesTo, IsHopsFull, IsTrieFull}
 use Rattle.step_run.specs.Stepping.{Stepping, IsTextOf}
-use Rattle.fib_words.specs.Commands.{Asked, Run, Check, Make, Steps}
-use Rattle.fib_main.specs.declared.check.Reply as code_reply
+use Rattle.fib_words.specs.Commands.{Asked, Run, Check, Make, Steps, Same, Save}
+use Rattle.fib_main.specs.declared.reply.Reply as code_reply
 use Rattle.fib_main.specs.declared.outcome.Outcome.{Outcome}
 use Rattle.fib_main.specs.declared.outcome.Outcome.TheVariants.{Done, WriteFault, NoMemory, ReadFault, HopsFull, TrieFull}
 use Rattle.fib_main.specs.Stops.{Stop}
@@ -45,6 +45,8 @@ FitsSteps content None old new outcome = Unit {0}
 FitsSteps content (Some (Run named)) old new outcome = Unit {0}
 FitsSteps content (Some (Check name)) old new outcome = Unit {0}
 FitsSteps content (Some (Make routes seed)) old new outcome = Unit {0}
+FitsSteps content (Some (Same named)) old new outcome = Unit {0}
+FitsSteps content (Some (Save named)) old new outcome = Unit {0}
 FitsSteps content (Some (Steps named)) old new outcome = IfStepping (stepping_at content named) (λ s. EndsRun s old new outcome)
 
 -- the same of a call that gives the text
@@ -54,7 +56,7 @@ GivesRun view s (Err outcome) = EndsEarly s outcome
 
 -- and of one that gives a reply, in which nothing is wrong
 abbrev pub GivesReply : Stepping → Result code_reply.Reply Outcome → Type 0
-GivesReply s (Ok reply) = IsTextOf s reply.text.items × (reply.no ≡ None)
+GivesReply s (Ok reply) = IsTextOf s reply.text.items × (reply.wrong ≡ None)
 GivesReply s (Err outcome) = EndsEarly s outcome
 
 abbrev pub GivesSteps : (List ℕ → Option (List ℕ)) → Option Asked → Result code_reply.Reply Outcome → Type 0
@@ -62,4 +64,6 @@ GivesSteps content None result = Unit {0}
 GivesSteps content (Some (Run named)) result = Unit {0}
 GivesSteps content (Some (Check name)) result = Unit {0}
 GivesSteps content (Some (Make routes seed)) result = Unit {0}
+GivesSteps content (Some (Same named)) result = Unit {0}
+GivesSteps content (Some (Save named)) result = Unit {0}
 GivesSteps content (Some (Steps named)) result = IfStepping (stepping_at content named) (λ s. GivesReply s result)

@@ -9,7 +9,9 @@ use Rattle.route_tries.specs.Sizes.{Shortage}
 use Rattle.printed_model.specs.Used.{Used}
 use Rattle.step_model.specs.Script.{Step}
 use Rattle.fib_main.specs.declared.outcome.Outcome.{Outcome}
-use Rattle.fib_main.specs.declared.outcome.Outcome.TheVariants.{Done, CheckNo, NoMemory, ReadFault, WriteFault, TooLarge, Malformed, HopsFull, TrieFull, BadLine}
+use Rattle.address_model.specs.Address.{Prefix}
+use Rattle.fib_addr.specs.Views.{prefix_as}
+use Rattle.fib_main.specs.declared.outcome.Outcome.TheVariants.{Done, CheckNo, Differ, NoMemory, ReadFault, WriteFault, TooLarge, Malformed, HopsFull, TrieFull, BadLine, PathTooLong}
 use Rattle.fib_main.specs.declared.outcome.MrtInput.{MrtInput}
 use Rattle.fib_main.specs.declared.outcome.MrtInput.TheVariants.{Dump, Updates}
 use Rattle.fib_main.specs.declared.outcome.Which.{Which}
@@ -17,10 +19,12 @@ use Rattle.fib_main.specs.declared.outcome.Which.TheVariants.{Printed, Script}
 use Rattle.fib_main.specs.declared.outcome.Which.TheVariants as all
 use Rattle.fib_main.specs.Refusals.{Refusal, ManyHops, Short}
 
--- what isn't told: an input's content, or the text of a run in steps, which isn't a function of the inputs; or a refusal
+-- what isn't told: an input's content, or the text of a run in steps, which isn't a function of the inputs; a refusal; or that of a path
+-- that is too long, by its prefix and its length
 pub data Stop : Type 0 where
   Untold : Stop
   Refused : Outcome → Stop
+  LongPath : Prefix → ℕ → Stop
 
 -- the content of an input, where it is told
 abbrev pub told_content : Option (List ℕ) → Result (List ℕ) Stop
@@ -98,15 +102,18 @@ with_room (Some s) x = Err (Refused (outcome_at 0 (Short s)))
 abbrev pub IsDueIfTold : {Y : Type 0} → Result Y Stop → Result Y Stop → Type 0
 IsDueIfTold (Err Untold) answer = Unit {0}
 IsDueIfTold (Err (Refused o)) answer = Err (Refused o) ≡ answer
+IsDueIfTold (Err (LongPath p n)) answer = Err (LongPath p n) ≡ answer
 IsDueIfTold (Ok y) answer = Ok y ≡ answer
 
 -- An error is the refusal that is due, or a fault of reading or want of memory in its place.
 abbrev pub FailsDue : {Y : Type 0} → Outcome → Result Y Stop → Type 0
 FailsDue Done due = ⊥
 FailsDue (CheckNo x) due = ⊥
+FailsDue (Differ x) due = ⊥
 FailsDue WriteFault due = ⊥
 FailsDue NoMemory due = Unit {0}
 FailsDue ReadFault due = Unit {0}
+FailsDue (PathTooLong p n) due = IsDueIfTold due (Err (LongPath (prefix_as p) n))
 FailsDue o due = IsDueIfTold due (Err (Refused o))
 
 -- What a call returned, seen by view, is what is due, but for faults and want of memory.

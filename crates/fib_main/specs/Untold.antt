@@ -1,14 +1,17 @@
 -- What holds where an input doesn't tell what it holds.
 use Rattle.std.specs.Prelude.{ℕ, List, Option, Some, None, Result, Ok, Err, ◌⊎◌}
+use Rattle.address_model.specs.Address.{Prefix}
+use Rattle.route_model.specs.Events.{Event}
+use Rattle.fib_same.specs.Due.{Compared}
 use Rattle.std.specs.declared.vec.Vec.{Vec}
 use Rattle.address_model.specs.Address.{Address}
 use Rattle.printed_model.specs.Used.{Used}
-use Rattle.fib_words.specs.Commands.{Asked, Named, NamedSteps, Run, Check, Make, Steps}
-use Rattle.fib_main.specs.declared.check.Reply as code_reply
-use Rattle.fib_main.specs.declared.outcome.Which.TheVariants.{Asks, Printed, Script}
+use Rattle.fib_words.specs.Commands.{Asked, Named, NamedSteps, Run, Check, Make, Steps, Same, Save}
+use Rattle.fib_main.specs.declared.reply.Reply as code_reply
+use Rattle.fib_main.specs.declared.outcome.Which.TheVariants.{Asks, Dump, Printed, Script, Text, Updates}
 use Rattle.fib_main.specs.declared.outcome.Outcome.{Outcome}
 use Rattle.fib_main.specs.Stops.{Stop, Untold, GivesDue}
-use Rattle.fib_main.specs.Due.{Output, Checked, made, made_at, ran, stepped, told_at, with_reply, with_text, with_world, world_at}
+use Rattle.fib_main.specs.Due.{Output, Alike, Checked, Repeats, saved_of, made, made_at, ran, stepped, told_at, with_reply, with_text, with_world, world_at}
 use Rattle.fib_main.specs.Ends.{Meets, Writes, text_due}
 use Rattle.fib_main.specs.Owned.{StopsAt, StoppedAt}
 use Rattle.fib_main.specs.Views.{reply_as}
@@ -25,12 +28,14 @@ FitsUntold d old new outcome = Meets d outcome × Writes (text_due d) old new ou
 abbrev pub FitsStepping : Result Stepping Stop → Option (List ℕ) → Option (List ℕ) → Outcome → Type 0
 FitsStepping d old new outcome = FitsUntold (stepped d) old new outcome × IfStepping d (λ s. EndsRun s old new outcome)
 
--- Whatever the asks hold: they are refused, or all is as due of some asks, with the dump and the updates. Whatever a printed text holds: it is refused, or all is as due of some rows. Whatever a script holds: it is refused, or all is as due of some steps.
+-- Whatever the asks hold: they are refused, or all is as due of some asks, with the dump and the updates. Whatever a printed text holds: it is refused, or all is as due of some rows. Whatever a script holds: it is refused, or all is as due of some steps. Whatever texts hold: one is refused, or all is as due of some tables, or of a prefix that stands twice. Whatever inputs of records hold: one is refused, or all is as due of what was said in some.
 abbrev pub FitsSome : (List ℕ → Option (List ℕ)) → Option Asked → Option (List ℕ) → Option (List ℕ) → Outcome → Type 0
 FitsSome content None old new outcome = Unit {0}
 FitsSome content (Some (Run named)) old new outcome = StopsAt Asks outcome ⊎ ((asks : List Address) × FitsUntold (ran (told_at content named asks)) old new outcome)
 FitsSome content (Some (Check name)) old new outcome = StopsAt Printed outcome ⊎ ((used : Used) × FitsUntold (Ok (Checked used)) old new outcome)
 FitsSome content (Some (Make routes seed)) old new outcome = FitsUntold (made (made_at routes seed)) old new outcome
+FitsSome content (Some (Same named)) old new outcome = ((n : ℕ) × StopsAt (Text n) outcome) ⊎ (((texts : Compared) × FitsUntold (Ok (Alike texts)) old new outcome) ⊎ ((p : Prefix) × FitsUntold (Ok (Repeats p)) old new outcome))
+FitsSome content (Some (Save named)) old new outcome = (StopsAt Dump outcome ⊎ StopsAt Updates outcome) ⊎ ((said : List Event) × FitsUntold (saved_of said) old new outcome)
 FitsSome content (Some (Steps named)) old new outcome = StopsAt Script outcome ⊎ ((script : List Step) × FitsStepping (with_world script (world_at content named)) old new outcome)
 
 -- the same of the text of a run's rows
@@ -55,10 +60,20 @@ StepsOfSome content named result = StoppedAt Script result ⊎ ((script : List S
 abbrev pub GivesStepping : Result Stepping Stop → Result code_reply.Reply Outcome → Type 0
 GivesStepping d result = GivesDue reply_as result (with_reply (stepped d)) × IfStepping d (λ s. GivesReply s result)
 
+-- the same of the reply to texts that are compared
+abbrev pub ComparedOfSome : Result code_reply.Reply Outcome → Type 0
+ComparedOfSome result = ((n : ℕ) × StoppedAt (Text n) result) ⊎ (((texts : Compared) × GivesDue reply_as result (with_reply (Ok (Alike texts)))) ⊎ ((p : Prefix) × GivesDue reply_as result (with_reply (Ok (Repeats p)))))
+
+-- the same of a checkpoint
+abbrev pub SavedOfSome : Result code_reply.Reply Outcome → Type 0
+SavedOfSome result = (StoppedAt Dump result ⊎ StoppedAt Updates result) ⊎ ((said : List Event) × GivesDue reply_as result (with_reply (saved_of said)))
+
 -- the same of a reply to a command
 abbrev pub GivesSome : (List ℕ → Option (List ℕ)) → Option Asked → Result code_reply.Reply Outcome → Type 0
 GivesSome content None result = Unit {0}
 GivesSome content (Some (Run named)) result = StoppedAt Asks result ⊎ ((asks : List Address) × GivesDue reply_as result (with_reply (ran (told_at content named asks))))
 GivesSome content (Some (Check name)) result = ReplyOfSome result
 GivesSome content (Some (Make routes seed)) result = GivesDue reply_as result (with_reply (made (made_at routes seed)))
+GivesSome content (Some (Same named)) result = ComparedOfSome result
+GivesSome content (Some (Save named)) result = SavedOfSome result
 GivesSome content (Some (Steps named)) result = StoppedAt Script result ⊎ ((script : List Step) × GivesStepping (with_world script (world_at content named)) result)

@@ -10,11 +10,14 @@ use Rattle.route_tries.specs.Sizes.{sizes_as}
 use Rattle.route_tries.specs.declared.needs.FamilyNeeds.{FamilyNeeds}
 use Rattle.fib_delta.specs.Views.{change_as}
 use Rattle.cert_check.specs.Views.{no_as}
+use Rattle.fib_same.specs.Views.{difference_as}
 use Rattle.fib_main.specs.declared.feed.Counts.{Counts}
-use Rattle.fib_main.specs.declared.check.Reply as code_reply
+use Rattle.fib_main.specs.declared.reply.Reply as code_reply
+use Rattle.fib_main.specs.declared.reply.Wrong as code_wrong
+use Rattle.fib_main.specs.declared.reply.Wrong.TheVariants as wrong
 use Rattle.fib_main.specs.Refusals.{Limits}
 use Rattle.fib_main.specs.declared.state.State.{State}
-use Rattle.fib_main.specs.Due.{Reply, all_leaves, all_nodes}
+use Rattle.fib_main.specs.Due.{Reply, Wrong, Refuted, Differs, all_leaves, all_nodes}
 
 -- changes with their events' numbers
 abbrev pub changes_as : List (ℕ × code_change.Change) → List (ℕ × Change)
@@ -25,8 +28,12 @@ abbrev pub told_changes : State → List (ℕ × Change)
 told_changes state = at_event 0 (additions (map entry_as state.added.items)) ++ changes_as state.changes.items
 
 -- a text, and what is wrong where it says so
+abbrev pub wrong_as : code_wrong.Wrong → Wrong
+wrong_as (wrong.No x) = Refuted (no_as x)
+wrong_as (wrong.Differ d) = Differs (difference_as d)
+
 abbrev pub reply_as : code_reply.Reply → Reply
-reply_as reply = record { text = reply.text.items; wrong = option_map no_as reply.no }
+reply_as reply = record { text = reply.text.items; wrong = option_map wrong_as reply.wrong }
 
 -- how often a snapshot comes, and how large tries are
 abbrev pub limits_as : code_limits.Limits → Limits

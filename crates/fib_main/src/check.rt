@@ -1,6 +1,6 @@
 //! The check of a printed text, and the row that it prints.
 
-ghost use Rattle.std.specs.Prelude.{◌≡◌, ◌∷◌, [], codes, decimal, option_map, IfOk, Some};
+ghost use Rattle.std.specs.Prelude.{◌≡◌, ◌∷◌, [], codes, decimal, option_map, IfOk, IfSome, Some};
 ghost use Rattle.cert_check.specs.Views.{no_as};
 ghost use Rattle.cost_cert.specs.Printed.{printed_as};
 ghost use Rattle.fib_addr.specs.Views.{addr_as, prefix_as};
@@ -8,10 +8,12 @@ ghost use Rattle.fib_addr.specs.Text.{address_text, prefix_text};
 ghost use Rattle.printed_model.specs.Rows.{family_name, line};
 ghost use Rattle.printed_model.specs.Used.{printed_in};
 ghost use Rattle.fib_main.specs.Checks.{verdict_hop, no_fields, verdict_of, verdict_text};
-ghost use Rattle.fib_main.specs.Due.{Checked, reply_of};
+ghost use Rattle.fib_main.specs.Due.{Checked, Refuted, reply_of};
+ghost use Rattle.fib_main.specs.Owned.{IsNo};
 ghost use Rattle.fib_main.specs.Reads.{IsReply};
-ghost use Rattle.fib_main.specs.Views.{reply_as};
+ghost use Rattle.fib_main.specs.Views.{reply_as, wrong_as};
 
+use crate::reply::{Reply, Wrong};
 use cert_check::{CheckError, No, check};
 use cost_cert::{Printed, PrintedError, read_printed};
 use fib_prefix::{Addr, Family, Hop, HopTable, MOST_TEXT, Prefix, addr_text, prefix_text};
@@ -19,17 +21,8 @@ use fib_report::{family_field, hop_field, row_text};
 use itoa::Buffer;
 use std::alloc::{AllocError, Global};
 
-/// A text to be written, and what is wrong where it says so.
-#[derive(Drop)]
-pub struct Reply {
-    /// The text.
-    pub text: Vec<u8>,
-    /// What a check finds wrong.
-    pub no: Option<No>,
-}
-
 /// `no,twice,PREFIX`.
-fn twice_row(alloc: Global, prefix: &Prefix) -> Result<Vec<u8>, AllocError>
+pub fn twice_row(alloc: Global, prefix: &Prefix) -> Result<Vec<u8>, AllocError>
     ensures { IfOk result (λ text. text.items
         ≡ line (codes "no" ∷ codes "twice" ∷ prefix_text (prefix_as prefix.now) ∷ [])) }
 {
@@ -151,19 +144,35 @@ fn wrong_in(alloc: Global, printed: &Printed) -> Result<Option<No>, AllocError>
     }
 }
 
+/// What is wrong, among all that may be.
+fn refuted(no: Option<No>) -> Option<Wrong>
+    ensures wrong { option_map wrong_as result ≡ option_map Refuted (option_map no_as no) }
+    ensures no { IfSome result IsNo }
+{
+    match no {
+        Some(no) => Some(Wrong::No(no)),
+        None => None,
+    }
+}
+
 /// The reply to a printed text.
 fn reply_to(alloc: Global, printed: &Printed) -> Result<Reply, AllocError>
-    ensures { IfOk result (λ reply. reply_as reply ≡ reply_of (Checked (printed_as printed.now))) }
+    ensures reply { IfOk result (λ reply. reply_as reply ≡ reply_of (Checked (printed_as printed.now))) }
+    ensures no { IfOk result (λ reply. IfSome reply.wrong IsNo) }
 {
     let no = wrong_in(alloc, printed)?;
     let text = verdict_row(alloc, &no, &printed.hops)?;
-    Ok(Reply { text, no })
+    Ok(Reply {
+        text,
+        wrong: refuted(no),
+    })
 }
 
 /// Reads a printed text and checks that its certificate proves its least table least; `BadRow` names the first line that is
 /// no row. It costs n log n in the text's length. The text is let go once it is read.
 pub fn check_text(alloc: Global, text: Vec<u8>) -> Result<Reply, PrintedError>
-    ensures { IsReply result (printed_in text.items) }
+    ensures reply { IsReply result (printed_in text.items) }
+    ensures no { IfOk result (λ reply. IfSome reply.wrong IsNo) }
 {
     let printed = read_printed(alloc, &text)?;
     drop(text);

@@ -1,13 +1,15 @@
 //! What a run or a check comes to.
 
 ghost use Rattle.std.specs.Prelude.{◌≡◌, ◌+◌, ◌++◌, ◌≤◌, decimal, length};
-ghost use Rattle.arrayvec.specs.ArrayString.{array_string_len};
+ghost use Rattle.arrayvec.specs.ArrayVec.{array_vec_len};
 ghost use Rattle.fib_main.specs.Ends.{outcome_line, name_of, status_of};
 ghost use Rattle.fib_main.specs.Stops.{input_of};
-ghost use Rattle.fib_main.specs.declared.outcome.Outcome.TheVariants.{Malformed as IsMalformed, HopsFull as IsHopsFull, TrieFull as IsTrieFull, BadLine as IsBadLine, TooLarge as IsTooLarge};
+ghost use Rattle.fib_main.specs.declared.outcome.Outcome.TheVariants.{Malformed as IsMalformed, HopsFull as IsHopsFull, TrieFull as IsTrieFull, BadLine as IsBadLine, TooLarge as IsTooLarge, PeersFull as IsPeersFull, PathTooLong as IsPathTooLong};
 
-use arrayvec::ArrayString;
+use arrayvec::ArrayVec;
 use cert_check::No;
+use fib_prefix::{MOST_TEXT, Prefix, prefix_text};
+use fib_same::Difference;
 use itoa::Buffer;
 
 /// Room for the line that tells an outcome.
@@ -26,6 +28,8 @@ pub enum Which {
     Printed,
     /// The script of a run in steps.
     Script,
+    /// A printed text that is compared with others, by its number from 1.
+    Text(u64),
 }
 
 /// An input of MRT records.
@@ -56,6 +60,8 @@ pub enum Outcome {
     Done,
     /// A printed text was checked and isn't proved; out has a row that says why.
     CheckNo(No),
+    /// A printed text says another table than the first one; out has a row that says where.
+    Differ(Difference),
     /// The words aren't a command.
     Usage,
     /// An input couldn't be read.
@@ -93,7 +99,7 @@ pub enum Outcome {
         input: Which,
         /// The line's number, from 1.
         line: u64,
-        /// What is wrong with it. Of asks 1: it is no address. Of a printed text and of a script `cost_cert::why` names it.
+        /// What is wrong with it. Of asks 1: it is no address. Of printed texts and of a script `cost_cert::why` names it.
         why: u8,
     },
     /// Memory ran out.
@@ -103,112 +109,161 @@ pub enum Outcome {
         /// The input.
         input: Which,
     },
+    /// More peers have a candidate than the peer table of a dump holds: more than 65,535.
+    PeersFull {
+        /// How many have one.
+        peers: u64,
+    },
+    /// The path of a candidate is too long to be written: longer than 15,000.
+    PathTooLong {
+        /// The prefix of the first such candidate.
+        prefix: Prefix,
+        /// The length of its path.
+        length: u32,
+    },
 }
 
-/// The line that tells an outcome.
-pub type Line = ArrayString<MOST_LINE>;
+/// The line that tells an outcome, in octets.
+pub type Line = ArrayVec<u8, MOST_LINE>;
 
-impl Which {
-    /// What the input is called.
-    fn name(self) -> &'static str
-        ensures name { result.now ≡ name_of self }
-        ensures short { length result.now ≤ 7 }
-    {
-        match self {
-            Which::Asks => "asks",
-            Which::Dump => "dump",
-            Which::Updates => "updates",
-            Which::Printed => "printed",
-            Which::Script => "script",
-        }
-    }
+/// Adds a text to a line.
+fn push(line: &mut Line, text: &[u8])
+    requires { array_vec_len line.old + length text.now ≤ MOST_LINE }
+    ensures text { line.new.items ≡ line.old.items ++ text.now }
+    ensures len { array_vec_len line.new ≡ array_vec_len line.old + length text.now }
+{
+    let _ = line.try_extend_from_slice(text);
 }
 
 /// Adds a number to a line.
 fn push_number(line: &mut Line, number: u64)
-    requires { array_string_len line.old + 20 ≤ MOST_LINE }
-    ensures text { line.new.bytes ≡ line.old.bytes ++ decimal number }
-    ensures len { array_string_len line.new ≤ array_string_len line.old + 20 }
+    requires { array_vec_len line.old + 20 ≤ MOST_LINE }
+    ensures text { line.new.items ≡ line.old.items ++ decimal number }
+    ensures len { array_vec_len line.new ≤ array_vec_len line.old + 20 }
 {
-    line.push_str(Buffer::new().format(number));
+    push(line, Buffer::new().format(number).as_bytes());
+}
+
+/// Adds what an input is called to a line: `asks`, `dump`, `updates`, `printed`, `script`, or `text` with its number.
+fn push_name(line: &mut Line, input: Which)
+    requires { array_vec_len line.old + 24 ≤ MOST_LINE }
+    ensures text { line.new.items ≡ line.old.items ++ name_of input }
+    ensures len { array_vec_len line.new ≤ array_vec_len line.old + 24 }
+{
+    match input {
+        Which::Asks => push(line, b"asks"),
+        Which::Dump => push(line, b"dump"),
+        Which::Updates => push(line, b"updates"),
+        Which::Printed => push(line, b"printed"),
+        Which::Script => push(line, b"script"),
+        Which::Text(number) => {
+            push(line, b"text");
+            push_number(line, number);
+        }
+    }
 }
 
 /// `fib: malformed INPUT record NUMBER rule RULE`.
 fn malformed_line(input: Which, number: u64, rule: u8) -> Line
-    ensures { result.bytes ≡ outcome_line (IsMalformed input number rule) }
+    ensures { result.items ≡ outcome_line (IsMalformed input number rule) }
 {
     let mut line = Line::new();
-    line.push_str("fib: malformed ");
-    line.push_str(input.name());
-    line.push_str(" record ");
+    push(&mut line, b"fib: malformed ");
+    push_name(&mut line, input);
+    push(&mut line, b" record ");
     push_number(&mut line, number);
-    line.push_str(" rule ");
+    push(&mut line, b" rule ");
     push_number(&mut line, u64::from(rule));
-    line.push_str("\n");
+    push(&mut line, b"\n");
     line
 }
 
 /// `fib: too many hops at event EVENT`.
 fn hops_full(event: u64) -> Line
-    ensures { result.bytes ≡ outcome_line (IsHopsFull event) }
+    ensures { result.items ≡ outcome_line (IsHopsFull event) }
 {
     let mut line = Line::new();
-    line.push_str("fib: too many hops at event ");
+    push(&mut line, b"fib: too many hops at event ");
     push_number(&mut line, event);
-    line.push_str("\n");
+    push(&mut line, b"\n");
     line
 }
 
 /// `fib: trie full at event EVENT: arena ARENA needs NEED of HAVE`.
 fn trie_full(event: u64, need: u64, have: u64, arena: u8) -> Line
-    ensures { result.bytes ≡ outcome_line (IsTrieFull event need have arena) }
+    ensures { result.items ≡ outcome_line (IsTrieFull event need have arena) }
 {
     let mut line = Line::new();
-    line.push_str("fib: trie full at event ");
+    push(&mut line, b"fib: trie full at event ");
     push_number(&mut line, event);
-    line.push_str(": arena ");
+    push(&mut line, b": arena ");
     push_number(&mut line, u64::from(arena));
-    line.push_str(" needs ");
+    push(&mut line, b" needs ");
     push_number(&mut line, need);
-    line.push_str(" of ");
+    push(&mut line, b" of ");
     push_number(&mut line, have);
-    line.push_str("\n");
+    push(&mut line, b"\n");
     line
 }
 
 /// `fib: bad line INPUT LINE why WHY`.
 fn bad_line(input: Which, number: u64, why: u8) -> Line
-    ensures { result.bytes ≡ outcome_line (IsBadLine input number why) }
+    ensures { result.items ≡ outcome_line (IsBadLine input number why) }
 {
     let mut line = Line::new();
-    line.push_str("fib: bad line ");
-    line.push_str(input.name());
-    line.push_str(" ");
+    push(&mut line, b"fib: bad line ");
+    push_name(&mut line, input);
+    push(&mut line, b" ");
     push_number(&mut line, number);
-    line.push_str(" why ");
+    push(&mut line, b" why ");
     push_number(&mut line, u64::from(why));
-    line.push_str("\n");
+    push(&mut line, b"\n");
     line
 }
 
 /// `fib: too large INPUT`.
 fn too_large(input: Which) -> Line
-    ensures { result.bytes ≡ outcome_line (IsTooLarge input) }
+    ensures { result.items ≡ outcome_line (IsTooLarge input) }
 {
     let mut line = Line::new();
-    line.push_str("fib: too large ");
-    line.push_str(input.name());
-    line.push_str("\n");
+    push(&mut line, b"fib: too large ");
+    push_name(&mut line, input);
+    push(&mut line, b"\n");
+    line
+}
+
+/// `fib: too many peers: PEERS`.
+fn peers_full(peers: u64) -> Line
+    ensures { result.items ≡ outcome_line (IsPeersFull peers) }
+{
+    let mut line = Line::new();
+    push(&mut line, b"fib: too many peers: ");
+    push_number(&mut line, peers);
+    push(&mut line, b"\n");
+    line
+}
+
+/// `fib: path too long at PREFIX: LENGTH`.
+fn path_too_long(prefix: &Prefix, length: u32) -> Line
+    ensures { result.items ≡ outcome_line (IsPathTooLong prefix.now length) }
+{
+    let mut buffer = [0; MOST_TEXT];
+    let mut line = Line::new();
+    push(&mut line, b"fib: path too long at ");
+    push(&mut line, prefix_text(&mut buffer, prefix));
+    push(&mut line, b": ");
+    push_number(&mut line, u64::from(length));
+    push(&mut line, b"\n");
     line
 }
 
 /// A line that is always the same.
-fn plain(text: &str) -> Line
+fn plain(text: &[u8]) -> Line
     requires { length text.now ≤ MOST_LINE }
-    ensures { result.bytes ≡ text.now }
+    ensures { result.items ≡ text.now }
 {
     let mut line = Line::new();
-    line.push_str(text);
+    push(&mut line, text);
     line
 }
 
@@ -229,19 +284,22 @@ impl Outcome {
             Outcome::BadLine { .. } => 8,
             Outcome::NoMemory => 9,
             Outcome::TooLarge { .. } => 10,
+            Outcome::PathTooLong { .. } => 11,
+            Outcome::PeersFull { .. } => 12,
+            Outcome::Differ(_) => 13,
         }
     }
 
     /// The line that tells it, with its line feed; nothing for Done.
     pub fn line(&self) -> Line
-        ensures { result.bytes ≡ outcome_line self.now }
+        ensures { result.items ≡ outcome_line self.now }
     {
         match *self {
-            Outcome::Done => plain(""),
-            Outcome::CheckNo(_) => plain("fib: no\n"),
-            Outcome::Usage => plain("fib: usage\n"),
-            Outcome::ReadFault => plain("fib: read fault\n"),
-            Outcome::WriteFault => plain("fib: write fault\n"),
+            Outcome::Done => plain(b""),
+            Outcome::CheckNo(_) => plain(b"fib: no\n"),
+            Outcome::Usage => plain(b"fib: usage\n"),
+            Outcome::ReadFault => plain(b"fib: read fault\n"),
+            Outcome::WriteFault => plain(b"fib: write fault\n"),
             Outcome::Malformed {
                 input,
                 number,
@@ -255,8 +313,11 @@ impl Outcome {
                 arena,
             } => trie_full(event, need, have, arena),
             Outcome::BadLine { input, line, why } => bad_line(input, line, why),
-            Outcome::NoMemory => plain("fib: no memory\n"),
+            Outcome::NoMemory => plain(b"fib: no memory\n"),
             Outcome::TooLarge { input } => too_large(input),
+            Outcome::PathTooLong { prefix, length } => path_too_long(&prefix, length),
+            Outcome::PeersFull { peers } => peers_full(peers),
+            Outcome::Differ(_) => plain(b"fib: differ\n"),
         }
     }
 }

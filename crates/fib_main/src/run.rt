@@ -1,6 +1,6 @@
 //! From the words and the inputs to the text that is due.
 
-ghost use Rattle.std.specs.Prelude.{◌≡◌, ◌≤◌, ◌^◌, ◌∷◌, List, [], Some, None, length, map, IfErr, IfOk, IsSome, OnErr, OnOk, option_to_list, true};
+ghost use Rattle.std.specs.Prelude.{◌≡◌, ◌≤◌, ◌^◌, ◌∷◌, List, [], Some, None, length, map, IfErr, IfOk, IfSome, IsSome, OnErr, OnOk, option_to_list, true};
 ghost use Rattle.fib_addr.specs.Views.{addr_as};
 ghost use Rattle.fib_main.specs.Asking.{ask_refusal};
 ghost use Rattle.fib_main.specs.Counts.{AddUp, AreFew};
@@ -8,9 +8,10 @@ ghost use Rattle.fib_main.specs.Due.{asks_at, checked, feed_at, input_at, limits
 ghost use Rattle.fib_main.specs.Ends.{feeds_named, reads_asked, reads_named, ReadsName, ReadsNames};
 ghost use Rattle.fib_io.specs.Reads.{Makes};
 ghost use Rattle.fib_main.specs.InTime.{FeedMayGoOn, TextMayGoOn, RunMayGoOn};
-ghost use Rattle.fib_main.specs.Owned.{IsOf, Owns, StopsAt, StopsIn};
+ghost use Rattle.fib_main.specs.Owned.{IsNo, IsOf, IsSave, Owns, StopsAt, StopsIn};
 ghost use Rattle.fib_main.specs.Passes.{ReadsAsked, ReadsOf, check_inputs, feed_inputs, input_for, run_inputs};
-ghost use Rattle.fib_main.specs.Proves.{ChecksYes, IfRan, IsRun, PrintsYes};
+ghost use Rattle.fib_main.specs.Proves.{ChecksYes, IfRan, IfSaved, IsCheckpoint, IsRun, IsSaving, PrintsYes};
+ghost use Rattle.fib_save.specs.Restores.{Restores};
 ghost use Rattle.fib_main.specs.Views.{limits_as, reply_as};
 ghost use Rattle.fib_main.specs.Standing.{FeedsBoth, HoldsMade, IsReady, StateFeeds, refusal_of, StateStands};
 ghost use Rattle.fib_main.specs.Refusals.{Limits as ends};
@@ -22,10 +23,13 @@ ghost use Rattle.fib_words.specs.Commands.{asked_as, Check, IsWithin, Make, name
 ghost use Rattle.route_model.specs.Events.{Elem};
 
 use crate::asks::{AskError, read_asks};
-use crate::check::{Reply, check_text};
+use crate::check::check_text;
 use crate::feed::{Counts, feed};
 use crate::outcome::{MrtInput, Outcome, Which};
+use crate::reply::Reply;
 use crate::report::{Fed, write_counts, write_text};
+use crate::same::same_for;
+use crate::save::save_for;
 use crate::state::{FeedError, State};
 use crate::stepping::steps_for;
 use cost_cert::PrintedError;
@@ -373,6 +377,7 @@ fn check_for<I: Inputs>(alloc: Global, inputs: &mut I, name: &str) -> Result<Rep
     ensures due { GivesDue reply_as result
         (with_reply (checked (used_at (I.content inputs.old) name.now))) }
     ensures some { ReplyOfSome result }
+    ensures no { IfOk result (λ reply. IfSome reply.wrong IsNo) }
     ensures stops { IfErr result (StopsAt Which.Printed) }
     ensures same { I.content inputs.new ≡ I.content inputs.old }
     ensures cause { ReadsName name.now (I.faults inputs.old) (I.faults inputs.new) result }
@@ -395,7 +400,7 @@ fn check_for<I: Inputs>(alloc: Global, inputs: &mut I, name: &str) -> Result<Rep
 fn reply_of(text: Vec<u8>) -> Reply
     ensures { reply_as result ≡ record { text = text.items; wrong = None } }
 {
-    Reply { text, no: None }
+    Reply { text, wrong: None }
 }
 
 /// The reply to what the words ask for.
@@ -410,12 +415,16 @@ fn reply_to<I: Inputs>(
         (with_reply (output_at (I.content inputs.old) (asked_as command.now))) }
     ensures some { GivesSome (I.content inputs.old) (Some (asked_as command.now)) result }
     ensures steps { GivesSteps (I.content inputs.old) (Some (asked_as command.now)) result }
-    ensures stops { IfErr result (StopsIn (asked_as command.now)) }
+    ensures own { IfErr result (IsOf (Some (asked_as command.now))) }
     ensures owns { IfOk result (Owns (Some (asked_as command.now))) }
     ensures yes { IsRun (Some (asked_as command.now))
         → IfOk result (λ reply. ChecksYes reply.text.items) }
     ensures due_yes { OnOk result
         (IfRan (output_at (I.content inputs.old) (asked_as command.now)) PrintsYes) }
+    ensures saves { IsSave (asked_as command.now)
+        → IfOk result (λ reply. IsCheckpoint reply.text.items) }
+    ensures due_saves { OnOk result
+        (IfSaved (output_at (I.content inputs.old) (asked_as command.now)) Restores) }
     ensures same { I.content inputs.new ≡ I.content inputs.old }
     ensures cause { ReadsNames (reads_asked (I.content inputs.old) (Some (asked_as command.now)))
         (I.faults inputs.old) (I.faults inputs.new) result }
@@ -436,6 +445,8 @@ fn reply_to<I: Inputs>(
             let text = steps_for(alloc, inputs, steps)?;
             Ok(reply_of(text))
         }
+        CommandWords::Same(same) => same_for(alloc, inputs, same),
+        CommandWords::Save(save) => save_for(alloc, inputs, save),
     }
 }
 
@@ -453,6 +464,8 @@ pub fn reply_for<I: Inputs>(
     ensures owns { IfOk result (Owns (asked_by words.now)) }
     ensures yes { IsRun (asked_by words.now) → IfOk result (λ reply. ChecksYes reply.text.items) }
     ensures due_yes { OnOk result (IfRan (due_by words.now (I.content inputs.old)) PrintsYes) }
+    ensures saves { IsSaving (asked_by words.now) → IfOk result (λ reply. IsCheckpoint reply.text.items) }
+    ensures due_saves { OnOk result (IfSaved (due_by words.now (I.content inputs.old)) Restores) }
     ensures same { I.content inputs.new ≡ I.content inputs.old }
     ensures cause { ReadsNames (read_by words.now (I.content inputs.old)) (I.faults inputs.old)
         (I.faults inputs.new) result }

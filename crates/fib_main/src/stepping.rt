@@ -14,7 +14,7 @@ ghost use Rattle.fib_main.specs.Stepped.{arena_of};
 ghost use Rattle.fib_io.specs.Reads.{Makes};
 ghost use Rattle.fib_main.specs.Owned.{StopsAt, StopsIn};
 ghost use Rattle.fib_main.specs.Passes.{ReadsOf, load_inputs, steps_inputs};
-ghost use Rattle.fib_main.specs.Stepping.{events_at, refusal_of_whole};
+ghost use Rattle.fib_main.specs.Stepping.{events_at, refusal_by, refusal_of_whole};
 ghost use Rattle.fib_main.specs.Stops.{GivesDue};
 ghost use Rattle.fib_main.specs.Untold.{GivesText, StepsOfSome};
 ghost use Rattle.whole_input.specs.Whole.{MayGoOn};
@@ -100,22 +100,29 @@ fn load_of<I: Inputs>(
     Ok(engine)
 }
 
-/// The outcome where updates aren't read.
-fn outcome_of_whole(error: WholeError) -> Outcome
-    ensures { result ≡ refusal_of_whole error }
+/// The outcome if an input of records isn't read to its end.
+pub fn outcome_of_whole(which: MrtInput, error: WholeError) -> Outcome
+    ensures { result ≡ refusal_by which error }
 {
     match error {
         WholeError::Malformed(malformed) => Outcome::Malformed {
-            input: Which::Updates,
+            input: which.which(),
             number: malformed.number,
             rule: malformed.rule.number(),
         },
         WholeError::NoMemory => Outcome::NoMemory,
         WholeError::Fault => Outcome::ReadFault,
         WholeError::TooLarge => Outcome::TooLarge {
-            input: Which::Updates,
+            input: which.which(),
         },
     }
+}
+
+/// The outcome if the updates aren't.
+fn outcome_of_updates(error: WholeError) -> Outcome
+    ensures { result ≡ refusal_of_whole error }
+{
+    outcome_of_whole(MrtInput::Updates, error)
 }
 
 /// The events of the updates, which are read to their end.
@@ -129,7 +136,7 @@ fn events_of<I: Inputs>(alloc: Global, inputs: &mut I, name: &str) -> Result<Vec
     ensures reads { Makes (I.reads inputs.old) (I.reads inputs.new)
         (ReadsOf (I.content inputs.old) (λ _. MayGoOn) ((Which.Updates, name.now) ∷ []) result) }
 {
-    read_all_events(alloc, inputs, name).map_err(outcome_of_whole)
+    read_all_events(alloc, inputs, name).map_err(outcome_of_updates)
 }
 
 /// The number of a family's arena among those of both.

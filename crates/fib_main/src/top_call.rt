@@ -1,32 +1,43 @@
 //! The top call: from the words and the inputs to the octets of the output.
 
-ghost use Rattle.std.specs.Prelude.{◌≡◌, ℕ, ◌<◌, List, option_map};
+ghost use Rattle.std.specs.Prelude.{◌≡◌, ℕ, ◌<◌, List, Some, option_map};
 ghost use Rattle.fib_io.specs.Causes.{Rose};
-ghost use Rattle.cert_check.specs.Views.{no_as};
+ghost use Rattle.fib_save.specs.Restores.{Restores};
+ghost use Rattle.fib_main.specs.Views.{wrong_as};
 ghost use Rattle.fib_main.specs.Ends.{Completes, EndsBy, Meets, OneRose, ReadsFrom, TellsOf, text_due, Writes, WritesBy};
 ghost use Rattle.fib_main.specs.Keeps.{Follows, KeepsTables, RenewsLeast, RepairsFewest, RepairsWithin};
 ghost use Rattle.fib_io.specs.Reads.{Makes};
 ghost use Rattle.fib_main.specs.Owned.{IsOf};
 ghost use Rattle.fib_main.specs.Passes.{ReadsAt};
-ghost use Rattle.fib_main.specs.Proves.{AddsFrontOfYes, AddsYes, Decides, IfChecked, IfRan, IsRun, PrintsYes, YesProves};
+ghost use Rattle.fib_main.specs.Proves.{AddsCheckpoint, AddsFrontOfYes, AddsYes, Compares, Decides, IfChecked, IfCompared, IfRan, IfSaved, IsRun, IsSaving, PrintsYes, YesProves};
 ghost use Rattle.fib_main.specs.Runs.{Answers, Certified, Forwards, HasAggregate, HasHops, HasLeast, IfDue, IsInOrder, SumsUp};
 ghost use Rattle.fib_main.specs.Stepped.{FitsSteps};
 ghost use Rattle.fib_main.specs.Untold.{FitsSome};
 ghost use Rattle.fib_main.specs.Words.{asked_by, due_by, read_by};
 
 use crate::outcome::Outcome;
+use crate::reply::Wrong;
 use crate::run::reply_for;
-use cert_check::No;
 use fib_io::{Inputs, Sink, write_all};
 use std::alloc::Global;
 
-/// The outcome at the end: Done, or what a check finds wrong.
-fn end_of(no: Option<No>) -> Outcome
-    ensures { EndsBy (option_map no_as no) result }
+/// The outcome where something is wrong.
+fn outcome_of_wrong(wrong: Wrong) -> Outcome
+    ensures { EndsBy (Some (wrong_as wrong)) result }
 {
-    match no {
+    match wrong {
+        Wrong::No(no) => Outcome::CheckNo(no),
+        Wrong::Differ(difference) => Outcome::Differ(difference),
+    }
+}
+
+/// The outcome at the end: Done, or what is wrong.
+fn end_of(wrong: Option<Wrong>) -> Outcome
+    ensures { EndsBy (option_map wrong_as wrong) result }
+{
+    match wrong {
         None => Outcome::Done,
-        Some(no) => Outcome::CheckNo(no),
+        Some(wrong) => outcome_of_wrong(wrong),
     }
 }
 
@@ -58,10 +69,14 @@ fn outcome_of<I: Inputs, O: Sink>(
         (O.written out.old) (O.written out.new) }
     ensures due_yes { result ≡ Outcome.Done → IfRan
         (due_by words.now (I.content inputs.old)) PrintsYes }
+    ensures saves { result ≡ Outcome.Done → IsSaving (asked_by words.now) → AddsCheckpoint
+        (O.written out.old) (O.written out.new) }
+    ensures due_saves { result ≡ Outcome.Done → IfSaved
+        (due_by words.now (I.content inputs.old)) Restores }
 {
     match reply_for(alloc, words, inputs) {
         Ok(reply) => match write_all(out, &reply.text) {
-            Ok(()) => end_of(reply.no),
+            Ok(()) => end_of(reply.wrong),
             Err(_) => Outcome::WriteFault,
         },
         Err(outcome) => outcome,
@@ -74,7 +89,7 @@ pub fn tell<E: Sink>(outcome: Outcome, err: &mut E)
         (E.faults err.new) }
 {
     if outcome != Outcome::Done {
-        let _ = write_all(err, outcome.line().as_bytes());
+        let _ = write_all(err, &outcome.line());
     }
 }
 
@@ -106,6 +121,10 @@ fn run_and_tell<I: Inputs, O: Sink, E: Sink>(
         (O.written out.old) (O.written out.new) }
     ensures due_yes { result ≡ Outcome.Done → IfRan
         (due_by words.now (I.content inputs.old)) PrintsYes }
+    ensures saves { result ≡ Outcome.Done → IsSaving (asked_by words.now) → AddsCheckpoint
+        (O.written out.old) (O.written out.new) }
+    ensures due_saves { result ≡ Outcome.Done → IfSaved
+        (due_by words.now (I.content inputs.old)) Restores }
     ensures err { TellsOf result (E.written err.old) (E.written err.new) (E.faults err.old)
         (E.faults err.new) }
 {
@@ -114,12 +133,12 @@ fn run_and_tell<I: Inputs, O: Sink, E: Sink>(
     outcome
 }
 
-/// Does what the words say: reads the inputs that they name, and writes the rows of a run, the verdict on a printed text, or the
-/// rows of a run in steps to `out`.
+/// Does what the words say: reads the inputs that they name, and writes to `out` the rows of a run, the verdict on a printed text, the
+/// rows of a run in steps, whether texts say the same table, or a checkpoint.
 ///
 /// What is due is a function of the words and of what the inputs hold, but for the text of a run in steps, which is that of one
 /// of the runs that its machine allows. The outcome is the due one, but that a fault of reading or want of memory may come
-/// before it, and a fault of writing in place of Done and of CheckNo. Nothing is written to `out` before all is accepted. Every
+/// before it, and a fault of writing in place of Done, CheckNo and Differ. Nothing is written to `out` before all is accepted. Every
 /// outcome but Done is told by one line to `err`, and a fault of `err` changes nothing.
 ///
 /// It costs n log n in the octets read and the rows written, and the routes' number times the lengths of their prefixes. In
@@ -127,7 +146,7 @@ fn run_and_tell<I: Inputs, O: Sink, E: Sink>(
 /// table with its tree and its changes, and the whole text. A check keeps the printed text until it is read, its routes, least
 /// table and certificate, and then the runs of both tables. A run in steps keeps its script, the events of the updates and what
 /// they do, each family's routes with two sets of arenas, and its rows and their text.
-#[tactic(auto, using(crate::proofs::Completing::completes, crate::proofs::Running::sums_up, crate::proofs::Running::forwards, crate::proofs::Running::answers, crate::proofs::Running::least, crate::proofs::Running::follows, crate::proofs::Running::renewed, crate::proofs::Running::fewest, crate::proofs::Running::kept, crate::proofs::Running::outside, crate::proofs::Running::aggregated, crate::proofs::Running::sorted, crate::proofs::Running::certified, crate::proofs::Running::addressed, crate::proofs::Replies::decides, crate::proofs::Replies::yes_proves))]
+#[tactic(auto, using(crate::proofs::Completing::completes, crate::proofs::Running::sums_up, crate::proofs::Running::forwards, crate::proofs::Running::answers, crate::proofs::Running::least, crate::proofs::Running::follows, crate::proofs::Running::renewed, crate::proofs::Running::fewest, crate::proofs::Running::kept, crate::proofs::Running::outside, crate::proofs::Running::aggregated, crate::proofs::Running::sorted, crate::proofs::Running::certified, crate::proofs::Running::addressed, crate::proofs::Replies::decides, crate::proofs::Replies::yes_proves, crate::proofs::Replies::compares))]
 pub fn run_fib<I: Inputs, O: Sink, E: Sink>(
     alloc: Global,
     words: &[String],
@@ -153,7 +172,7 @@ pub fn run_fib<I: Inputs, O: Sink, E: Sink>(
     // A fault of writing has its cause in out.
     ensures write { WritesBy (O.faults out.old) (O.faults out.new) result }
 
-    // Out has the due text at Done and at CheckNo, a front of it at a fault of writing, and else nothing new.
+    // Out has the due text at Done, CheckNo and Differ, a front of it at a fault of writing, and else nothing new.
     ensures out { Writes (text_due (due_by words.now (I.content inputs.old))) (O.written out.old)
         (O.written out.new) result }
 
@@ -228,11 +247,23 @@ pub fn run_fib<I: Inputs, O: Sink, E: Sink>(
     ensures due_yes { result ≡ Outcome.Done → IfRan
         (due_by words.now (I.content inputs.old)) PrintsYes }
 
+    // At Done of a checkpoint out has one more: read as a dump it breaks no rule, none of it is skipped or treated as a withdrawal,
+    // and it brings the candidates that the inputs bring; so that, whatever is said later, the candidates, and with them the routes,
+    // are those of the inputs and of what is said later.
+    ensures saves { result ≡ Outcome.Done → IsSaving (asked_by words.now) → AddsCheckpoint
+        (O.written out.old) (O.written out.new) }
+    ensures due_saves { result ≡ Outcome.Done → IfSaved
+        (due_by words.now (I.content inputs.old)) Restores }
+
     // A check that is due says yes exactly where the printed rows are a certificate, whoever wrote them. The printed least
     // table then sends every address where the printed routes send it, and has no more entries in either family than any
     // table that does.
     ensures proved { IfChecked (due_by words.now (I.content inputs.old)) Decides }
     ensures yes { IfChecked (due_by words.now (I.content inputs.old)) YesProves }
+
+    // Texts that are compared: none differs from the first, and then every two send every address to the same hop, or the answer is
+    // the least address at which one differs, and the first text that does there.
+    ensures compared { IfCompared (due_by words.now (I.content inputs.old)) Compares }
 {
     run_and_tell(alloc, words, inputs, out, err)
 }

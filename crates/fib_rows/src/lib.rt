@@ -54,6 +54,8 @@ mod reads;
 #[cfg(test)]
 mod records;
 #[cfg(test)]
+mod saves;
+#[cfg(test)]
 mod steps;
 #[cfg(test)]
 mod tests;

@@ -5,7 +5,7 @@ use Rattle.std.specs.Option.{option_and_then}
 use Rattle.std.specs.Str.{bytes_eq}
 use Rattle.std.specs.Box.{box_value}
 use Rattle.clap.specs.Kinds.{HasKind, IsAmong}
-use Rattle.clap.specs.Matches.{found_of, subcommand_name_of}
+use Rattle.clap.specs.Matches.{found_of, matched_of, raw_values, subcommand_name_of}
 use Rattle.clap.specs.Simple.{subcommand_rows}
 use Rattle.clap.specs.Words.{App, Row, Text, HasMatchesOf, fault_of, first_of, first_value, is_simple, is_simple_and_free, kind_of, app_of, rows_of, subcommand_of, subcommand_rows_of, with_subcommand}
 use Rattle.clap.specs.declared.builder.Command.{Command}
@@ -14,12 +14,13 @@ use Rattle.clap.specs.declared.error.ErrorKind.TheVariants.{OutOfMemory}
 use Rattle.clap.specs.declared.parser.matches.ArgMatches.{ArgMatches}
 use Rattle.clap.specs.declared.parser.matches.ArgMatches.TheViews.{out-ArgMatches, out-SubCommand}
 use Rattle.clap.specs.declared.parser.matches.SubCommand.{SubCommand}
-use Rattle.clap.proofs.WalkLemmas.{first_value-rows}
+use Rattle.clap.proofs.WalkLemmas.{first_value-rows, raw_values-rows}
 use Rattle.clap.proofs.OnLiterals.{clap_on_literals}
 use Rattle.fib_addr.specs.Text.{number_below}
+use Rattle.printed_model.specs.declared.kind.Kind.{Kind}
 use Rattle.fib_words.specs.declared.WordsError.{WordsError}
 use Rattle.fib_words.specs.declared.WordsError.TheVariants.{Usage, NoMemory}
-use Rattle.fib_words.specs.Commands.{Asked, Named, NamedSizes, HasApp, bare_app, run_app, check_app, make_app, steps_app, fib_app, takes, is_empty, Run, Check, Steps, asked_in, named_by, named_with, number_or, made_by, made_with, Make, from_one, sizes_by, sizes_with, steps_by, steps_with, command_of, IsCommand}
+use Rattle.fib_words.specs.Commands.{Asked, Named, NamedSame, NamedSizes, HasApp, bare_app, run_app, check_app, make_app, steps_app, fib_app, takes, is_empty, Run, Check, Steps, asked_in, named_by, named_with, number_or, made_by, made_with, Make, Same, Save, same_by, same_with, save_by, save_with, from_one, kind_or, sizes_by, sizes_with, steps_by, steps_with, command_of, IsCommand}
 
 fib_free : is_simple_and_free fib_app ≡ true
 unfolding clap_on_literals
@@ -34,14 +35,18 @@ fib_simple = refl
 under : (a b c d : App) → a ≡ with_subcommand b c.top → b ≡ d → (e : App) → c ≡ e → a ≡ with_subcommand d e.top
 under a b c d is same e inner = is ∙ (ap (λ x. with_subcommand x c.top) same ∙ ap (λ x. with_subcommand d x.top) inner)
 
-pub all_under : {E : Type 0} (r : Result Command E) (bare first second third run check make steps : Command) → HasApp bare bare_app → HasApp run run_app → HasApp check check_app → HasApp make make_app → HasApp steps steps_app
-    → HasApp first (with_subcommand (app_of bare) (app_of run).top) → HasApp second (with_subcommand (app_of first) (app_of check).top) → HasApp third (with_subcommand (app_of second) (app_of make).top)
-    → IfOk r (λ c. HasApp c (with_subcommand (app_of third) (app_of steps).top)) → IfOk r (λ c. HasApp c fib_app)
-all_under r bare first second third run check make steps at_bare at_run at_check at_make at_steps at_first at_second at_third ok =
-    let one = under _ _ _ _ at_first.same at_bare.same _ at_run.same in
-    let two = under _ _ _ _ at_second.same one _ at_check.same in
-    let three = under _ _ _ _ at_third.same two _ at_make.same in
-    subst (λ app. IfOk r (λ c. HasApp c app)) (under _ _ _ _ refl three _ at_steps.same) ok
+-- two commands more under one
+pub two_under : (c first second one two : Command) (d one_app two_app : App) → HasApp c d → HasApp one one_app → HasApp two two_app → HasApp first (with_subcommand (app_of c) (app_of one).top) → HasApp second (with_subcommand (app_of first) (app_of two).top)
+    → HasApp second (with_subcommand (with_subcommand d one_app.top) two_app.top)
+two_under c first second one two d one_app two_app at_c at_one at_two at_first at_second = record {
+  same = under _ _ _ _ at_second.same (under _ _ _ _ at_first.same at_c.same _ at_one.same) _ at_two.same;
+  local = at_second.local;
+}
+
+pub last_under : {E : Type 0} (r : Result Command E) (c first one two : Command) (d one_app two_app : App) → HasApp c d → HasApp one one_app → HasApp two two_app → HasApp first (with_subcommand (app_of c) (app_of one).top)
+    → IfOk r (λ second. HasApp second (with_subcommand (app_of first) (app_of two).top)) → IfOk r (λ second. HasApp second (with_subcommand (with_subcommand d one_app.top) two_app.top))
+last_under r c first one two d one_app two_app at_c at_one at_two at_first ok =
+    subst (λ app. IfOk r (λ second. HasApp second app)) (under _ _ _ _ refl (under _ _ _ _ at_first.same at_c.same _ at_one.same) _ at_two.same) ok
 
 -- ---- what clap refuses is no command
 
@@ -81,8 +86,14 @@ name_is (Some b) = refl
 
 -- what a command of this name asks for
 
+abbrev asked_of_save : Text → List Row → Option Asked
+asked_of_save name rows = cond (bytes_eq name (codes "save")) (option_map Save (save_by rows)) None
+
+abbrev asked_of_same : Text → List Row → Option Asked
+asked_of_same name rows = cond (bytes_eq name (codes "same")) (option_map Same (same_by rows)) (asked_of_save name rows)
+
 abbrev asked_of_steps : Text → List Row → Option Asked
-asked_of_steps name rows = cond (bytes_eq name (codes "steps")) (option_map Steps (steps_by rows)) None
+asked_of_steps name rows = cond (bytes_eq name (codes "steps")) (option_map Steps (steps_by rows)) (asked_of_same name rows)
 
 abbrev asked_of_make : Text → List Row → Option Asked
 asked_of_make name rows = cond (bytes_eq name (codes "make")) (made_by rows) (asked_of_steps name rows)
@@ -115,6 +126,9 @@ check_is m check printed e f g =
 
 pub make_is : (m make : ArgMatches) → subcommand_name_of m ≡ Some (codes "make") → option_map (λ (p : Text × List Row). p.1) (subcommand_rows_of m) ≡ Some (rows_of (found_of make)) → option_and_then asked_in (subcommand_rows_of m) ≡ made_by (rows_of (found_of make))
 make_is m make e f = entered m make (codes "make") e f
+
+pub same_is : (m same : ArgMatches) (names : Option NamedSame) → subcommand_name_of m ≡ Some (codes "same") → option_map (λ (p : Text × List Row). p.1) (subcommand_rows_of m) ≡ Some (rows_of (found_of same)) → names ≡ same_by (rows_of (found_of same)) → option_and_then asked_in (subcommand_rows_of m) ≡ option_map Same names
+same_is m same names e f g = entered m same (codes "same") e f ∙ ap (option_map Same) (sym g)
 
 -- ---- the names in the matches of a run
 
@@ -216,3 +230,33 @@ no_seed m r s n is e is_s f = rw (← made_are m, ← is, ← e, ← is_s, ← f
 pub all_made : (m : ArgMatches) (r s : Text) (n x : ℕ) → Is (Some r) m (codes "routes") → Some n ≡ option_and_then from_one (number_below 200001 r) → Is (Some s) m (codes "seed") → Some x ≡ number_below (2 ^ 64) s
     → Some (Make n x) ≡ made_by (rows_of (found_of m))
 all_made m r s n x is e is_s f = rw (← made_are m, ← is, ← e, ← is_s, ← f) refl
+
+-- the names in the matches of `same` and of `save`
+
+abbrev several : ArgMatches → List ℕ → Option (List Text)
+several m name = option_map raw_values (matched_of (found_of m) name)
+
+same_are : (m : ArgMatches) → same_with (found m (codes "first")) (several m (codes "rest")) (found m (codes "rows")) ≡ same_by (rows_of (found_of m))
+same_are m = rw (first_value-rows (found_of m) (codes "first"), raw_values-rows (found_of m) (codes "rest"), first_value-rows (found_of m) (codes "rows")) refl
+
+pub no_first : (m : ArgMatches) → Is None m (codes "first") → None ≡ same_by (rows_of (found_of m))
+no_first m f = rw (← same_are m, ← f) refl
+
+pub no_rest : (m : ArgMatches) (first : Text) → Is (Some first) m (codes "first") → None ≡ several m (codes "rest") → None ≡ same_by (rows_of (found_of m))
+no_rest m first f r = rw (← same_are m, ← f, ← r) refl
+
+pub no_kind : (m : ArgMatches) (first : Text) (rest : List Text) (k : Option Text) → Is (Some first) m (codes "first") → Some rest ≡ several m (codes "rest") → Is k m (codes "rows") → None ≡ kind_or k → None ≡ same_by (rows_of (found_of m))
+no_kind m first rest k f r is e = rw (← same_are m, ← f, ← r, ← is, ← e) refl
+
+pub all_same : (m : ArgMatches) (first : Text) (rest : List Text) (k : Option Text) (rows : Kind) → Is (Some first) m (codes "first") → Some rest ≡ several m (codes "rest") → Is k m (codes "rows") → Some rows ≡ kind_or k
+    → Some (record { first = first; rest = rest; rows = rows }) ≡ same_by (rows_of (found_of m))
+all_same m first rest k rows f r is e = rw (← same_are m, ← f, ← r, ← is, ← e) refl
+
+save_are : (m : ArgMatches) → save_with (found m (codes "dump")) (found m (codes "updates")) ≡ save_by (rows_of (found_of m))
+save_are m = rw (first_value-rows (found_of m) (codes "dump"), first_value-rows (found_of m) (codes "updates")) refl
+
+pub no_save_dump : (m : ArgMatches) → Is None m (codes "dump") → None ≡ save_by (rows_of (found_of m))
+no_save_dump m d = rw (← save_are m, ← d) refl
+
+pub all_save : (m : ArgMatches) (dump : Text) (u : Option Text) → Is (Some dump) m (codes "dump") → Is u m (codes "updates") → Some (record { dump = dump; updates = u }) ≡ save_by (rows_of (found_of m))
+all_save m dump u d is = rw (← save_are m, ← d, ← is) refl

@@ -1,12 +1,17 @@
 -- The command line, as clap's definition of it.
-use Rattle.std.specs.Prelude.{◌≡◌, ℕ, zero, suc, ◌≤◌, ◌^◌, codes, Option, Some, None, Result, Ok, Err, Bool, true, false, List, [], ◌∷◌, option_map, if◌then◌else◌}
+use Rattle.std.specs.Prelude.{◌≡◌, ℕ, zero, suc, ◌≤◌, ◌^◌, codes, Option, Some, None, Result, Ok, Err, Bool, true, false, List, [], ◌∷◌, map, option_map, if◌then◌else◌}
 use Rattle.std.specs.Option.{option_and_then}
 use Rattle.std.specs.Str.{bytes_eq}
 use Rattle.clap.specs.declared.builder.Command.{Command}
 use Rattle.clap.specs.declared.builder.Command.TheViews.{out-Command}
-use Rattle.clap.specs.Words.{App, Row, Rule, Text, app_of, fault_of, first_of, new_app, new_rule, subcommand_of, with_rule, with_subcommand}
+use Rattle.clap.specs.Words.{App, Row, Rule, Text, all_of, app_of, fault_of, first_of, new_app, new_rule, subcommand_of, with_rule, with_subcommand}
+use Rattle.clap.specs.declared.builder.action.ArgAction.TheVariants.{Append}
 use Rattle.fib_addr.specs.Text.{number_below}
+use Rattle.printed_model.specs.declared.kind.Kind.{Kind}
+use Rattle.printed_model.specs.declared.kind.Kind.TheVariants.{Route, Table, Least}
 use Rattle.fib_words.specs.declared.RunWords.{RunWords}
+use Rattle.fib_words.specs.declared.SameWords.{SameWords}
+use Rattle.fib_words.specs.declared.SaveWords.{SaveWords}
 use Rattle.fib_words.specs.declared.SizesWords.{SizesWords}
 use Rattle.fib_words.specs.declared.StepsWords.{StepsWords}
 use Rattle.fib_words.specs.declared.CommandWords.{CommandWords}
@@ -17,6 +22,10 @@ use Rattle.fib_words.specs.declared.WordsError.TheVariants.{Usage, NoMemory}
 -- a word that has to be there
 abbrev pub word_rule : List ℕ → Rule
 word_rule id = record (new_rule id) { required = true }
+
+-- a word that has to be there and may stand several times
+abbrev pub several_rule : List ℕ → Rule
+several_rule id = record (new_rule id) { required = true; action = Some Append }
 
 -- an option with a value
 abbrev pub option_rule : List ℕ → Rule
@@ -46,6 +55,14 @@ make_app = with_rule (with_rule (new_app (codes "make")) (word_rule (codes "rout
 abbrev pub steps_app : App
 steps_app = sized_app (with_rule (with_rule (with_rule (new_app (codes "steps")) (word_rule (codes "dump"))) (word_rule (codes "updates"))) (word_rule (codes "script")))
 
+-- `same FIRST REST.. [--rows route|table|least]`
+abbrev pub same_app : App
+same_app = with_rule (with_rule (with_rule (new_app (codes "same")) (word_rule (codes "first"))) (several_rule (codes "rest"))) (option_rule (codes "rows"))
+
+-- `save DUMP [--updates F]`
+abbrev pub save_app : App
+save_app = with_rule (with_rule (new_app (codes "save")) (word_rule (codes "dump"))) (option_rule (codes "updates"))
+
 -- a command has to be there
 abbrev pub with_commands : App → App
 with_commands app = record { top = record app.top { subcommand_required = true }; subs = app.subs }
@@ -56,7 +73,7 @@ bare_app = with_commands (new_app (codes "fib"))
 
 -- `fib COMMAND`
 abbrev pub fib_app : App
-fib_app = with_subcommand (with_subcommand (with_subcommand (with_subcommand bare_app run_app.top) check_app.top) make_app.top) steps_app.top
+fib_app = with_subcommand (with_subcommand (with_subcommand (with_subcommand (with_subcommand (with_subcommand bare_app run_app.top) check_app.top) make_app.top) steps_app.top) same_app.top) save_app.top
 
 -- ---- what the words name
 
@@ -79,6 +96,17 @@ pub record NamedSteps : Type 0 where
   pub direct : ℕ
   pub nodes : ℕ
   pub leaves : ℕ
+
+-- The texts that are compared, the first of them first, and which rows of them.
+pub record NamedSame : Type 0 where
+  pub first : Text
+  pub rest : List Text
+  pub rows : Kind
+
+-- The inputs whose candidates are saved.
+pub record NamedSave : Type 0 where
+  pub dump : Text
+  pub updates : Option Text
 
 -- of each family's trie the direct bits and the orders of its arenas of nodes and of leaves
 pub record NamedSizes : Type 0 where
@@ -143,12 +171,43 @@ steps_with dump updates script sizes = do
 abbrev pub steps_by : List Row → Option NamedSteps
 steps_by rows = steps_with (first_of (codes "dump") rows) (first_of (codes "updates") rows) (first_of (codes "script") rows) (sizes_by rows)
 
--- A run; the check of a printed text; a run on so many routes that are made from a seed; or a run in steps
+-- the kind of rows of a name: `route`, `table` or `least`
+abbrev pub kind_named : Text → Option Kind
+kind_named word = if bytes_eq word (codes "route") then Some Route else (if bytes_eq word (codes "table") then Some Table else (if bytes_eq word (codes "least") then Some Least else None))
+
+-- the tables, unless an option names a kind
+abbrev pub kind_or : Option Text → Option Kind
+kind_or None = Some Table
+kind_or (Some word) = kind_named word
+
+-- a comparison of these texts, if there is a first one and there are others
+abbrev pub same_with : Option Text → Option (List Text) → Option Text → Option NamedSame
+same_with first rest rows = do
+  f ← first
+  r ← rest
+  k ← kind_or rows
+  Some (record { first = f; rest = r; rows = k })
+
+abbrev pub same_by : List Row → Option NamedSame
+same_by rows = same_with (first_of (codes "first") rows) (all_of (codes "rest") rows) (first_of (codes "rows") rows)
+
+-- a checkpoint of these inputs, if they name a dump
+abbrev pub save_with : Option Text → Option Text → Option NamedSave
+save_with dump updates = do
+  d ← dump
+  Some (record { dump = d; updates = updates })
+
+abbrev pub save_by : List Row → Option NamedSave
+save_by rows = save_with (first_of (codes "dump") rows) (first_of (codes "updates") rows)
+
+-- A run; the check of a printed text; a run on so many routes that are made from a seed; a run in steps; a comparison of printed texts; or a checkpoint
 pub data Asked : Type 0 where
   Run : Named → Asked
   Check : Text → Asked
   Make : ℕ → ℕ → Asked
   Steps : NamedSteps → Asked
+  Same : NamedSame → Asked
+  Save : NamedSave → Asked
 
 -- so many routes, from 1 to 200,000, made from a seed below 2^64
 abbrev pub made_with : Option Text → Option Text → Option Asked
@@ -168,7 +227,9 @@ asked_in entered =
     if bytes_eq entered.0 (codes "run") then option_map Run (named_by entered.1)
     else (if bytes_eq entered.0 (codes "check") then option_map Check (first_of (codes "printed") entered.1)
     else (if bytes_eq entered.0 (codes "make") then made_by entered.1
-    else (if bytes_eq entered.0 (codes "steps") then option_map Steps (steps_by entered.1) else None)))
+    else (if bytes_eq entered.0 (codes "steps") then option_map Steps (steps_by entered.1)
+    else (if bytes_eq entered.0 (codes "same") then option_map Same (same_by entered.1)
+    else (if bytes_eq entered.0 (codes "save") then option_map Save (save_by entered.1) else None)))))
 
 -- what the words ask for, where the definition takes them
 unfoldable pub command_of : List Text → Option Asked
@@ -186,11 +247,19 @@ sizes_as sizes = record { direct = sizes.direct; nodes = sizes.nodes; leaves = s
 abbrev pub steps_as : StepsWords → NamedSteps
 steps_as steps = record { dump = steps.dump.now; updates = steps.updates.now; script = steps.script.now; direct = steps.direct; nodes = steps.nodes; leaves = steps.leaves }
 
+abbrev pub same_as : SameWords → NamedSame
+same_as same = record { first = same.first.now; rest = map (λ name. name.now) same.rest.items; rows = same.rows }
+
+abbrev pub save_as : SaveWords → NamedSave
+save_as save = record { dump = save.dump.now; updates = option_map (λ name. name.now) save.updates }
+
 abbrev pub asked_as : CommandWords → Asked
 asked_as (code.Run run) = Run (named_as run)
 asked_as (code.Check printed) = Check printed.now
 asked_as (code.Make made) = Make made.routes made.seed
 asked_as (code.Steps steps) = Steps (steps_as steps)
+asked_as (code.Same same) = Same (same_as same)
+asked_as (code.Save save) = Save (save_as save)
 
 -- the sizes are no greater than they may be
 abbrev pub AreSizes : SizesWords → Type 0
@@ -202,6 +271,8 @@ IsWithin (code.Run run) = (run.direct ≤ 18) × (run.nodes ≤ 24) × (run.leav
 IsWithin (code.Check printed) = Unit {0}
 IsWithin (code.Make made) = (1 ≤ made.routes) × (made.routes ≤ 200000)
 IsWithin (code.Steps steps) = (steps.direct ≤ 18) × (steps.nodes ≤ 24) × (steps.leaves ≤ 26)
+IsWithin (code.Same same) = Unit {0}
+IsWithin (code.Save save) = Unit {0}
 
 -- what a reading of words returned is what the words ask for, unless memory ran out
 abbrev pub IsCommand : Result CommandWords WordsError → Option Asked → Type 0

@@ -4,18 +4,19 @@
 //! Usage, `help`, `--help` and `--version` among them. Names borrow from the words.
 #![tactic(auto)]
 
-ghost use Rattle.std.specs.Prelude.{◌≡◌, ◌≢◌, ◌≤◌, ◌+◌, ◌^◌, ◌↔◌, IfOk, IfSome, map, option_map};
+ghost use Rattle.std.specs.Prelude.{◌≡◌, ◌≢◌, ◌≤◌, ◌+◌, ◌^◌, ◌↔◌, IfOk, IfSome, Some, codes, map, option_map};
 ghost use Rattle.std.specs.Option.{option_and_then};
 ghost use Rattle.std.specs.String.{string_bytes};
-ghost use Rattle.clap.specs.Words.{app_of, found_of, rows_of, subcommand_rows_of, with_rule, with_subcommand};
+ghost use Rattle.clap.specs.Words.{app_of, found_of, rows_of, subcommand_name_of, subcommand_rows_of, with_rule, with_subcommand};
 ghost use Rattle.clap.specs.Values.{kind_of};
-ghost use Rattle.fib_words.specs.Commands.{AreSizes, asked_as, asked_in, bare_app, check_app, command_of, due_option_rule, fib_app, from_one, HasApp, IsCommand, IsLocal, IsWithin, made_by, make_app, named_as, named_by, number_or, option_rule, run_app, sized_app, sizes_as, sizes_by, steps_app, steps_as, steps_by, word_rule};
+ghost use Rattle.fib_words.specs.Commands.{AreSizes, asked_as, asked_in, bare_app, check_app, command_of, due_option_rule, fib_app, from_one, HasApp, IsCommand, IsLocal, IsWithin, kind_or, made_by, make_app, named_as, named_by, number_or, option_rule, run_app, same_app, same_as, same_by, save_app, save_as, save_by, several_rule, sized_app, sizes_as, sizes_by, steps_app, steps_as, steps_by, word_rule};
 ghost use Rattle.fib_addr.specs.Text.{number_below};
 ghost use Rattle.fib_words.specs.declared.WordsError.TheVariants.{NoMemory};
 
 use clap::error::ErrorKind;
-use clap::{Arg, ArgMatches, Command, Error};
+use clap::{Arg, ArgAction, ArgMatches, Command, Error};
 use fib_addr::read_number;
+use printed_model::Kind;
 use std::alloc::{AllocError, Global};
 
 /// A run, as the words ask for it.
@@ -63,8 +64,28 @@ pub struct StepsWords<'a> {
     pub leaves: u8,
 }
 
-/// What the words ask for.
+/// A comparison of printed texts, as the words ask for it.
+#[derive(Debug, Drop)]
+pub struct SameWords<'a> {
+    /// The first text.
+    pub first: &'a str,
+    /// The texts that are compared with it, in their order: one or more.
+    pub rest: Vec<&'a str>,
+    /// Which rows of them.
+    pub rows: Kind,
+}
+
+/// A checkpoint, as the words ask for it.
 #[derive(Clone, Copy, Debug)]
+pub struct SaveWords<'a> {
+    /// The dump.
+    pub dump: &'a str,
+    /// The updates, if there are any.
+    pub updates: Option<&'a str>,
+}
+
+/// What the words ask for.
+#[derive(Debug, Drop)]
 pub enum CommandWords<'a> {
     /// A run.
     Run(RunWords<'a>),
@@ -74,6 +95,10 @@ pub enum CommandWords<'a> {
     Make(MakeWords),
     /// A run in steps.
     Steps(StepsWords<'a>),
+    /// A comparison of printed texts.
+    Same(SameWords<'a>),
+    /// A checkpoint of what a dump and updates bring.
+    Save(SaveWords<'a>),
 }
 
 /// The sizes of a trie, as the words ask for them.
@@ -155,6 +180,22 @@ fn with_word<'a>(
     command.arg(word)
 }
 
+/// The command with one more word, which has to be there and may stand several times.
+fn with_several<'a>(
+    alloc: Global,
+    command: Command<'a>,
+    name: &'a str,
+) -> Result<Command<'a>, AllocError>
+    requires { IsLocal command }
+    ensures { IfOk result (λ c. HasApp c (with_rule (app_of command.entry)
+        (several_rule name.entry.now))) }
+{
+    let words = Arg::new(alloc, name)
+        .required(true)
+        .action(ArgAction::Append);
+    command.arg(words)
+}
+
 /// The command with one more command under it.
 fn with_command<'a>(command: Command<'a>, inner: Command<'a>) -> Result<Command<'a>, AllocError>
     requires command { IsLocal command }
@@ -211,6 +252,23 @@ fn steps_command<'a>(alloc: Global) -> Result<Command<'a>, AllocError>
     with_sizes(alloc, command)
 }
 
+/// `same FIRST REST.. [--rows route|table|least]`.
+fn same_command<'a>(alloc: Global) -> Result<Command<'a>, AllocError>
+    ensures { IfOk result (λ c. HasApp c same_app) }
+{
+    let command = with_word(alloc, Command::new(alloc, "same"), "first")?;
+    let command = with_several(alloc, command, "rest")?;
+    with_option(alloc, command, "rows")
+}
+
+/// `save DUMP [--updates F]`.
+fn save_command<'a>(alloc: Global) -> Result<Command<'a>, AllocError>
+    ensures { IfOk result (λ c. HasApp c save_app) }
+{
+    let command = with_word(alloc, Command::new(alloc, "save"), "dump")?;
+    with_option(alloc, command, "updates")
+}
+
 /// `fib`, with no command under it yet.
 fn bare_command<'a>(alloc: Global) -> Command<'a>
     ensures { HasApp result bare_app }
@@ -226,10 +284,14 @@ fn fib_command<'a>(alloc: Global) -> Result<Command<'a>, AllocError>
     let check = check_command(alloc)?;
     let make = make_command(alloc)?;
     let steps = steps_command(alloc)?;
+    let same = same_command(alloc)?;
+    let save = save_command(alloc)?;
     let command = with_command(bare_command(alloc), run)?;
     let command = with_command(command, check)?;
     let command = with_command(command, make)?;
-    with_command(command, steps)
+    let command = with_command(command, steps)?;
+    let command = with_command(command, same)?;
+    with_command(command, save)
 }
 
 /// How many events a snapshot follows, by the word after `--every`, and 0 where there is none. `None` exactly where the word isn't
@@ -355,8 +417,60 @@ fn why(error: &Error) -> WordsError
     }
 }
 
-/// The command in the matches.
-fn command_in<'a>(matches: &ArgMatches<'a>) -> Option<CommandWords<'a>>
+/// Which rows are compared: those that the word after `--rows` names, and the tables if there is none. `None` exactly if the word is none
+/// of `route`, `table` and `least`.
+fn kind_of(word: Option<&str>) -> Option<Kind>
+    ensures { result ≡ kind_or (option_map (λ w. w.now) word.entry) }
+{
+    let Some(word) = word else {
+        return Some(Kind::Table);
+    };
+    if word == "route" {
+        return Some(Kind::Route);
+    }
+    if word == "table" {
+        return Some(Kind::Table);
+    }
+    if word == "least" {
+        return Some(Kind::Least);
+    }
+    None
+}
+
+/// What the matches of `same` name. `None` exactly if they lack a text, or `--rows` has another word.
+fn same_words<'a>(
+    alloc: Global,
+    matches: &ArgMatches<'a>,
+) -> Result<Option<SameWords<'a>>, AllocError>
+    ensures { IfOk result (λ same. option_map same_as same ≡ same_by (rows_of (found_of matches.now))) }
+{
+    let Some(first) = matches.get_str("first") else {
+        return Ok(None);
+    };
+    let Some(rest) = matches.get_strs("rest") else {
+        return Ok(None);
+    };
+    let Some(rows) = kind_of(matches.get_str("rows")) else {
+        return Ok(None);
+    };
+    let rest = Vec::from_slice(alloc, rest)?;
+    Ok(Some(SameWords { first, rest, rows }))
+}
+
+/// What the matches of `save` name.
+fn save_words<'a>(matches: &ArgMatches<'a>) -> Option<SaveWords<'a>>
+    ensures { option_map save_as result ≡ save_by (rows_of (found_of matches.now)) }
+{
+    let dump = matches.get_str("dump")?;
+    Some(SaveWords {
+        dump,
+        updates: matches.get_str("updates"),
+    })
+}
+
+/// The command in the matches, unless it is `same`.
+fn other_command<'a>(matches: &ArgMatches<'a>) -> Option<CommandWords<'a>>
+    requires { subcommand_name_of matches.now ≢ Some (codes "same") }
     ensures same { option_map asked_as result ≡ option_and_then asked_in
         (subcommand_rows_of matches.now) }
     ensures within { IfSome result IsWithin }
@@ -373,9 +487,31 @@ fn command_in<'a>(matches: &ArgMatches<'a>) -> Option<CommandWords<'a>>
         let made = make_words(make)?;
         return Some(CommandWords::Make(made));
     }
-    let steps = matches.subcommand_matches("steps")?;
-    let names = steps_words(steps)?;
-    Some(CommandWords::Steps(names))
+    if let Some(steps) = matches.subcommand_matches("steps") {
+        let names = steps_words(steps)?;
+        return Some(CommandWords::Steps(names));
+    }
+    let save = matches.subcommand_matches("save")?;
+    let names = save_words(save)?;
+    Some(CommandWords::Save(names))
+}
+
+/// The command in the matches.
+fn command_in<'a>(
+    alloc: Global,
+    matches: &ArgMatches<'a>,
+) -> Result<Option<CommandWords<'a>>, AllocError>
+    ensures same { IfOk result (λ command. option_map asked_as command ≡ option_and_then asked_in
+        (subcommand_rows_of matches.now)) }
+    ensures within { IfOk result (λ command. IfSome command IsWithin) }
+{
+    let Some(same) = matches.subcommand_matches("same") else {
+        return Ok(other_command(matches));
+    };
+    match same_words(alloc, same)? {
+        Some(names) => Ok(Some(CommandWords::Same(names))),
+        None => Ok(None),
+    }
 }
 
 /// Reads the words of the command line, the program's name first.
@@ -392,7 +528,8 @@ pub fn read_words<'a>(alloc: Global, words: &'a [String]) -> Result<CommandWords
         Ok(matches) => matches,
         Err(error) => return Err(why(&error)),
     };
-    match command_in(&matches) {
+    let named = command_in(alloc, &matches)?;
+    match named {
         Some(command) => Ok(command),
         None => Err(WordsError::Usage),
     }

@@ -26,6 +26,8 @@ returns-in-Ok g c =
         printed = does.printed;
         front = does.front;
         due_yes = does.due_yes;
+        saves = does.saves;
+        due_saves = does.due_saves;
         reads = does.reads;
       };
     }

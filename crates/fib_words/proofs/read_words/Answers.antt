@@ -1,4 +1,6 @@
-use Rattle.std.proofs.Common.{◌∙◌, sym}
+use Rattle.std.proofs.Common.{◌∙◌, ap, sym}
+use Rattle.std.specs.Prelude.{option_map}
+use Rattle.fib_words.specs.Commands.{asked_as}
 use Rattle.fib_words.proofs.Words.{refused_is, taken_is}
 use Rattle.fib_words.proofs.read_words.Goals as goal
 
@@ -10,8 +12,8 @@ returns-in-Err c = record {
 
 pub returns-in-Some-clause-command : goal.returns-in-Some-clause-command
 returns-in-Some-clause-command c =
-    taken_is _ _ c.in-Ok.matches c.in_ok-command.ensures.same c.in-Ok.ensures.kinds c.in-Ok.ensures.matches ∙ sym c.in-Some.ensures.same
+    taken_is _ _ c.in-Ok.matches c.in_ok-command.ensures.same c.in-Ok.ensures.kinds c.in-Ok.ensures.matches ∙ (sym c.in_ok-named.ensures.same ∙ ap (option_map asked_as) c.in-Some.is)
 
 pub returns-clause-command : goal.returns-clause-command
 returns-clause-command c =
-    taken_is _ _ c.in-Ok.matches c.in_ok-command.ensures.same c.in-Ok.ensures.kinds c.in-Ok.ensures.matches ∙ sym c.in-None.ensures.same
+    taken_is _ _ c.in-Ok.matches c.in_ok-command.ensures.same c.in-Ok.ensures.kinds c.in-Ok.ensures.matches ∙ (sym c.in_ok-named.ensures.same ∙ ap (option_map asked_as) c.in-None.is)

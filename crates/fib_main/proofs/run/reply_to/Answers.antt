@@ -3,7 +3,8 @@ use Rattle.std.proofs.lemmas.Result.{err_from_is_err_and}
 use Rattle.fib_words.specs.Commands.{asked_as}
 use Rattle.fib_main.proofs.Printing.{run_yes}
 use Rattle.fib_main.proofs.Making.{kept_reads, some_refused}
-use Rattle.fib_main.proofs.Replies.{ran_replied}
+use Rattle.fib_main.proofs.Replies.{ran_replied, ran_stops, save_runs_none}
+use Rattle.fib_main.proofs.Saving.{saves_due}
 use Rattle.fib_main.proofs.Stepped.{check_gives, make_gives, run_gives, some_replied, some_steps_refused, steps_refused, steps_replied}
 use Rattle.fib_main.proofs.run.reply_to.Goals as goal
 
@@ -61,3 +62,14 @@ returns-in_ok-text-in-Make-clause-steps g c = make_gives _ _ _ _ _ (ap asked_as 
 
 pub returns-in_err-text-in-Make-clause-steps : goal.returns-in_err-text-in-Make-clause-steps
 returns-in_err-text-in-Make-clause-steps g c = make_gives _ _ _ _ _ (ap asked_as c.in-Make.is)
+
+pub returns-in_err-text-in-Run-clause-due : goal.returns-in_err-text-in-Run-clause-due
+returns-in_err-text-in-Run-clause-due g c =
+    let p = err_from_is_err_and c.from_residual.result c.from_residual.ensures.1 in
+    rw (p.1, p.2) (ran_stops _ _ _ _ (ap asked_as c.in-Run.is) c.in_err-text-in-Run.ensures.due)
+
+pub returns-in-Save-clause-due_yes : goal.returns-in-Save-clause-due_yes
+returns-in-Save-clause-due_yes g c = save_runs_none _ _ _ c.save_for.result (ap asked_as c.in-Save.is)
+
+pub returns-in-Save-clause-due_saves : goal.returns-in-Save-clause-due_saves
+returns-in-Save-clause-due_saves g c = saves_due _ _ _ (ap asked_as c.in-Save.is) c.save_for.result c.save_for.ensures.holds

@@ -2,7 +2,7 @@ use Rattle.std.proofs.Common.{◌∙◌, sym, refl, ap, None, Some}
 use Rattle.std.specs.Prelude.{option_map}
 use Rattle.fib_words.specs.Commands.{asked_as, named_as}
 use Rattle.fib_words.proofs.Words.{run_is, check_is}
-use Rattle.fib_words.proofs.command_in.Goals as goal
+use Rattle.fib_words.proofs.other_command.Goals as goal
 
 pub returns-in-Some-clause-same : goal.returns-in-Some-clause-same
 returns-in-Some-clause-same c =
