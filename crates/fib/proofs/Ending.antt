@@ -21,7 +21,7 @@ owned (Some asked) = tt
 
 fits_some : (content : List ℕ → Option (List ℕ)) (asked : Option Asked) (out : Option (List ℕ)) → FitsSome content asked out out NoMemory
 fits_some content None out = tt
-fits_some content (Some (Run named)) out = inl tt
+fits_some content (Some (Run named)) out = inl (inl tt)
 fits_some content (Some (Check name)) out = inl tt
 fits_some content (Some (Make routes seed)) out = (tt, refl)
 fits_some content (Some (Steps named)) out = inl tt

@@ -1,11 +1,16 @@
 -- The counts of an input stay within 64 bits, since an input has few octets.
-use Rattle.std.proofs.Common.{◌≡◌, ℕ, ◌+◌, ◌*◌, ◌^◌, ◌≤◌, ◌<◌, List, [], ◌∷◌, ◌++◌, length, map, Result, Ok, Err, refl, sym, ap, ◌∙◌, arith, subst, length-append, append-nil}
+use Rattle.std.proofs.Common.{Global, ◌≡◌, ℕ, ◌+◌, ◌*◌, ◌^◌, ◌≤◌, ◌<◌, List, [], ◌∷◌, ◌++◌, length, map, Result, Ok, Err, refl, sym, ap, ◌∙◌, arith, subst, length-append, append-nil}
 use Rattle.std.specs.Prelude.{MatchResult}
 use Rattle.std.proofs.lemmas.List.{length-map}
 use Rattle.std.proofs.lemmas.List.Sums.{fold-append}
 use Rattle.route_model.specs.Events.{Elem, Event}
 use Rattle.route_model.specs.Choice.{Candidates, after_elem, after_elems, elems_of, elems_after}
 use Rattle.route_model.proofs.Elems.{elems_more}
+use Rattle.printed_model.specs.Rows.{Vrp}
+use Rattle.fib_rov.specs.Rov.{left_of}
+use Rattle.fib_rov.proofs.JudgedLists.{left_many, left_more}
+use Rattle.fib_report.specs.declared.run.Invalid.{Invalid}
+use Rattle.std.specs.declared.vec.Vec.{Vec}
 use Rattle.reading_model.specs.Input.{Progress, Stopped, start, input}
 use Rattle.reading_model.specs.Reading.{ReadsEvents}
 use Rattle.mrt_read.specs.Standing as reading
@@ -18,10 +23,10 @@ use Rattle.fib_main.proofs.FewElems.{events_few}
 use Rattle.fib_main.proofs.FewEvents.{HasRoom, input_within}
 
 -- this much of the input was read, and the elementary events of it were counted behind these candidates
-pub record Counting (octets : List ℕ) (held : Candidates) (reader : Reader) (now : Candidates) (events : ℕ) : Type 0 where
+pub record Counting (vrps : List Vrp) (octets : List ℕ) (held : Candidates) (reader : Reader) (now : Candidates) (events : ℕ) : Type 0 where
   pub read : Progress
   pub stands : reading.ReaderStands octets read reader
-  pub taken : CountsOn held read.events 0 events now
+  pub taken : CountsOn held (left_of vrps read.events) 0 events now
 
 -- ---- what was read is no more than the octets
 
@@ -95,43 +100,47 @@ fits_elems view items held event before fits are = omega (arith, fits, ap length
 
 -- ---- the input
 
-pub counting_start : (octets : List ℕ) (held : Candidates) (reader : Reader) → reading.ReaderStands octets start reader → Counting octets held reader held 0
-counting_start octets held reader s = record { read = start; stands = s; taken = counts_none held 0 }
+pub counting_start : (vrps : List Vrp) (octets : List ℕ) (held : Candidates) (reader : Reader) → reading.ReaderStands octets start reader → Counting vrps octets held reader held 0
+unfolding left_of
+counting_start vrps octets held reader s = record { read = start; stands = s; taken = counts_none held 0 }
 
 -- ---- one record more
 
-pub counting_next : (octets : List ℕ) (held mid now : Candidates) (old new : Reader) (events n : ℕ) (more : List Event) → Counting octets held old mid events → reading.TakesEvents old more new → CountsOn mid more events n now → Counting octets held new now n
-counting_next octets held mid now old new events n more g t c = record {
+pub counting_next : (vrps : List Vrp) (octets : List ℕ) (held mid now : Candidates) (old new : Reader) (events n : ℕ) (more : List Event) → Counting vrps octets held old mid events → reading.TakesEvents old more new → CountsOn mid (left_of vrps more) events n now → Counting vrps octets held new now n
+counting_next vrps octets held mid now old new events n more g t c = record {
   read = record { peers = reading.peers new; events = g.read.events ++ more; records = new.records; skipped = new.skipped; treated = new.treated };
   stands = t.stands octets g.read g.stands;
-  taken = counts_more held mid now g.read.events more 0 events n g.taken c;
+  taken = subst (λ es. CountsOn held es 0 n now) (sym (left_more vrps g.read.events more)) (counts_more held mid now (left_of vrps g.read.events) (left_of vrps more) 0 events n g.taken c);
 }
 
-pub counting_fits : (octets : List ℕ) (held mid : Candidates) (old new : Reader) (events : ℕ) (more : List Event) → length held + 2 * length octets < 2 ^ 64 → Counting octets held old mid events → reading.TakesEvents old more new → CountsFit mid more events
-counting_fits octets held mid old new events more room g t =
+pub counting_fits : (vrps : List Vrp) (octets : List ℕ) (held mid : Candidates) (old new : Reader) (events : ℕ) (more : List Event) → length held + 2 * length octets < 2 ^ 64 → Counting vrps octets held old mid events → reading.TakesEvents old more new → CountsFit mid (left_of vrps more) events
+counting_fits vrps octets held mid old new events more room g t =
     let next : Progress = record { peers = reading.peers new; events = g.read.events ++ more; records = new.records; skipped = new.skipped; treated = new.treated } in
     let few : length (g.read.events ++ more) ≤ length octets = few_read octets (reading.reader_left new) next (reads_on octets next new t.refuses (t.stands octets g.read g.stands)) in
-    let first : List Elem = elems_after held g.read.events in
-    let later : List Elem = elems_after (after_elems held first) more in
-    let at : elems_after mid more ≡ later = ap (λ h. elems_after h more) g.taken.candidates in
-    let all : elems_after held (g.read.events ++ more) ≡ first ++ later = elems_more held g.read.events more in
-    omega (arith, room, few, g.taken.count, ap length at, ap length all, length-append first later, events_few held (g.read.events ++ more))
+    let front : List Event = left_of vrps g.read.events in
+    let left : List Event = left_of vrps more in
+    let many : length (front ++ left) ≡ length (g.read.events ++ more) = ap length (sym (left_more vrps g.read.events more)) ∙ left_many vrps (g.read.events ++ more) in
+    let first : List Elem = elems_after held front in
+    let later : List Elem = elems_after (after_elems held first) left in
+    let at : elems_after mid left ≡ later = ap (λ h. elems_after h left) g.taken.candidates in
+    let all : elems_after held (front ++ left) ≡ first ++ later = elems_more held front left in
+    omega (arith, room, few, many, g.taken.count, ap length at, ap length all, length-append first later, events_few held (front ++ left))
 
-pub counting_still : (octets : List ℕ) (held now : Candidates) (old new : Reader) (events : ℕ) → Counting octets held old now events → reading.ReaderTakesNothing old new → Counting octets held new now events
-counting_still octets held now old new events g nothing = record { read = g.read; stands = nothing.stands octets g.read g.stands; taken = g.taken }
+pub counting_still : (vrps : List Vrp) (octets : List ℕ) (held now : Candidates) (old new : Reader) (events : ℕ) → Counting vrps octets held old now events → reading.ReaderTakesNothing old new → Counting vrps octets held new now events
+counting_still vrps octets held now old new events g nothing = record { read = g.read; stands = nothing.stands octets g.read g.stands; taken = g.taken }
 
-pub counting_feeds : (octets piece : List ℕ) (held now : Candidates) (old new : Reader) (events : ℕ) → Counting octets held old now events → reading.ReaderFeeds old piece new → Counting (octets ++ piece) held new now events
-counting_feeds octets piece held now old new events g feeds = record { read = g.read; stands = feeds.stands octets g.read g.stands; taken = g.taken }
+pub counting_feeds : (vrps : List Vrp) (octets piece : List ℕ) (held now : Candidates) (old new : Reader) (events : ℕ) → Counting vrps octets held old now events → reading.ReaderFeeds old piece new → Counting vrps (octets ++ piece) held new now events
+counting_feeds vrps octets piece held now old new events g feeds = record { read = g.read; stands = feeds.stands octets g.read g.stands; taken = g.taken }
 
 -- ---- the end
 
-pub counting_end : (octets : List ℕ) (held now : Candidates) (reader : Reader) (events records skipped treated : ℕ) → length octets ≤ 2 ^ 36 → Counting octets held reader now events → reading.ReaderTells reader (Ok tt) → records ≡ reader.records → skipped ≡ reader.skipped → treated ≡ reader.treated
-    → AreFew (2 ^ 36) held (record { records = records; skipped = skipped; events = events; treated = treated }) now
-counting_end octets held now reader events records skipped treated most g t r k w =
+pub counting_end : (vrps : List Vrp) (invalid : Vec Invalid Global) (octets : List ℕ) (held now : Candidates) (reader : Reader) (events records skipped treated : ℕ) → length octets ≤ 2 ^ 36 → Counting vrps octets held reader now events → reading.ReaderTells reader (Ok tt) → records ≡ reader.records → skipped ≡ reader.skipped → treated ≡ reader.treated
+    → AreFew (2 ^ 36) held (record { records = records; skipped = skipped; events = events; treated = treated; invalid = invalid }) now
+counting_end vrps invalid octets held now reader events records skipped treated most g t r k w =
     let room : HasRoom (length octets) g.read [] = whole_room octets g.read (t octets g.read g.stands) in
     record {
       records = omega (arith, most, room.records, r, g.stands.records);
       skipped = omega (arith, most, room.skipped, k, g.stands.skipped);
       treated = omega (arith, most, room.treated, w, g.stands.treated);
-      events = omega (arith, most, room.events, g.taken.count, ap length g.taken.candidates, events_few held g.read.events);
+      events = omega (arith, most, room.events, left_many vrps g.read.events, g.taken.count, ap length g.taken.candidates, events_few held (left_of vrps g.read.events));
     }

@@ -1,9 +1,10 @@
 -- What is due, part by part.
-use Rattle.std.proofs.Common.{◌≡◌, ℕ, false, List, [], ◌++◌, map, Option, Some, None, Result, Ok, Err, inr, refl, sym, ap, ◌∙◌, subst, append-nil, arith}
+use Rattle.std.proofs.Common.{◌≡◌, ℕ, false, List, [], ◌∷◌, ◌++◌, map, Option, Some, None, Result, Ok, Err, inl, inr, refl, sym, ap, ◌∙◌, subst, append-nil, arith}
 use Rattle.std.specs.Prelude.{option_to_list}
 use Rattle.octet_fields.specs.Field.{◌>>=◌}
 use Rattle.address_model.specs.Address.{Address, Prefix}
 use Rattle.table_model.specs.Changes.{additions}
+use Rattle.printed_model.specs.Rows.{Vrp}
 use Rattle.fib_words.specs.Commands.{Named}
 use Rattle.fib_main.specs.declared.outcome.Outcome.{Outcome}
 use Rattle.fib_main.specs.declared.outcome.Outcome.TheVariants.{Done, CheckNo, Differ, Usage, ReadFault, WriteFault, NoMemory, TooLarge, Malformed, HopsFull, TrieFull, BadLine, PeersFull, PathTooLong}
@@ -13,8 +14,8 @@ use Rattle.fib_main.specs.Stops.{Stop, Untold, Refused, LongPath, IsDueIfTold, F
 use Rattle.route_tries.specs.Sizes.{Shortage, Sizes, shortage, shortage_as}
 use Rattle.route_tries.specs.declared.sizes.TrieFull.{TrieFull as CodeFull}
 use Rattle.fib_main.specs.Refusals.{Limits, Short, routes_by, stop_at}
-use Rattle.fib_main.specs.Due.{Feed, Printed, feed_at, feeds_at, limits_of, load_at, printed, sizes_of, told_at}
-use Rattle.fib_main.specs.Ends.{OneRose, ReadsBy, after, feeds_named}
+use Rattle.fib_main.specs.Due.{Feed, Printed, asks_at, vrps_at, feed_at, feeds_at, limits_of, load_at, printed, sizes_of, told_at}
+use Rattle.fib_main.specs.Ends.{OneRose, ReadsBy, ReadsNames, after, feeds_behind, feeds_named, reads_named}
 use Rattle.fib_engine.specs.Held.{Held, routes_in}
 use Rattle.fib_main.specs.declared.report.Fed.{Fed}
 use Rattle.fib_main.specs.Views.{changes_as}
@@ -106,68 +107,68 @@ no_room None s x e = absurd cc
 no_room (Some t) s x e = let same : t ≡ s = cc in ap (λ u. stopped (outcome_at 0 (Short u))) same
 
 -- a dump that isn't accepted
-pub load_refused : (z : Sizes) (content : Content) (name : List ℕ) (o : Outcome) → FailsDue o (feed_at z content Dump [] (Some name)) → FailsDue o (load_at z content name)
+pub load_refused : (z : Sizes) (content : Content) (vrps : List Vrp) (name : List ℕ) (o : Outcome) → FailsDue o (feed_at z content vrps Dump [] (Some name)) → FailsDue o (load_at z content vrps name)
 unfolding load_at
-load_refused z content name o f = fails_first o (feed_at z content Dump [] (Some name)) _ f
+load_refused z content vrps name o f = fails_first o (feed_at z content vrps Dump [] (Some name)) _ f
 
 -- one whose routes' tries have room
-pub load_due : (z : Sizes) (content : Content) (name : List ℕ) (load : Feed) → IsDueIfTold (feed_at z content Dump [] (Some name)) (Ok load) → shortage z (routes_by load.elems) ≡ None → IsDueIfTold (load_at z content name) (Ok load)
+pub load_due : (z : Sizes) (content : Content) (vrps : List Vrp) (name : List ℕ) (load : Feed) → IsDueIfTold (feed_at z content vrps Dump [] (Some name)) (Ok load) → shortage z (routes_by load.elems) ≡ None → IsDueIfTold (load_at z content vrps name) (Ok load)
 unfolding load_at
-load_due z content name load i e =
-    is_then (feed_at z content Dump [] (Some name)) (λ l. with_room (shortage z (routes_by l.elems)) l) load load i (subst (λ d. IsDueIfTold d (fine load)) (sym (room (shortage z (routes_by load.elems)) load e)) refl)
+load_due z content vrps name load i e =
+    is_then (feed_at z content vrps Dump [] (Some name)) (λ l. with_room (shortage z (routes_by l.elems)) l) load load i (subst (λ d. IsDueIfTold d (fine load)) (sym (room (shortage z (routes_by load.elems)) load e)) refl)
 
 is_refusal : {X : Type 0} (o : Outcome) (d : Result X Stop) → d ≡ stopped o → IsDueIfTold d (stopped o)
 is_refusal o d e = rw e refl
 
 -- and one whose tries lack places
-load_short : (z : Sizes) (content : Content) (name : List ℕ) (load : Feed) (full : CodeFull) → IsDueIfTold (feed_at z content Dump [] (Some name)) (Ok load) → shortage z (routes_by load.elems) ≡ Some (shortage_as full) → FailsDue (TrieFull 0 full.need full.have full.arena) (load_at z content name)
+load_short : (z : Sizes) (content : Content) (vrps : List Vrp) (name : List ℕ) (load : Feed) (full : CodeFull) → IsDueIfTold (feed_at z content vrps Dump [] (Some name)) (Ok load) → shortage z (routes_by load.elems) ≡ Some (shortage_as full) → FailsDue (TrieFull 0 full.need full.have full.arena) (load_at z content vrps name)
 unfolding load_at
-load_short z content name load full i e =
+load_short z content vrps name load full i e =
     let o = TrieFull 0 full.need full.have full.arena in
     let here : FailsDue {Y = Feed} o (with_room (shortage z (routes_by load.elems)) load) = is_refusal o _ (no_room (shortage z (routes_by load.elems)) (shortage_as full) load e) in
-    fails_then o (feed_at z content Dump [] (Some name)) (λ l. with_room (shortage z (routes_by l.elems)) l) load i here
+    fails_then o (feed_at z content vrps Dump [] (Some name)) (λ l. with_room (shortage z (routes_by l.elems)) l) load i here
 
-pub dump_fails : (content : Content) (named : Named) (o : Outcome) → FailsDue o (feed_at (sizes_of named) content Dump [] (Some named.dump)) → FailsDue o (feeds_at content named)
+pub dump_fails : (content : Content) (vrps : List Vrp) (named : Named) (o : Outcome) → FailsDue o (feed_at (sizes_of named) content vrps Dump [] (Some named.dump)) → FailsDue o (feeds_at content vrps named)
 unfolding feeds_at
-dump_fails content named o f = fails_first o (load_at (sizes_of named) content named.dump) _ (load_refused (sizes_of named) content named.dump o f)
+dump_fails content vrps named o f = fails_first o (load_at (sizes_of named) content vrps named.dump) _ (load_refused (sizes_of named) content vrps named.dump o f)
 
-abbrev due_feed : Content → Named → Result Feed Stop
-due_feed content named = feed_at (sizes_of named) content Dump [] (Some named.dump)
+abbrev due_feed : Content → List Vrp → Named → Result Feed Stop
+due_feed content vrps named = feed_at (sizes_of named) content vrps Dump [] (Some named.dump)
 
-pub load_fits : (content : Content) (named : Named) (load : Feed) → IsDueIfTold (due_feed content named) (Ok load) → shortage (sizes_of named) (routes_by load.elems) ≡ None → IsDueIfTold (load_at (sizes_of named) content named.dump) (Ok load)
-load_fits content named load i e = load_due (sizes_of named) content named.dump load i e
+pub load_fits : (content : Content) (vrps : List Vrp) (named : Named) (load : Feed) → IsDueIfTold (due_feed content vrps named) (Ok load) → shortage (sizes_of named) (routes_by load.elems) ≡ None → IsDueIfTold (load_at (sizes_of named) content vrps named.dump) (Ok load)
+load_fits content vrps named load i e = load_due (sizes_of named) content vrps named.dump load i e
 
 -- a load that lacks places is refused
-pub load_lacks : (content : Content) (named : Named) (load : Feed) (full : CodeFull) → IsDueIfTold (due_feed content named) (Ok load) → shortage (sizes_of named) (routes_by load.elems) ≡ Some (shortage_as full) → FailsDue (TrieFull 0 full.need full.have full.arena) (feeds_at content named)
+pub load_lacks : (content : Content) (vrps : List Vrp) (named : Named) (load : Feed) (full : CodeFull) → IsDueIfTold (due_feed content vrps named) (Ok load) → shortage (sizes_of named) (routes_by load.elems) ≡ Some (shortage_as full) → FailsDue (TrieFull 0 full.need full.have full.arena) (feeds_at content vrps named)
 unfolding feeds_at
-load_lacks content named load full i e =
-    fails_first (TrieFull 0 full.need full.have full.arena) (load_at (sizes_of named) content named.dump) _ (load_short (sizes_of named) content named.dump load full i e)
+load_lacks content vrps named load full i e =
+    fails_first (TrieFull 0 full.need full.have full.arena) (load_at (sizes_of named) content vrps named.dump) _ (load_short (sizes_of named) content vrps named.dump load full i e)
 
-abbrev due_updates : Content → Named → Feed → Result Feed Stop
-due_updates content named load = feed_at (sizes_of named) content Updates load.elems named.updates
+abbrev due_updates : Content → List Vrp → Named → Feed → Result Feed Stop
+due_updates content vrps named load = feed_at (sizes_of named) content vrps Updates load.elems named.updates
 
-pub updates_fail : (content : Content) (named : Named) (o : Outcome) (load : Feed) → IsDueIfTold (load_at (sizes_of named) content named.dump) (Ok load) → FailsDue o (due_updates content named load) → FailsDue o (feeds_at content named)
+pub updates_fail : (content : Content) (vrps : List Vrp) (named : Named) (o : Outcome) (load : Feed) → IsDueIfTold (load_at (sizes_of named) content vrps named.dump) (Ok load) → FailsDue o (due_updates content vrps named load) → FailsDue o (feeds_at content vrps named)
 unfolding feeds_at
-updates_fail content named o load i f =
-    fails_then o (load_at (sizes_of named) content named.dump) (λ load. due_updates content named load >>= λ updates. Ok (load, updates)) load i (fails_first o (due_updates content named load) (λ updates. Ok (load, updates)) f)
+updates_fail content vrps named o load i f =
+    fails_then o (load_at (sizes_of named) content vrps named.dump) (λ load. due_updates content vrps named load >>= λ updates. Ok (load, updates)) load i (fails_first o (due_updates content vrps named load) (λ updates. Ok (load, updates)) f)
 
-pub feeds_due : (content : Content) (named : Named) (load updates : Feed) → IsDueIfTold (load_at (sizes_of named) content named.dump) (Ok load) → IsDueIfTold (due_updates content named load) (Ok updates) → IsDueIfTold (feeds_at content named) (Ok (load, updates))
+pub feeds_due : (content : Content) (vrps : List Vrp) (named : Named) (load updates : Feed) → IsDueIfTold (load_at (sizes_of named) content vrps named.dump) (Ok load) → IsDueIfTold (due_updates content vrps named load) (Ok updates) → IsDueIfTold (feeds_at content vrps named) (Ok (load, updates))
 unfolding feeds_at
-feeds_due content named load updates i j =
-    is_then (load_at (sizes_of named) content named.dump) (λ load. due_updates content named load >>= λ updates. Ok (load, updates)) load (load, updates) i
-    (is_then (due_updates content named load) (λ updates. Ok (load, updates)) updates (load, updates) j refl)
+feeds_due content vrps named load updates i j =
+    is_then (load_at (sizes_of named) content vrps named.dump) (λ load. due_updates content vrps named load >>= λ updates. Ok (load, updates)) load (load, updates) i
+    (is_then (due_updates content vrps named load) (λ updates. Ok (load, updates)) updates (load, updates) j refl)
 
 -- what is told of them
 
-pub feeds_fail : {Y : Type 0} (content : Content) (named : Named) (asks : List Address) (f : Printed → Result Y Stop) (o : Outcome) → FailsDue o (feeds_at content named) → FailsDue o (told_at content named asks >>= f)
+pub feeds_fail : {Y : Type 0} (content : Content) (vrps : List Vrp) (named : Named) (asks : List Address) (f : Printed → Result Y Stop) (o : Outcome) → FailsDue o (feeds_at content vrps named) → FailsDue o (told_at content vrps named asks >>= f)
 unfolding told_at
-feeds_fail content named asks f o j = fails_first o (told_at content named asks) f (fails_first o (feeds_at content named) (λ feeds. Ok (printed (limits_of named) feeds.0 feeds.1 asks)) j)
+feeds_fail content vrps named asks f o j = fails_first o (told_at content vrps named asks) f (fails_first o (feeds_at content vrps named) (λ feeds. Ok (printed (limits_of named) feeds.0 feeds.1 asks)) j)
 
-pub all_due : {Y : Type 0} (content : Content) (named : Named) (asks : List Address) (view : Printed → Y) (feeds : Feed × Feed) (y : Y) → IsDueIfTold (feeds_at content named) (Ok feeds) → y ≡ view (printed (limits_of named) feeds.0 feeds.1 asks) → IsDueIfTold (told_at content named asks >>= λ p. Ok (view p)) (Ok y)
+pub all_due : {Y : Type 0} (content : Content) (vrps : List Vrp) (named : Named) (asks : List Address) (view : Printed → Y) (feeds : Feed × Feed) (y : Y) → IsDueIfTold (feeds_at content vrps named) (Ok feeds) → y ≡ view (printed (limits_of named) feeds.0 feeds.1 asks) → IsDueIfTold (told_at content vrps named asks >>= λ p. Ok (view p)) (Ok y)
 unfolding told_at
-all_due content named asks view feeds y i e =
-    is_then (told_at content named asks) (λ p. Ok (view p)) (printed (limits_of named) feeds.0 feeds.1 asks) y
-    (is_then (feeds_at content named) (λ feeds. Ok (printed (limits_of named) feeds.0 feeds.1 asks)) feeds (printed (limits_of named) feeds.0 feeds.1 asks) i refl)
+all_due content vrps named asks view feeds y i e =
+    is_then (told_at content vrps named asks) (λ p. Ok (view p)) (printed (limits_of named) feeds.0 feeds.1 asks) y
+    (is_then (feeds_at content vrps named) (λ feeds. Ok (printed (limits_of named) feeds.0 feeds.1 asks)) feeds (printed (limits_of named) feeds.0 feeds.1 asks) i refl)
     (ap fine (sym e))
 
 -- ---- the inputs that are read
@@ -194,12 +195,42 @@ reads_more cause more before now (HopsFull event) f r = r
 reads_more cause more before now (TrieFull event need have arena) f r = r
 reads_more cause more before now (BadLine input line why) f r = r
 
-pub updates_read : (content : Content) (named : Named) (load : Feed) (before mid now : List ℕ → ℕ) (o : Outcome) → IsDueIfTold (load_at (sizes_of named) content named.dump) (Ok load) → mid ≡ before → ReadsBy (OneRose (option_to_list named.updates) mid now) mid now o
-    → ReadsBy (OneRose (feeds_named content named) before now) before now o
-updates_read content named load before mid now o i same r =
+pub updates_read : (content : Content) (vrps : List Vrp) (named : Named) (load : Feed) (before mid now : List ℕ → ℕ) (o : Outcome) → IsDueIfTold (load_at (sizes_of named) content vrps named.dump) (Ok load) → mid ≡ before → ReadsBy (OneRose (option_to_list named.updates) mid now) mid now o
+    → ReadsBy (OneRose (feeds_named content vrps named) before now) before now o
+updates_read content vrps named load before mid now o i same r =
     let at : ReadsBy (OneRose (option_to_list named.updates) before now) before now o = subst (λ b. ReadsBy (OneRose (option_to_list named.updates) b now) b now o) same r in
-    reads_more (OneRose (option_to_list named.updates) before now) (OneRose (feeds_named content named) before now) before now o
-    (λ rose. inr (subst (λ names. OneRose names before now) (sym (after_is (load_at (sizes_of named) content named.dump) load (option_to_list named.updates) i)) rose)) at
+    reads_more (OneRose (option_to_list named.updates) before now) (OneRose (feeds_named content vrps named) before now) before now o
+    (λ rose. inr (subst (λ names. OneRose names before now) (sym (after_is (load_at (sizes_of named) content vrps named.dump) load (option_to_list named.updates) i)) rose)) at
+
+rose_behind : (xs ys : List (List ℕ)) (before now : List ℕ → ℕ) → OneRose ys before now → OneRose (xs ++ ys) before now
+rose_behind [] ys before now r = r
+rose_behind (x ∷ xs) ys before now r = inr (rose_behind xs ys before now r)
+
+after_rose : {X : Type 0} (d : Result X Stop) (names : List (List ℕ)) (before now : List ℕ → ℕ) → OneRose (after d names) before now → OneRose names before now
+after_rose (Ok x) names before now r = r
+after_rose (Err Untold) names before now r = r
+after_rose (Err (Refused o)) names before now r = absurd r
+after_rose (Err (LongPath p n)) names before now r = absurd r
+
+-- those behind the list of VRPs that was read are those behind the one that is due
+list_rose : (content : Content) (named : Named) (vrps : List Vrp) (before now : List ℕ → ℕ) (d : Result (List Vrp) Stop) → IsDueIfTold d (Ok vrps) → OneRose (feeds_named content vrps named) before now → OneRose (feeds_behind content named d) before now
+list_rose content named vrps before now (Ok x) i r = subst (λ v. OneRose (feeds_named content v named) before now) (sym (same_ok x vrps i)) r
+list_rose content named vrps before now (Err Untold) i (inl r) = inl r
+list_rose content named vrps before now (Err Untold) i (inr r) = inr (after_rose (load_at (sizes_of named) content vrps named.dump) (option_to_list named.updates) before now r)
+list_rose content named vrps before now (Err (Refused o)) i r = absurd (refused_not_ok o vrps i)
+list_rose content named vrps before now (Err (LongPath p n)) i r = absurd (long_not_ok p n vrps i)
+
+-- the inputs of a run behind its asks and its list of VRPs
+pub run_read : {X : Type 0} (content : Content) (named : Named) (asks : List Address) (vrps : List Vrp) (before mid last now : List ℕ → ℕ) (result : Result X Outcome) → IsDueIfTold (asks_at content named.asks) (Ok asks) → IsDueIfTold (vrps_at content named.vrps) (Ok vrps) → mid ≡ before → last ≡ mid
+    → ReadsNames (feeds_named content vrps named) last now result → ReadsNames (reads_named content named) before now result
+run_read content named asks vrps before mid last now (Ok x) i j m l r = r ∙ (l ∙ m)
+run_read content named asks vrps before mid last now (Err o) i j m l r =
+    let behind : List (List ℕ) = feeds_behind content named (vrps_at content named.vrps) in
+    let names : List (List ℕ) = option_to_list named.vrps ++ behind in
+    let at : ReadsBy (OneRose (feeds_named content vrps named) before now) before now o = subst (λ b. ReadsBy (OneRose (feeds_named content vrps named) b now) b now o) (l ∙ m) r in
+    reads_more (OneRose (feeds_named content vrps named) before now) (OneRose (reads_named content named) before now) before now o
+    (λ rose. rose_behind (option_to_list named.asks) (after (asks_at content named.asks) names) before now
+    (subst (λ ns. OneRose ns before now) (sym (after_is (asks_at content named.asks) asks names i)) (rose_behind (option_to_list named.vrps) behind before now (list_rose content named vrps before now (vrps_at content named.vrps) j rose)))) at
 
 -- ---- where the inputs begin
 
@@ -235,21 +266,21 @@ end_reads cause before now feed.NoMemory of same = same
 end_reads cause before now feed.Fault of same = absurd of
 end_reads cause before now feed.TooLarge of same = absurd of
 
-pub end_fails : (content : Content) (named : Named) (load : Feed) (error : FeedError) → IsDueIfTold (due_feed content named) (Ok load) → EndsShort (limits_of named) load.elems error → FailsDue (refusal_of Dump error) (feeds_at content named)
-end_fails content named load (feed.TrieFull n full) i e = load_lacks content named load full i e.1
-end_fails content named load feed.NoMemory i e = tt
-end_fails content named load (feed.Malformed malformed) i e = absurd e
-end_fails content named load (feed.HopsFull n) i e = absurd e
-end_fails content named load feed.Fault i e = absurd e
-end_fails content named load feed.TooLarge i e = absurd e
+pub end_fails : (content : Content) (vrps : List Vrp) (named : Named) (load : Feed) (error : FeedError) → IsDueIfTold (due_feed content vrps named) (Ok load) → EndsShort (limits_of named) load.elems error → FailsDue (refusal_of Dump error) (feeds_at content vrps named)
+end_fails content vrps named load (feed.TrieFull n full) i e = load_lacks content vrps named load full i e.1
+end_fails content vrps named load feed.NoMemory i e = tt
+end_fails content vrps named load (feed.Malformed malformed) i e = absurd e
+end_fails content vrps named load (feed.HopsFull n) i e = absurd e
+end_fails content vrps named load feed.Fault i e = absurd e
+end_fails content vrps named load feed.TooLarge i e = absurd e
 
-pub load_ends : (limits : Limits) (content : Content) (name : List ℕ) (load : Feed) (error : FeedError) → IsDueIfTold (feed_at limits.sizes content Dump [] (Some name)) (Ok load) → EndsShort limits load.elems error → FailsDue (refusal_of Dump error) (load_at limits.sizes content name)
-load_ends limits content name load (feed.TrieFull n full) i e = load_short limits.sizes content name load full i e.1
-load_ends limits content name load feed.NoMemory i e = tt
-load_ends limits content name load (feed.Malformed malformed) i e = absurd e
-load_ends limits content name load (feed.HopsFull n) i e = absurd e
-load_ends limits content name load feed.Fault i e = absurd e
-load_ends limits content name load feed.TooLarge i e = absurd e
+pub load_ends : (limits : Limits) (content : Content) (vrps : List Vrp) (name : List ℕ) (load : Feed) (error : FeedError) → IsDueIfTold (feed_at limits.sizes content vrps Dump [] (Some name)) (Ok load) → EndsShort limits load.elems error → FailsDue (refusal_of Dump error) (load_at limits.sizes content vrps name)
+load_ends limits content vrps name load (feed.TrieFull n full) i e = load_short limits.sizes content vrps name load full i e.1
+load_ends limits content vrps name load feed.NoMemory i e = tt
+load_ends limits content vrps name load (feed.Malformed malformed) i e = absurd e
+load_ends limits content vrps name load (feed.HopsFull n) i e = absurd e
+load_ends limits content vrps name load feed.Fault i e = absurd e
+load_ends limits content vrps name load feed.TooLarge i e = absurd e
 
 -- a state after the load's end has room
 pub load_has_room : (limits : Limits) (load : Feed) (state : State) → StateStands Updates limits load.elems [] state → shortage limits.sizes (routes_by load.elems) ≡ None

@@ -4,6 +4,9 @@ use Rattle.std.proofs.lemmas.List.Sums.{fold-append}
 use Rattle.route_model.specs.Events.{Elem, Event, Peer}
 use Rattle.route_model.specs.Choice.{Candidates, after_elem, after_elems, elems_after}
 use Rattle.route_model.proofs.Elems.{elems_more}
+use Rattle.printed_model.specs.Rows.{Announced, Vrp}
+use Rattle.fib_rov.specs.Rov.{invalid_in, left_of}
+use Rattle.fib_rov.proofs.JudgedLists.{invalid_more, left_more}
 use Rattle.octet_fields.specs.Field.{◌>>=◌, steps, until_end}
 use Rattle.wire_model.specs.declared.rule.Rule.{Rule}
 use Rattle.wire_model.specs.Rules.{rule_number}
@@ -33,34 +36,35 @@ use Rattle.route_tries.specs.Sizes.{Sizes, shortage_as}
 use Rattle.fib_main.specs.Due.{Feed, read_part, elems_in, feed_in, feed_of}
 use Rattle.fib_main.specs.Standing.{StateStands, IsStopped, StateTakesAll, next_elems, refusal_of}
 
--- this much of the input was read, and the state has what it brings
-pub record Going (which : MrtInput) (limits : Limits) (before : List Elem) (octets : List ℕ) (reader : Reader) (state : State) (events : ℕ) : Type 0 where
+-- this much of the input was read, the state has what it brings, and the announcements of it that are Invalid were noted
+pub record Going (vrps : List Vrp) (which : MrtInput) (limits : Limits) (before : List Elem) (octets : List ℕ) (reader : Reader) (state : State) (events : ℕ) (rows : List (Announced × Vrp)) : Type 0 where
   pub read : Progress
   pub stands : reading.ReaderStands octets read reader
-  pub counted : events ≡ length (elems_in before read)
-  pub held : StateStands which limits before (elems_in before read) state
+  pub counted : events ≡ length (elems_in vrps before read)
+  pub held : StateStands which limits before (elems_in vrps before read) state
+  pub noted : rows ≡ invalid_in vrps read.events
 
 -- ---- the elementary events of more events
 
-in_more : (before : List Elem) (read next : Progress) (events : List Event) → next.events ≡ read.events ++ events → elems_in before read ++ next_elems before (elems_in before read) events ≡ elems_in before next
-in_more before read next events e =
+in_more : (vrps : List Vrp) (before : List Elem) (read next : Progress) (events : List Event) → next.events ≡ read.events ++ events → elems_in vrps before read ++ next_elems before (elems_in vrps before read) (left_of vrps events) ≡ elems_in vrps before next
+in_more vrps before read next events e =
     let held : Candidates = after_elems [] before in
-    ap (λ h. elems_in before read ++ elems_after h events) (fold-append after_elem [] before (elems_in before read))
-    ∙ (sym (elems_more held read.events events) ∙ ap (elems_after held) (sym e))
+    ap (λ h. elems_in vrps before read ++ elems_after h (left_of vrps events)) (fold-append after_elem [] before (elems_in vrps before read))
+    ∙ (sym (elems_more held (left_of vrps read.events) (left_of vrps events)) ∙ ap (elems_after held) (sym (ap (left_of vrps) e ∙ left_more vrps read.events events)))
 
-pub going_start : (which : MrtInput) (limits : Limits) (before : List Elem) (octets : List ℕ) (reader : Reader) (state : State) → reading.ReaderStands octets start reader → StateStands which limits before [] state → Going which limits before octets reader state 0
-unfolding elems_after
-going_start which limits before octets reader state r s = record { read = start; stands = r; counted = refl; held = s }
+pub going_start : (vrps : List Vrp) (which : MrtInput) (limits : Limits) (before : List Elem) (octets : List ℕ) (reader : Reader) (state : State) → reading.ReaderStands octets start reader → StateStands which limits before [] state → Going vrps which limits before octets reader state 0 []
+unfolding elems_after left_of invalid_in
+going_start vrps which limits before octets reader state r s = record { read = start; stands = r; counted = refl; held = s; noted = refl }
 
 -- ---- one record more
 
-pub going_next : (which : MrtInput) (limits : Limits) (before : List Elem) (octets : List ℕ) (old new : Reader) (mid state : State) (events n : ℕ) (more : List Event) → Going which limits before octets old mid events → reading.TakesEvents old more new
-    → ((done : List Elem) → events ≡ length done → StateStands which limits before done mid → (n ≡ length (done ++ next_elems before done more)) × StateStands which limits before (done ++ next_elems before done more) state) → Going which limits before octets new state n
-going_next which limits before octets old new mid state events n more g t taken =
+pub going_next : {rows : List (Announced × Vrp)} (vrps : List Vrp) (which : MrtInput) (limits : Limits) (before : List Elem) (octets : List ℕ) (old new : Reader) (mid state : State) (events n : ℕ) (more : List Event) → Going vrps which limits before octets old mid events rows → reading.TakesEvents old more new
+    → ((done : List Elem) → events ≡ length done → StateStands which limits before done mid → (n ≡ length (done ++ next_elems before done (left_of vrps more))) × StateStands which limits before (done ++ next_elems before done (left_of vrps more)) state) → Going vrps which limits before octets new state n (rows ++ invalid_in vrps more)
+going_next vrps which limits before octets old new mid state events n more g t taken =
     let next : Progress = record { peers = reading.peers new; events = g.read.events ++ more; records = new.records; skipped = new.skipped; treated = new.treated } in
-    let now = taken (elems_in before g.read) g.counted g.held in
-    let same = in_more before g.read next more refl in
-    record { read = next; stands = t.stands octets g.read g.stands; counted = now.0 ∙ ap length same; held = subst (λ es. StateStands which limits before es state) same now.1 }
+    let now = taken (elems_in vrps before g.read) g.counted g.held in
+    let same = in_more vrps before g.read next more refl in
+    record { read = next; stands = t.stands octets g.read g.stands; counted = now.0 ∙ ap length same; held = subst (λ es. StateStands which limits before es state) same now.1; noted = ap (λ rs. rs ++ invalid_in vrps more) g.noted ∙ sym (invalid_more vrps g.read.events more) }
 
 -- ---- what is read grows
 
@@ -110,8 +114,8 @@ input_grows octets left read r =
 -- ---- what is due, where it is told
 
 -- what an input brings, where it is told
-abbrev pub due_of : Sizes → MrtInput → List Elem → Option (List ℕ) → Result Feed Stop
-due_of z which before o = told_content o >>= feed_of z which before
+abbrev pub due_of : Sizes → List Vrp → MrtInput → List Elem → Option (List ℕ) → Result Feed Stop
+due_of z vrps which before o = told_content o >>= feed_of z vrps which before
 
 pub refused_is : (d : Result Feed Stop) (o : Outcome) → d ≡ Err (Refused o) → IsDueIfTold d (Err (Refused o))
 refused_is d o e = rw e refl
@@ -122,38 +126,38 @@ brought_is d feed e = rw e refl
 reads_all : (c fed rest left : List ℕ) (read : Progress) → octets_read c ≡ fed ++ rest → ReadsEvents fed read left → ReadsEvents (octets_read c) read (left ++ rest)
 reads_all c fed rest left read e r = subst (λ xs. ReadsEvents xs read (left ++ rest)) (sym e) (reading_feeds fed rest left read r)
 
-stop_due : (which : MrtInput) (limits : Limits) (before : List Elem) (c left : List ℕ) (read : Progress) (n : ℕ) (r : Refusal) → ReadsEvents (octets_read c) read left → IsStopped which limits before (elems_in before read) n r → feed_of limits.sizes which before c ≡ Err (Refused (outcome_at (event_in which n) r))
+stop_due : (vrps : List Vrp) (which : MrtInput) (limits : Limits) (before : List Elem) (c left : List ℕ) (read : Progress) (n : ℕ) (r : Refusal) → ReadsEvents (octets_read c) read left → IsStopped which limits before (elems_in vrps before read) n r → feed_of limits.sizes vrps which before c ≡ Err (Refused (outcome_at (event_in which n) r))
 unfolding feed_of
-stop_due which limits before c left read n r reads stopped =
+stop_due vrps which limits before c left read n r reads stopped =
     let octets : List ℕ = octets_read c in
     let f = too_much which limits.sizes in
     let grown = input_grows octets left read reads in
-    let all : elems_in before (read_part (input octets)) ≡ elems_in before read ++ next_elems before (elems_in before read) grown.0 = sym (in_more before read (read_part (input octets)) grown.0 grown.1) in
-    let at : stop_at f before (elems_in before (read_part (input octets))) ≡ Some (n, r) = ap (stop_at f before) all ∙ stop_in_front f before (elems_in before read) (next_elems before (elems_in before read) grown.0) (n, r) stopped in
+    let all : elems_in vrps before (read_part (input octets)) ≡ elems_in vrps before read ++ next_elems before (elems_in vrps before read) (left_of vrps grown.0) = sym (in_more vrps before read (read_part (input octets)) grown.0 grown.1) in
+    let at : stop_at f before (elems_in vrps before (read_part (input octets))) ≡ Some (n, r) = ap (stop_at f before) all ∙ stop_in_front f before (elems_in vrps before read) (next_elems before (elems_in vrps before read) (left_of vrps grown.0)) (n, r) stopped in
     rw at refl
 
 -- ---- refusals
 
-refused_stop : (which : MrtInput) (limits : Limits) (before : List Elem) (c fed : List ℕ) (at : ℕ) (old new : Reader) (mid state : State) (events : ℕ) (more : List Event) (n : ℕ) (r : Refusal) → Comes fed at c → (g : Going which limits before fed old mid events) → reading.TakesEvents old more new
-    → IsStopped which limits before (elems_in before g.read ++ next_elems before (elems_in before g.read) more) n r → feed_of limits.sizes which before c ≡ Err (Refused (outcome_at (event_in which n) r))
-refused_stop which limits before c fed at old new mid state events more n r comes g t stopped =
+refused_stop : {rows : List (Announced × Vrp)} (vrps : List Vrp) (which : MrtInput) (limits : Limits) (before : List Elem) (c fed : List ℕ) (at : ℕ) (old new : Reader) (mid state : State) (events : ℕ) (more : List Event) (n : ℕ) (r : Refusal) → Comes fed at c → (g : Going vrps which limits before fed old mid events rows) → reading.TakesEvents old more new
+    → IsStopped which limits before (elems_in vrps before g.read ++ next_elems before (elems_in vrps before g.read) (left_of vrps more)) n r → feed_of limits.sizes vrps which before c ≡ Err (Refused (outcome_at (event_in which n) r))
+refused_stop vrps which limits before c fed at old new mid state events more n r comes g t stopped =
     let next : Progress = record { peers = reading.peers new; events = g.read.events ++ more; records = new.records; skipped = new.skipped; treated = new.treated } in
-    let now = subst (λ es. IsStopped which limits before es n r) (in_more before g.read next more refl) stopped in
+    let now = subst (λ es. IsStopped which limits before es n r) (in_more vrps before g.read next more refl) stopped in
     let reads = reads_all c fed (octets_from at c) (reading.reader_left new) next comes (reads_on fed next new t.refuses (t.stands fed g.read g.stands)) in
-    stop_due which limits before c (reading.reader_left new ++ octets_from at c) next n r reads now
+    stop_due vrps which limits before c (reading.reader_left new ++ octets_from at c) next n r reads now
 
-pub refused_hops : (which : MrtInput) (limits : Limits) (before : List Elem) (o : Option (List ℕ)) (fed : List ℕ) (at : ℕ) (old new : Reader) (mid state : State) (events : ℕ) (more : List Event) (error : FeedError) → IfSome o (Comes fed at) → Going which limits before fed old mid events → reading.TakesEvents old more new → StateTakesAll which events more mid (Err error) state
-    → FailsDue (refusal_of which error) (due_of limits.sizes which before o)
-refused_hops which limits before None fed at old new mid state events more (HopsFull n) comes g t taken = tt
-refused_hops which limits before (Some c) fed at old new mid state events more (HopsFull n) comes g t taken =
-    refused_is (feed_of limits.sizes which before c) (outcome.HopsFull (event_in which n)) (refused_stop which limits before c fed at old new mid state events more n ManyHops comes g t (taken limits before (elems_in before g.read) g.counted g.held))
-refused_hops which limits before None fed at old new mid state events more (TrieFull n full) comes g t taken = tt
-refused_hops which limits before (Some c) fed at old new mid state events more (TrieFull n full) comes g t taken =
-    refused_is (feed_of limits.sizes which before c) (outcome.TrieFull (event_in which n) full.need full.have full.arena) (refused_stop which limits before c fed at old new mid state events more n (Short (shortage_as full)) comes g t (taken limits before (elems_in before g.read) g.counted g.held))
-refused_hops which limits before o fed at old new mid state events more (Malformed malformed) comes g t taken = absurd taken
-refused_hops which limits before o fed at old new mid state events more Fault comes g t taken = absurd taken
-refused_hops which limits before o fed at old new mid state events more TooLarge comes g t taken = absurd taken
-refused_hops which limits before o fed at old new mid state events more NoMemory comes g t taken = tt
+pub refused_hops : {rows : List (Announced × Vrp)} (vrps : List Vrp) (which : MrtInput) (limits : Limits) (before : List Elem) (o : Option (List ℕ)) (fed : List ℕ) (at : ℕ) (old new : Reader) (mid state : State) (events : ℕ) (more : List Event) (error : FeedError) → IfSome o (Comes fed at) → Going vrps which limits before fed old mid events rows → reading.TakesEvents old more new → StateTakesAll which events (left_of vrps more) mid (Err error) state
+    → FailsDue (refusal_of which error) (due_of limits.sizes vrps which before o)
+refused_hops vrps which limits before None fed at old new mid state events more (HopsFull n) comes g t taken = tt
+refused_hops vrps which limits before (Some c) fed at old new mid state events more (HopsFull n) comes g t taken =
+    refused_is (feed_of limits.sizes vrps which before c) (outcome.HopsFull (event_in which n)) (refused_stop vrps which limits before c fed at old new mid state events more n ManyHops comes g t (taken limits before (elems_in vrps before g.read) g.counted g.held))
+refused_hops vrps which limits before None fed at old new mid state events more (TrieFull n full) comes g t taken = tt
+refused_hops vrps which limits before (Some c) fed at old new mid state events more (TrieFull n full) comes g t taken =
+    refused_is (feed_of limits.sizes vrps which before c) (outcome.TrieFull (event_in which n) full.need full.have full.arena) (refused_stop vrps which limits before c fed at old new mid state events more n (Short (shortage_as full)) comes g t (taken limits before (elems_in vrps before g.read) g.counted g.held))
+refused_hops vrps which limits before o fed at old new mid state events more (Malformed malformed) comes g t taken = absurd taken
+refused_hops vrps which limits before o fed at old new mid state events more Fault comes g t taken = absurd taken
+refused_hops vrps which limits before o fed at old new mid state events more TooLarge comes g t taken = absurd taken
+refused_hops vrps which limits before o fed at old new mid state events more NoMemory comes g t taken = tt
 
 feeds_bad : (which : MrtInput) (o : Option (ℕ × Refusal)) (b : Bool) (stopped : Stopped) (f : Progress → Result Feed Stop) → o ≡ None → b ≡ false → unless_stopped which o (bad_record which b stopped >>= f) ≡ Err (Refused (outcome.Malformed (input_of which) stopped.read.records (rule_number stopped.rule)))
 feeds_bad which None false stopped f o b = refl
@@ -176,39 +180,39 @@ feeds_past which None true read f o b = absurd cc
 feeds_past which (Some n) b read f o e = absurd cc
 
 -- what is due of what was read
-abbrev due_in : Sizes → MrtInput → List Elem → List ℕ → Result Progress Stopped → Result Feed Stop
-due_in z which before c r = unless_stopped which (stop_at (too_much which z) before (elems_in before (read_part r))) (whole_records which (is_small c) (is_cut (octets_read c)) r >>= λ read. Ok (feed_in before read))
+abbrev due_in : Sizes → List Vrp → MrtInput → List Elem → List ℕ → Result Progress Stopped → Result Feed Stop
+due_in z vrps which before c r = unless_stopped which (stop_at (too_much which z) before (elems_in vrps before (read_part r))) (whole_records which (is_small c) (is_cut (octets_read c)) r >>= λ read. Ok (feed_in vrps before read))
 
-due_is : (z : Sizes) (which : MrtInput) (before : List Elem) (c : List ℕ) (r : Result Progress Stopped) → input (octets_read c) ≡ r → feed_of z which before c ≡ due_in z which before c r
+due_is : (z : Sizes) (vrps : List Vrp) (which : MrtInput) (before : List Elem) (c : List ℕ) (r : Result Progress Stopped) → input (octets_read c) ≡ r → feed_of z vrps which before c ≡ due_in z vrps which before c r
 unfolding feed_of
-due_is z which before c r e = ap (due_in z which before c) e
+due_is z vrps which before c r e = ap (due_in z vrps which before c) e
 
-pub fault_due : (which : MrtInput) (limits : Limits) (before : List Elem) (c : List ℕ) (read : Progress) (malformed : code_malformed.Malformed) (state : State) → StateStands which limits before (elems_in before read) state → malformed.number ≡ read.records → input (octets_read c) ≡ Err (record { read = read; rule = malformed.rule }) → (not (is_small c) && is_cut (octets_read c) read.records) ≡ false
-    → feed_of limits.sizes which before c ≡ Err (Refused (outcome.Malformed (input_of which) malformed.number (rule_number malformed.rule)))
-fault_due which limits before c read malformed state s n e cut =
-    due_is limits.sizes which before c (Err (record { read = read; rule = malformed.rule })) e
-    ∙ feeds_bad which (stop_at (too_much which limits.sizes) before (elems_in before read)) (not (is_small c) && is_cut (octets_read c) read.records) (record { read = read; rule = malformed.rule }) (λ read. Ok (feed_in before read)) s.fits cut
+pub fault_due : (vrps : List Vrp) (which : MrtInput) (limits : Limits) (before : List Elem) (c : List ℕ) (read : Progress) (malformed : code_malformed.Malformed) (state : State) → StateStands which limits before (elems_in vrps before read) state → malformed.number ≡ read.records → input (octets_read c) ≡ Err (record { read = read; rule = malformed.rule }) → (not (is_small c) && is_cut (octets_read c) read.records) ≡ false
+    → feed_of limits.sizes vrps which before c ≡ Err (Refused (outcome.Malformed (input_of which) malformed.number (rule_number malformed.rule)))
+fault_due vrps which limits before c read malformed state s n e cut =
+    due_is limits.sizes vrps which before c (Err (record { read = read; rule = malformed.rule })) e
+    ∙ feeds_bad which (stop_at (too_much which limits.sizes) before (elems_in vrps before read)) (not (is_small c) && is_cut (octets_read c) read.records) (record { read = read; rule = malformed.rule }) (λ read. Ok (feed_in vrps before read)) s.fits cut
     ∙ ap (λ k. Err (Refused (outcome.Malformed (input_of which) k (rule_number malformed.rule)))) (sym n)
 
-pub going_still : (which : MrtInput) (limits : Limits) (before : List Elem) (octets : List ℕ) (old new : Reader) (state : State) (events : ℕ) → Going which limits before octets old state events → reading.ReaderTakesNothing old new → Going which limits before octets new state events
-going_still which limits before octets old new state events g nothing = record { read = g.read; stands = nothing.stands octets g.read g.stands; counted = g.counted; held = g.held }
+pub going_still : {rows : List (Announced × Vrp)} (vrps : List Vrp) (which : MrtInput) (limits : Limits) (before : List Elem) (octets : List ℕ) (old new : Reader) (state : State) (events : ℕ) → Going vrps which limits before octets old state events rows → reading.ReaderTakesNothing old new → Going vrps which limits before octets new state events rows
+going_still vrps which limits before octets old new state events g nothing = record { read = g.read; stands = nothing.stands octets g.read g.stands; counted = g.counted; held = g.held; noted = g.noted }
 
-pub going_feeds : (which : MrtInput) (limits : Limits) (before : List Elem) (octets piece : List ℕ) (old new : Reader) (state : State) (events : ℕ) → Going which limits before octets old state events → reading.ReaderFeeds old piece new → Going which limits before (octets ++ piece) new state events
-going_feeds which limits before octets piece old new state events g feeds = record { read = g.read; stands = feeds.stands octets g.read g.stands; counted = g.counted; held = g.held }
+pub going_feeds : {rows : List (Announced × Vrp)} (vrps : List Vrp) (which : MrtInput) (limits : Limits) (before : List Elem) (octets piece : List ℕ) (old new : Reader) (state : State) (events : ℕ) → Going vrps which limits before octets old state events rows → reading.ReaderFeeds old piece new → Going vrps which limits before (octets ++ piece) new state events rows
+going_feeds vrps which limits before octets piece old new state events g feeds = record { read = g.read; stands = feeds.stands octets g.read g.stands; counted = g.counted; held = g.held; noted = g.noted }
 
 -- ---- the end
 
-pub whole_due : (which : MrtInput) (limits : Limits) (before : List Elem) (c : List ℕ) (read : Progress) (state : State) → StateStands which limits before (elems_in before read) state → input (octets_read c) ≡ Ok read → is_small c ≡ true → feed_of limits.sizes which before c ≡ Ok (feed_in before read)
-whole_due which limits before c read state s e small =
-    due_is limits.sizes which before c (Ok read) e
-    ∙ feeds_all which (stop_at (too_much which limits.sizes) before (elems_in before read)) (is_small c) read (λ read. Ok (feed_in before read)) s.fits small
+pub whole_due : (vrps : List Vrp) (which : MrtInput) (limits : Limits) (before : List Elem) (c : List ℕ) (read : Progress) (state : State) → StateStands which limits before (elems_in vrps before read) state → input (octets_read c) ≡ Ok read → is_small c ≡ true → feed_of limits.sizes vrps which before c ≡ Ok (feed_in vrps before read)
+whole_due vrps which limits before c read state s e small =
+    due_is limits.sizes vrps which before c (Ok read) e
+    ∙ feeds_all which (stop_at (too_much which limits.sizes) before (elems_in vrps before read)) (is_small c) read (λ read. Ok (feed_in vrps before read)) s.fits small
 
-pub past_due : (which : MrtInput) (limits : Limits) (before : List Elem) (c : List ℕ) (read : Progress) (state : State) → StateStands which limits before (elems_in before read) state → input (octets_read c) ≡ Ok read → is_small c ≡ false → feed_of limits.sizes which before c ≡ Err (Refused (outcome.TooLarge (input_of which)))
-past_due which limits before c read state s e large =
-    due_is limits.sizes which before c (Ok read) e
-    ∙ feeds_past which (stop_at (too_much which limits.sizes) before (elems_in before read)) (is_small c) read (λ read. Ok (feed_in before read)) s.fits large
+pub past_due : (vrps : List Vrp) (which : MrtInput) (limits : Limits) (before : List Elem) (c : List ℕ) (read : Progress) (state : State) → StateStands which limits before (elems_in vrps before read) state → input (octets_read c) ≡ Ok read → is_small c ≡ false → feed_of limits.sizes vrps which before c ≡ Err (Refused (outcome.TooLarge (input_of which)))
+past_due vrps which limits before c read state s e large =
+    due_is limits.sizes vrps which before c (Ok read) e
+    ∙ feeds_past which (stop_at (too_much which limits.sizes) before (elems_in vrps before read)) (is_small c) read (λ read. Ok (feed_in vrps before read)) s.fits large
 
-pub cut_due : (which : MrtInput) (limits : Limits) (before : List Elem) (c : List ℕ) (read : Progress) (rule : Rule) (state : State) → StateStands which limits before (elems_in before read) state → input (octets_read c) ≡ Err (record { read = read; rule = rule }) → (not (is_small c) && is_cut (octets_read c) read.records) ≡ true → feed_of limits.sizes which before c ≡ Err (Refused (outcome.TooLarge (input_of which)))
-cut_due which limits before c read rule state s e cut =
-    due_is limits.sizes which before c (Err (record { read = read; rule = rule })) e
-    ∙ feeds_large which (stop_at (too_much which limits.sizes) before (elems_in before read)) (not (is_small c) && is_cut (octets_read c) read.records) (record { read = read; rule = rule }) (λ read. Ok (feed_in before read)) s.fits cut
+pub cut_due : (vrps : List Vrp) (which : MrtInput) (limits : Limits) (before : List Elem) (c : List ℕ) (read : Progress) (rule : Rule) (state : State) → StateStands which limits before (elems_in vrps before read) state → input (octets_read c) ≡ Err (record { read = read; rule = rule }) → (not (is_small c) && is_cut (octets_read c) read.records) ≡ true → feed_of limits.sizes vrps which before c ≡ Err (Refused (outcome.TooLarge (input_of which)))
+cut_due vrps which limits before c read rule state s e cut =
+    due_is limits.sizes vrps which before c (Err (record { read = read; rule = rule })) e
+    ∙ feeds_large which (stop_at (too_much which limits.sizes) before (elems_in vrps before read)) (not (is_small c) && is_cut (octets_read c) read.records) (record { read = read; rule = rule }) (λ read. Ok (feed_in vrps before read)) s.fits cut

@@ -28,3 +28,4 @@ pub mod Whole
 pub mod Judging
 pub mod Comparing
 pub mod Saving
+pub mod Judges

@@ -1,6 +1,6 @@
 -- What inputs in memory hold under the names of made inputs, and what is due of them.
 use Rattle.std.proofs.Common.{◌≡◌, ℕ, List, [], ◌∷◌, ◌++◌, true, false, cond, Option, Some, Result, Ok, Err, inl, inr, refl, sym, ap, subst, ◌∙◌, arith}
-use Rattle.std.specs.Prelude.{codes, option_map}
+use Rattle.std.specs.Prelude.{codes, option_map, IfErr}
 use Rattle.std.specs.List.{find}
 use Rattle.std.specs.Str.{bytes_eq}
 use Rattle.std.specs.String.{string_bytes}
@@ -10,13 +10,13 @@ use Rattle.fib_io.specs.Held.{held_under}
 use Rattle.fib_io.specs.Causes.{Rose}
 use Rattle.made_model.specs.Files.{dump_octets, updates_octets}
 use Rattle.fib_report.specs.Rows.{report_text}
-use Rattle.fib_words.specs.Commands.{Named, Asked, Run, Make}
+use Rattle.fib_words.specs.Commands.{Named, Asked, Check, Run, Make}
 use Rattle.fib_main.specs.declared.outcome.Outcome.{Outcome}
 use Rattle.fib_main.specs.declared.outcome.Outcome.TheVariants.{Done, CheckNo, Differ, Usage, ReadFault, WriteFault, NoMemory, TooLarge, Malformed, HopsFull, TrieFull, BadLine, PeersFull, PathTooLong}
 use Rattle.fib_main.specs.declared.outcome.Which.{Which}
-use Rattle.fib_main.specs.declared.outcome.Which.TheVariants.{Asks, Dump, Updates, Printed, Script, Text}
+use Rattle.fib_main.specs.declared.outcome.Which.TheVariants.{Asks, Vrps, Dump, Updates, Printed, Script, Text}
 use Rattle.fib_main.specs.Stops.{Stop, FailsDue, IsDueIfTold}
-use Rattle.fib_main.specs.Owned.{HasInput, StopsIn}
+use Rattle.fib_main.specs.Owned.{HasInput, IsOf, StopsAt, StopsIn}
 use Rattle.fib_main.specs.Ends.{OneRose, ReadsBy}
 use Rattle.fib_main.specs.Due.{Feed, feed_at, feeds_at, limits_of, load_at, made_at, made_content, made_named, printed, told_at, with_counts}
 use Rattle.fib_main.specs.Untold.{GivesSome, TextOfSome}
@@ -47,26 +47,26 @@ made_held none one two d u n o t e f =
     (ap (λ l. held_under l (codes "dump")) all ∙ first_held d u e, ap (λ l. held_under l (codes "updates")) all ∙ second_held d u e f)
 
 -- what is due of made inputs rests on what they hold under both names alone
-pub feeds_alike : (c m : Content) → c (codes "dump") ≡ m (codes "dump") → c (codes "updates") ≡ m (codes "updates") → feeds_at c made_named ≡ feeds_at m made_named
+pub feeds_alike : (c m : Content) → c (codes "dump") ≡ m (codes "dump") → c (codes "updates") ≡ m (codes "updates") → feeds_at c [] made_named ≡ feeds_at m [] made_named
 unfolding feeds_at load_at feed_at
 feeds_alike c m d u = rw (d, u) refl
 
 abbrev fine : {X : Type 0} → X → Result X Stop
 fine x = Ok x
 
-made_feeds : (routes seed : ℕ) (c : Content) → c (codes "dump") ≡ Some (dump_octets seed routes) → c (codes "updates") ≡ Some (updates_octets seed routes) → feeds_at c made_named ≡ feeds_at (made_content routes seed) made_named
+made_feeds : (routes seed : ℕ) (c : Content) → c (codes "dump") ≡ Some (dump_octets seed routes) → c (codes "updates") ≡ Some (updates_octets seed routes) → feeds_at c [] made_named ≡ feeds_at (made_content routes seed) [] made_named
 made_feeds routes seed c d u = feeds_alike c (made_content routes seed) d u
 
 -- a refusal of inputs that hold what is made is one of what is due
-pub made_fails : (routes seed : ℕ) (c : Content) (o : Outcome) → c (codes "dump") ≡ Some (dump_octets seed routes) → c (codes "updates") ≡ Some (updates_octets seed routes) → FailsDue o (feeds_at c made_named) → FailsDue o (with_counts (made_at routes seed))
+pub made_fails : (routes seed : ℕ) (c : Content) (o : Outcome) → c (codes "dump") ≡ Some (dump_octets seed routes) → c (codes "updates") ≡ Some (updates_octets seed routes) → FailsDue o (feeds_at c [] made_named) → FailsDue o (with_counts (made_at routes seed))
 unfolding made_at
-made_fails routes seed c o d u f = feeds_fail (made_content routes seed) made_named [] (λ p. Ok (report_text p.told.report)) o (subst (λ x. FailsDue o x) (made_feeds routes seed c d u) f)
+made_fails routes seed c o d u f = feeds_fail (made_content routes seed) [] made_named [] (λ p. Ok (report_text p.told.report)) o (subst (λ x. FailsDue o x) (made_feeds routes seed c d u) f)
 
 -- and the counts of what they bring are those that are due
-pub made_due : (routes seed : ℕ) (c : Content) (feeds : Feed × Feed) (text : List ℕ) → c (codes "dump") ≡ Some (dump_octets seed routes) → c (codes "updates") ≡ Some (updates_octets seed routes) → IsDueIfTold (feeds_at c made_named) (Ok feeds)
+pub made_due : (routes seed : ℕ) (c : Content) (feeds : Feed × Feed) (text : List ℕ) → c (codes "dump") ≡ Some (dump_octets seed routes) → c (codes "updates") ≡ Some (updates_octets seed routes) → IsDueIfTold (feeds_at c [] made_named) (Ok feeds)
     → text ≡ report_text (printed (limits_of made_named) feeds.0 feeds.1 []).told.report → IsDueIfTold (with_counts (made_at routes seed)) (Ok text)
 unfolding made_at
-made_due routes seed c feeds text d u i e = all_due (made_content routes seed) made_named [] (λ p. report_text p.told.report) feeds text (subst (λ x. IsDueIfTold x (fine feeds)) (made_feeds routes seed c d u) i) e
+made_due routes seed c feeds text d u i e = all_due (made_content routes seed) [] made_named [] (λ p. report_text p.told.report) feeds text (subst (λ x. IsDueIfTold x (fine feeds)) (made_feeds routes seed c d u) i) e
 
 -- a refusal of the made inputs names one of them
 pub made_stops : (routes seed : ℕ) (o : Outcome) → StopsIn (Run made_named) o → StopsIn (Make routes seed) o
@@ -74,6 +74,7 @@ made_stops routes seed o s = (s.0, input s.0 s.1, s.2)
   where
     input : (w : Which) → HasInput (Run made_named) w → HasInput (Make routes seed) w
     input Asks h = absurd cc
+    input Vrps h = absurd cc
     input Dump h = tt
     input Updates h = tt
     input Printed h = h
@@ -115,4 +116,28 @@ some_refused X content named asked o a t = rw a (by_part t)
   where
     by_part : TextOfSome {X = X} content named (Err o) → GivesSome content (Some (Run named)) (Err o)
     by_part (inl s) = inl s
-    by_part (inr t) = inr (t.0, ran_refused (told_at content named t.0) o t.1)
+    by_part (inr t) = inr (t.0, t.1, ran_refused (told_at content t.1 named t.0) o t.2)
+
+-- a refusal of an input that a command names is one of the command
+stops_own : (asked : Asked) (o : Outcome) → StopsIn asked o → IsOf (Some asked) o
+stops_own asked Done s = tt
+stops_own asked (CheckNo x) s = absurd s.2
+stops_own asked (Differ x) s = absurd s.2
+stops_own asked Usage s = absurd s.2
+stops_own asked WriteFault s = tt
+stops_own asked NoMemory s = tt
+stops_own asked (PeersFull peers) s = absurd s.2
+stops_own asked (PathTooLong p n) s = absurd s.2
+stops_own asked ReadFault s = s
+stops_own asked (TooLarge input) s = s
+stops_own asked (Malformed input number rule) s = s
+stops_own asked (HopsFull event) s = s
+stops_own asked (TrieFull event need have arena) s = s
+stops_own asked (BadLine input line why) s = s
+
+pub own_refused : (asked one : Asked) (o : Outcome) → asked ≡ one → StopsIn one o → IsOf (Some asked) o
+own_refused asked one o e s = subst (λ a. IsOf (Some a) o) (sym e) (stops_own one o s)
+
+pub check_own : {X : Type 0} (asked : Asked) (name : List ℕ) (r : Result X Outcome) → asked ≡ Check name → IfErr r (StopsAt Printed) → IfErr r (IsOf (Some asked))
+check_own asked name (Ok x) e s = tt
+check_own asked name (Err o) e s = own_refused asked (Check name) o e (Printed, tt, s)

@@ -7,7 +7,11 @@ use Rattle.octet_fields.specs.Field.{◌>>=◌}
 use Rattle.address_model.specs.Address.{Address}
 use Rattle.table_model.specs.Changes.{Change, sum_of}
 use Rattle.table_model.specs.Entries.{AlikeInBoth, Entries, match_in, of_family}
-use Rattle.route_model.specs.Events.{Elem}
+use Rattle.route_model.specs.Events.{Elem, Event, Announce, Withdraw, Down, IsEvent}
+use Rattle.printed_model.specs.Rows.{Vrp}
+use Rattle.fib_rov.specs.Rov.{judged, left_in, left_of, state_of}
+use Rattle.fib_rov.specs.declared.state.State.{State}
+use Rattle.fib_rov.specs.declared.state.State.TheVariants as rov
 use Rattle.route_model.specs.Choice.{AreCandidates, Candidates, IsElem, after_elem, after_elems}
 use Rattle.route_model.proofs.Elems.{candidates_stay, elems_of_events}
 use Rattle.route_model.proofs.Said.{none_yet}
@@ -38,7 +42,7 @@ use Rattle.fib_main.specs.Stops.{Stop, bad_record, records_due, told_content, un
 use Rattle.fib_main.specs.Refusals.{Limits, Refusal, routes_by, stop_at, too_much}
 use Rattle.route_tries.specs.Sizes.{Shortage, Sizes, shortage}
 use Rattle.step_run.specs.Stepping.{Stepping}
-use Rattle.fib_main.specs.Due.{Feed, Printed, stepped, stepping_at, printed, asks_at, feed_at, feeds_at, limits_of, load_at, made, made_at, sizes_of, feed_of, feed_in, elems_in, read_part, changes_of, kept_of, told_at, run_at, used_at, output_at, ran, checked, due, usage, answers_to, saved_at}
+use Rattle.fib_main.specs.Due.{Feed, Printed, stepped, stepping_at, printed, asks_at, feed_at, feeds_at, limits_of, load_at, made, made_at, sizes_of, feed_of, feed_in, elems_in, read_part, changes_of, kept_of, told_at, run_at, used_at, vrps_at, output_at, ran, checked, due, usage, answers_to, saved_at}
 use Rattle.fib_main.specs.Proves.{IfRan}
 use Rattle.fib_main.specs.Runs.{IfDue, SumsUp, Forwards, Answers, HasLeast, HasAggregate, Certified, InPrefixOrder, IsInOrder, HasHops}
 use Rattle.fib_main.specs.Keeps.{Follows, HasTable, KeepsTables, RenewsLeast, RepairsFewest, RepairsWithin, changes_to, entries_besides}
@@ -58,37 +62,53 @@ brought feed = Ok feed
 same_feed : (f g : Feed) → brought f ≡ brought g → f ≡ g
 same_feed f g e = cc
 
-feed_proper : (z : Sizes) (which : MrtInput) (before : List Elem) (octets : List ℕ) (feed : Feed) → AllByRecursion IsElem before → feed_of z which before octets ≡ Ok feed → AllByRecursion IsElem feed.elems
-unfolding feed_of
-feed_proper z which before octets feed p e = by_input (is_small octets) (input (octets_read octets)) refl (went_on which (stop_at (too_much which z) before (elems_in before (read_part (input (octets_read octets))))) (records_due which octets >>= λ read. Ok (feed_in before read)) feed e)
+-- so is what is left of events that are judged
+one_left : (vrps : List Vrp) (e : Event) → IsEvent e → IsEvent (judged vrps e).0
+one_left vrps (Announce via p path hop origin) is = by_state (state_of vrps p origin)
   where
-    by_input : (ends : Bool) (r : Result Progress Stopped) → input (octets_read octets) ≡ r → (whole_records which ends (is_cut (octets_read octets)) r >>= λ read. Ok (feed_in before read)) ≡ Ok feed → AllByRecursion IsElem feed.elems
-    by_input true (Ok read) is e = subst (λ (f : Feed). AllByRecursion IsElem f.elems) (same_feed (feed_in before read) feed e) (elems_of_events (after_elems [] before) read.events (candidates_stay [] before none_yet p) (read_events (octets_read octets) read is))
+    by_state : (s : State) → IsEvent (left_in s (Announce via p path hop origin) (Withdraw via p)).0
+    by_state (rov.Invalid n) = (is.0, is.1)
+    by_state (rov.Valid n) = is
+    by_state rov.NotFound = is
+one_left vrps (Withdraw via p) is = is
+one_left vrps (Down peer) is = is
+
+left_proper : (vrps : List Vrp) (events : List Event) → AllByRecursion IsEvent events → AllByRecursion IsEvent (left_of vrps events)
+unfolding left_of
+left_proper vrps [] all = tt
+left_proper vrps (e ∷ events) all = (one_left vrps e all.0, left_proper vrps events all.1)
+
+feed_proper : (z : Sizes) (vrps : List Vrp) (which : MrtInput) (before : List Elem) (octets : List ℕ) (feed : Feed) → AllByRecursion IsElem before → feed_of z vrps which before octets ≡ Ok feed → AllByRecursion IsElem feed.elems
+unfolding feed_of
+feed_proper z vrps which before octets feed p e = by_input (is_small octets) (input (octets_read octets)) refl (went_on which (stop_at (too_much which z) before (elems_in vrps before (read_part (input (octets_read octets))))) (records_due which octets >>= λ read. Ok (feed_in vrps before read)) feed e)
+  where
+    by_input : (ends : Bool) (r : Result Progress Stopped) → input (octets_read octets) ≡ r → (whole_records which ends (is_cut (octets_read octets)) r >>= λ read. Ok (feed_in vrps before read)) ≡ Ok feed → AllByRecursion IsElem feed.elems
+    by_input true (Ok read) is e = subst (λ (f : Feed). AllByRecursion IsElem f.elems) (same_feed (feed_in vrps before read) feed e) (elems_of_events (after_elems [] before) (left_of vrps read.events) (candidates_stay [] before none_yet p) (left_proper vrps read.events (read_events (octets_read octets) read is)))
     by_input false (Ok read) is e = absurd cc
     by_input ends (Err stopped) is e = absurd (bad (not ends && is_cut (octets_read octets) stopped.read.records) e) where
-      bad : (b : Bool) → (bad_record which b stopped >>= λ read. Ok (feed_in before read)) ≡ Ok feed → ⊥
+      bad : (b : Bool) → (bad_record which b stopped >>= λ read. Ok (feed_in vrps before read)) ≡ Ok feed → ⊥
       bad true e = cc
       bad false e = cc
 
-named_proper : (z : Sizes) (content : List ℕ → Option (List ℕ)) (which : MrtInput) (before : List Elem) (name : Option (List ℕ)) (feed : Feed) → AllByRecursion IsElem before → feed_at z content which before name ≡ Ok feed → AllByRecursion IsElem feed.elems
+named_proper : (z : Sizes) (content : List ℕ → Option (List ℕ)) (vrps : List Vrp) (which : MrtInput) (before : List Elem) (name : Option (List ℕ)) (feed : Feed) → AllByRecursion IsElem before → feed_at z content vrps which before name ≡ Ok feed → AllByRecursion IsElem feed.elems
 unfolding feed_at
-named_proper z content which before None feed p e = let none = same_feed _ feed e in subst (λ (f : Feed). AllByRecursion IsElem f.elems) none tt
-named_proper z content which before (Some name) feed p e = by_octets (told_content (content name)) e
+named_proper z content vrps which before None feed p e = let none = same_feed _ feed e in subst (λ (f : Feed). AllByRecursion IsElem f.elems) none tt
+named_proper z content vrps which before (Some name) feed p e = by_octets (told_content (content name)) e
   where
-    by_octets : (r : Result (List ℕ) Stop) → (r >>= feed_of z which before) ≡ Ok feed → AllByRecursion IsElem feed.elems
-    by_octets (Ok octets) e = feed_proper z which before octets feed p e
+    by_octets : (r : Result (List ℕ) Stop) → (r >>= feed_of z vrps which before) ≡ Ok feed → AllByRecursion IsElem feed.elems
+    by_octets (Ok octets) e = feed_proper z vrps which before octets feed p e
     by_octets (Err stop) e = absurd cc
 
-load_proper : (z : Sizes) (content : List ℕ → Option (List ℕ)) (name : List ℕ) (load : Feed) → load_at z content name ≡ Ok load → AllByRecursion IsElem load.elems
+load_proper : (z : Sizes) (content : List ℕ → Option (List ℕ)) (vrps : List Vrp) (name : List ℕ) (load : Feed) → load_at z content vrps name ≡ Ok load → AllByRecursion IsElem load.elems
 unfolding load_at
-load_proper z content name load e = by_feed (feed_at z content Dump [] (Some name)) refl e
+load_proper z content vrps name load e = by_feed (feed_at z content vrps Dump [] (Some name)) refl e
   where
     by_room : (o : Option Shortage) (feed : Feed) → with_room o feed ≡ Ok load → feed ≡ load
     by_room None feed e = same_feed feed load e
     by_room (Some s) feed e = absurd cc
 
-    by_feed : (r : Result Feed Stop) → feed_at z content Dump [] (Some name) ≡ r → (r >>= λ feed. with_room (shortage z (routes_by feed.elems)) feed) ≡ Ok load → AllByRecursion IsElem load.elems
-    by_feed (Ok feed) is e = let same = by_room (shortage z (routes_by feed.elems)) feed e in subst (λ (f : Feed). AllByRecursion IsElem f.elems) same (named_proper z content Dump [] (Some name) feed tt is)
+    by_feed : (r : Result Feed Stop) → feed_at z content vrps Dump [] (Some name) ≡ r → (r >>= λ feed. with_room (shortage z (routes_by feed.elems)) feed) ≡ Ok load → AllByRecursion IsElem load.elems
+    by_feed (Ok feed) is e = let same = by_room (shortage z (routes_by feed.elems)) feed e in subst (λ (f : Feed). AllByRecursion IsElem f.elems) same (named_proper z content vrps Dump [] (Some name) feed tt is)
     by_feed (Err stop) is e = absurd cc
 
 -- ---- whatever is due
@@ -100,21 +120,25 @@ OfEach P = (limits : Limits) (load updates : Feed) (asks : List Address) → All
 abbrev both_of : Feed → Feed → Result (Feed × Feed) Stop
 both_of load updates = Ok (load, updates)
 
-told_due : (P : Printed → Type 0) → OfEach P → (content : List ℕ → Option (List ℕ)) (named : Named) (asks : List Address) → IfRan (ran (told_at content named asks)) P
+told_due : (P : Printed → Type 0) → OfEach P → (content : List ℕ → Option (List ℕ)) (vrps : List Vrp) (named : Named) (asks : List Address) → IfRan (ran (told_at content vrps named asks)) P
 unfolding told_at feeds_at
-told_due P each content named asks = by_load (load_at (sizes_of named) content named.dump) refl
+told_due P each content vrps named asks = by_load (load_at (sizes_of named) content vrps named.dump) refl
   where
-    by_updates : (load : Feed) → AllByRecursion IsElem load.elems → (u : Result Feed Stop) → feed_at (sizes_of named) content Updates load.elems named.updates ≡ u → IfRan (ran ((u >>= λ updates. both_of load updates) >>= λ feeds. Ok (printed (limits_of named) feeds.0 feeds.1 asks))) P
-    by_updates load p (Ok updates) e = each (limits_of named) load updates asks p (named_proper (sizes_of named) content Updates load.elems named.updates updates p e)
+    by_updates : (load : Feed) → AllByRecursion IsElem load.elems → (u : Result Feed Stop) → feed_at (sizes_of named) content vrps Updates load.elems named.updates ≡ u → IfRan (ran ((u >>= λ updates. both_of load updates) >>= λ feeds. Ok (printed (limits_of named) feeds.0 feeds.1 asks))) P
+    by_updates load p (Ok updates) e = each (limits_of named) load updates asks p (named_proper (sizes_of named) content vrps Updates load.elems named.updates updates p e)
     by_updates load p (Err stop) e = tt
 
-    by_load : (l : Result Feed Stop) → load_at (sizes_of named) content named.dump ≡ l → IfRan (ran ((l >>= λ load. feed_at (sizes_of named) content Updates load.elems named.updates >>= λ updates. both_of load updates) >>= λ feeds. Ok (printed (limits_of named) feeds.0 feeds.1 asks))) P
-    by_load (Ok load) e = by_updates load (load_proper (sizes_of named) content named.dump load e) (feed_at (sizes_of named) content Updates load.elems named.updates) refl
+    by_load : (l : Result Feed Stop) → load_at (sizes_of named) content vrps named.dump ≡ l → IfRan (ran ((l >>= λ load. feed_at (sizes_of named) content vrps Updates load.elems named.updates >>= λ updates. both_of load updates) >>= λ feeds. Ok (printed (limits_of named) feeds.0 feeds.1 asks))) P
+    by_load (Ok load) e = by_updates load (load_proper (sizes_of named) content vrps named.dump load e) (feed_at (sizes_of named) content vrps Updates load.elems named.updates) refl
     by_load (Err stop) e = tt
 
-asks_due : (P : Printed → Type 0) → OfEach P → (content : List ℕ → Option (List ℕ)) (named : Named) (r : Result (List Address) Stop) → IfRan (ran (r >>= told_at content named)) P
+list_due : (P : Printed → Type 0) → OfEach P → (content : List ℕ → Option (List ℕ)) (named : Named) (asks : List Address) (r : Result (List Vrp) Stop) → IfRan (ran (r >>= λ vrps. told_at content vrps named asks)) P
+list_due P each content named asks (Err stop) = tt
+list_due P each content named asks (Ok vrps) = told_due P each content vrps named asks
+
+asks_due : (P : Printed → Type 0) → OfEach P → (content : List ℕ → Option (List ℕ)) (named : Named) (r : Result (List Address) Stop) → IfRan (ran (r >>= λ asks. vrps_at content named.vrps >>= λ vrps. told_at content vrps named asks)) P
 asks_due P each content named (Err stop) = tt
-asks_due P each content named (Ok asks) = told_due P each content named asks
+asks_due P each content named (Ok asks) = list_due P each content named asks (vrps_at content named.vrps)
 
 check_due : (P : Printed → Type 0) (u : Result Used Stop) → IfRan (checked u) P
 check_due P (Ok used) = tt

@@ -1,5 +1,5 @@
 -- A run in steps: what its inputs bring, and its text as a reply.
-use Rattle.std.proofs.Common.{◌≡◌, ℕ, List, ◌∷◌, Option, Some, None, Result, Ok, Err, inl, inr, refl, sym, ap, subst}
+use Rattle.std.proofs.Common.{◌≡◌, ℕ, List, [], ◌∷◌, Option, Some, None, Result, Ok, Err, inl, inr, refl, sym, ap, subst}
 use Rattle.std.specs.Prelude.{◌⊎◌, option_map}
 use Rattle.std.specs.declared.vec.Vec.{Vec}
 use Rattle.octet_fields.specs.Field.{◌>>=◌}
@@ -74,7 +74,7 @@ untold_gives A X d o f = (fails_by d (untold_text (Err Untold)) (λ p i. tt) o f
 
 module _ (content : Content) (named : NamedSteps) where
   abbrev Loaded : Result Feed Stop
-  Loaded = load_at (steps_sizes named) content named.dump
+  Loaded = load_at (steps_sizes named) content [] named.dump
 
   abbrev Later : Result (List Event) Stop
   Later = events_at content named.updates

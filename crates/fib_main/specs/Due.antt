@@ -26,13 +26,16 @@ use Rattle.fib_save.specs.Brings.{after_events}
 use Rattle.fib_same.specs.Due.{Compared, TextDifference, answer_of, same_at}
 use Rattle.fib_same.specs.Due as same
 use Rattle.printed_model.specs.Used.{Used, printed_in}
+use Rattle.printed_model.specs.Rows.{Announced, Vrp}
+use Rattle.fib_rov.specs.Lines.{vrps_in}
+use Rattle.fib_rov.specs.Rov.{invalid_in, left_of}
 use Rattle.fib_words.specs.Commands.{Named, NamedSame, NamedSave, NamedSteps, Asked, Run, Check, Make, Steps, Same, Save, command_of}
 use Rattle.fib_main.specs.declared.outcome.Outcome.TheVariants.{BadLine, PeersFull, TooLarge, Usage}
 use Rattle.fib_main.specs.declared.outcome.MrtInput.{MrtInput}
 use Rattle.fib_main.specs.declared.outcome.MrtInput.TheVariants.{Dump, Updates}
 use Rattle.fib_main.specs.declared.outcome.Which.{Which}
 use Rattle.fib_main.specs.declared.outcome.Which.TheVariants as all
-use Rattle.fib_main.specs.Stops.{Stop, Refused, LongPath, Untold, told_content, sized, lined, lined_past, rowed, scripted, records_due, unless_stopped, with_room}
+use Rattle.fib_main.specs.Stops.{Stop, Refused, LongPath, Untold, told_content, sized, lined, lined_past, listed, rowed, scripted, records_due, unless_stopped, with_room}
 use Rattle.fib_main.specs.Refusals.{Limits, routes_by, stop_at, too_much}
 use Rattle.fib_io.specs.Pieces.{octets_read}
 use Rattle.whole_input.specs.Cuts.{is_small}
@@ -66,47 +69,59 @@ unfoldable pub asks_at : (List ℕ → Option (List ℕ)) → Option (List ℕ) 
 asks_at content None = Ok []
 asks_at content (Some name) = told_asks (content name)
 
+-- the list of VRPs of this input, or its first line that is neither empty nor a VRP
+unfoldable pub vrps_in_input : (List ℕ → Option (List ℕ)) → List ℕ → Result (List Vrp) Stop
+vrps_in_input content name = do
+  octets ← input_at content all.Vrps name
+  listed (vrps_in octets)
+
+-- the list of VRPs that announcements are judged by, empty where none is named
+unfoldable pub vrps_at : (List ℕ → Option (List ℕ)) → Option (List ℕ) → Result (List Vrp) Stop
+vrps_at content None = Ok []
+vrps_at content (Some name) = vrps_in_input content name
+
 -- ---- what an input of records brings
 
--- its elementary events, how many records it has, how many of them were skipped, and how many messages were treated as withdrawals
+-- its elementary events, its announcements that are Invalid, each with the first VRP that covers it, how many records it has, how many of them were skipped, and how many messages were treated as withdrawals
 pub record Feed : Type 0 where
   pub elems : List Elem
+  pub invalid : List (Announced × Vrp)
   pub records : ℕ
   pub skipped : ℕ
   pub treated : ℕ
 
 abbrev pub no_feed : Feed
-no_feed = record { elems = []; records = 0; skipped = 0; treated = 0 }
+no_feed = record { elems = []; invalid = []; records = 0; skipped = 0; treated = 0 }
 
 -- what was read before the end or before the record that breaks a rule
 abbrev pub read_part : Result Progress Stopped → Progress
 read_part (Ok read) = read
 read_part (Err stopped) = stopped.read
 
--- the elementary events of what was read, after earlier ones
-abbrev pub elems_in : List Elem → Progress → List Elem
-elems_in before read = elems_after (after_elems [] before) read.events
+-- the elementary events of what was read, after earlier ones, where each announcement that is Invalid by a list of VRPs is its withdrawal (RFC 6811, 3)
+abbrev pub elems_in : List Vrp → List Elem → Progress → List Elem
+elems_in vrps before read = elems_after (after_elems [] before) (left_of vrps read.events)
 
-abbrev pub feed_in : List Elem → Progress → Feed
-feed_in before read = record { elems = elems_in before read; records = read.records; skipped = read.skipped; treated = read.treated }
+abbrev pub feed_in : List Vrp → List Elem → Progress → Feed
+feed_in vrps before read = record { elems = elems_in vrps before read; invalid = invalid_in vrps read.events; records = read.records; skipped = read.skipped; treated = read.treated }
 
 -- What the octets of an input bring after earlier elementary events. Records are taken one by one: an event that isn't taken comes before a record after it that breaks a rule, and before the end of what is read.
-unfoldable pub feed_of : Sizes → MrtInput → List Elem → List ℕ → Result Feed Stop
-feed_of z which before octets =
-    unless_stopped which (stop_at (too_much which z) before (elems_in before (read_part (input (octets_read octets)))))
-    (records_due which octets >>= λ read. Ok (feed_in before read))
+unfoldable pub feed_of : Sizes → List Vrp → MrtInput → List Elem → List ℕ → Result Feed Stop
+feed_of z vrps which before octets =
+    unless_stopped which (stop_at (too_much which z) before (elems_in vrps before (read_part (input (octets_read octets)))))
+    (records_due which octets >>= λ read. Ok (feed_in vrps before read))
 
 -- nothing comes of an input that isn't named
-unfoldable pub feed_at : Sizes → (List ℕ → Option (List ℕ)) → MrtInput → List Elem → Option (List ℕ) → Result Feed Stop
-feed_at z content which before None = Ok no_feed
-feed_at z content which before (Some name) = do
+unfoldable pub feed_at : Sizes → (List ℕ → Option (List ℕ)) → List Vrp → MrtInput → List Elem → Option (List ℕ) → Result Feed Stop
+feed_at z content vrps which before None = Ok no_feed
+feed_at z content vrps which before (Some name) = do
   octets ← told_content (content name)
-  feed_of z which before octets
+  feed_of z vrps which before octets
 
 -- what a dump brings, if the tries of its routes have room at its end
-unfoldable pub load_at : Sizes → (List ℕ → Option (List ℕ)) → List ℕ → Result Feed Stop
-load_at z content name = do
-  load ← feed_at z content Dump [] (Some name)
+unfoldable pub load_at : Sizes → (List ℕ → Option (List ℕ)) → List Vrp → List ℕ → Result Feed Stop
+load_at z content vrps name = do
+  load ← feed_at z content vrps Dump [] (Some name)
   with_room (shortage z (routes_by load.elems)) load
 
 -- ---- what a run in steps stands on
@@ -121,11 +136,11 @@ script_at content name = do
 abbrev pub steps_sizes : NamedSteps → Sizes
 steps_sizes named = record { direct = named.direct; nodes = named.nodes; leaves = named.leaves }
 
--- The world of the dump's elementary events and of those of the updates, which are all read before the first step. The tries of the dump's
+-- The world of the dump's elementary events and of those of the updates, which are all read before the first step; no announcement is judged. The tries of the dump's
 -- routes need room before the updates are read.
 unfoldable pub world_at : (List ℕ → Option (List ℕ)) → NamedSteps → Result World Stop
 world_at content named = do
-  load ← load_at (steps_sizes named) content named.dump
+  load ← load_at (steps_sizes named) content [] named.dump
   events ← events_at content named.updates
   Ok (world_of (steps_sizes named) load.elems events)
 
@@ -172,11 +187,11 @@ kept_of every hops load updates = kept_from every hops 1 (after_elems [] load) (
 abbrev pub changes_of : ℕ → List Address → List Elem → List Elem → List (ℕ × Change)
 changes_of every hops load updates = kept_load_changes hops (after_elems [] load) ++ kept_changes_from every hops 1 (after_elems [] load) (kept_at_load hops (after_elems [] load)) updates
 
--- of these routes, and of a kept table and its changes, with so many direct bits: the routes, the changes, each address with its answer, the table, the aggregate of the routes with the kept table as the old one, the certificate that it is least, and the counts
+-- of these routes, and of a kept table and its changes, with so many direct bits: the routes, the announcements that are Invalid, the changes, each address with its answer, the table, the aggregate of the routes with the kept table as the old one, the certificate that it is least, and the counts
 abbrev pub run_of : ℕ → Entries → Entries → List (ℕ × Change) → List Address → Feed → Feed → Told
 run_of s routes kept changes asks load updates = record {
   routes = routes;
-  invalid = [];
+  invalid = load.invalid ++ updates.invalid;
   changes = changes;
   answers = answers_to s routes asks;
   table = kept;
@@ -214,23 +229,24 @@ abbrev pub limits_of : Named → Limits
 limits_of named = record { every = named.every; sizes = sizes_of named }
 
 -- what the dump and the updates that are named bring: the tries of the dump's routes need room before the updates are read
-unfoldable pub feeds_at : (List ℕ → Option (List ℕ)) → Named → Result (Feed × Feed) Stop
-feeds_at content named = do
-  load ← load_at (sizes_of named) content named.dump
-  updates ← feed_at (sizes_of named) content Updates load.elems named.updates
+unfoldable pub feeds_at : (List ℕ → Option (List ℕ)) → List Vrp → Named → Result (Feed × Feed) Stop
+feeds_at content vrps named = do
+  load ← load_at (sizes_of named) content vrps named.dump
+  updates ← feed_at (sizes_of named) content vrps Updates load.elems named.updates
   Ok (load, updates)
 
--- of these, with these asks
-unfoldable pub told_at : (List ℕ → Option (List ℕ)) → Named → List Address → Result Printed Stop
-told_at content named asks = do
-  feeds ← feeds_at content named
+-- of these, judged by this list of VRPs, with these asks
+unfoldable pub told_at : (List ℕ → Option (List ℕ)) → List Vrp → Named → List Address → Result Printed Stop
+told_at content vrps named asks = do
+  feeds ← feeds_at content vrps named
   Ok (printed (limits_of named) feeds.0 feeds.1 asks)
 
--- what is to be printed of a run, or the first refusal: of the asks, the dump, the updates
+-- what is to be printed of a run, or the first refusal: of the asks, the list of VRPs, the dump, the updates
 unfoldable pub run_at : (List ℕ → Option (List ℕ)) → Named → Result Printed Stop
 run_at content named = do
   asks ← asks_at content named.asks
-  told_at content named asks
+  vrps ← vrps_at content named.vrps
+  told_at content vrps named asks
 
 -- the text of a run's rows
 abbrev pub printed_text : Printed → List ℕ
@@ -258,11 +274,11 @@ made_content routes seed name =
 
 -- what the main job is asked to do with them
 abbrev pub made_named : Named
-made_named = record { dump = codes "dump"; updates = Some (codes "updates"); asks = None; every = 1000; direct = 16; nodes = 20; leaves = 22 }
+made_named = record { dump = codes "dump"; updates = Some (codes "updates"); asks = None; vrps = None; every = 1000; direct = 16; nodes = 20; leaves = 22 }
 
 -- what it comes to
 unfoldable pub made_at : ℕ → ℕ → Result Printed Stop
-made_at routes seed = told_at (made_content routes seed) made_named []
+made_at routes seed = told_at (made_content routes seed) [] made_named []
 
 -- What is to be printed: the rows of a run, the verdict on what a printed text has, the counts alone of a run on inputs that are made, what comparing texts comes to, a prefix that stands twice in one of them, or the checkpoint of what was said.
 pub data Output : Type 0 where

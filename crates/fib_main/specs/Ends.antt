@@ -1,6 +1,7 @@
 -- What a run or a check leaves.
 use Rattle.std.specs.Prelude.{◌≡◌, ℕ, List, [], ◌∷◌, ◌++◌, codes, decimal, Option, Some, None, IfSome, Result, Ok, Err, ◌⊎◌, option_to_list}
 use Rattle.fib_io.specs.Causes.{Rose}
+use Rattle.printed_model.specs.Rows.{Vrp}
 use Rattle.fib_io.specs.Octets.{Adds, AddsSome}
 use Rattle.cert_model.specs.Verdict.{No}
 use Rattle.fib_addr.specs.Text.{prefix_text}
@@ -12,14 +13,14 @@ use Rattle.fib_same.specs.declared.compare.Difference as code_difference
 use Rattle.cert_check.specs.declared.refusal.No as code
 use Rattle.cert_check.specs.Views.{no_as}
 use Rattle.fib_main.specs.declared.outcome.Which.{Which}
-use Rattle.fib_main.specs.declared.outcome.Which.TheVariants.{Asks, Dump, Updates, Printed, Script, Text}
+use Rattle.fib_main.specs.declared.outcome.Which.TheVariants.{Asks, Vrps, Dump, Updates, Printed, Script, Text}
 use Rattle.fib_main.specs.declared.outcome.Outcome.{Outcome}
 use Rattle.fib_main.specs.declared.outcome.Outcome.TheVariants.{Done, CheckNo, Differ, Usage, ReadFault, WriteFault, NoMemory, TooLarge, Malformed, HopsFull, TrieFull, BadLine, PeersFull, PathTooLong}
 use Rattle.fib_main.specs.declared.outcome.MrtInput.TheVariants as mrt
 use Rattle.fib_main.specs.Stepping.{events_of}
 use Rattle.fib_main.specs.Stops.{Stop, Untold, Refused, LongPath}
 use Rattle.fib_words.specs.Commands.{Named, NamedSave, NamedSteps, Asked, Run, Check, Make, Steps, Same, Save, command_of}
-use Rattle.fib_main.specs.Due.{Output, Wrong, Refuted, Differs, asks_at, load_at, output_text, script_at, sizes_of, steps_sizes, wrong_in}
+use Rattle.fib_main.specs.Due.{Output, Wrong, Refuted, Differs, asks_at, load_at, output_text, script_at, sizes_of, steps_sizes, vrps_at, wrong_in}
 
 -- the outcome at the end: Done, what a check finds wrong, or where texts differ
 abbrev pub EndsBy : Option Wrong → Outcome → Type 0
@@ -71,16 +72,23 @@ after (Err Untold) names = names
 after (Ok x) names = names
 
 -- the dump, and then the updates where it is accepted and tries of its routes have room
-abbrev pub feeds_named : (List ℕ → Option (List ℕ)) → Named → List (List ℕ)
-feeds_named content named = named.dump ∷ after (load_at (sizes_of named) content named.dump) (option_to_list named.updates)
+abbrev pub feeds_named : (List ℕ → Option (List ℕ)) → List Vrp → Named → List (List ℕ)
+feeds_named content vrps named = named.dump ∷ after (load_at (sizes_of named) content vrps named.dump) (option_to_list named.updates)
+
+-- the same behind a list of VRPs, where it is accepted; whether the dump is may rest on it
+abbrev pub feeds_behind : (List ℕ → Option (List ℕ)) → Named → Result (List Vrp) Stop → List (List ℕ)
+feeds_behind content named (Ok vrps) = feeds_named content vrps named
+feeds_behind content named (Err Untold) = named.dump ∷ option_to_list named.updates
+feeds_behind content named (Err (Refused o)) = []
+feeds_behind content named (Err (LongPath p n)) = []
 
 -- the inputs that are to be read, up to the first that is refused
 abbrev pub reads_named : (List ℕ → Option (List ℕ)) → Named → List (List ℕ)
-reads_named content named = option_to_list named.asks ++ after (asks_at content named.asks) (feeds_named content named)
+reads_named content named = option_to_list named.asks ++ after (asks_at content named.asks) (option_to_list named.vrps ++ feeds_behind content named (vrps_at content named.vrps))
 
 -- the script, the dump, and then the updates, each where those before it are accepted
 abbrev pub reads_steps : (List ℕ → Option (List ℕ)) → NamedSteps → List (List ℕ)
-reads_steps content named = named.script ∷ after (script_at content named.script) (named.dump ∷ after (load_at (steps_sizes named) content named.dump) (named.updates ∷ []))
+reads_steps content named = named.script ∷ after (script_at content named.script) (named.dump ∷ after (load_at (steps_sizes named) content [] named.dump) (named.updates ∷ []))
 
 -- the dump, and then the updates where it is accepted
 abbrev pub reads_saved : (List ℕ → Option (List ℕ)) → NamedSave → List (List ℕ)
@@ -133,6 +141,7 @@ WritesBy before now outcome = now ≡ before
 
 abbrev pub name_of : Which → List ℕ
 name_of Asks = codes "asks"
+name_of Vrps = codes "vrps"
 name_of Dump = codes "dump"
 name_of Updates = codes "updates"
 name_of Printed = codes "printed"

@@ -22,3 +22,4 @@ pub mod InTime
 pub mod Passes
 pub mod Comparing
 pub mod Saving
+pub mod Judged

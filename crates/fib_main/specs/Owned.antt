@@ -2,7 +2,7 @@
 use Rattle.std.specs.Prelude.{◌≡◌, ℕ, Option, Some, None, IfSome, IsSome, Result, Ok, Err}
 use Rattle.fib_words.specs.Commands.{Asked, Run, Check, Make, Steps, Same, Save}
 use Rattle.fib_main.specs.declared.outcome.Which.{Which}
-use Rattle.fib_main.specs.declared.outcome.Which.TheVariants.{Asks, Dump, Updates, Printed, Script, Text}
+use Rattle.fib_main.specs.declared.outcome.Which.TheVariants.{Asks, Vrps, Dump, Updates, Printed, Script, Text}
 use Rattle.fib_main.specs.declared.outcome.Outcome.{Outcome}
 use Rattle.fib_main.specs.declared.outcome.Outcome.TheVariants.{Done, CheckNo, Differ, Usage, ReadFault, WriteFault, NoMemory, TooLarge, Malformed, HopsFull, TrieFull, BadLine, PeersFull, PathTooLong}
 use Rattle.fib_main.specs.declared.reply.Reply as code_reply
@@ -12,36 +12,42 @@ use Rattle.fib_main.specs.declared.reply.Wrong.TheVariants as wrong
 -- the command names this input, or makes it
 abbrev pub HasInput : Asked → Which → Type 0
 HasInput (Run named) Asks = IsSome named.asks
+HasInput (Run named) Vrps = IsSome named.vrps
 HasInput (Run named) Dump = Unit {0}
 HasInput (Run named) Updates = IsSome named.updates
 HasInput (Run named) Printed = ⊥
 HasInput (Run named) Script = ⊥
 HasInput (Run named) (Text n) = ⊥
 HasInput (Check name) Asks = ⊥
+HasInput (Check name) Vrps = ⊥
 HasInput (Check name) Dump = ⊥
 HasInput (Check name) Updates = ⊥
 HasInput (Check name) Printed = Unit {0}
 HasInput (Check name) Script = ⊥
 HasInput (Check name) (Text n) = ⊥
 HasInput (Make routes seed) Asks = ⊥
+HasInput (Make routes seed) Vrps = ⊥
 HasInput (Make routes seed) Dump = Unit {0}
 HasInput (Make routes seed) Updates = Unit {0}
 HasInput (Make routes seed) Printed = ⊥
 HasInput (Make routes seed) Script = ⊥
 HasInput (Make routes seed) (Text n) = ⊥
 HasInput (Steps named) Asks = ⊥
+HasInput (Steps named) Vrps = ⊥
 HasInput (Steps named) Dump = Unit {0}
 HasInput (Steps named) Updates = Unit {0}
 HasInput (Steps named) Printed = ⊥
 HasInput (Steps named) Script = Unit {0}
 HasInput (Steps named) (Text n) = ⊥
 HasInput (Same named) Asks = ⊥
+HasInput (Same named) Vrps = ⊥
 HasInput (Same named) Dump = ⊥
 HasInput (Same named) Updates = ⊥
 HasInput (Same named) Printed = ⊥
 HasInput (Same named) Script = ⊥
 HasInput (Same named) (Text n) = Unit {0}
 HasInput (Save named) Asks = ⊥
+HasInput (Save named) Vrps = ⊥
 HasInput (Save named) Dump = Unit {0}
 HasInput (Save named) Updates = IsSome named.updates
 HasInput (Save named) Printed = ⊥
@@ -51,6 +57,7 @@ HasInput (Save named) (Text n) = ⊥
 -- the input is one of lines
 abbrev pub HasLines : Which → Type 0
 HasLines Asks = Unit {0}
+HasLines Vrps = Unit {0}
 HasLines Dump = ⊥
 HasLines Updates = ⊥
 HasLines Printed = Unit {0}
@@ -60,6 +67,7 @@ HasLines (Text n) = Unit {0}
 -- the input is one of records
 abbrev pub HasRecords : Which → Type 0
 HasRecords Asks = ⊥
+HasRecords Vrps = ⊥
 HasRecords Dump = Unit {0}
 HasRecords Updates = Unit {0}
 HasRecords Printed = ⊥
@@ -69,6 +77,7 @@ HasRecords (Text n) = ⊥
 -- the input has events of this number: those of a dump are the load, event 0
 abbrev pub HasEvent : Which → ℕ → Type 0
 HasEvent Asks n = ⊥
+HasEvent Vrps n = ⊥
 HasEvent Dump n = n ≡ 0
 HasEvent Updates n = Unit {0}
 HasEvent Printed n = ⊥

@@ -9,7 +9,7 @@ use Rattle.fib_main.specs.declared.outcome.MrtInput.TheVariants.{Updates as OfUp
 use Rattle.fib_main.specs.declared.outcome.Outcome.{Outcome}
 use Rattle.fib_main.specs.declared.outcome.Outcome.TheVariants.{Done, CheckNo, Differ, Usage, ReadFault, WriteFault, NoMemory, TooLarge, Malformed, HopsFull, TrieFull, BadLine, PeersFull, PathTooLong}
 use Rattle.fib_main.specs.declared.outcome.Which.{Which}
-use Rattle.fib_main.specs.declared.outcome.Which.TheVariants.{Asks, Dump, Updates, Printed, Script, Text}
+use Rattle.fib_main.specs.declared.outcome.Which.TheVariants.{Asks, Vrps, Dump, Updates, Printed, Script, Text}
 use Rattle.fib_main.specs.declared.state.FeedError.{FeedError}
 use Rattle.fib_main.specs.declared.state.FeedError.TheVariants as feed
 use Rattle.fib_main.specs.declared.reply.Reply.{Reply}
@@ -29,9 +29,9 @@ input_for which name = map (λ n. (which, n)) (option_to_list name)
 abbrev pub feed_inputs : Named → List Input
 feed_inputs named = (Dump, named.dump) ∷ input_for Updates named.updates
 
--- The inputs of a run, in the order in which they are read: the asks, the dump, the updates. A name that stands in two words is two inputs.
+-- The inputs of a run, in the order in which they are read: the asks, the list of VRPs, the dump, the updates. A name that stands in two words is two inputs.
 abbrev pub run_inputs : Named → List Input
-run_inputs named = input_for Asks named.asks ++ feed_inputs named
+run_inputs named = input_for Asks named.asks ++ (input_for Vrps named.vrps ++ feed_inputs named)
 
 -- those of a check
 abbrev pub check_inputs : List ℕ → List Input

@@ -1,8 +1,10 @@
 -- What a state holds after elementary events.
-use Rattle.std.specs.Prelude.{◌≡◌, ◌≤◌, ℕ, List, [], ◌++◌, length, codes, unwrap_or, Option, Some, None, true, false, Result, Ok, Err}
+use Rattle.std.specs.Prelude.{◌≡◌, ◌≤◌, ℕ, List, [], ◌++◌, length, map, codes, unwrap_or, Option, Some, None, true, false, Result, Ok, Err}
 use Rattle.address_model.specs.Address.{Address}
 use Rattle.table_model.specs.Changes.{Change}
 use Rattle.route_model.specs.Events.{Elem, Event}
+use Rattle.printed_model.specs.Rows.{Vrp}
+use Rattle.fib_report.specs.Views.{invalid_as}
 use Rattle.route_model.specs.Choice.{after_elems, elems_after}
 use Rattle.fib_engine.specs.Held.{Held}
 use Rattle.fib_engine.specs.Stands.{IsLoading, Stands}
@@ -98,6 +100,7 @@ pub record IsCounted (feed : Feed) (counts : Counts) : Type 0 where
   pub skipped : counts.skipped ≡ feed.skipped
   pub treated : counts.treated ≡ feed.treated
   pub events : counts.events ≡ length feed.elems
+  pub invalid : map invalid_as counts.invalid.items ≡ feed.invalid
 
 -- the state has what the input brings, and it was counted
 pub record StateHas (which : MrtInput) (limits : Limits) (before : List Elem) (feed : Feed) (counts : Counts) (state : State) : Type 0 where
@@ -145,9 +148,9 @@ pub record IsFed (limits : Limits) (load updates : Feed) (fed : Fed) (state : St
   pub has : StateHas Updates limits load.elems updates fed.updates state
 
 -- what became of a state that was to take the dump and the updates that are named
-abbrev pub FeedsBoth : (List ℕ → Option (List ℕ)) → Named → Result Fed Outcome → State → Type 0
-FeedsBoth content named (Ok fed) new = (feeds : Feed × Feed) × IsFed (limits_of named) feeds.0 feeds.1 fed new × IsDueIfTold (feeds_at content named) (Ok feeds)
-FeedsBoth content named (Err o) new = FailsDue o (feeds_at content named)
+abbrev pub FeedsBoth : (List ℕ → Option (List ℕ)) → List Vrp → Named → Result Fed Outcome → State → Type 0
+FeedsBoth content vrps named (Ok fed) new = (feeds : Feed × Feed) × IsFed (limits_of named) feeds.0 feeds.1 fed new × IsDueIfTold (feeds_at content vrps named) (Ok feeds)
+FeedsBoth content vrps named (Err o) new = FailsDue o (feeds_at content vrps named)
 
 -- what inputs in memory hold under a name
 abbrev pub holds : SureInputs → List ℕ → List ℕ

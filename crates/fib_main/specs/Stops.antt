@@ -6,6 +6,7 @@ use Rattle.fib_io.specs.Pieces.{octets_read}
 use Rattle.whole_input.specs.Cuts.{is_cut, is_small}
 use Rattle.printed_model.specs.Texts.{BadLine as BadRow}
 use Rattle.route_tries.specs.Sizes.{Shortage}
+use Rattle.printed_model.specs.Rows.{Vrp}
 use Rattle.printed_model.specs.Used.{Used}
 use Rattle.step_model.specs.Script.{Step}
 use Rattle.fib_main.specs.declared.outcome.Outcome.{Outcome}
@@ -15,7 +16,7 @@ use Rattle.fib_main.specs.declared.outcome.Outcome.TheVariants.{Done, CheckNo, D
 use Rattle.fib_main.specs.declared.outcome.MrtInput.{MrtInput}
 use Rattle.fib_main.specs.declared.outcome.MrtInput.TheVariants.{Dump, Updates}
 use Rattle.fib_main.specs.declared.outcome.Which.{Which}
-use Rattle.fib_main.specs.declared.outcome.Which.TheVariants.{Printed, Script}
+use Rattle.fib_main.specs.declared.outcome.Which.TheVariants.{Printed, Script, Vrps}
 use Rattle.fib_main.specs.declared.outcome.Which.TheVariants as all
 use Rattle.fib_main.specs.Refusals.{Refusal, ManyHops, Short}
 
@@ -48,6 +49,11 @@ lined_past which (Err line) = Err (Refused (BadLine which line 1))
 abbrev pub rowed : Result Used BadRow → Result Used Stop
 rowed (Ok used) = Ok used
 rowed (Err bad) = Err (Refused (BadLine Printed bad.line bad.why))
+
+-- a list of VRPs, or its first line that is neither empty nor a VRP
+abbrev pub listed : Result (List Vrp) BadRow → Result (List Vrp) Stop
+listed (Ok vrps) = Ok vrps
+listed (Err bad) = Err (Refused (BadLine Vrps bad.line bad.why))
 
 -- the steps of a script, or the first of its lines that has none
 abbrev pub scripted : Result (List Step) BadRow → Result (List Step) Stop

@@ -13,12 +13,14 @@ ghost use Rattle.fib_main.specs.Standing.{FeedsFrom, IsReady, StateBrings, State
 use crate::outcome::MrtInput;
 use crate::state::{FeedError, State, take_events};
 use fib_io::{Inputs, piece_room, read_piece};
+use fib_report::Invalid;
+use fib_rov::Vrps;
 use mrt_read::Reader;
 use std::alloc::Global;
 
 /// What was counted of an input: its records, those of them that were skipped, its elementary events, and the messages that were treated
-/// as withdrawals.
-#[derive(Clone, Copy, Debug, PartialEq, Eq)]
+/// as withdrawals; and its announcements that are Invalid.
+#[derive(Debug, Drop)]
 pub struct Counts {
     /// The records.
     pub records: u64,
@@ -28,6 +30,8 @@ pub struct Counts {
     pub events: u64,
     /// The messages treated as withdrawals (RFC 7606).
     pub treated: u64,
+    /// The announcements that are Invalid, each with the first VRP that covers it, in their order.
+    pub invalid: Vec<Invalid>,
 }
 
 /// Takes all that an input brings, through this room: each record, and a header that is refused, before the next read.
@@ -35,6 +39,7 @@ fn feed_through<I: Inputs>(
     alloc: Global,
     inputs: &mut I,
     state: &mut State,
+    vrps: &Vrps,
     which: MrtInput,
     name: &str,
     room: &mut [u8],
@@ -44,7 +49,7 @@ fn feed_through<I: Inputs>(
     requires few { length state.old.engine.candidates ≤ 2 ^ 40 }
     ensures brings { (limits : Limits) (before : List Elem) → StateStands which limits before [] state.old
         → StateBrings which limits before result state.new
-        (feed_at limits.sizes (I.content inputs.old) which before (Some name.now)) }
+        (feed_at limits.sizes (I.content inputs.old) vrps.now which before (Some name.now)) }
     ensures ready { IfOk result (λ counts. IsReady which counts.events state.new.engine) }
     ensures few { IfOk result (λ counts. AreFew (2 ^ 36) state.old.engine.candidates
         counts state.new.engine.candidates) }
@@ -54,11 +59,12 @@ fn feed_through<I: Inputs>(
         (Pass (feed_end result) name.now) }
     ensures in_time { (limits : Limits) (before : List Elem) → StateStands which limits before [] state.old
         → Makes (I.reads inputs.old) (I.reads inputs.new) (PassInTime (I.content inputs.old name.now)
-        (FeedMayGoOn limits.sizes which before) (feed_end result) name.now) }
+        (FeedMayGoOn limits.sizes vrps.now which before) (feed_end result) name.now) }
     ensures numbered { IfErr result (IsNumbered which) }
 {
     let mut reader = Reader::new(alloc);
     let mut more = Vec::new(alloc);
+    let mut invalid = Vec::new(alloc);
     let mut at = 0;
     let mut events = 0;
     loop {
@@ -70,22 +76,25 @@ fn feed_through<I: Inputs>(
                 skipped: reader.skipped(),
                 events,
                 treated: reader.treated(),
+                invalid,
             });
         }
         reader.feed(&room[..n])?;
         at += n as u64;
         while reader.read_events(&mut more)? {
+            vrps.judge_all(&mut more, &mut invalid)?;
             events = take_events(state, which, events, &more)?;
         }
     }
 }
 
 /// Takes all that an input brings: it is read in pieces, and each record is taken before the next read. The candidates of
-/// the inputs before it are few enough: 2^40 at most.
+/// the inputs before it are few enough: 2^40 at most. An announcement that is Invalid by the list of VRPs is taken as its withdrawal.
 pub fn feed<I: Inputs>(
     alloc: Global,
     inputs: &mut I,
     state: &mut State,
+    vrps: &Vrps,
     which: MrtInput,
     name: &str,
 ) -> Result<Counts, FeedError>
@@ -93,7 +102,7 @@ pub fn feed<I: Inputs>(
     requires few { length state.old.engine.candidates ≤ 2 ^ 40 }
     ensures brings { (limits : Limits) (before : List Elem) → StateStands which limits before [] state.old
         → StateBrings which limits before result state.new
-        (feed_at limits.sizes (I.content inputs.old) which before (Some name.now)) }
+        (feed_at limits.sizes (I.content inputs.old) vrps.now which before (Some name.now)) }
     ensures ready { IfOk result (λ counts. IsReady which counts.events state.new.engine) }
     ensures few { IfOk result (λ counts. AreFew (2 ^ 36) state.old.engine.candidates
         counts state.new.engine.candidates) }
@@ -103,9 +112,9 @@ pub fn feed<I: Inputs>(
         (Pass (feed_end result) name.now) }
     ensures in_time { (limits : Limits) (before : List Elem) → StateStands which limits before [] state.old
         → Makes (I.reads inputs.old) (I.reads inputs.new) (PassInTime (I.content inputs.old name.now)
-        (FeedMayGoOn limits.sizes which before) (feed_end result) name.now) }
+        (FeedMayGoOn limits.sizes vrps.now which before) (feed_end result) name.now) }
     ensures numbered { IfErr result (IsNumbered which) }
 {
     let mut room = piece_room(alloc)?;
-    feed_through(alloc, inputs, state, which, name, &mut room)
+    feed_through(alloc, inputs, state, vrps, which, name, &mut room)
 }

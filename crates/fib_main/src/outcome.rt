@@ -20,6 +20,8 @@ pub const MOST_LINE: usize = 128;
 pub enum Which {
     /// The addresses that are asked for.
     Asks,
+    /// The list of validated ROA payloads (VRPs).
+    Vrps,
     /// The dump of routes.
     Dump,
     /// The updates to them.
@@ -99,7 +101,8 @@ pub enum Outcome {
         input: Which,
         /// The line's number, from 1.
         line: u64,
-        /// What is wrong with it. Of asks 1: it is no address. Of printed texts and of a script `cost_cert::why` names it.
+        /// What is wrong with it. Of asks 1: it is no address. Of a list of VRPs, of printed texts and of a script `cost_cert::why` names
+        /// it, and of a list of VRPs `fib_rov::BAD_MAXLEN` too.
         why: u8,
     },
     /// Memory ran out.
@@ -144,7 +147,7 @@ fn push_number(line: &mut Line, number: u64)
     push(line, Buffer::new().format(number).as_bytes());
 }
 
-/// Adds what an input is called to a line: `asks`, `dump`, `updates`, `printed`, `script`, or `text` with its number.
+/// Adds what an input is called to a line: `asks`, `vrps`, `dump`, `updates`, `printed`, `script`, or `text` with its number.
 fn push_name(line: &mut Line, input: Which)
     requires { array_vec_len line.old + 24 ≤ MOST_LINE }
     ensures text { line.new.items ≡ line.old.items ++ name_of input }
@@ -152,6 +155,7 @@ fn push_name(line: &mut Line, input: Which)
 {
     match input {
         Which::Asks => push(line, b"asks"),
+        Which::Vrps => push(line, b"vrps"),
         Which::Dump => push(line, b"dump"),
         Which::Updates => push(line, b"updates"),
         Which::Printed => push(line, b"printed"),

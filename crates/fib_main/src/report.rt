@@ -1,4 +1,4 @@
-//! What is told of a run: its routes, the changes of the kept table, the answers, the table, the least table, its certificate
+//! What is told of a run: its routes, the announcements that are Invalid, the changes of the kept table, the answers, the table, the least table, its certificate
 //! and the counts.
 //!
 //! The printed table is the kept one, which is the least table's old table too. The text is made section by section, from what
@@ -12,9 +12,9 @@ ghost use Rattle.table_model.specs.Changes.{additions};
 ghost use Rattle.feed_model.specs.Feed.{at_event};
 ghost use Rattle.fib_addr.specs.Views.{addr_as, entry_as};
 ghost use Rattle.fib_main.specs.Due.{answers_to, Feed, printed, printed_text};
-ghost use Rattle.fib_report.specs.Rows.{of_answer, of_change, report_text, table_entry_row};
+ghost use Rattle.fib_report.specs.Rows.{of_answer, of_change, of_invalid, report_text, table_entry_row};
 ghost use Rattle.printed_model.specs.Numbered.{of_least, of_route};
-ghost use Rattle.fib_report.specs.Views.{answer_as};
+ghost use Rattle.fib_report.specs.Views.{answer_as, invalid_as};
 ghost use Rattle.fib_report.specs.Sections.{IsReady, Writes, hops_in};
 ghost use Rattle.route_tries.specs.Sizes.{AreFew};
 ghost use Rattle.route_tries.specs.Tries.{AreTriesOf};
@@ -91,7 +91,7 @@ fn totals(fed: &Fed, routes: u64, entries: u64, needs: &FamilyNeeds) -> Report
 }
 
 /// What was counted of both inputs.
-#[derive(Clone, Copy, Debug, PartialEq, Eq)]
+#[derive(Debug, Drop)]
 pub struct Fed {
     /// What was counted of the load.
     pub load: Counts,
@@ -109,6 +109,16 @@ fn write_routes<'a>(settled: &Settled, text: RunText<'a>) -> Result<(RunText<'a>
     let mut rows = text.section(Section::Routes);
     settled.hand_routes(&mut rows)?;
     Ok(rows.end())
+}
+
+/// Writes the announcements that are Invalid: those of the load and those of updates.
+fn write_invalid(fed: &Fed, text: &mut RunText<'_>) -> Result<(), AllocError>
+    requires { IsReady text.old }
+    ensures { OnOk result (Writes text.old text.new (map of_invalid
+        (map invalid_as fed.now.load.invalid.items ++ map invalid_as fed.now.updates.invalid.items))) }
+{
+    text.invalids(&fed.load.invalid)?;
+    text.invalids(&fed.updates.invalid)
 }
 
 /// Writes the changes of the load and those of updates, which are let go then.
@@ -188,6 +198,7 @@ pub fn write_text(
     let needs = settled.needs();
     let text = RunText::new(alloc, &hops);
     let (mut text, routes) = write_routes(&settled, text)?;
+    write_invalid(fed, &mut text)?;
     write_changes(added, changes, &mut text)?;
     write_answers(alloc, &settled, asks, &mut text)?;
     let (text, entries) = write_table(&settled, text)?;

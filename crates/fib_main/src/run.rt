@@ -1,10 +1,10 @@
 //! From the words and the inputs to the text that is due.
 
-ghost use Rattle.std.specs.Prelude.{◌≡◌, ◌≤◌, ◌^◌, ◌∷◌, List, [], Some, None, length, map, IfErr, IfOk, IfSome, IsSome, OnErr, OnOk, option_to_list, true};
+ghost use Rattle.std.specs.Prelude.{◌≡◌, ◌≤◌, ◌^◌, ◌∷◌, List, [], Ok, Some, None, length, map, IfErr, IfOk, IfSome, IsSome, OnErr, OnOk, option_to_list, true};
 ghost use Rattle.fib_addr.specs.Views.{addr_as};
 ghost use Rattle.fib_main.specs.Asking.{ask_refusal};
 ghost use Rattle.fib_main.specs.Counts.{AddUp, AreFew};
-ghost use Rattle.fib_main.specs.Due.{asks_at, checked, feed_at, input_at, limits_of, made_at, made_named, output_at, reply_at, run_at, told_at, used_at, with_counts, with_reply, with_text};
+ghost use Rattle.fib_main.specs.Due.{asks_at, checked, feed_at, input_at, limits_of, made_at, made_named, output_at, reply_at, run_at, told_at, used_at, vrps_at, vrps_in_input, with_counts, with_reply, with_text};
 ghost use Rattle.fib_main.specs.Ends.{feeds_named, reads_asked, reads_named, ReadsName, ReadsNames};
 ghost use Rattle.fib_io.specs.Reads.{Makes};
 ghost use Rattle.fib_main.specs.InTime.{FeedMayGoOn, TextMayGoOn, RunMayGoOn};
@@ -15,7 +15,7 @@ ghost use Rattle.fib_save.specs.Restores.{Restores};
 ghost use Rattle.fib_main.specs.Views.{limits_as, reply_as};
 ghost use Rattle.fib_main.specs.Standing.{FeedsBoth, HoldsMade, IsReady, StateFeeds, refusal_of, StateStands};
 ghost use Rattle.fib_main.specs.Refusals.{Limits as ends};
-ghost use Rattle.fib_main.specs.Stops.{GivesDue, event_in, input_of};
+ghost use Rattle.fib_main.specs.Stops.{GivesDue, IsDueIfTold, event_in, input_of};
 ghost use Rattle.fib_main.specs.Stepped.{GivesSteps};
 ghost use Rattle.fib_main.specs.Untold.{GivesSome, ReplyOfSome, TextOfSome};
 ghost use Rattle.fib_main.specs.Words.{asked_by, due_by, read_by, texts_of};
@@ -36,6 +36,7 @@ use cost_cert::PrintedError;
 use fib_engine::{Limits, Sizes};
 use fib_io::{Inputs, ReadError, SureInputs, read_whole};
 use fib_prefix::Addr;
+use fib_rov::{RovError, Vrps};
 use fib_words::{CommandWords, MakeWords, RunWords, WordsError, read_words};
 use made_input::generate;
 use std::alloc::{AllocError, Global};
@@ -107,6 +108,52 @@ fn asks_of<I: Inputs>(
     read_asks(alloc, inputs, name).map_err(outcome_of_asks)
 }
 
+/// The list of VRPs of an input.
+#[tactic(auto, using(crate::proofs::Passes::out_of_memory, crate::proofs::Passes::text_refused), unfolding(crate::specs::Due::vrps_in_input))]
+fn vrps_in<I: Inputs>(alloc: Global, inputs: &mut I, name: &str) -> Result<Vrps, Outcome>
+    ensures due { GivesDue (λ v. v) result (vrps_in_input (I.content inputs.old) name.now) }
+    ensures stops { IfErr result (StopsAt Which.Vrps) }
+    ensures same { I.content inputs.new ≡ I.content inputs.old }
+    ensures cause { ReadsName name.now (I.faults inputs.old) (I.faults inputs.new) result }
+    ensures reads { Makes (I.reads inputs.old) (I.reads inputs.new)
+        (ReadsOf (I.content inputs.old) TextMayGoOn ((Which.Vrps, name.now) ∷ []) result) }
+{
+    let octets = octets_of(alloc, inputs, name, Which::Vrps)?;
+    match Vrps::read(alloc, &octets) {
+        Ok(vrps) => Ok(vrps),
+        Err(RovError::BadRow(bad)) => Err(Outcome::BadLine {
+            input: Which::Vrps,
+            line: bad.line,
+            why: bad.why,
+        }),
+        Err(RovError::NoMemory) => Err(Outcome::NoMemory),
+    }
+}
+
+/// The list of VRPs that announcements are judged by, empty where none is named.
+#[tactic(auto, using(crate::proofs::Passes::nothing_read), unfolding(crate::specs::Due::vrps_at))]
+fn vrps_of<I: Inputs>(
+    alloc: Global,
+    inputs: &mut I,
+    command: &RunWords<'_>,
+) -> Result<Vrps, Outcome>
+    ensures due { GivesDue (λ v. v) result
+        (vrps_at (I.content inputs.old) (named_as command.now).vrps) }
+    ensures stops { IfErr result (StopsAt Which.Vrps) }
+    ensures named { OnErr result (IsSome (named_as command.now).vrps) }
+    ensures same { I.content inputs.new ≡ I.content inputs.old }
+    ensures cause { ReadsNames (option_to_list (named_as command.now).vrps) (I.faults inputs.old)
+        (I.faults inputs.new) result }
+    ensures reads { Makes (I.reads inputs.old) (I.reads inputs.new)
+        (ReadsOf (I.content inputs.old) (RunMayGoOn (I.content inputs.old) (named_as command.now))
+        (input_for Which.Vrps (named_as command.now).vrps) result) }
+{
+    match command.vrps {
+        Some(name) => vrps_in(alloc, inputs, name),
+        None => Ok(Vrps::none(alloc)),
+    }
+}
+
 /// The event that a refusal names: those of a dump are the load, event 0.
 fn event_in(which: MrtInput, event: u64) -> u64
     ensures { result ≡ event_in which event }
@@ -150,6 +197,7 @@ pub(crate) fn feed_of<I: Inputs>(
     alloc: Global,
     inputs: &mut I,
     state: &mut State,
+    vrps: &Vrps,
     which: MrtInput,
     name: &str,
 ) -> Result<Counts, Outcome>
@@ -157,7 +205,7 @@ pub(crate) fn feed_of<I: Inputs>(
     requires few { length state.old.engine.candidates ≤ 2 ^ 40 }
     ensures due { (limits : ends) (before : List Elem) → StateStands which limits before [] state.old
         → StateFeeds which limits before result state.new
-        (feed_at limits.sizes (I.content inputs.old) which before (Some name.now)) }
+        (feed_at limits.sizes (I.content inputs.old) vrps.now which before (Some name.now)) }
     ensures stops { IfErr result (StopsAt (input_of which)) }
     ensures ready { IfOk result (λ counts. IsReady which counts.events state.new.engine) }
     ensures few { IfOk result (λ counts. AreFew (2 ^ 36) state.old.engine.candidates
@@ -166,9 +214,9 @@ pub(crate) fn feed_of<I: Inputs>(
     ensures cause { ReadsName name.now (I.faults inputs.old) (I.faults inputs.new) result }
     ensures reads { (limits : ends) (before : List Elem) → StateStands which limits before [] state.old
         → Makes (I.reads inputs.old) (I.reads inputs.new) (ReadsOf (I.content inputs.old)
-        (λ _. FeedMayGoOn limits.sizes which before) ((input_of which, name.now) ∷ []) result) }
+        (λ _. FeedMayGoOn limits.sizes vrps.now which before) ((input_of which, name.now) ∷ []) result) }
 {
-    feed(alloc, inputs, state, which, name).map_err(|error| outcome_of_refusal(which, error))
+    feed(alloc, inputs, state, vrps, which, name).map_err(|error| outcome_of_refusal(which, error))
 }
 
 /// Takes what the updates bring, if any are named.
@@ -177,6 +225,7 @@ fn updates_of<I: Inputs>(
     alloc: Global,
     inputs: &mut I,
     state: &mut State,
+    vrps: &Vrps,
     command: &RunWords<'_>,
 ) -> Result<Counts, Outcome>
     requires ready { IsReady MrtInput.Updates 0 state.old.engine }
@@ -184,7 +233,8 @@ fn updates_of<I: Inputs>(
     ensures due { (limits : ends) (before : List Elem)
         → StateStands MrtInput.Updates limits before [] state.old
         → StateFeeds MrtInput.Updates limits before result state.new
-        (feed_at limits.sizes (I.content inputs.old) MrtInput.Updates before (named_as command.now).updates) }
+        (feed_at limits.sizes (I.content inputs.old) vrps.now MrtInput.Updates before
+        (named_as command.now).updates) }
     ensures stops { IfErr result (StopsAt Which.Updates) }
     ensures named { OnErr result (IsSome (named_as command.now).updates) }
     ensures ready { IfOk result (λ counts. IsReady MrtInput.Updates counts.events state.new.engine) }
@@ -196,16 +246,17 @@ fn updates_of<I: Inputs>(
     ensures reads { (limits : ends) (before : List Elem)
         → StateStands MrtInput.Updates limits before [] state.old
         → Makes (I.reads inputs.old) (I.reads inputs.new) (ReadsOf (I.content inputs.old)
-        (λ _. FeedMayGoOn limits.sizes MrtInput.Updates before)
+        (λ _. FeedMayGoOn limits.sizes vrps.now MrtInput.Updates before)
         (input_for Which.Updates (named_as command.now).updates) result) }
 {
     match command.updates {
-        Some(name) => feed_of(alloc, inputs, state, MrtInput::Updates, name),
+        Some(name) => feed_of(alloc, inputs, state, vrps, MrtInput::Updates, name),
         None => Ok(Counts {
             records: 0,
             skipped: 0,
             events: 0,
             treated: 0,
+            invalid: Vec::new(alloc),
         }),
     }
 }
@@ -231,29 +282,32 @@ fn feed_both<I: Inputs>(
     alloc: Global,
     inputs: &mut I,
     state: &mut State,
+    vrps: &Vrps,
     command: &RunWords<'_>,
 ) -> Result<Fed, Outcome>
     requires ready { IsReady MrtInput.Dump 0 state.old.engine }
     requires none { state.old.engine.candidates ≡ [] }
+    requires told { IsDueIfTold (vrps_at (I.content inputs.old) (named_as command.now).vrps)
+        (Ok vrps.now) }
     ensures due { StateStands MrtInput.Dump (limits_of (named_as command.now)) [] [] state.old
-        → FeedsBoth (I.content inputs.old) (named_as command.now) result state.new }
+        → FeedsBoth (I.content inputs.old) vrps.now (named_as command.now) result state.new }
     ensures stops { IfErr result (StopsIn (Run (named_as command.now))) }
     ensures loaded { OnOk result (state.new.engine.loaded ≡ true) }
     ensures counts { IfOk result (λ fed. AddUp fed.load fed.updates) }
     ensures same { I.content inputs.new ≡ I.content inputs.old }
     ensures cause { StateStands MrtInput.Dump (limits_of (named_as command.now)) [] [] state.old
-        → ReadsNames (feeds_named (I.content inputs.old) (named_as command.now))
+        → ReadsNames (feeds_named (I.content inputs.old) vrps.now (named_as command.now))
         (I.faults inputs.old) (I.faults inputs.new) result }
     ensures reads { StateStands MrtInput.Dump (limits_of (named_as command.now)) [] [] state.old
         → Makes (I.reads inputs.old) (I.reads inputs.new) (ReadsOf (I.content inputs.old)
         (RunMayGoOn (I.content inputs.old) (named_as command.now)) (feed_inputs (named_as command.now))
         result) }
 {
-    let load = feed_of(alloc, inputs, state, MrtInput::Dump, command.dump)?;
+    let load = feed_of(alloc, inputs, state, vrps, MrtInput::Dump, command.dump)?;
     if let Err(error) = state.finish_load() {
         return Err(outcome_of_refusal(MrtInput::Dump, error));
     }
-    let updates = updates_of(alloc, inputs, state, command)?;
+    let updates = updates_of(alloc, inputs, state, vrps, command)?;
     Ok(Fed { load, updates })
 }
 
@@ -264,21 +318,25 @@ fn text_of<I: Inputs>(
     inputs: &mut I,
     command: &RunWords<'_>,
     asks: &[Addr],
+    vrps: &Vrps,
 ) -> Result<Vec<u8>, Outcome>
-    requires { IsWithin (CommandWords.Run command.now) }
+    requires within { IsWithin (CommandWords.Run command.now) }
+    requires told { IsDueIfTold (vrps_at (I.content inputs.old) (named_as command.now).vrps)
+        (Ok vrps.now) }
     ensures due { GivesDue (λ v. v.items) result
-        (with_text (told_at (I.content inputs.old) (named_as command.now) (map addr_as asks.now))) }
+        (with_text (told_at (I.content inputs.old) vrps.now (named_as command.now)
+        (map addr_as asks.now))) }
     ensures stops { IfErr result (StopsIn (Run (named_as command.now))) }
     ensures yes { IfOk result (λ text. ChecksYes text.items) }
     ensures same { I.content inputs.new ≡ I.content inputs.old }
-    ensures cause { ReadsNames (feeds_named (I.content inputs.old) (named_as command.now))
+    ensures cause { ReadsNames (feeds_named (I.content inputs.old) vrps.now (named_as command.now))
         (I.faults inputs.old) (I.faults inputs.new) result }
     ensures reads { Makes (I.reads inputs.old) (I.reads inputs.new)
         (ReadsOf (I.content inputs.old) (RunMayGoOn (I.content inputs.old) (named_as command.now))
         (feed_inputs (named_as command.now)) result) }
 {
     let mut state = State::new(alloc, limits_of(command));
-    let fed = feed_both(alloc, inputs, &mut state, command)?;
+    let fed = feed_both(alloc, inputs, &mut state, vrps, command)?;
     match write_text(alloc, state, &fed, asks) {
         Ok(text) => Ok(text),
         Err(_) => Err(Outcome::NoMemory),
@@ -290,6 +348,7 @@ const MADE: RunWords<'static> = RunWords {
     dump: "dump",
     updates: Some("updates"),
     asks: None,
+    vrps: None,
     every: 1000,
     direct: 16,
     nodes: 20,
@@ -325,7 +384,7 @@ fn take_made(
     ensures stops { IfErr result (StopsIn (Make made.now.routes made.now.seed)) }
     ensures sure { IfErr result (λ o. o ≡ Outcome.ReadFault → ⊥) }
 {
-    let fed = feed_both(alloc, inputs, state, &MADE)?;
+    let fed = feed_both(alloc, inputs, state, &Vrps::none(alloc), &MADE)?;
     match write_counts(alloc, state, &fed) {
         Ok(text) => Ok(text),
         Err(_) => Err(Outcome::NoMemory),
@@ -347,7 +406,7 @@ fn made_for(alloc: Global, made: &MakeWords) -> Result<Vec<u8>, Outcome>
     take_made(alloc, made, &mut inputs, &mut state)
 }
 
-/// Takes the asks, the dump and the updates, and gives the text.
+/// Takes the asks, the list of VRPs, the dump and the updates, and gives the text.
 #[tactic(auto, unfolding(crate::specs::Due::run_at))]
 fn run_for<I: Inputs>(
     alloc: Global,
@@ -368,7 +427,8 @@ fn run_for<I: Inputs>(
         (run_inputs (named_as command.now)) result) }
 {
     let asks = asks_of(alloc, inputs, command)?;
-    text_of(alloc, inputs, command, &asks)
+    let vrps = vrps_of(alloc, inputs, command)?;
+    text_of(alloc, inputs, command, &asks, &vrps)
 }
 
 /// Takes a printed text, and gives the reply to it.

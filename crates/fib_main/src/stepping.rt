@@ -25,6 +25,7 @@ use crate::state::State;
 use fib_engine::{Engine, Limits, Sizes};
 use fib_io::Inputs;
 use fib_prefix::{Event, Family};
+use fib_rov::Vrps;
 use fib_words::{CommandWords, StepsWords};
 use poptrie_build::TrieFull;
 use std::alloc::Global;
@@ -76,7 +77,7 @@ fn load_of<I: Inputs>(
 ) -> Result<Engine, Outcome>
     requires { IsWithin (CommandWords.Steps command.now) }
     ensures due { GivesLoad (steps_sizes (steps_as command.now)) result (load_at
-        (steps_sizes (steps_as command.now)) (I.content inputs.old) (steps_as command.now).dump) }
+        (steps_sizes (steps_as command.now)) (I.content inputs.old) [] (steps_as command.now).dump) }
     ensures stops { IfErr result (StopsAt Which.Dump) }
     ensures same { I.content inputs.new ≡ I.content inputs.old }
     ensures cause { ReadsName (steps_as command.now).dump (I.faults inputs.old)
@@ -92,7 +93,15 @@ fn load_of<I: Inputs>(
             sizes: sizes_of(command),
         },
     );
-    feed_of(alloc, inputs, &mut state, MrtInput::Dump, command.dump)?;
+    let vrps = Vrps::none(alloc);
+    feed_of(
+        alloc,
+        inputs,
+        &mut state,
+        &vrps,
+        MrtInput::Dump,
+        command.dump,
+    )?;
     if let Err(error) = state.finish_load() {
         return Err(outcome_of_refusal(MrtInput::Dump, error));
     }
@@ -182,7 +191,7 @@ fn rows_of<I: Inputs>(
     ensures stops { IfErr result (StopsIn (Steps (steps_as command.now))) }
     ensures same { I.content inputs.new ≡ I.content inputs.old }
     ensures cause { ReadsNames ((steps_as command.now).dump ∷ after (load_at
-        (steps_sizes (steps_as command.now)) (I.content inputs.old) (steps_as command.now).dump)
+        (steps_sizes (steps_as command.now)) (I.content inputs.old) [] (steps_as command.now).dump)
         ((steps_as command.now).updates ∷ [])) (I.faults inputs.old) (I.faults inputs.new) result }
     ensures reads { Makes (I.reads inputs.old) (I.reads inputs.new)
         (ReadsOf (I.content inputs.old) (StepsMayGoOn (steps_as command.now))

@@ -5,6 +5,7 @@ ghost use Rattle.fib_io.specs.Causes.{Rose};
 ghost use Rattle.fib_save.specs.Restores.{Restores};
 ghost use Rattle.fib_main.specs.Views.{wrong_as};
 ghost use Rattle.fib_main.specs.Ends.{Completes, EndsBy, Meets, OneRose, ReadsFrom, TellsOf, text_due, Writes, WritesBy};
+ghost use Rattle.fib_main.specs.Judged.{Judges};
 ghost use Rattle.fib_main.specs.Keeps.{Follows, KeepsTables, RenewsLeast, RepairsFewest, RepairsWithin};
 ghost use Rattle.fib_io.specs.Reads.{Makes};
 ghost use Rattle.fib_main.specs.Owned.{IsOf};
@@ -146,7 +147,7 @@ fn run_and_tell<I: Inputs, O: Sink, E: Sink>(
 /// table with its tree and its changes, and the whole text. A check keeps the printed text until it is read, its routes, least
 /// table and certificate, and then the runs of both tables. A run in steps keeps its script, the events of the updates and what
 /// they do, each family's routes with two sets of arenas, and its rows and their text.
-#[tactic(auto, using(crate::proofs::Completing::completes, crate::proofs::Running::sums_up, crate::proofs::Running::forwards, crate::proofs::Running::answers, crate::proofs::Running::least, crate::proofs::Running::follows, crate::proofs::Running::renewed, crate::proofs::Running::fewest, crate::proofs::Running::kept, crate::proofs::Running::outside, crate::proofs::Running::aggregated, crate::proofs::Running::sorted, crate::proofs::Running::certified, crate::proofs::Running::addressed, crate::proofs::Replies::decides, crate::proofs::Replies::yes_proves, crate::proofs::Replies::compares))]
+#[tactic(auto, using(crate::proofs::Completing::completes, crate::proofs::Running::sums_up, crate::proofs::Running::forwards, crate::proofs::Running::answers, crate::proofs::Running::least, crate::proofs::Running::follows, crate::proofs::Running::renewed, crate::proofs::Running::fewest, crate::proofs::Running::kept, crate::proofs::Running::outside, crate::proofs::Running::aggregated, crate::proofs::Running::sorted, crate::proofs::Running::certified, crate::proofs::Running::addressed, crate::proofs::Replies::decides, crate::proofs::Replies::yes_proves, crate::proofs::Replies::compares, crate::proofs::Judges::judges))]
 pub fn run_fib<I: Inputs, O: Sink, E: Sink>(
     alloc: Global,
     words: &[String],
@@ -162,7 +163,7 @@ pub fn run_fib<I: Inputs, O: Sink, E: Sink>(
         (I.faults inputs.new) result }
 
     // Each input that the words name is read in order from its first octet on, each place once, and nothing is read after it failed
-    // or ended: asks or a script, then the dump, then the updates, each to its end before the next; and nothing after the input
+    // or ended: asks or a script, then the list of VRPs, then the dump, then the updates, each to its end before the next; and nothing after the input
     // that is refused. No read of an input is made once what was read of it before is to be refused: a line of the asks that has
     // its line feed, a record that is whole or whose header is refused, an event. A name that stands for two inputs is read for
     // each. So each of them may be a pipe.
@@ -183,7 +184,7 @@ pub fn run_fib<I: Inputs, O: Sink, E: Sink>(
     // The words have the outcome, whether or not an input tells what it holds.
     ensures own { IsOf (asked_by words.now) result }
 
-    // Where the asks of a run, the text of a check or the script of a run in steps don't tell, all is as it is due of some that
+    // Where the asks and the list of VRPs of a run, the text of a check or the script of a run in steps don't tell, all is as it is due of some that
     // there could be.
     ensures some { FitsSome (I.content inputs.old) (asked_by words.now) (O.written out.old)
         (O.written out.new) result }
@@ -254,6 +255,11 @@ pub fn run_fib<I: Inputs, O: Sink, E: Sink>(
         (O.written out.old) (O.written out.new) }
     ensures due_saves { result ≡ Outcome.Done → IfSaved
         (due_by words.now (I.content inputs.old)) Restores }
+
+    // What is due of a run is judged by its list of VRPs, which is empty without the option: the announcements that are told as Invalid
+    // are exactly those that the list calls so, each with the first VRP that covers it, and the routes are those of the events in
+    // which each of them is its withdrawal.
+    ensures judged { Judges (I.content inputs.old) (asked_by words.now) }
 
     // A check that is due says yes exactly where the printed rows are a certificate, whoever wrote them. The printed least
     // table then sends every address where the printed routes send it, and has no more entries in either family than any

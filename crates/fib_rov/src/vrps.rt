@@ -1,13 +1,14 @@
 //! Lists of VRPs.
 
-ghost use Rattle.std.specs.Prelude.{◌≡◌, ◌+◌, ◌≤◌, ◌&&◌, if◌then◌else◌, false, get_or, length, map, option_map, slice_get, unwrap_or, IfOk};
+ghost use Rattle.std.specs.Prelude.{◌≡◌, ◌+◌, ◌≤◌, ◌&&◌, ◌++◌, if◌then◌else◌, false, [], get_or, length, map, option_map, option_to_list, slice_get, unwrap_or, IfOk, OnOk};
 ghost use Rattle.std.specs.List.{position_or_len};
 ghost use Rattle.indexmap.specs.IndexMap.{get};
 ghost use Rattle.fib_addr.specs.Views.{prefix_as};
 ghost use Rattle.fib_prefix.specs.Views.{event_as};
 ghost use Rattle.fib_rov.specs.Lines.{vrps_in};
 ghost use Rattle.fib_rov.specs.Lists.{IsRead};
-ghost use Rattle.fib_rov.specs.Rov.{decided, judged, state_of};
+ghost use Rattle.fib_report.specs.Views.{invalid_as};
+ghost use Rattle.fib_rov.specs.Rov.{announced_with, decided, invalid_in, invalid_of, judged, left_of, state_of};
 ghost use Rattle.fib_rov.specs.Views.{vrp_as, allows};
 ghost use Rattle.fib_rov.specs.Index.{AreChained, AreMarked, IsIndex, first_from, has_prefix, place_at, place_of, prefix_test};
 
@@ -17,6 +18,7 @@ use crate::state::State;
 use crate::vrp::Vrp;
 use fib_addr::Prefix;
 use fib_prefix::Event;
+use fib_report::Invalid;
 use indexmap::IndexMap;
 use std::alloc::{AllocError, Global};
 use std::marker::Model;
@@ -147,7 +149,31 @@ fn state(matching: usize, covering: usize, count: usize) -> State
     }
 }
 
+/// Adds an announcement to a list, if there is one.
+#[tactic(auto, using(crate::proofs::JudgedLists::row_added, crate::proofs::JudgedLists::none_added))]
+fn add(row: Option<Invalid>, invalid: &mut Vec<Invalid>) -> Result<(), AllocError>
+    ensures { OnOk result (map invalid_as invalid.new.items
+        ≡ map invalid_as invalid.old.items ++ option_to_list (option_map invalid_as row)) }
+{
+    if let Some(row) = row {
+        invalid.push(row)?;
+    }
+    Ok(())
+}
+
 impl Vrps {
+    /// The empty list, by which no route is Invalid. It takes no memory.
+    pub fn none(alloc: Global) -> Vrps
+        ensures { result ≡ [] }
+    {
+        Vrps {
+            list: Vec::new(alloc),
+            next: Vec::new(alloc),
+            first: IndexMap::new(alloc),
+            lengths: [false; LENGTHS],
+        }
+    }
+
     /// The list with its index, which takes a word for each VRP and a place in a map for each prefix.
     ///
     /// # Errors
@@ -215,5 +241,65 @@ impl Vrps {
             return (Event::Withdraw(via, prefix), Some(number));
         }
         (*event, None)
+    }
+
+    /// The announcement that an event is, with the VRP of this number, if it is one and the list has such a VRP.
+    fn invalid(&self, event: &Event, number: u64) -> Option<Invalid>
+        ensures { option_to_list (option_map invalid_as result)
+            ≡ announced_with self.now (event_as event.now) number }
+    {
+        let Event::Announce(via, prefix, _, _, origin) = *event else {
+            return None;
+        };
+        let vrp = self.get(number)?;
+        Some(Invalid {
+            prefix,
+            vrp_prefix: vrp.prefix,
+            peer: via.peer.addr,
+            origin,
+            peer_as: via.peer.asn,
+            vrp_as: vrp.asn,
+            maxlen: vrp.maxlen,
+        })
+    }
+
+    /// What is left of an event, and the announcement that it is, if it is an Invalid one.
+    fn judge_one(&self, event: &Event) -> (Event, Option<Invalid>)
+        ensures left { event_as result.0 ≡ (judged self.now (event_as event.now)).0 }
+        ensures invalid { option_to_list (option_map invalid_as result.1)
+            ≡ invalid_of self.now (event_as event.now) }
+    {
+        let (left, number) = self.judge(event);
+        match number {
+            Some(number) => (left, self.invalid(event, number)),
+            None => (left, None),
+        }
+    }
+
+    /// Judges events: each becomes what `judge` leaves of it, and the Invalid announcements among them are added to a list, each with the
+    /// first VRP that covers it. An empty list of VRPs costs nothing.
+    ///
+    /// # Errors
+    ///
+    /// No memory.
+    pub fn judge_all(
+        &self,
+        events: &mut [Event],
+        invalid: &mut Vec<Invalid>,
+    ) -> Result<(), AllocError>
+        ensures left { OnOk result (map event_as events.new
+            ≡ left_of self.now (map event_as events.old)) }
+        ensures invalid { OnOk result (map invalid_as invalid.new.items
+            ≡ map invalid_as invalid.old.items ++ invalid_in self.now (map event_as events.old)) }
+    {
+        if self.list.as_slice().is_empty() {
+            return Ok(());
+        }
+        for event in events.iter_mut() {
+            let (left, row) = self.judge_one(event);
+            add(row, invalid)?;
+            *event = left;
+        }
+        Ok(())
     }
 }

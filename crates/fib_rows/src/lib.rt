@@ -48,6 +48,8 @@ mod harness;
 #[cfg(test)]
 mod hostile;
 #[cfg(test)]
+mod judged;
+#[cfg(test)]
 mod large;
 #[cfg(test)]
 mod reads;

@@ -10,14 +10,18 @@ use std::test::Fail;
 
 /// What is written, and how it ends.
 #[derive(Drop)]
-struct Written {
-    status: u8,
-    out: MemSink,
-    err: MemSink,
+pub(crate) struct Written {
+    pub(crate) status: u8,
+    pub(crate) out: MemSink,
+    pub(crate) err: MemSink,
 }
 
 /// Runs on inputs of these names.
-fn run_on(alloc: Global, words: &[&str], names: Vec<(String, Vec<u8>)>) -> Result<Written, Fail> {
+pub(crate) fn run_on(
+    alloc: Global,
+    words: &[&str],
+    names: Vec<(String, Vec<u8>)>,
+) -> Result<Written, Fail> {
     let words = words_of(alloc, words)?;
     let mut inputs = MemInputs::new(names, Vec::new(alloc));
     let mut out = MemSink::new(alloc, 10_000, Vec::new(alloc))?;
@@ -31,7 +35,7 @@ fn run_on(alloc: Global, words: &[&str], names: Vec<(String, Vec<u8>)>) -> Resul
 }
 
 /// Adds an input.
-fn add_input(
+pub(crate) fn add_input(
     alloc: Global,
     names: &mut Vec<(String, Vec<u8>)>,
     name: &str,

@@ -135,12 +135,13 @@ same_is m same names e f g = entered m same (codes "same") e f ∙ ap (option_ma
 abbrev found : ArgMatches → List ℕ → Option Text
 found m name = first_value (found_of m) name
 
-pub names_are : (m : ArgMatches) → named_with (found m (codes "dump")) (found m (codes "updates")) (found m (codes "ask")) (found m (codes "every")) (sizes_by (rows_of (found_of m))) ≡ named_by (rows_of (found_of m))
+pub names_are : (m : ArgMatches) → named_with (found m (codes "dump")) (found m (codes "updates")) (found m (codes "ask")) (found m (codes "vrps")) (found m (codes "every")) (sizes_by (rows_of (found_of m))) ≡ named_by (rows_of (found_of m))
 names_are m =
     rw (
       first_value-rows (found_of m) (codes "dump"),
       first_value-rows (found_of m) (codes "updates"),
       first_value-rows (found_of m) (codes "ask"),
+      first_value-rows (found_of m) (codes "vrps"),
       first_value-rows (found_of m) (codes "every"),
     ) refl
 
@@ -187,10 +188,10 @@ pub no_sizes : (m : ArgMatches) (dump : Text) (k : Option Text) (every : ℕ) �
     → None ≡ sizes_by (rows_of (found_of m)) → None ≡ named_by (rows_of (found_of m))
 no_sizes m dump k every d is e f = rw (← names_are m, ← d, ← is, ← e, ← f) refl
 
-pub all_names : (m : ArgMatches) (dump : Text) (u a k : Option Text) (every : ℕ) (sizes : NamedSizes) → Is (Some dump) m (codes "dump") → Is k m (codes "every") → Some every ≡ number_or 0 (2 ^ 32) k
-    → Some sizes ≡ sizes_by (rows_of (found_of m)) → Is u m (codes "updates") → Is a m (codes "ask")
-    → Some (record { dump = dump; updates = u; asks = a; every = every; direct = sizes.direct; nodes = sizes.nodes; leaves = sizes.leaves }) ≡ named_by (rows_of (found_of m))
-all_names m dump u a k every sizes d is e f is_u is_a = rw (← names_are m, ← d, ← is, ← e, ← f, ← is_u, ← is_a) refl
+pub all_names : (m : ArgMatches) (dump : Text) (u a v k : Option Text) (every : ℕ) (sizes : NamedSizes) → Is (Some dump) m (codes "dump") → Is k m (codes "every") → Some every ≡ number_or 0 (2 ^ 32) k
+    → Some sizes ≡ sizes_by (rows_of (found_of m)) → Is u m (codes "updates") → Is a m (codes "ask") → Is v m (codes "vrps")
+    → Some (record { dump = dump; updates = u; asks = a; vrps = v; every = every; direct = sizes.direct; nodes = sizes.nodes; leaves = sizes.leaves }) ≡ named_by (rows_of (found_of m))
+all_names m dump u a v k every sizes d is e f is_u is_a is_v = rw (← names_are m, ← d, ← is, ← e, ← f, ← is_u, ← is_a, ← is_v) refl
 
 -- the same of a run in steps
 

@@ -39,9 +39,9 @@ due_option_rule id = record (new_rule id) { long = Some id; required = true }
 abbrev pub sized_app : App → App
 sized_app app = with_rule (with_rule (with_rule app (option_rule (codes "direct"))) (option_rule (codes "nodes"))) (option_rule (codes "leaves"))
 
--- `run DUMP [--updates F] [--ask F] [--every K] [--direct S] [--nodes N] [--leaves N]`
+-- `run DUMP [--updates F] [--ask F] [--vrps F] [--every K] [--direct S] [--nodes N] [--leaves N]`
 abbrev pub run_app : App
-run_app = sized_app (with_rule (with_rule (with_rule (with_rule (new_app (codes "run")) (word_rule (codes "dump"))) (option_rule (codes "updates"))) (option_rule (codes "ask"))) (option_rule (codes "every")))
+run_app = sized_app (with_rule (with_rule (with_rule (with_rule (with_rule (new_app (codes "run")) (word_rule (codes "dump"))) (option_rule (codes "updates"))) (option_rule (codes "ask"))) (option_rule (codes "vrps"))) (option_rule (codes "every")))
 
 -- `check PRINTED`
 abbrev pub check_app : App
@@ -83,6 +83,7 @@ pub record Named : Type 0 where
   pub dump : Text
   pub updates : Option Text
   pub asks : Option Text
+  pub vrps : Option Text
   pub every : ℕ
   pub direct : ℕ
   pub nodes : ℕ
@@ -149,15 +150,15 @@ abbrev pub sizes_by : List Row → Option NamedSizes
 sizes_by rows = sizes_with (first_of (codes "direct") rows) (first_of (codes "nodes") rows) (first_of (codes "leaves") rows)
 
 -- a run with these names and sizes, if it names a dump and its snapshots are a number from 0 to 2^32 - 1
-abbrev pub named_with : Option Text → Option Text → Option Text → Option Text → Option NamedSizes → Option Named
-named_with dump updates asks every sizes = do
+abbrev pub named_with : Option Text → Option Text → Option Text → Option Text → Option Text → Option NamedSizes → Option Named
+named_with dump updates asks vrps every sizes = do
   d ← dump
   k ← number_or 0 (2 ^ 32) every
   z ← sizes
-  Some (record { dump = d; updates = updates; asks = asks; every = k; direct = z.direct; nodes = z.nodes; leaves = z.leaves })
+  Some (record { dump = d; updates = updates; asks = asks; vrps = vrps; every = k; direct = z.direct; nodes = z.nodes; leaves = z.leaves })
 
 abbrev pub named_by : List Row → Option Named
-named_by rows = named_with (first_of (codes "dump") rows) (first_of (codes "updates") rows) (first_of (codes "ask") rows) (first_of (codes "every") rows) (sizes_by rows)
+named_by rows = named_with (first_of (codes "dump") rows) (first_of (codes "updates") rows) (first_of (codes "ask") rows) (first_of (codes "vrps") rows) (first_of (codes "every") rows) (sizes_by rows)
 
 -- a run in steps with these names and sizes, if it names a dump, updates and a script
 abbrev pub steps_with : Option Text → Option Text → Option Text → Option NamedSizes → Option NamedSteps
@@ -239,7 +240,7 @@ command_of words = if takes words then option_and_then asked_in (subcommand_of f
 
 -- what is named, without where it lies in memory
 abbrev pub named_as : RunWords → Named
-named_as run = record { dump = run.dump.now; updates = option_map (λ name. name.now) run.updates; asks = option_map (λ name. name.now) run.asks; every = run.every; direct = run.direct; nodes = run.nodes; leaves = run.leaves }
+named_as run = record { dump = run.dump.now; updates = option_map (λ name. name.now) run.updates; asks = option_map (λ name. name.now) run.asks; vrps = option_map (λ name. name.now) run.vrps; every = run.every; direct = run.direct; nodes = run.nodes; leaves = run.leaves }
 
 abbrev pub sizes_as : SizesWords → NamedSizes
 sizes_as sizes = record { direct = sizes.direct; nodes = sizes.nodes; leaves = sizes.leaves }

@@ -28,6 +28,8 @@ pub struct RunWords<'a> {
     pub updates: Option<&'a str>,
     /// The addresses that are asked for, if any are.
     pub asks: Option<&'a str>,
+    /// The list of validated ROA payloads (VRPs) that announcements are judged by, if there is one.
+    pub vrps: Option<&'a str>,
     /// How many elementary events of the updates a snapshot follows; 0 is never.
     pub every: u32,
     /// The direct bits of a trie: 18 at most.
@@ -216,13 +218,14 @@ fn with_sizes<'a>(alloc: Global, command: Command<'a>) -> Result<Command<'a>, Al
     with_option(alloc, command, "leaves")
 }
 
-/// `run DUMP [--updates F] [--ask F] [--every K] [--direct S] [--nodes N] [--leaves N]`.
+/// `run DUMP [--updates F] [--ask F] [--vrps F] [--every K] [--direct S] [--nodes N] [--leaves N]`.
 fn run_command<'a>(alloc: Global) -> Result<Command<'a>, AllocError>
     ensures { IfOk result (λ c. HasApp c run_app) }
 {
     let command = with_word(alloc, Command::new(alloc, "run"), "dump")?;
     let command = with_option(alloc, command, "updates")?;
     let command = with_option(alloc, command, "ask")?;
+    let command = with_option(alloc, command, "vrps")?;
     let command = with_option(alloc, command, "every")?;
     with_sizes(alloc, command)
 }
@@ -351,6 +354,7 @@ fn run_words<'a>(matches: &ArgMatches<'a>) -> Option<RunWords<'a>>
         dump,
         updates: matches.get_str("updates"),
         asks: matches.get_str("ask"),
+        vrps: matches.get_str("vrps"),
         every,
         direct: sizes.direct,
         nodes: sizes.nodes,

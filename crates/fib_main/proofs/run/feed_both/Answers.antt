@@ -10,18 +10,20 @@ use Rattle.fib_io.specs.Reads.{Makes}
 use Rattle.fib_main.specs.InTime.{RunMayGoOn}
 use Rattle.fib_main.proofs.Judging.{dump_read, dump_stops, updates_end, updates_stop}
 use Rattle.fib_main.proofs.Passes.{all_next, load_stops, stopped_first, stopped_next}
+use Rattle.fib_main.specs.Owned.{StopsAt}
+use Rattle.fib_main.proofs.Due as due
 use Rattle.fib_main.proofs.run.feed_both.Goals as goal
 
 pub returns-in_err-load-clause-due : goal.returns-in_err-load-clause-due
 returns-in_err-load-clause-due g c = λ s.
     let p = err_from_is_err_and c.from_residual.result c.from_residual.ensures.1 in
-    rw (p.1, p.2) (dump_fails _ _ _ (c.in_err-load.ensures.due _ [] s))
+    rw (p.1, p.2) (dump_fails _ _ _ _ (c.in_err-load.ensures.due _ [] s))
 
 pub returns-in-Err-clause-due : goal.returns-in-Err-clause-due
 returns-in-Err-clause-due g c = λ s.
     let named = named_as c.args.command.now in
     let load = c.in_ok-load.ensures.due (limits_of named) [] s in
-    subst (λ o. FailsDue o (feeds_at (g.I.Inputs.content c.args.inputs.now) named)) (sym c.outcome_of_refusal.ensures) (end_fails _ named load.0 c.in-Err.error load.2 (c.in-Err.ensures.short (limits_of named) load.0.elems load.1.stands))
+    subst (λ o. FailsDue o (feeds_at (g.I.Inputs.content c.args.inputs.now) c.args.vrps.now named)) (sym c.outcome_of_refusal.ensures) (end_fails _ _ named load.0 c.in-Err.error load.2 (c.in-Err.ensures.short (limits_of named) load.0.elems load.1.stands))
 
 pub returns-in_err-updates-clause-due : goal.returns-in_err-updates-clause-due
 returns-in_err-updates-clause-due g c = λ s.
@@ -30,7 +32,7 @@ returns-in_err-updates-clause-due g c = λ s.
     let load = c.in_ok-load.ensures.due (limits_of named) [] s in
     let stands = c.in_default.ensures.stands (limits_of named) load.0.elems load.1.stands in
     let fails = rw c.in_ok-load.ensures.same at (c.in_err-updates.ensures.due (limits_of named) load.0.elems stands) in
-    rw (p.1, p.2) (updates_fail _ named _ load.0 (load_fits _ named load.0 load.2 (load_has_room (limits_of named) load.0 _ stands)) fails)
+    rw (p.1, p.2) (updates_fail _ _ named _ load.0 (load_fits _ _ named load.0 load.2 (load_has_room (limits_of named) load.0 _ stands)) fails)
 
 pub returns-in_err-updates-clause-cause : goal.returns-in_err-updates-clause-cause
 returns-in_err-updates-clause-cause g c = λ s.
@@ -38,8 +40,8 @@ returns-in_err-updates-clause-cause g c = λ s.
     let named = named_as c.args.command.now in
     let load = c.in_ok-load.ensures.due (limits_of named) [] s in
     let stands = c.in_default.ensures.stands (limits_of named) load.0.elems load.1.stands in
-    let fits = load_fits _ named load.0 load.2 (load_has_room (limits_of named) load.0 _ stands) in
-    rw (p.1, p.2) (updates_read _ named load.0 _ _ _ _ fits c.in_ok-load.ensures.cause c.in_err-updates.ensures.cause)
+    let fits = load_fits _ _ named load.0 load.2 (load_has_room (limits_of named) load.0 _ stands) in
+    rw (p.1, p.2) (updates_read _ _ named load.0 _ _ _ _ fits c.in_ok-load.ensures.cause c.in_err-updates.ensures.cause)
 
 pub returns-clause-due : goal.returns-clause-due
 returns-clause-due g c = λ s.
@@ -48,21 +50,21 @@ returns-clause-due g c = λ s.
     let stands = c.in_default.ensures.stands (limits_of named) load.0.elems load.1.stands in
     let updates = c.in_ok-updates.ensures.due (limits_of named) load.0.elems stands in
     let is = rw c.in_ok-load.ensures.same at updates.2 in
-    ((load.0, updates.0), fed_all (limits_of named) load.0 updates.0 _ _ _ load.1 updates.1, feeds_due _ named load.0 updates.0 (load_fits _ named load.0 load.2 (load_has_room (limits_of named) load.0 _ stands)) is)
+    ((load.0, updates.0), fed_all (limits_of named) load.0 updates.0 _ _ _ load.1 updates.1, feeds_due _ _ named load.0 updates.0 (load_fits _ _ named load.0 load.2 (load_has_room (limits_of named) load.0 _ stands)) is)
 
 pub returns-in_err-load-clause-reads : goal.returns-in_err-load-clause-reads
 returns-in_err-load-clause-reads g c = λ s.
     let p = err_from_is_err_and c.from_residual.result c.from_residual.ensures.1 in
     let named = named_as c.args.command.now in
     let content = g.I.Inputs.content c.args.inputs.now in
-    rw (p.1, p.2) (stopped_first content (RunMayGoOn content named) _ _ ((which.Dump, named.dump) ∷ []) (input_for which.Updates named.updates) _ (dump_stops content named _ _ _ (c.in_err-load.ensures.reads (limits_of named) [] s)))
+    rw (p.1, p.2) (stopped_first content (RunMayGoOn content named) _ _ ((which.Dump, named.dump) ∷ []) (input_for which.Updates named.updates) _ (dump_stops content named _ _ _ _ c.requires.told (c.in_err-load.ensures.reads (limits_of named) [] s)))
 
 pub returns-in-Err-clause-reads : goal.returns-in-Err-clause-reads
 returns-in-Err-clause-reads g c = λ s.
     let named = named_as c.args.command.now in
     let content = g.I.Inputs.content c.args.inputs.now in
     subst (λ o. Makes (g.I.Inputs.reads c.args.inputs.now) (g.I.Inputs.reads c.feed_of.new.inputs) (StopsReading content (RunMayGoOn content named) (feed_inputs named) o)) (sym c.outcome_of_refusal.ensures)
-    (stopped_first content (RunMayGoOn content named) _ _ ((which.Dump, named.dump) ∷ []) (input_for which.Updates named.updates) _ (load_stops content (RunMayGoOn content named) _ _ named.dump c.in-Err.error c.in-Err.ensures.kinds (dump_read content named _ _ (c.in_ok-load.ensures.reads (limits_of named) [] s))))
+    (stopped_first content (RunMayGoOn content named) _ _ ((which.Dump, named.dump) ∷ []) (input_for which.Updates named.updates) _ (load_stops content (RunMayGoOn content named) _ _ named.dump c.in-Err.error c.in-Err.ensures.kinds (dump_read content named _ _ _ c.requires.told (c.in_ok-load.ensures.reads (limits_of named) [] s))))
 
 pub returns-in_err-updates-clause-reads : goal.returns-in_err-updates-clause-reads
 returns-in_err-updates-clause-reads g c = λ s.
@@ -71,9 +73,9 @@ returns-in_err-updates-clause-reads g c = λ s.
     let content = g.I.Inputs.content c.args.inputs.now in
     let load = c.in_ok-load.ensures.due (limits_of named) [] s in
     let stands = c.in_default.ensures.stands (limits_of named) load.0.elems load.1.stands in
-    let fits = load_fits _ named load.0 load.2 (load_has_room (limits_of named) load.0 _ stands) in
+    let fits = load_fits _ _ named load.0 load.2 (load_has_room (limits_of named) load.0 _ stands) in
     let later = rw c.in_ok-load.ensures.same at (c.in_err-updates.ensures.reads (limits_of named) load.0.elems stands) in
-    rw (p.1, p.2) (stopped_next content (RunMayGoOn content named) _ _ _ ((which.Dump, named.dump) ∷ []) (input_for which.Updates named.updates) _ (dump_read content named _ _ (c.in_ok-load.ensures.reads (limits_of named) [] s)) (updates_stop content named load.0 _ _ _ fits later))
+    rw (p.1, p.2) (stopped_next content (RunMayGoOn content named) _ _ _ ((which.Dump, named.dump) ∷ []) (input_for which.Updates named.updates) _ (dump_read content named _ _ _ c.requires.told (c.in_ok-load.ensures.reads (limits_of named) [] s)) (updates_stop content named _ load.0 _ _ _ c.requires.told fits later))
 
 pub returns-clause-reads : goal.returns-clause-reads
 returns-clause-reads g c = λ s.
@@ -81,6 +83,9 @@ returns-clause-reads g c = λ s.
     let content = g.I.Inputs.content c.args.inputs.now in
     let load = c.in_ok-load.ensures.due (limits_of named) [] s in
     let stands = c.in_default.ensures.stands (limits_of named) load.0.elems load.1.stands in
-    let fits = load_fits _ named load.0 load.2 (load_has_room (limits_of named) load.0 _ stands) in
+    let fits = load_fits _ _ named load.0 load.2 (load_has_room (limits_of named) load.0 _ stands) in
     let later = rw c.in_ok-load.ensures.same at (c.in_ok-updates.ensures.reads (limits_of named) load.0.elems stands) in
-    all_next content (RunMayGoOn content named) _ _ _ ((which.Dump, named.dump) ∷ []) (input_for which.Updates named.updates) (dump_read content named _ _ (c.in_ok-load.ensures.reads (limits_of named) [] s)) (updates_end content named load.0 _ _ fits later)
+    all_next content (RunMayGoOn content named) _ _ _ ((which.Dump, named.dump) ∷ []) (input_for which.Updates named.updates) (dump_read content named _ _ _ c.requires.told (c.in_ok-load.ensures.reads (limits_of named) [] s)) (updates_end content named _ load.0 _ _ c.requires.told fits later)
+
+pub returns-in-Err-clause-stops : goal.returns-in-Err-clause-stops
+returns-in-Err-clause-stops g c = (which.Dump, tt, subst (λ o. StopsAt which.Dump o) (sym c.outcome_of_refusal.ensures) (due.dump_stops c.in-Err.error))

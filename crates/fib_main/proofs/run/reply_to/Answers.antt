@@ -2,7 +2,7 @@ use Rattle.std.proofs.Common.{ℕ, ap, refl}
 use Rattle.std.proofs.lemmas.Result.{err_from_is_err_and}
 use Rattle.fib_words.specs.Commands.{asked_as}
 use Rattle.fib_main.proofs.Printing.{run_yes}
-use Rattle.fib_main.proofs.Making.{kept_reads, some_refused}
+use Rattle.fib_main.proofs.Making.{check_own, own_refused, kept_reads, some_refused}
 use Rattle.fib_main.proofs.Replies.{ran_replied, ran_stops, save_runs_none}
 use Rattle.fib_main.proofs.Saving.{saves_due}
 use Rattle.fib_main.proofs.Stepped.{check_gives, make_gives, run_gives, some_replied, some_steps_refused, steps_refused, steps_replied}
@@ -73,3 +73,11 @@ returns-in-Save-clause-due_yes g c = save_runs_none _ _ _ c.save_for.result (ap 
 
 pub returns-in-Save-clause-due_saves : goal.returns-in-Save-clause-due_saves
 returns-in-Save-clause-due_saves g c = saves_due _ _ _ (ap asked_as c.in-Save.is) c.save_for.result c.save_for.ensures.holds
+
+pub returns-in_err-text-in-Run-clause-own : goal.returns-in_err-text-in-Run-clause-own
+returns-in_err-text-in-Run-clause-own g c =
+    let p = err_from_is_err_and c.from_residual.result c.from_residual.ensures.1 in
+    rw (p.1, p.2) (own_refused _ _ _ (ap asked_as c.in-Run.is) c.in_err-text-in-Run.ensures.stops)
+
+pub returns-in-Check-clause-own : goal.returns-in-Check-clause-own
+returns-in-Check-clause-own g c = check_own _ _ c.check_for.result (ap asked_as c.in-Check.is) c.check_for.ensures.stops

@@ -9,6 +9,7 @@ use Rattle.fib_main.proofs.Due.{all_due, feeds_fail}
 use Rattle.fib_main.specs.InTime.{RunMayGoOn}
 use Rattle.fib_main.specs.Passes.{feed_inputs}
 use Rattle.fib_main.proofs.Passes.{out_of_memory}
+use Rattle.fib_main.specs.declared.outcome.Which.TheVariants as which
 use Rattle.fib_main.proofs.run.text_of.Goals as goal
 
 pub returns-in-Ok-clause-due : goal.returns-in-Ok-clause-due
@@ -16,7 +17,7 @@ returns-in-Ok-clause-due g c =
     let named = named_as c.args.command.now in
     let stands = subst (λ l. StateStands Dump l [] [] c.new-state.result) c.limits_of.ensures c.new-state.ensures.stands in
     let both = c.in_ok-fed.ensures.due stands in
-    all_due _ named (map addr_as c.args.asks.now) printed_text both.0 _ both.2 (c.in-Ok.ensures.text (limits_of named) both.0.0 both.0.1 both.1)
+    all_due _ _ named (map addr_as c.args.asks.now) printed_text both.0 _ both.2 (c.in-Ok.ensures.text (limits_of named) both.0.0 both.0.1 both.1)
 
 pub returns-in-Ok-clause-yes : goal.returns-in-Ok-clause-yes
 returns-in-Ok-clause-yes g c =
@@ -30,7 +31,7 @@ returns-in_err-fed-clause-due g c =
     let named = named_as c.args.command.now in
     let stands = subst (λ l. StateStands Dump l [] [] c.new-state.result) c.limits_of.ensures c.new-state.ensures.stands in
     let p = err_from_is_err_and c.from_residual.result c.from_residual.ensures.1 in
-    rw (p.1, p.2) (feeds_fail _ named (map addr_as c.args.asks.now) (λ q. Ok (printed_text q)) _ (c.in_err-fed.ensures.due stands))
+    rw (p.1, p.2) (feeds_fail _ _ named (map addr_as c.args.asks.now) (λ q. Ok (printed_text q)) _ (c.in_err-fed.ensures.due stands))
 
 pub returns-in_err-fed-clause-stops : goal.returns-in_err-fed-clause-stops
 returns-in_err-fed-clause-stops g c =
@@ -49,8 +50,8 @@ returns-in_err-fed-clause-reads g c =
     let p = err_from_is_err_and c.from_residual.result c.from_residual.ensures.1 in
     rw (p.1, p.2) (c.in_err-fed.ensures.reads stands)
 
-pub returns-in-Err-clause-reads : goal.returns-in-Err-clause-reads
-returns-in-Err-clause-reads g c =
+pub returns-clause-reads : goal.returns-clause-reads
+returns-clause-reads g c =
     let named = named_as c.args.command.now in
     let content = g.I.Inputs.content c.args.inputs.now in
     let stands = subst (λ l. StateStands Dump l [] [] c.new-state.result) c.limits_of.ensures c.new-state.ensures.stands in
@@ -60,3 +61,6 @@ pub returns-in-Ok-clause-reads : goal.returns-in-Ok-clause-reads
 returns-in-Ok-clause-reads g c =
     let stands = subst (λ l. StateStands Dump l [] [] c.new-state.result) c.limits_of.ensures c.new-state.ensures.stands in
     c.in_ok-fed.ensures.reads stands
+
+pub returns-clause-stops : goal.returns-clause-stops
+returns-clause-stops g c = (which.Dump, tt, tt)

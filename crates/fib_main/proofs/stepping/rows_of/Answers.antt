@@ -50,7 +50,7 @@ returns-in_err-events-clause-cause g c =
     let p = err_from_is_err_and c.from_residual-in_err-events.result c.from_residual-in_err-events.ensures.1 in
     let named = steps_as c.args.command.now in
     let load = c.in_ok-engine.ensures.due in
-    rw (p.1, p.2) (later_read (load_at (steps_sizes named) _ named.dump) load.0 named.dump (named.updates ∷ []) _ _ _ _ load.3 c.in_ok-engine.ensures.cause (first_read named.updates [] _ _ _ c.in_err-events.ensures.cause))
+    rw (p.1, p.2) (later_read (load_at (steps_sizes named) _ [] named.dump) load.0 named.dump (named.updates ∷ []) _ _ _ _ load.3 c.in_ok-engine.ensures.cause (first_read named.updates [] _ _ _ c.in_err-events.ensures.cause))
 
 pub run_steps-requires-clause-stands : goal.run_steps-requires-clause-stands
 run_steps-requires-clause-stands g c = let load = c.in_ok-engine.ensures.due in (load.0.elems, load.1)
