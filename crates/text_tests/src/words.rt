@@ -1,6 +1,7 @@
 //! Words and what they ask for.
 
 use fib_words::{CommandWords, WordsError, read_words};
+use printed_model::Kind;
 use std::alloc::Global;
 use std::test::Fail;
 
@@ -12,11 +13,17 @@ enum Asked<'a> {
     /// The names of the dump, the updates and the asks, how many events a snapshot follows, and the sizes: direct bits, and the
     /// orders of the arenas of nodes and of leaves.
     Run(&'a str, Option<&'a str>, Option<&'a str>, u32, [u8; 3]),
+    /// The names of the dump and of the list of VRPs, in a run that names one.
+    Judged(&'a str, &'a str),
     Check(&'a str),
     /// How many routes, and the seed.
     Make(u32, u64),
     /// The names of the dump, the updates and the script, and the sizes.
     Steps(&'a str, &'a str, &'a str, [u8; 3]),
+    /// The names of the first text and of the others, and which rows of them.
+    Same(&'a str, &'a [&'a str], Kind),
+    /// The names of the dump and the updates.
+    Save(&'a str, Option<&'a str>),
 }
 
 /// Words, and what they ask for.
@@ -223,6 +230,43 @@ const IN_STEPS: &[Case<'static>] = &[
     (&["fib", "steps", "--help"], Asked::Nothing),
 ];
 
+/// Lists of VRPs, texts that are compared, and checkpoints.
+const JUDGED_COMPARED_SAVED: &[Case<'static>] = &[
+    (&["fib", "run", "D", "--vrps", "V"], Asked::Judged("D", "V")),
+    (&["fib", "run", "--vrps=V", "D"], Asked::Judged("D", "V")),
+    (&["fib", "run", "D", "--vrps"], Asked::Nothing),
+    (
+        &["fib", "run", "D", "--vrps", "V", "--vrps", "V"],
+        Asked::Nothing,
+    ),
+    (&["fib", "check", "P", "--vrps", "V"], Asked::Nothing),
+    (
+        &["fib", "same", "P", "Q"],
+        Asked::Same("P", &["Q"], Kind::Table),
+    ),
+    (
+        &["fib", "same", "P", "Q", "R", "--rows", "least"],
+        Asked::Same("P", &["Q", "R"], Kind::Least),
+    ),
+    (
+        &["fib", "same", "--rows=route", "P", "Q"],
+        Asked::Same("P", &["Q"], Kind::Route),
+    ),
+    (&["fib", "same"], Asked::Nothing),
+    (&["fib", "same", "P"], Asked::Nothing),
+    (&["fib", "same", "P", "Q", "--rows", "cert"], Asked::Nothing),
+    (&["fib", "same", "P", "Q", "--rows"], Asked::Nothing),
+    (&["fib", "save", "D"], Asked::Save("D", None)),
+    (
+        &["fib", "save", "D", "--updates", "U"],
+        Asked::Save("D", Some("U")),
+    ),
+    (&["fib", "save"], Asked::Nothing),
+    (&["fib", "save", "D", "U"], Asked::Nothing),
+    (&["fib", "save", "D", "--ask", "A"], Asked::Nothing),
+    (&["fib", "save", "D", "--vrps", "V"], Asked::Nothing),
+];
+
 /// The words, in memory.
 fn words_of(alloc: Global, texts: &[&str]) -> Result<Vec<String>, Fail> {
     let mut words = Vec::new(alloc);
@@ -238,7 +282,10 @@ fn ask_for(alloc: Global, texts: &[&str], due: Asked<'_>) -> Result<bool, Fail> 
     let asked = match read_words(alloc, &words) {
         Ok(CommandWords::Run(run)) => {
             let sizes = [run.direct, run.nodes, run.leaves];
-            Asked::Run(run.dump, run.updates, run.asks, run.every, sizes)
+            match run.vrps {
+                Some(vrps) => Asked::Judged(run.dump, vrps),
+                None => Asked::Run(run.dump, run.updates, run.asks, run.every, sizes),
+            }
         }
         Ok(CommandWords::Check(name)) => Asked::Check(name),
         Ok(CommandWords::Make(made)) => Asked::Make(made.routes, made.seed),
@@ -246,6 +293,10 @@ fn ask_for(alloc: Global, texts: &[&str], due: Asked<'_>) -> Result<bool, Fail> 
             let sizes = [steps.direct, steps.nodes, steps.leaves];
             Asked::Steps(steps.dump, steps.updates, steps.script, sizes)
         }
+        Ok(CommandWords::Same(same)) => {
+            return Ok(Asked::Same(same.first, &same.rest, same.rows) == due);
+        }
+        Ok(CommandWords::Save(save)) => Asked::Save(save.dump, save.updates),
         Err(WordsError::Usage) => Asked::Nothing,
         Err(WordsError::NoMemory) => return Ok(false),
     };
@@ -259,6 +310,7 @@ fn takes_what_the_definition_takes(rt: HostRuntime) -> Result<(), Fail> {
         ("numbers", NUMBERS),
         ("made", MADE),
         ("steps", IN_STEPS),
+        ("judged, compared, saved", JUDGED_COMPARED_SAVED),
     ] {
         for (place, (texts, due)) in cases.iter().enumerate() {
             assert!(rt; ask_for(rt.alloc(), texts, *due)?, "{table}, case {place}");
