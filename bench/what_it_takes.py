@@ -65,6 +65,14 @@ def flaps(path):
             out.write(record(BGP4MP, MESSAGE_AS4, session + message))
 
 
+def vrps(table, path):
+    """A list with a VRP of every second route of a printed table, by which it and all within it are Valid; how many there are."""
+    with open(table) as text, open(path, "w") as out:
+        prefixes = [row.split(",")[1] for row in text if row.startswith("route,")][::2]
+        out.writelines("%s,%d,%d\n" % (prefix, 128 if ":" in prefix else 32, peer(0)[1]) for prefix in prefixes)
+    return len(prefixes)
+
+
 def number(n):
     return "{:,}".format(round(n))
 
@@ -113,21 +121,32 @@ def main():
         out, table = os.path.join(folder, "out"), os.path.join(folder, "table.txt")
         os.rename(out, table)
         check = Run([program, "check", table], out)
+        same = Run([program, "same", table, table], out)
+        roas = os.path.join(folder, "vrps.txt")
+        count = vrps(table, roas)
+        judged = Run([program, "run", path, "--vrps", roas, *ROOM], out)
         updates = os.path.join(folder, "updates.mrt")
         flaps(updates)
         flapped = Run([program, "run", path, "--updates", updates, *ROOM], out)
         changes = flapped.rows["change"] - one.rows["change"]
-        whole(program, FOUR, SIX, 4, folder, "both, four peers")
+        path, four = whole(program, FOUR, SIX, 4, folder, "both, four peers")
+        save = Run([program, "save", path], out)
         whole(program, FOUR, SIX, args.peers, folder, "both, %d peers" % args.peers)
         singles(program, 4, 100_000, folder, "single IPv4 addresses (/32)")
         singles(program, 6, 20_000, folder, "single IPv6 addresses (/128)")
         print()
-        row("Of the table of one peer", "Seconds", "MiB", "")
+        row("Of both, one peer", "Seconds", "MiB", "")
         row(*["---"] * 4)
         row("`fib check` of its text", "%.1f" % check.seconds, number(check.memory / MIB),
             "%.1f octets of memory an octet of text" % (check.memory / one.text))
         row("%d events of the default route" % FLAPS, "%.1f more" % (flapped.seconds - one.seconds), number(flapped.memory / MIB),
             "%.2f s an event, %s changes" % ((flapped.seconds - one.seconds) / FLAPS, number(changes / FLAPS)))
+        row("`fib same` of two such texts", "%.1f" % same.seconds, number(same.memory / MIB),
+            "%.1f octets of memory an octet of one text" % (same.memory / one.text))
+        row("`--vrps` with %s VRPs" % number(count), "%.1f more" % (judged.seconds - one.seconds), number(judged.memory / MIB),
+            "%.2f us a candidate" % ((judged.seconds - one.seconds) / one.rows["route"] * 1e6))
+        row("`fib save` of both, four peers", "%.1f" % save.seconds, number(save.memory / MIB),
+            "%d octets a candidate" % (save.memory / four.rows["route"] / 4))
 
 
 if __name__ == "__main__":
