@@ -116,7 +116,7 @@ some_refused X content named asked o a t = rw a (by_part t)
   where
     by_part : TextOfSome {X = X} content named (Err o) → GivesSome content (Some (Run named)) (Err o)
     by_part (inl s) = inl s
-    by_part (inr t) = inr (t.0, t.1, ran_refused (told_at content t.1 named t.0) o t.2)
+    by_part (inr t) = inr (t.0, t.1, t.2, ran_refused (told_at content t.1 named t.0) o t.3)
 
 -- a refusal of an input that a command names is one of the command
 stops_own : (asked : Asked) (o : Outcome) → StopsIn asked o → IsOf (Some asked) o

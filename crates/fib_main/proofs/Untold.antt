@@ -162,7 +162,7 @@ pub some_ends : (content : Content) (asked : Option Asked) (reply : code_reply.R
 some_ends content None reply old new o g e a = tt
 some_ends content (Some (Run named)) reply old new o (inl (inl s)) e a = absurd s
 some_ends content (Some (Run named)) reply old new o (inl (inr s)) e a = absurd s
-some_ends content (Some (Run named)) reply old new o (inr x) e a = inr (x.0, x.1, ends_fit (ran (told_at content x.1 named x.0)) reply.text.items (option_map wrong_as reply.wrong) old new o x.2 e a)
+some_ends content (Some (Run named)) reply old new o (inr x) e a = inr (x.0, x.1, x.2, ends_fit (ran (told_at content x.1 named x.0)) reply.text.items (option_map wrong_as reply.wrong) old new o x.3 e a)
 some_ends content (Some (Check name)) reply old new o (inl s) e a = absurd s
 some_ends content (Some (Check name)) reply old new o (inr x) e a = inr (x.0, ends_fit (Ok (Checked x.0)) reply.text.items (option_map wrong_as reply.wrong) old new o x.1 e a)
 some_ends content (Some (Make routes seed)) reply old new o x e a = ends_fit (made (made_at routes seed)) reply.text.items (option_map wrong_as reply.wrong) old new o x e a
@@ -181,7 +181,7 @@ pub some_fault : (content : Content) (asked : Option Asked) (reply : code_reply.
 some_fault content None reply old new g a = tt
 some_fault content (Some (Run named)) reply old new (inl (inl s)) a = absurd s
 some_fault content (Some (Run named)) reply old new (inl (inr s)) a = absurd s
-some_fault content (Some (Run named)) reply old new (inr x) a = inr (x.0, x.1, fault_fits (ran (told_at content x.1 named x.0)) reply.text.items (option_map wrong_as reply.wrong) old new x.2 a)
+some_fault content (Some (Run named)) reply old new (inr x) a = inr (x.0, x.1, x.2, fault_fits (ran (told_at content x.1 named x.0)) reply.text.items (option_map wrong_as reply.wrong) old new x.3 a)
 some_fault content (Some (Check name)) reply old new (inl s) a = absurd s
 some_fault content (Some (Check name)) reply old new (inr x) a = inr (x.0, fault_fits (Ok (Checked x.0)) reply.text.items (option_map wrong_as reply.wrong) old new x.1 a)
 some_fault content (Some (Make routes seed)) reply old new x a = fault_fits (made (made_at routes seed)) reply.text.items (option_map wrong_as reply.wrong) old new x a
@@ -199,7 +199,7 @@ some_fault content (Some (Steps named)) reply old new (inr x) a =
 pub some_stop : (content : Content) (asked : Option Asked) (o : Outcome) (old new : Option (List ℕ)) → GivesSome content asked (Err o) → new ≡ old → FitsSome content asked old new o
 some_stop content None o old new g same = tt
 some_stop content (Some (Run named)) o old new (inl s) same = inl s
-some_stop content (Some (Run named)) o old new (inr x) same = inr (x.0, x.1, stop_fits (ran (told_at content x.1 named x.0)) o old new x.2 same)
+some_stop content (Some (Run named)) o old new (inr x) same = inr (x.0, x.1, x.2, stop_fits (ran (told_at content x.1 named x.0)) o old new x.3 same)
 some_stop content (Some (Check name)) o old new (inl s) same = inl s
 some_stop content (Some (Check name)) o old new (inr x) same = inr (x.0, stop_fits (Ok (Checked x.0)) o old new x.1 same)
 some_stop content (Some (Make routes seed)) o old new x same = stop_fits (made (made_at routes seed)) o old new x same

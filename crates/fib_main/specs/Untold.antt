@@ -11,8 +11,8 @@ use Rattle.fib_words.specs.Commands.{Asked, Named, NamedSteps, Run, Check, Make,
 use Rattle.fib_main.specs.declared.reply.Reply as code_reply
 use Rattle.fib_main.specs.declared.outcome.Which.TheVariants.{Asks, Dump, Printed, Script, Text, Updates, Vrps}
 use Rattle.fib_main.specs.declared.outcome.Outcome.{Outcome}
-use Rattle.fib_main.specs.Stops.{Stop, Untold, GivesDue}
-use Rattle.fib_main.specs.Due.{Output, Alike, Checked, Repeats, saved_of, made, made_at, ran, stepped, told_at, with_reply, with_text, with_world, world_at}
+use Rattle.fib_main.specs.Stops.{Stop, Untold, GivesDue, IsDueIfTold}
+use Rattle.fib_main.specs.Due.{Output, Alike, Checked, Repeats, asks_at, saved_of, made, made_at, ran, stepped, told_at, with_reply, with_text, with_world, vrps_at, world_at}
 use Rattle.fib_main.specs.Ends.{Meets, Writes, text_due}
 use Rattle.fib_main.specs.Owned.{StopsAt, StoppedAt}
 use Rattle.fib_main.specs.Views.{reply_as}
@@ -29,10 +29,14 @@ FitsUntold d old new outcome = Meets d outcome × Writes (text_due d) old new ou
 abbrev pub FitsStepping : Result Stepping Stop → Option (List ℕ) → Option (List ℕ) → Outcome → Type 0
 FitsStepping d old new outcome = FitsUntold (stepped d) old new outcome × IfStepping d (λ s. EndsRun s old new outcome)
 
--- Whatever the asks and the list of VRPs hold: one of them is refused, or all is as due of some asks and some list, with the dump and the updates. Whatever a printed text holds: it is refused, or all is as due of some rows. Whatever a script holds: it is refused, or all is as due of some steps. Whatever texts hold: one is refused, or all is as due of some tables, or of a prefix that stands twice. Whatever inputs of records hold: one is refused, or all is as due of what was said in some.
+-- such asks and such a list of VRPs as a run can have: those that its inputs hold, where they tell it; none where none are named
+abbrev pub CanHave : (List ℕ → Option (List ℕ)) → Named → List Address → List Vrp → Type 0
+CanHave content named asks vrps = IsDueIfTold (asks_at content named.asks) (Ok asks) × IsDueIfTold (vrps_at content named.vrps) (Ok vrps)
+
+-- Whatever the asks and the list of VRPs hold: one of them is refused, or all is as due of some asks and some list that the run can have, with the dump and the updates. Whatever a printed text holds: it is refused, or all is as due of some rows. Whatever a script holds: it is refused, or all is as due of some steps. Whatever texts hold: one is refused, or all is as due of some tables, or of a prefix that stands twice. Whatever inputs of records hold: one is refused, or all is as due of what was said in some.
 abbrev pub FitsSome : (List ℕ → Option (List ℕ)) → Option Asked → Option (List ℕ) → Option (List ℕ) → Outcome → Type 0
 FitsSome content None old new outcome = Unit {0}
-FitsSome content (Some (Run named)) old new outcome = (StopsAt Asks outcome ⊎ StopsAt Vrps outcome) ⊎ ((asks : List Address) × (vrps : List Vrp) × FitsUntold (ran (told_at content vrps named asks)) old new outcome)
+FitsSome content (Some (Run named)) old new outcome = (StopsAt Asks outcome ⊎ StopsAt Vrps outcome) ⊎ ((asks : List Address) × (vrps : List Vrp) × CanHave content named asks vrps × FitsUntold (ran (told_at content vrps named asks)) old new outcome)
 FitsSome content (Some (Check name)) old new outcome = StopsAt Printed outcome ⊎ ((used : Used) × FitsUntold (Ok (Checked used)) old new outcome)
 FitsSome content (Some (Make routes seed)) old new outcome = FitsUntold (made (made_at routes seed)) old new outcome
 FitsSome content (Some (Same named)) old new outcome = ((n : ℕ) × StopsAt (Text n) outcome) ⊎ (((texts : Compared) × FitsUntold (Ok (Alike texts)) old new outcome) ⊎ ((p : Prefix) × FitsUntold (Ok (Repeats p)) old new outcome))
@@ -41,7 +45,7 @@ FitsSome content (Some (Steps named)) old new outcome = StopsAt Script outcome �
 
 -- the same of the text of a run's rows
 abbrev pub TextOfSome : {X : Type 0} → (List ℕ → Option (List ℕ)) → Named → Result (Vec ℕ X) Outcome → Type 0
-TextOfSome content named result = (StoppedAt Asks result ⊎ StoppedAt Vrps result) ⊎ ((asks : List Address) × (vrps : List Vrp) × GivesDue (λ v. v.items) result (with_text (told_at content vrps named asks)))
+TextOfSome content named result = (StoppedAt Asks result ⊎ StoppedAt Vrps result) ⊎ ((asks : List Address) × (vrps : List Vrp) × CanHave content named asks vrps × GivesDue (λ v. v.items) result (with_text (told_at content vrps named asks)))
 
 -- the same of the reply to a printed text
 abbrev pub ReplyOfSome : Result code_reply.Reply Outcome → Type 0
@@ -72,7 +76,7 @@ SavedOfSome result = (StoppedAt Dump result ⊎ StoppedAt Updates result) ⊎ ((
 -- the same of a reply to a command
 abbrev pub GivesSome : (List ℕ → Option (List ℕ)) → Option Asked → Result code_reply.Reply Outcome → Type 0
 GivesSome content None result = Unit {0}
-GivesSome content (Some (Run named)) result = (StoppedAt Asks result ⊎ StoppedAt Vrps result) ⊎ ((asks : List Address) × (vrps : List Vrp) × GivesDue reply_as result (with_reply (ran (told_at content vrps named asks))))
+GivesSome content (Some (Run named)) result = (StoppedAt Asks result ⊎ StoppedAt Vrps result) ⊎ ((asks : List Address) × (vrps : List Vrp) × CanHave content named asks vrps × GivesDue reply_as result (with_reply (ran (told_at content vrps named asks))))
 GivesSome content (Some (Check name)) result = ReplyOfSome result
 GivesSome content (Some (Make routes seed)) result = GivesDue reply_as result (with_reply (made (made_at routes seed)))
 GivesSome content (Some (Same named)) result = ComparedOfSome result

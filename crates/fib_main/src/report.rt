@@ -1,5 +1,5 @@
-//! What is told of a run: its routes, the announcements that are Invalid, the changes of the kept table, the answers, the table, the least table, its certificate
-//! and the counts.
+//! What is told of a run: its routes, the announcements that are Invalid, the changes of the kept table, the answers, the table,
+//! the least table, its certificate and the counts.
 //!
 //! The printed table is the kept one, which is the least table's old table too. The text is made section by section, from what
 //! the engine leaves once its candidates are let go: routes, entries and the rows of the certificate are written as they are

@@ -163,8 +163,8 @@ pub fn run_fib<I: Inputs, O: Sink, E: Sink>(
         (I.faults inputs.new) result }
 
     // Each input that the words name is read in order from its first octet on, each place once, and nothing is read after it failed
-    // or ended: asks or a script, then the list of VRPs, then the dump, then the updates, each to its end before the next; and nothing after the input
-    // that is refused. No read of an input is made once what was read of it before is to be refused: a line of the asks that has
+    // or ended: asks or a script, then the list of VRPs, then the dump, then the updates, each to its end before the next; and
+    // nothing after the input that is refused. No read of an input is made once what was read of it before is to be refused: a line of the asks that has
     // its line feed, a record that is whole or whose header is refused, an event. A name that stands for two inputs is read for
     // each. So each of them may be a pipe.
     ensures reads { Makes (I.reads inputs.old) (I.reads inputs.new)
@@ -184,8 +184,9 @@ pub fn run_fib<I: Inputs, O: Sink, E: Sink>(
     // The words have the outcome, whether or not an input tells what it holds.
     ensures own { IsOf (asked_by words.now) result }
 
-    // Where the asks and the list of VRPs of a run, the text of a check or the script of a run in steps don't tell, all is as it is due of some that
-    // there could be.
+    // Where the asks or the list of VRPs of a run, the text of a check, the script of a run in steps, the texts of a comparison or
+    // the inputs of a checkpoint don't tell, all is as it is due of some that there could be; asks and a list that tell are just
+    // these.
     ensures some { FitsSome (I.content inputs.old) (asked_by words.now) (O.written out.old)
         (O.written out.new) result }
 

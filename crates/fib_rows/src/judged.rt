@@ -27,50 +27,52 @@ const VALID: Judged<'static> = Judged {
     err: b"",
 };
 
+/// What each list comes to.
+const JUDGED: [Judged; 7] = [
+    VALID,
+    // another AS
+    Judged {
+        vrps: b"10.0.0.0/8,8,64501\n",
+        first: b"invalid,10.0.0.0/8,192.0.2.1,64500,64500,10.0.0.0/8,8,64501\ncert,leaf,0.0.0.0/0,none\n",
+        last: b"report,events,1\nreport,routes,0\nreport,entries,0\nreport,nodes,0\nreport,leaves,0\nreport,treated,0\n",
+        ..VALID
+    },
+    // no VRP covers the route
+    Judged {
+        vrps: b"10.0.0.0/16,24,64501\n",
+        ..VALID
+    },
+    // a route that is too long
+    Judged {
+        dump: &[PEERS, TEN_ONE],
+        first: b"invalid,10.1.0.0/16,192.0.2.1,64500,64500,10.0.0.0/8,8,64500\n",
+        ..VALID
+    },
+    // an empty list
+    Judged { vrps: b"", ..VALID },
+    Judged {
+        vrps: b"10.0.0.0/8,7,64500\n",
+        status: 8,
+        first: b"",
+        last: b"",
+        err: b"fib: bad line vrps 1 why 7\n",
+        ..VALID
+    },
+    // an empty line is counted
+    Judged {
+        vrps: b"\n10.0.0.0/8,8\n",
+        status: 8,
+        first: b"",
+        last: b"",
+        err: b"fib: bad line vrps 2 why 3\n",
+        ..VALID
+    },
+];
+
 #[test]
 fn lists_of_vrps(rt: HostRuntime) -> Result<(), Fail> {
-    let rows = [
-        VALID,
-        // another AS
-        Judged {
-            vrps: b"10.0.0.0/8,8,64501\n",
-            first: b"invalid,10.0.0.0/8,192.0.2.1,64500,64500,10.0.0.0/8,8,64501\ncert,leaf,0.0.0.0/0,none\n",
-            last: b"report,events,1\nreport,routes,0\nreport,entries,0\nreport,nodes,0\nreport,leaves,0\nreport,treated,0\n",
-            ..VALID
-        },
-        // no VRP covers the route
-        Judged {
-            vrps: b"10.0.0.0/16,24,64501\n",
-            ..VALID
-        },
-        // a route that is too long
-        Judged {
-            dump: &[PEERS, TEN_ONE],
-            first: b"invalid,10.1.0.0/16,192.0.2.1,64500,64500,10.0.0.0/8,8,64500\n",
-            ..VALID
-        },
-        // an empty list
-        Judged { vrps: b"", ..VALID },
-        Judged {
-            vrps: b"10.0.0.0/8,7,64500\n",
-            status: 8,
-            first: b"",
-            last: b"",
-            err: b"fib: bad line vrps 1 why 7\n",
-            ..VALID
-        },
-        // an empty line is counted
-        Judged {
-            vrps: b"\n10.0.0.0/8,8\n",
-            status: 8,
-            first: b"",
-            last: b"",
-            err: b"fib: bad line vrps 2 why 3\n",
-            ..VALID
-        },
-    ];
     let alloc = rt.alloc();
-    for row in &rows {
+    for row in &JUDGED {
         let dump = octets_of(alloc, row.dump)?;
         let mut names = Vec::new(alloc);
         add_input(alloc, &mut names, "dump", &dump)?;

@@ -1,7 +1,8 @@
 //! Printed texts that are compared, and checkpoints.
 
-use crate::harness::{octets_of, push_hex, words_of};
+use crate::harness::{Rows, octets_of, push_hex, text_of, words_of};
 use crate::records::{GONE_AND_BACK, PEERS, TEN};
+use crate::texts::{ROWS_OF_REPAIR, ROWS_OF_SNAPSHOT};
 use fib_io::{MemInputs, MemSink};
 use fib_main::run_fib;
 use std::alloc::Global;
@@ -64,85 +65,107 @@ const ALIKE: Compared<'static> = Compared {
     err: b"",
 };
 
+/// What each comparison comes to.
+const COMPARED: [Compared; 14] = [
+    ALIKE,
+    Compared {
+        words: &["fib", "same", "whole", "half"],
+        status: 13,
+        out: b"differ,2,128.0.0.0,192.0.2.1,none\n",
+        err: b"fib: differ\n",
+    },
+    Compared {
+        words: &["fib", "same", "whole", "whole", "half"],
+        status: 13,
+        out: b"differ,3,128.0.0.0,192.0.2.1,none\n",
+        err: b"fib: differ\n",
+    },
+    // an entry that drops answers as none does
+    Compared {
+        words: &["fib", "same", "empty", "drop"],
+        ..ALIKE
+    },
+    // rows of another kind aren't compared
+    Compared {
+        words: &["fib", "same", "whole", "half", "--rows", "least"],
+        ..ALIKE
+    },
+    Compared {
+        words: &["fib", "same", "--rows=route", "whole", "routes"],
+        status: 13,
+        out: b"differ,2,10.0.0.0,none,192.0.2.2\n",
+        err: b"fib: differ\n",
+    },
+    // a text is judged before the next one is read
+    Compared {
+        words: &["fib", "same", "whole", "twice", "bad"],
+        status: 1,
+        out: b"no,twice,10.0.0.0/8\n",
+        err: b"fib: no\n",
+    },
+    Compared {
+        words: &["fib", "same", "whole", "half", "bad"],
+        status: 8,
+        out: b"",
+        err: b"fib: bad line text3 2 why 2\n",
+    },
+    Compared {
+        words: &["fib", "same", "whole", "missing"],
+        status: 3,
+        out: b"",
+        err: b"fib: read fault\n",
+    },
+    Compared {
+        words: &["fib", "same", "whole"],
+        status: 2,
+        out: b"",
+        err: b"fib: usage\n",
+    },
+    Compared {
+        words: &["fib", "same", "whole", "half", "--rows", "cert"],
+        status: 2,
+        out: b"",
+        err: b"fib: usage\n",
+    },
+    // a kept table as a repair left it and as a snapshot does send all addresses alike
+    Compared {
+        words: &["fib", "same", "repaired", "renewed"],
+        ..ALIKE
+    },
+    Compared {
+        words: &["fib", "same", "repaired", "renewed", "--rows=route"],
+        ..ALIKE
+    },
+    Compared {
+        words: &["fib", "same", "repaired", "renewed", "--rows=least"],
+        ..ALIKE
+    },
+];
+
+/// The texts by their names.
+const TEXTS: [(&str, Rows<'static>); 9] = [
+    ("whole", &[&["table,0.0.0.0/0,192.0.2.1"]]),
+    ("half", &[&["table,0.0.0.0/1,192.0.2.1"]]),
+    ("empty", &[]),
+    ("drop", &[&["table,10.0.0.0/8,drop"]]),
+    ("routes", &[&["route,10.0.0.0/8,192.0.2.2"]]),
+    (
+        "twice",
+        &[&["table,10.0.0.0/8,drop", "table,10.0.0.0/8,drop"]],
+    ),
+    ("bad", &[&["table,10.0.0.0/8,drop", "no row"]]),
+    ("repaired", ROWS_OF_REPAIR),
+    ("renewed", ROWS_OF_SNAPSHOT),
+];
+
 #[test]
 fn compared_texts(rt: HostRuntime) -> Result<(), Fail> {
-    let rows = [
-        ALIKE,
-        Compared {
-            words: &["fib", "same", "whole", "half"],
-            status: 13,
-            out: b"differ,2,128.0.0.0,192.0.2.1,none\n",
-            err: b"fib: differ\n",
-        },
-        Compared {
-            words: &["fib", "same", "whole", "whole", "half"],
-            status: 13,
-            out: b"differ,3,128.0.0.0,192.0.2.1,none\n",
-            err: b"fib: differ\n",
-        },
-        // an entry that drops answers as none does
-        Compared {
-            words: &["fib", "same", "empty", "drop"],
-            ..ALIKE
-        },
-        // rows of another kind aren't compared
-        Compared {
-            words: &["fib", "same", "whole", "half", "--rows", "least"],
-            ..ALIKE
-        },
-        Compared {
-            words: &["fib", "same", "--rows=route", "whole", "routes"],
-            status: 13,
-            out: b"differ,2,10.0.0.0,none,192.0.2.2\n",
-            err: b"fib: differ\n",
-        },
-        // a text is judged before the next one is read
-        Compared {
-            words: &["fib", "same", "whole", "twice", "bad"],
-            status: 1,
-            out: b"no,twice,10.0.0.0/8\n",
-            err: b"fib: no\n",
-        },
-        Compared {
-            words: &["fib", "same", "whole", "half", "bad"],
-            status: 8,
-            out: b"",
-            err: b"fib: bad line text3 2 why 2\n",
-        },
-        Compared {
-            words: &["fib", "same", "whole", "missing"],
-            status: 3,
-            out: b"",
-            err: b"fib: read fault\n",
-        },
-        Compared {
-            words: &["fib", "same", "whole"],
-            status: 2,
-            out: b"",
-            err: b"fib: usage\n",
-        },
-        Compared {
-            words: &["fib", "same", "whole", "half", "--rows", "cert"],
-            status: 2,
-            out: b"",
-            err: b"fib: usage\n",
-        },
-    ];
     let alloc = rt.alloc();
-    for row in &rows {
+    for row in &COMPARED {
         let mut names = Vec::new(alloc);
-        add_input(alloc, &mut names, "whole", b"table,0.0.0.0/0,192.0.2.1\n")?;
-        add_input(alloc, &mut names, "half", b"table,0.0.0.0/1,192.0.2.1\n")?;
-        add_input(alloc, &mut names, "empty", b"")?;
-        add_input(alloc, &mut names, "drop", b"table,10.0.0.0/8,drop\n")?;
-        add_input(alloc, &mut names, "routes", b"route,10.0.0.0/8,192.0.2.2\n")?;
-        add_input(
-            alloc,
-            &mut names,
-            "twice",
-            b"table,10.0.0.0/8,drop\ntable,10.0.0.0/8,drop\n",
-        )?;
-        add_input(alloc, &mut names, "bad", b"table,10.0.0.0/8,drop\nno row\n")?;
+        for (name, rows) in &TEXTS {
+            names.push((String::from_str(alloc, name)?, text_of(alloc, rows)?))?;
+        }
         let came = run_on(alloc, row.words, names)?;
         assert_eq!(rt; came.status, row.status);
         assert_eq!(rt; came.out.written(), row.out);
