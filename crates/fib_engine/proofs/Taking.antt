@@ -28,7 +28,7 @@ use Rattle.least_model.specs.Least.{bound}
 use Rattle.cert_model.specs.Rows.{CertRow, bound_row, certificate_of, family_rows, region_rows, whole_prefix}
 use Rattle.delta_model.specs.Between.{between, hop_at}
 use Rattle.kept_model.specs.Patched.{with_route, patch_of, after_repair, after_snapshot}
-use Rattle.kept_feed.specs.Kept.{AreNumberedAlong, is_other, is_due, changed_at, snapshot_if, kept_at_load, kept_by, changes_by, kept_from}
+use Rattle.kept_feed.specs.Kept.{AreNumberedAlong, is_other, is_due, changed_at, snapshot_if, kept_at_load, kept_by, changes_by, kept_from, repaired_by}
 use Rattle.kept_feed.proofs.Steps.{elems_more, kept_step, numbered_along, numbered_later, snapshot_is}
 use Rattle.kept_feed.proofs.Stays.{kept_stays, load_stays}
 use Rattle.fib_addr.specs.Hops.{most_hops}
@@ -51,7 +51,7 @@ use Rattle.smalta_keep.proofs.Tables.{renewed_placed, renewed_family}
 use Rattle.route_tries.specs.Sizes.{Sizes, shortage}
 use Rattle.route_tries.specs.declared.needs.FamilyNeeds.{FamilyNeeds}
 use Rattle.fib_engine.specs.Settled.{AreSettled}
-use Rattle.fib_engine.specs.Tables.{Both, Route, AreBoth, AreOfRoutes, AreTold, ArePut, KeepRoutes, KeepTables, MadeBy, both_routes, gathered, only, route_in, table_of as both_tables}
+use Rattle.fib_engine.specs.Tables.{Both, Route, AreBoth, AreOfRoutes, AreTold, ArePut, KeepRoutes, KeepTables, MadeBy, both_repairs, both_routes, gathered, only, route_in, table_of as both_tables}
 use Rattle.fib_engine.specs.Held.{AreKeptNeeds, Held, IsKept, IsSound, if_loaded, routes_in}
 use Rattle.fib_engine.specs.Numbers.{IsNewNumber, IsRouteOf, HasNumber, number_or_none}
 use Rattle.fib_engine.specs.Stands.{IsLoading, Stands, Takes}
@@ -324,6 +324,7 @@ module _ (C : Candidates) (H : List Address) (elem : Elem) (elems : List Elem) (
 pub record IsTaken (every event : ℕ) (C : Candidates) (H : List Address) (elem : Elem) (old new : Both) (v4 v6 : Repair) : Type 0 where
   pub sound : IsSound (after_elem C elem) (hops_after H (elem ∷ [])) true new
   pub table : both_tables new ≡ kept_by every (hops_after H (elem ∷ [])) event C (both_tables old) elem
+  pub repair : both_repairs (moved_of v4) (moved_of v6) ≡ between (both_tables old) (repaired_by (hops_after H (elem ∷ [])) C (both_tables old) elem)
   pub changes : gathered (moved_of v4) (moved_of v6) ≡ changes_by every (hops_after H (elem ∷ [])) event C (both_tables old) elem
 
 pub taken : (every event : ℕ) (C : Candidates) (H : List Address) (elem : Elem) (b n m : Both) (choice : Choice) (route : Route) (low_plan high_plan : Repair) (due : Bool) → IsSound C H true b → IsElem elem → length (hops_after H (elem ∷ [])) ≤ most_hops
@@ -375,6 +376,9 @@ taken every event C H elem b n m choice route low_plan high_plan due s x few ch 
         };
       };
       table = ap (λ (L : Entries). L ++ m.v6.entries) low.0 ∙ (ap (λ (L : Entries). A'' ++ L) high.0 ∙ whole);
+      repair =
+          ap (λ (cs : List Change). cs ++ repair_as (moved_of high_plan)) low.1
+          ∙ (ap (λ (cs : List Change). between A A' ++ cs) high.1 ∙ (both_changes A B A' B' fa fb both.1 both.2 ∙ ap (between (A ++ B)) both.0));
       changes =
           ap (λ (cs : List Change). (cs ++ repair_as (moved_of high_plan)) ++ (snapshot_as (moved_of low_plan) ++ snapshot_as (moved_of high_plan))) low.1
           ∙ (ap (λ (cs : List Change). (between A A' ++ cs) ++ (snapshot_as (moved_of low_plan) ++ snapshot_as (moved_of high_plan))) high.1

@@ -5,7 +5,8 @@ use Rattle.table_model.specs.Changes.{Change}
 use Rattle.route_model.specs.Events.{Elem}
 use Rattle.route_model.specs.Choice.{IsElem, after_elem, after_elems}
 use Rattle.feed_model.specs.Feed.{entries_of, hops_after}
-use Rattle.kept_feed.specs.Kept.{changes_by, kept_at_load, kept_by, kept_from}
+use Rattle.delta_model.specs.Between.{between}
+use Rattle.kept_feed.specs.Kept.{changes_by, kept_at_load, kept_by, kept_from, repaired_by}
 use Rattle.fib_addr.specs.Hops.{most_hops}
 use Rattle.route_tries.specs.Sizes.{shortage, shortage_as}
 use Rattle.route_tries.specs.declared.sizes.TrieFull.{TrieFull}
@@ -67,6 +68,10 @@ pub record Takes (elem : Elem) (old new : Held) : Type 0 where
 -- its changes: those of the repair, and then those of the snapshot, if one is due
 abbrev pub changes_of : Elem → Held → List Change
 changes_of elem old = changes_by old.every (hops_after old.hops (elem ∷ [])) (old.events + 1) old.candidates old.table elem
+
+-- those of the repair alone
+abbrev pub repair_of : Elem → Held → List Change
+repair_of elem old = between old.table (repaired_by (hops_after old.hops (elem ∷ [])) old.candidates old.table elem)
 
 -- the elementary event brings one different hop too many
 abbrev pub IsTooMany : Elem → Held → Type 0

@@ -71,9 +71,12 @@ abbrev pub route_in : Family → Route → Route
 route_in f None = None
 route_in f (Some r) = cond (same_family r.0.family f) (Some r) None
 
--- all changes of both: those of the repairs, then those of the snapshots
+-- the changes of both repairs, and all changes of both: those of the repairs, then those of the snapshots
+abbrev pub both_repairs : Moved → Moved → List Change
+both_repairs v4 v6 = repair_as v4 ++ repair_as v6
+
 abbrev pub gathered : Moved → Moved → List Change
-gathered v4 v6 = (repair_as v4 ++ repair_as v6) ++ (snapshot_as v4 ++ snapshot_as v6)
+gathered v4 v6 = both_repairs v4 v6 ++ (snapshot_as v4 ++ snapshot_as v6)
 
 -- the table of the route's family has the route
 pub record ArePut (route : Route) (old new : Both) : Type 0 where

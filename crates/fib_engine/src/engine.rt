@@ -20,14 +20,13 @@ ghost use Rattle.fib_engine.specs.Held.{routes_in, routes_told};
 ghost use Rattle.fib_engine.specs.Numbers.{HasNumber, IsNewNumber, IsOwnNumber, IsRouteOf, numbered};
 ghost use Rattle.fib_engine.specs.Tables.{AreOfRoutes};
 ghost use Rattle.fib_engine.specs.Turns.{AreTurnsOf};
-ghost use Rattle.fib_engine.specs.Stands.{EndsLoad, IsLoading, IsShortFor, IsTooMany, Loads, Stands, Takes, changes_of, routes_after};
+ghost use Rattle.fib_engine.specs.Stands.{EndsLoad, IsLoading, IsShortFor, IsTooMany, Loads, Stands, Takes, changes_of, repair_of, routes_after};
 
 use crate::error::EngineError;
 use crate::fitting::plan_fitting;
 use crate::settled::Settled;
-use crate::tables::Tables;
+use crate::tables::{EventChanges, Tables};
 use crate::turns::Turns;
-use fib_delta::Change;
 use fib_prefix::{Addr, Elem, Entry, Event, Family, Hop, HopTable, HopsFull, Prefix};
 use ortc::Fresh;
 use route_choice::{Candidates, Choice};
@@ -263,19 +262,21 @@ impl Engine {
     }
 
     /// Takes an elementary event after the load, counts it, and gives its changes: those of the repair at its prefix, where it
-    /// changes the chosen hop, then those of a snapshot of both families, where one is due. Its hop gets a number, chosen or
+    /// changes the chosen hop, then those of a snapshot of both families, where one is due; and how many are the repair's. Its hop gets a number, chosen or
     /// not. What tries need is counted anew at its prefix alone, where it changes the chosen hop.
     ///
     /// # Errors
     ///
     /// `HopsFull` exactly where the event brings one different hop too many, else `TrieFull` exactly where tries of the routes
     /// after it need more than an arena has, of which it names the first; or no memory. Then the engine is as it was.
-    pub fn apply(&mut self, elem: &Elem) -> Result<Vec<Change>, EngineError>
+    pub fn apply(&mut self, elem: &Elem) -> Result<EventChanges, EngineError>
         requires loaded { self.old.loaded ≡ true }
         requires few { self.old.events + 1 < 2 ^ 64 }
         ensures takes { OnOk result (Takes (elem_as elem.now) self.old self.new) }
-        ensures changes { IfOk result (λ v. map change_as v.items
+        ensures changes { IfOk result (λ e. map change_as e.changes.items
             ≡ changes_of (elem_as elem.now) self.old) }
+        ensures repaired { IfOk result (λ e. e.repaired
+            ≡ length (repair_of (elem_as elem.now) self.old)) }
         ensures stands { OnOk result ((load elems : List model_elem) → Stands load elems self.old
             → Stands load (elems ++ elem_as elem.now ∷ []) self.new) }
         ensures full { IsErrOf result EngineError.HopsFull ↔ IsTooMany (elem_as elem.now) self.old }

@@ -1,12 +1,12 @@
 //! A plan of both tables, with what tries of its routes need.
 
-ghost use Rattle.std.specs.Prelude.{◌≡◌, Some, None, IfOk, OnOk, OnErr, IsErrOf, map};
+ghost use Rattle.std.specs.Prelude.{◌≡◌, Some, None, IfOk, OnOk, OnErr, IsErrOf, length, map};
 ghost use Rattle.fib_delta.specs.Views.{change_as};
 ghost use Rattle.smalta_keep.specs.Views.{moved_of};
 ghost use Rattle.orig_tree.specs.Views.{InPlace};
 ghost use Rattle.route_tries.specs.Sizes.{AreFew, first_short, shortage_as, sizes_as};
 ghost use Rattle.route_tries.specs.declared.sizes.TrieFull.{TrieFull};
-ghost use Rattle.fib_engine.specs.Tables.{AreBoth, AreTold, ArePlanned, ArePut, IsReplaced, KeepRoutes, KeepTables, gathered, needs_in, needs_put};
+ghost use Rattle.fib_engine.specs.Tables.{AreBoth, AreTold, ArePlanned, ArePut, IsReplaced, KeepRoutes, KeepTables, both_repairs, gathered, needs_in, needs_put};
 
 use crate::error::EngineError;
 use crate::tables::{Plan, Tables};
@@ -54,8 +54,10 @@ fn plan_route(
     ensures put { OnOk result (ArePut (Some route) tables.old tables.new) }
     ensures planned { IfOk result (λ p. ArePlanned tables.new p.plan) }
     ensures told { IfOk result (λ p. AreTold tables.new (Some route) snapshot p.plan.v4 p.plan.v6) }
-    ensures changes { IfOk result (λ p. map change_as p.plan.changes.items
+    ensures changes { IfOk result (λ p. map change_as p.plan.changes.changes.items
         ≡ gathered (moved_of p.plan.v4) (moved_of p.plan.v6)) }
+    ensures repaired { IfOk result (λ p. p.plan.changes.repaired
+        ≡ length (both_repairs (moved_of p.plan.v4) (moved_of p.plan.v6))) }
     ensures needs { IfOk result (λ p. p.needs ≡ needs_put sizes.now.direct (Some route) tables.old) }
     ensures fits { OnOk result (first_short (sizes_as sizes.now)
         (needs_put sizes.now.direct (Some route) tables.old) ≡ None) }
@@ -100,8 +102,10 @@ pub fn plan_fitting(
     ensures put { OnOk result (ArePut route tables.old tables.new) }
     ensures planned { IfOk result (λ p. ArePlanned tables.new p.plan) }
     ensures told { IfOk result (λ p. AreTold tables.new route snapshot p.plan.v4 p.plan.v6) }
-    ensures changes { IfOk result (λ p. map change_as p.plan.changes.items
+    ensures changes { IfOk result (λ p. map change_as p.plan.changes.changes.items
         ≡ gathered (moved_of p.plan.v4) (moved_of p.plan.v6)) }
+    ensures repaired { IfOk result (λ p. p.plan.changes.repaired
+        ≡ length (both_repairs (moved_of p.plan.v4) (moved_of p.plan.v6))) }
     ensures needs { IfOk result (λ p. p.needs ≡ needs_put sizes.now.direct route tables.old) }
     ensures fits { OnOk result (first_short (sizes_as sizes.now)
         (needs_put sizes.now.direct route tables.old) ≡ None) }

@@ -23,4 +23,5 @@ pub use engine::{Engine, Limits};
 pub use error::EngineError;
 pub use route_tries::{FamilyNeeds, Found, Needs, Sizes, TrieFull, Tries};
 pub use settled::Settled;
+pub use tables::EventChanges;
 pub use turns::Turns;

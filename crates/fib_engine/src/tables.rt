@@ -1,6 +1,6 @@
 //! The kept tables of both families.
 
-ghost use Rattle.std.specs.Prelude.{◌≡◌, ◌≤◌, [], ◌∷◌, ◌++◌, IfOk, OnOk, OnErr, map};
+ghost use Rattle.std.specs.Prelude.{◌≡◌, ◌≤◌, [], ◌∷◌, ◌++◌, IfOk, OnOk, OnErr, length, map};
 ghost use Rattle.std.specs.List.{AllByRecursion};
 ghost use Rattle.address_model.specs.declared.family.Family.TheVariants.{V4, V6};
 ghost use Rattle.least_model.specs.Both.{aggregate_in};
@@ -10,7 +10,7 @@ ghost use Rattle.fib_delta.specs.Views.{change_as};
 ghost use Rattle.cert_rows.specs.Views.{row_as};
 ghost use Rattle.smalta_keep.specs.Views.{moved_of};
 ghost use Rattle.route_tries.specs.Sizes.{told_needs};
-ghost use Rattle.fib_engine.specs.Tables.{AreBoth, AreTold, ArePlanned, ArePut, AreUndone, Given, gathered, needs_in, route_in, labels_of, table_of, both_routes, KeepRoutes, KeepTables, MadeBy};
+ghost use Rattle.fib_engine.specs.Tables.{AreBoth, AreTold, ArePlanned, ArePut, AreUndone, Given, both_repairs, gathered, needs_in, route_in, labels_of, table_of, both_routes, KeepRoutes, KeepTables, MadeBy};
 
 use cert_rows::RowSink;
 use entry_rows::EntrySink;
@@ -38,12 +38,21 @@ impl Model for Tables {
     ghost view = { λ t. record { v4 = t.v4; v6 = t.v6 } };
 }
 
+/// The changes of an elementary event.
+#[derive(Drop)]
+pub struct EventChanges {
+    /// Those of the repair, then those of the snapshot; both in the order of prefixes.
+    pub changes: Vec<Change>,
+    /// How many of them are the repair's.
+    pub repaired: usize,
+}
+
 /// What is planned of both tables, and all changes that it will make.
 #[derive(Drop)]
 pub struct Plan {
     pub(crate) v4: Repair,
     pub(crate) v6: Repair,
-    pub(crate) changes: Vec<Change>,
+    pub(crate) changes: EventChanges,
 }
 
 /// The route, if it is of the family.
@@ -57,15 +66,17 @@ fn route_of(route: Option<(Prefix, Hop)>, family: Family) -> Option<(Prefix, Hop
 }
 
 /// The changes of both repairs, then those of both snapshots; IPv4 first.
-fn gather(alloc: Global, v4: &Moved, v6: &Moved) -> Result<Vec<Change>, AllocError>
-    ensures { IfOk result (λ v. map change_as v.items ≡ gathered v4.now v6.now) }
+fn gather(alloc: Global, v4: &Moved, v6: &Moved) -> Result<EventChanges, AllocError>
+    ensures changes { IfOk result (λ e. map change_as e.changes.items ≡ gathered v4.now v6.now) }
+    ensures repaired { IfOk result (λ e. e.repaired ≡ length (both_repairs v4.now v6.now)) }
 {
     let mut changes = Vec::new(alloc);
     changes.extend_from_slice(&v4.repair)?;
     changes.extend_from_slice(&v6.repair)?;
+    let repaired = changes.len();
     changes.extend_from_slice(&v4.snapshot)?;
     changes.extend_from_slice(&v6.snapshot)?;
-    Ok(changes)
+    Ok(EventChanges { changes, repaired })
 }
 
 impl Tables {
@@ -135,8 +146,10 @@ impl Tables {
         ensures planned { IfOk result (ArePlanned self.new) }
         ensures told { IfOk result (λ p. AreTold self.new route snapshot p.v4 p.v6) }
         ensures undone { IfOk result (λ p. AreUndone p self.new self.old) }
-        ensures changes { IfOk result (λ p. map change_as p.changes.items
+        ensures changes { IfOk result (λ p. map change_as p.changes.changes.items
             ≡ gathered (moved_of p.v4) (moved_of p.v6)) }
+        ensures repaired { IfOk result (λ p. p.changes.repaired
+            ≡ length (both_repairs (moved_of p.v4) (moved_of p.v6))) }
         ensures err { OnErr result (KeepRoutes self.old self.new) }
     {
         let v4 = self.v4.plan(route_of(route, Family::V4), snapshot)?;
@@ -169,12 +182,12 @@ impl Tables {
     }
 
     /// Makes what was planned, where nothing changed since, and gives the changes. It takes no memory.
-    pub fn commit(&mut self, plan: Plan) -> Vec<Change>
+    pub fn commit(&mut self, plan: Plan) -> EventChanges
         requires { ArePlanned self.old plan }
         ensures routes { KeepRoutes self.old self.new }
         ensures v4 { MadeBy plan.v4 self.old.v4 self.new.v4 }
         ensures v6 { MadeBy plan.v6 self.old.v6 self.new.v6 }
-        ensures changes { result.items ≡ plan.changes.items }
+        ensures changes { result ≡ plan.changes }
     {
         self.v4.commit(plan.v4);
         self.v6.commit(plan.v6);

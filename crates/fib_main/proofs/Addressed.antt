@@ -28,7 +28,9 @@ use Rattle.route_model.specs.Events.{Elem}
 use Rattle.route_model.specs.Choice.{Candidates, after_elem, after_elems, routes_of}
 use Rattle.delta_model.specs.Between.{between, change_at, changes_at, hop_at}
 use Rattle.kept_model.specs.Patched.{after_repair, entries_outside, patch_of, region_aggregate}
-use Rattle.kept_feed.specs.Kept.{changed_at, changes_by, is_due, kept_at_load, kept_by, kept_changes_from, kept_from, kept_load_changes, repaired_by, snapshot_if, snapshot_of}
+use Rattle.kept_feed.specs.Kept.{changed_at, is_due, kept_at_load, kept_by, kept_from, repaired_by, snapshot_if, snapshot_of}
+use Rattle.steady_feed.specs.Told.{event_told, events_told, load_told, steady_if}
+use Rattle.steady_feed.proofs.Told.{all_told}
 use Rattle.feed_model.specs.Feed.{at_event, entries_of, hops_after, number_in}
 use Rattle.feed_model.proofs.Numbers.{hops_distinct, entries_have}
 use Rattle.fib_report.specs.Views.{Answer}
@@ -302,25 +304,40 @@ between_have : (hops : List Address) (n : ℕ) (old new : Entries) → EntriesAt
 unfolding between
 between_have hops n old new a = places_have hops n (keys_of (in_order (old ++ new))) old new a
 
-by_changes_have : (every : ℕ) (hops : List Address) (n : ℕ) (held : Candidates) (T : Entries) (elem : Elem) → EntriesAtMost (length hops) T → ChangesHave hops (at_event n (changes_by every hops n held T elem))
-by_changes_have every hops n held T elem t =
+of_event : (hops : List Address) (n : ℕ) (cs : List Change) → ChangesHave hops (at_event n cs) → AllByRecursion (ChangeHasHop hops) cs
+of_event hops n [] a = tt
+of_event hops n (c ∷ cs) a = (a.0, of_event hops n cs a.1)
+
+to_event : (hops : List Address) (n : ℕ) (cs : List Change) → AllByRecursion (ChangeHasHop hops) cs → ChangesHave hops (at_event n cs)
+to_event hops n [] a = tt
+to_event hops n (c ∷ cs) a = (a.0, to_event hops n cs a.1)
+
+-- in whatever order they are told
+told_have : (hops : List Address) (n : ℕ) (steady : Bool) (cs : List Change) → ChangesHave hops (at_event n cs) → ChangesHave hops (at_event n (steady_if steady cs))
+told_have hops n steady cs a = to_event hops n (steady_if steady cs) (all_told (ChangeHasHop hops) steady cs (of_event hops n cs a))
+
+event_has : (steady : Bool) (every : ℕ) (hops : List Address) (n : ℕ) (held : Candidates) (T : Entries) (elem : Elem) → EntriesAtMost (length hops) T → ChangesHave hops (at_event n (event_told steady every hops n held T elem))
+event_has steady every hops n held T elem t =
     let N = repaired_by hops held T elem in
     let M = kept_by every hops n held T elem in
-    subst (ChangesHave hops) (sym (at_both n (between T N) (between N M)))
-    (both (λ (c : ℕ × Change). ChangeHasHop hops c.1) (at_event n (between T N)) (at_event n (between N M)) (between_have hops n T N (repaired_has every hops held T elem t)) (between_have hops n N M (by_has every hops n held T elem t)))
+    subst (ChangesHave hops) (sym (at_both n (steady_if steady (between T N)) (steady_if steady (between N M))))
+    (both (λ (c : ℕ × Change). ChangeHasHop hops c.1) (at_event n (steady_if steady (between T N))) (at_event n (steady_if steady (between N M))) (told_have hops n steady (between T N) (between_have hops n T N (repaired_has every hops held T elem t)))
+    (told_have hops n steady (between N M) (between_have hops n N M (by_has every hops n held T elem t))))
 
-changes_have : (every : ℕ) (hops : List Address) (n : ℕ) (held : Candidates) (T : Entries) (elems : List Elem) → EntriesAtMost (length hops) T → ChangesHave hops (kept_changes_from every hops n held T elems)
-unfolding kept_changes_from
-changes_have every hops n held T [] t = tt
-changes_have every hops n held T (elem ∷ elems) t =
+events_have : (steady : Bool) (every : ℕ) (hops : List Address) (n : ℕ) (held : Candidates) (T : Entries) (elems : List Elem) → EntriesAtMost (length hops) T → ChangesHave hops (events_told steady every hops n held T elems)
+unfolding events_told
+events_have steady every hops n held T [] t = tt
+events_have steady every hops n held T (elem ∷ elems) t =
     let M = kept_by every hops n held T elem in
-    both (λ (c : ℕ × Change). ChangeHasHop hops c.1) (at_event n (changes_by every hops n held T elem)) (kept_changes_from every hops (n + 1) (after_elem held elem) M elems) (by_changes_have every hops n held T elem t) (changes_have every hops (n + 1) (after_elem held elem) M elems (by_has every hops n held T elem t))
+    both (λ (c : ℕ × Change). ChangeHasHop hops c.1) (at_event n (event_told steady every hops n held T elem)) (events_told steady every hops (n + 1) (after_elem held elem) M elems) (event_has steady every hops n held T elem t)
+    (events_have steady every hops (n + 1) (after_elem held elem) M elems (by_has every hops n held T elem t))
 
 -- ---- all that is told
 
 pub has_hops : (limits : Limits) (load updates : Feed) (asks : List Address) → HasHops (printed limits load updates asks)
 has_hops limits load updates asks =
     let every : ℕ = limits.every in
+    let steady : Bool = limits.steady in
     let elems : List Elem = load.elems ++ updates.elems in
     let hops : List Address = hops_after [] elems in
     let held : Candidates = after_elems [] load.elems in
@@ -331,7 +348,7 @@ has_hops limits load updates asks =
     record {
       distinct = hops_distinct elems;
       routes = entries_have elems;
-      changes = both (λ (c : ℕ × Change). ChangeHasHop hops c.1) (kept_load_changes hops held) (kept_changes_from every hops 1 held T updates.elems) (between_have hops 0 [] T first) (changes_have every hops 1 held T updates.elems first);
+      changes = both (λ (c : ℕ × Change). ChangeHasHop hops c.1) (load_told steady hops held) (events_told steady every hops 1 held T updates.elems) (told_have hops 0 steady (between [] T) (between_have hops 0 [] T first)) (events_have steady every hops 1 held T updates.elems first);
       answers = answers_at_most (length hops) limits.sizes.direct R asks few;
       table = table_has every hops 1 held T updates.elems first;
       least = least_at_most (length hops) R (kept_of every hops load.elems updates.elems) few;

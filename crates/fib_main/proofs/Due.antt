@@ -234,11 +234,12 @@ run_read content named asks vrps before mid last now (Err o) i j m l r =
 
 -- ---- where the inputs begin
 
-pub stands_new : (limits : Limits) (state : State) → state.engine ≡ record { every = limits.every; sizes = limits.sizes; candidates = []; hops = []; table = []; loaded = false; events = 0 } → state.added.items ≡ [] → state.changes.items ≡ [] → StateStands Dump limits [] [] state
+pub stands_new : (limits : Limits) (state : State) → state.engine ≡ record { every = limits.every; sizes = limits.sizes; candidates = []; hops = []; table = []; loaded = false; events = 0 } → state.steady ≡ limits.steady → state.added.items ≡ [] → state.changes.items ≡ [] → StateStands Dump limits [] [] state
 unfolding stop_at
-stands_new limits state e a n = record {
+stands_new limits state e t a n = record {
   engine = rw e (record { candidates = refl; hops = refl; proper = tt; table = refl; loaded = refl; events = refl });
   every_is = ap (λ (h : Held). h.every) e;
+  steady_is = t;
   sizes_are = ap (λ (h : Held). h.sizes) e;
   few = rw e (omega arith);
   fits = refl;

@@ -26,7 +26,10 @@ use Rattle.feed_model.specs.Feed.{hops_after, entries_of}
 use Rattle.feed_model.proofs.Tables.{entries_sorted}
 use Rattle.kept_feed.specs.Kept.{changed_at, kept_at_load, kept_by}
 use Rattle.kept_feed.proofs.Steps.{kept_step}
-use Rattle.kept_feed.proofs.Sums.{all}
+use Rattle.steady_feed.specs.Told.{run_told}
+use Rattle.steady_feed.specs.Meanwhile.{AnswerMeanwhile}
+use Rattle.steady_feed.proofs.Told.{run_sum}
+use Rattle.steady_feed.proofs.Events.{meanwhile}
 use Rattle.fib_same.specs.Due.{same_at}
 use Rattle.fib_words.specs.Commands.{Named, Asked, Run, Check, Make, Steps, Same, Save, command_of}
 use Rattle.fib_main.proofs.Replies.{same_ran, save_ran, saved_only}
@@ -45,7 +48,7 @@ use Rattle.step_run.specs.Stepping.{Stepping}
 use Rattle.fib_main.specs.Due.{Feed, Printed, stepped, stepping_at, printed, asks_at, feed_at, feeds_at, limits_of, load_at, made, made_at, sizes_of, feed_of, feed_in, elems_in, read_part, changes_of, kept_of, told_at, run_at, used_at, vrps_at, output_at, ran, checked, due, usage, answers_to, saved_at}
 use Rattle.fib_main.specs.Proves.{IfRan}
 use Rattle.fib_main.specs.Runs.{IfDue, SumsUp, Forwards, Answers, HasLeast, HasAggregate, Certified, InPrefixOrder, IsInOrder, HasHops}
-use Rattle.fib_main.specs.Keeps.{Follows, HasTable, KeepsTables, RenewsLeast, RepairsFewest, RepairsWithin, changes_to, entries_besides}
+use Rattle.fib_main.specs.Keeps.{Follows, HasTable, KeepsTables, MissesNone, RenewsLeast, routes_before, routes_then, RepairsFewest, RepairsWithin, changes_to, entries_besides}
 use Rattle.fib_main.proofs.Addressed.{has_hops}
 use Rattle.fib_main.proofs.Certifying.{certified_least, least_in_both}
 use Rattle.fib_main.proofs.Keeping.{alike_after, fewest_by, in_order, kept_placed, least_after, loaded_placed, none_due, none_past, outside_by, sum_is, table_is}
@@ -183,7 +186,7 @@ held_all : (load updates : Feed) → after_elems [] (load.elems ++ updates.elems
 held_all load updates = fold-append after_elem [] load.elems updates.elems
 
 pub sums_up : (words : Words) (content : Content) → IfDue (due words content) SumsUp
-sums_up = each_due (λ p. SumsUp p.told) (λ limits load updates asks p q. all limits.every (hops_after [] (load.elems ++ updates.elems)) (after_elems [] load.elems) updates.elems q)
+sums_up = each_due (λ p. SumsUp p.told) (λ limits load updates asks p q. run_sum limits.steady limits.every (hops_after [] (load.elems ++ updates.elems)) (after_elems [] load.elems) updates.elems q)
 
 pub forwards : (words : Words) (content : Content) → IfDue (due words content) Forwards
 forwards = each_due (λ p. Forwards p.told) (λ limits load updates asks p q.
@@ -246,7 +249,7 @@ table_at : (limits : Limits) (load updates : Feed) (asks : List Address) (done r
 table_at limits load updates asks done rest T q e h =
     let hops : List Address = hops_after [] (load.elems ++ updates.elems) in
     let held : Candidates = after_elems [] load.elems in
-    table_is limits.every hops held done rest T (front_of done rest (subst (AllByRecursion IsElem) e q)) (subst (λ es. sum_of (changes_to (length done) (changes_of limits.every hops load.elems es)) ≡ Some T) e h)
+    table_is limits.steady limits.every hops held done rest T (front_of done rest (subst (AllByRecursion IsElem) e q)) (subst (λ es. sum_of (changes_to (length done) (changes_of limits.steady limits.every hops load.elems es)) ≡ Some T) e h)
 
 proper_front : (updates : Feed) (done rest : List Elem) → AllByRecursion IsElem updates.elems → updates.elems ≡ done ++ rest → AllByRecursion IsElem done
 proper_front updates done rest q e = front_of done rest (subst (AllByRecursion IsElem) e q)
@@ -255,10 +258,10 @@ pub kept : (words : Words) (content : Content) → IfRan (due words content) Kee
 kept = each_due KeepsTables (λ limits load updates asks p q.
     let hops : List Address = hops_after [] (load.elems ++ updates.elems) in
     let held : Candidates = after_elems [] load.elems in
-    let changes : List Elem → List (ℕ × Change) = λ elems. changes_of limits.every hops load.elems elems in
+    let changes : List Elem → List (ℕ × Change) = λ elems. changes_of limits.steady limits.every hops load.elems elems in
     record {
-      in_order = in_order limits.every hops held updates.elems;
-      none_past = none_past limits.every hops held updates.elems;
+      in_order = in_order limits.steady limits.every hops held updates.elems;
+      none_past = none_past limits.steady limits.every hops held updates.elems;
       tables = λ n le.
           let done = take n updates.elems in
           let rest = drop n updates.elems in
@@ -267,7 +270,7 @@ kept = each_due KeepsTables (λ limits load updates asks p q.
             T,
             subst (λ elems. sum_of (changes_to n (changes elems)) ≡ Some T) all_of
                 (subst (λ m. sum_of (changes_to m (changes (done ++ rest))) ≡ Some T) (length-take-le n updates.elems le)
-                (sum_is limits.every hops held done rest (proper_front updates done rest q (sym all_of)))),
+                (sum_is limits.steady limits.every hops held done rest (proper_front updates done rest q (sym all_of)))),
           );
     })
 
@@ -276,6 +279,13 @@ follows = each_due Follows (λ limits load updates asks p q done rest T e h.
     let hops : List Address = hops_after [] (load.elems ++ updates.elems) in
     let held : Candidates = after_elems [] load.elems in
     subst (λ L. AlikeInBoth L (entries_of hops (after_elems held done))) (sym (table_at limits load updates asks done rest T q e h)) (alike_after limits.every hops held done (held_first load p) (proper_front updates done rest q e)))
+
+pub steadied : (words : Words) (content : Content) → IfRan (due words content) MissesNone
+steadied = each_due MissesNone (λ limits load updates asks p q on.
+    let hops : List Address = hops_after [] (load.elems ++ updates.elems) in
+    let held : Candidates = after_elems [] load.elems in
+    let one : Printed = printed limits load updates asks in
+    subst (λ b. AnswerMeanwhile (run_told b limits.every hops held updates.elems) (routes_before one) (routes_then one)) (sym on) (meanwhile limits.every hops held updates.elems (held_first load p) q))
 
 pub renewed : (words : Words) (content : Content) → IfRan (due words content) RenewsLeast
 renewed = each_due RenewsLeast (λ limits load updates asks p q done rest T e snapshot h.
@@ -294,7 +304,7 @@ module _ (limits : Limits) (load updates : Feed) (asks : List Address) (done res
       let held : Candidates = after_elems [] load.elems in
       let all_one : updates.elems ≡ (done ++ elem ∷ []) ++ rest = e ∙ sym (append_assoc done (elem ∷ []) rest) in
       let counted : length done + 1 ≡ length (done ++ elem ∷ []) = sym (length-append done (elem ∷ [])) in
-      let after : U ≡ kept_of limits.every hops load.elems (done ++ elem ∷ []) = table_at limits load updates asks (done ++ elem ∷ []) rest U q all_one (subst (λ n. sum_of (changes_to n (changes_of limits.every hops load.elems updates.elems)) ≡ Some U) counted k) in
+      let after : U ≡ kept_of limits.every hops load.elems (done ++ elem ∷ []) = table_at limits load updates asks (done ++ elem ∷ []) rest U q all_one (subst (λ n. sum_of (changes_to n (changes_of limits.steady limits.every hops load.elems updates.elems)) ≡ Some U) counted k) in
       after ∙ (kept_step limits.every hops elem held (kept_at_load hops held) done ∙ ap (λ K. kept_by limits.every hops (length done + 1) (after_elems held done) K elem) (sym before_is))
 
   before_placed : Placed T

@@ -1,7 +1,7 @@
 -- One elementary event after another.
-use Rattle.std.proofs.Common.{◌≡◌, ℕ, suc, ◌+◌, ◌<◌, ◌≤◌, List, [], ◌∷◌, ◌++◌, Some, None, Ok, Err, length, map, take, drop, refl, sym, ap, ◌∙◌, arith, subst, append_assoc, append-nil, length-append}
+use Rattle.std.proofs.Common.{◌≡◌, Bool, ℕ, suc, ◌+◌, ◌<◌, ◌≤◌, List, [], ◌∷◌, ◌++◌, Some, None, Ok, Err, length, map, take, drop, refl, sym, ap, ◌∙◌, arith, subst, append_assoc, append-nil, length-append}
 use Rattle.std.specs.Prelude.{option_map, get_or, IsErrOf}
-use Rattle.std.proofs.Math.Seq.{drop-cons}
+use Rattle.std.proofs.Math.Seq.{drop-cons, take-append_seam}
 use Rattle.std.proofs.lemmas.List.{take_all, take_more, take-append-drop, map-append}
 use Rattle.fib_main.specs.declared.state.FeedError.{FeedError}
 use Rattle.fib_main.specs.declared.state.FeedError.TheVariants.{Malformed, HopsFull, TrieFull as FeedFull, NoMemory, Fault, TooLarge}
@@ -20,7 +20,8 @@ use Rattle.delta_model.specs.Between.{between}
 use Rattle.delta_model.proofs.Merged.{first_new}
 use Rattle.feed_model.specs.Feed.{hops_after, entries_of, at_event}
 use Rattle.feed_model.proofs.Numbers.{hops_more}
-use Rattle.kept_feed.specs.Kept.{changes_by, kept_at_load, kept_changes_from}
+use Rattle.kept_feed.specs.Kept.{kept_at_load}
+use Rattle.steady_feed.specs.Told.{event_told, events_told, steady_if}
 use Rattle.kept_feed.proofs.Sums.{snapshot_placed}
 use Rattle.fib_addr.specs.Views.{entry_as}
 use Rattle.fib_addr.specs.Hops.{most_hops}
@@ -29,7 +30,7 @@ use Rattle.fib_main.specs.declared.outcome.MrtInput.TheVariants.{Dump, Updates}
 use Rattle.fib_main.specs.declared.state.State.{State}
 use Rattle.fib_main.specs.Views.{changes_as, told_changes}
 use Rattle.fib_engine.specs.Held.{routes_in}
-use Rattle.fib_engine.specs.Stands.{EndsLoad, IsLoading, IsShortFor, IsTooMany, Loads, Stands, Takes, changes_of as engine_changes, routes_after}
+use Rattle.fib_engine.specs.Stands.{EndsLoad, IsLoading, IsShortFor, IsTooMany, Loads, Stands, Takes, routes_after}
 use Rattle.route_tries.specs.Sizes.{shortage, shortage_as}
 use Rattle.route_tries.specs.declared.sizes.TrieFull.{TrieFull}
 use Rattle.fib_main.specs.Refusals.{Limits, ManyHops, Refusal, Short, routes_by, stop_at, too_much}
@@ -119,11 +120,12 @@ few_push : (elem : Elem) (old new : State) → (IsTooMany elem old.engine → �
 few_push elem old new n h = rw h (few_after old.engine.hops elem n)
 
 -- an elementary event of the load
-pub loads_one : (event : ℕ) (elem : Elem) (old new : State) → Loads elem old.engine new.engine → ((load : List Elem) → IsLoading load old.engine → IsLoading (load ++ elem ∷ []) new.engine) → (IsTooMany elem old.engine → ⊥) → told_changes new ≡ told_changes old
+pub loads_one : (event : ℕ) (elem : Elem) (old new : State) → Loads elem old.engine new.engine → ((load : List Elem) → IsLoading load old.engine → IsLoading (load ++ elem ∷ []) new.engine) → (IsTooMany elem old.engine → ⊥) → new.steady ≡ old.steady → told_changes new ≡ told_changes old
     → StateTakes {T = Unit {0}} Dump event (elem ∷ []) old (Ok tt) new
-loads_one event elem old new l loading n same = λ limits before done counted s. record {
+loads_one event elem old new l loading n y same = λ limits before done counted s. record {
   engine = subst (λ es. IsLoading es new.engine) (sym (elems_push before done elem)) (loading (before ++ done) s.engine);
   every_is = l.every ∙ s.every_is;
+  steady_is = y ∙ s.steady_is;
   sizes_are = l.sizes ∙ s.sizes_are;
   few = few_push elem old new n l.hops;
   fits = fits_push Dump limits before done elem old s (dump_fits limits.sizes ((before ++ done) ++ elem ∷ []) (few_next Dump limits before done elem old s n));
@@ -136,27 +138,37 @@ room_next limits before done elem old new s t room =
     let routes : routes_in new.engine ≡ routes_after elem old.engine = ap (λ hs. entries_of hs new.engine.candidates) t.hops ∙ ap (entries_of (hops_after old.engine.hops (elem ∷ []))) t.candidates in
     ap (shortage limits.sizes) (routes_next Updates limits before done elem old s ∙ sym routes) ∙ (ap (λ z. shortage z (routes_in new.engine)) (sym (t.sizes ∙ s.sizes_are)) ∙ room)
 
+-- a list that was changed in place, all of it, is what its items became
+pub all_changed : {A : Type 0} (n : ℕ) (now before : List A) → length now ≡ n → take n (now ++ drop (length now) before) ≡ now
+all_changed n now before e = ap (λ k. take k (now ++ drop (length now) before)) (sym e) ∙ take-append_seam now (drop (length now) before)
+
+-- what is told of an elementary event that a state takes
+abbrev pub told_of : Elem → State → List Change
+told_of elem old = event_told old.steady old.engine.every (hops_after old.engine.hops (elem ∷ [])) (old.engine.events + 1) old.engine.candidates old.engine.table elem
+
 -- an elementary event of updates
 pub takes_one : (event : ℕ) (elem : Elem) (old new : State) (changes : List Change) → Takes elem old.engine new.engine → ((load elems : List Elem) → Stands load elems old.engine → Stands load (elems ++ elem ∷ []) new.engine) → (IsTooMany elem old.engine → ⊥)
-    → shortage new.engine.sizes (routes_in new.engine) ≡ None → changes ≡ engine_changes elem old.engine → told_changes new ≡ told_changes old ++ at_event event changes → StateTakes {T = Unit {0}} Updates event (elem ∷ []) old (Ok tt) new
-takes_one event elem old new changes t stands n room c grown = λ limits before done counted s. record {
+    → shortage new.engine.sizes (routes_in new.engine) ≡ None → new.steady ≡ old.steady → changes ≡ told_of elem old → told_changes new ≡ told_changes old ++ at_event event changes → StateTakes {T = Unit {0}} Updates event (elem ∷ []) old (Ok tt) new
+takes_one event elem old new changes t stands n room y c grown = λ limits before done counted s. record {
   engine = stands before done s.engine;
   every_is = t.every ∙ s.every_is;
+  steady_is = y ∙ s.steady_is;
   sizes_are = t.sizes ∙ s.sizes_are;
   few = few_push elem old new n t.hops;
   fits = fits_push Updates limits before done elem old s (updates_fit limits.sizes ((before ++ done) ++ elem ∷ []) (few_next Updates limits before done elem old s n) (room_next limits before done elem old new s t room));
   changes = all limits before done counted s;
 } where
-  all : (limits : Limits) (before done : List Elem) → event ≡ length (done ++ elem ∷ []) → StateStands Updates limits before done old → told_changes new ≡ changes_of limits.every new.engine.hops before (done ++ elem ∷ [])
+  all : (limits : Limits) (before done : List Elem) → event ≡ length (done ++ elem ∷ []) → StateStands Updates limits before done old → told_changes new ≡ changes_of limits.steady limits.every new.engine.hops before (done ++ elem ∷ [])
   all limits before done counted s =
       let n : event ≡ old.engine.events + 1 = omega (arith, counted, s.engine.events, length-append done (elem ∷ [])) in
-      let by : changes ≡ changes_by limits.every (hops_after old.engine.hops (elem ∷ [])) (old.engine.events + 1) old.engine.candidates old.engine.table elem = c ∙ ap (λ k. changes_by k (hops_after old.engine.hops (elem ∷ [])) (old.engine.events + 1) old.engine.candidates old.engine.table elem) s.every_is in
+      let told : Bool → ℕ → List Change = λ b k. event_told b k (hops_after old.engine.hops (elem ∷ [])) (old.engine.events + 1) old.engine.candidates old.engine.table elem in
+      let by : changes ≡ told limits.steady limits.every = c ∙ (ap (λ b. told b old.engine.every) s.steady_is ∙ ap (told limits.steady) s.every_is) in
       let table : old.engine.table ≡ kept_of limits.every old.engine.hops before done = s.engine.table ∙ ap (λ k. kept_of k old.engine.hops before done) s.every_is in
       grown
       ∙ (ap (λ cs. cs ++ at_event event changes) s.changes
-      ∙ (ap (λ cs. changes_of limits.every old.engine.hops before done ++ at_event event cs) by
-      ∙ (ap (λ m. changes_of limits.every old.engine.hops before done ++ at_event m (changes_by limits.every (hops_after old.engine.hops (elem ∷ [])) (old.engine.events + 1) old.engine.candidates old.engine.table elem)) n
-      ∙ (changes_grow limits.every before done elem old.engine.hops old.engine.candidates old.engine.table old.engine.events s.engine.hops s.engine.candidates table s.engine.events ∙ ap (λ hs. changes_of limits.every hs before (done ++ elem ∷ [])) (sym t.hops)))))
+      ∙ (ap (λ cs. changes_of limits.steady limits.every old.engine.hops before done ++ at_event event cs) by
+      ∙ (ap (λ m. changes_of limits.steady limits.every old.engine.hops before done ++ at_event m (told limits.steady limits.every)) n
+      ∙ (changes_grow limits.steady limits.every before done elem old.engine.hops old.engine.candidates old.engine.table old.engine.events s.engine.hops s.engine.candidates table s.engine.events ∙ ap (λ hs. changes_of limits.steady limits.every hs before (done ++ elem ∷ [])) (sym t.hops)))))
 
 -- ---- the end of the load
 
@@ -170,23 +182,34 @@ unfolding between IsStrictlySortedBy
 between_none [] s = refl
 between_none (e ∷ T) s = first_new e [] T tt s.0 ∙ ap (λ cs. Add e.0 e.1 ∷ cs) (between_none T s.1)
 
-pub load_ended : (limits : Limits) (load : List Elem) (old new : State) → EndsLoad old.engine new.engine → ((load : List Elem) → IsLoading load old.engine → Stands load [] new.engine) → map entry_as new.added.items ≡ new.engine.table → new.changes.items ≡ old.changes.items
+pub load_ended : (limits : Limits) (load : List Elem) (old new : State) → EndsLoad old.engine new.engine → ((load : List Elem) → IsLoading load old.engine → Stands load [] new.engine) → new.steady ≡ old.steady
+    → (IsStrictlySortedBy prefix_cmp (keys_of new.engine.table) → additions (map entry_as new.added.items) ≡ steady_if new.steady (additions new.engine.table)) → new.changes.items ≡ old.changes.items
     → StateStands Dump limits [] load old → StateStands Updates limits load [] new
-unfolding stop_at kept_changes_from
-load_ended limits load old new e stands there same s = record {
+unfolding stop_at events_told
+load_ended limits load old new e stands y there same s = record {
   engine = stands load s.engine;
   every_is = e.every ∙ s.every_is;
+  steady_is = steady;
   sizes_are = e.sizes ∙ s.sizes_are;
   few = rw e.hops s.few;
   fits = refl;
-  changes = ap (λ L. at_event 0 (additions L) ++ changes_as new.changes.items) (there ∙ table)
-      ∙ (ap (λ cs. at_event 0 (additions T) ++ cs) none ∙ ap (λ cs. at_event 0 cs ++ []) (sym (between_none T (snapshot_placed (entries_of new.engine.hops (after_elems [] load)) []).1)));
+  changes = ap (λ cs. at_event 0 cs ++ changes_as new.changes.items) (there sorted ∙ (ap (λ b. steady_if b (additions new.engine.table)) steady ∙ ap (λ L. steady_if limits.steady (additions L)) table))
+      ∙ (ap (λ cs. at_event 0 (steady_if limits.steady (additions T)) ++ cs) none ∙ ap (λ cs. at_event 0 (steady_if limits.steady cs) ++ []) (sym (between_none T placed)));
 } where
   T : Entries
   T = kept_at_load new.engine.hops (after_elems [] load)
 
+  steady : new.steady ≡ limits.steady
+  steady = y ∙ s.steady_is
+
   table : new.engine.table ≡ T
   table = e.table ∙ (ap (kept_at_load old.engine.hops) s.engine.candidates ∙ ap (λ hs. kept_at_load hs (after_elems [] load)) (sym e.hops))
+
+  placed : IsStrictlySortedBy prefix_cmp (keys_of T)
+  placed = (snapshot_placed (entries_of new.engine.hops (after_elems [] load)) []).1
+
+  sorted : IsStrictlySortedBy prefix_cmp (keys_of new.engine.table)
+  sorted = subst (λ (L : Entries). IsStrictlySortedBy prefix_cmp (keys_of L)) (sym table) placed
 
   none : changes_as new.changes.items ≡ []
   none = ap changes_as same ∙ last_none (at_event 0 (additions (map entry_as old.added.items))) (changes_as old.changes.items) s.changes

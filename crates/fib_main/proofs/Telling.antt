@@ -52,14 +52,14 @@ told_is limits load updates fed state asks direct routes table report n m needs 
     let chosen : routes ≡ R = r ∙ (ap (λ h. entries_of h state.engine.candidates) s.engine.hops ∙ ap (entries_of hops) candidates) in
     let kept : table ≡ T = t ∙ (s.engine.table ∙ (ap (λ k. kept_of k state.engine.hops load.elems updates.elems) s.every_is ∙ ap (λ h. kept_of limits.every h load.elems updates.elems) s.engine.hops)) in
     let bits : direct ≡ limits.sizes.direct = d ∙ ap (λ (z : Sizes). z.direct) s.sizes_are in
-    let changes : told_changes state ≡ changes_of limits.every hops load.elems updates.elems = s.changes ∙ ap (λ h. changes_of limits.every h load.elems updates.elems) s.engine.hops in
+    let changes : told_changes state ≡ changes_of limits.steady limits.every hops load.elems updates.elems = s.changes ∙ ap (λ h. changes_of limits.steady limits.every h load.elems updates.elems) s.engine.hops in
     let needed : needs ≡ needs_of limits.sizes.direct R = need ∙ (ap (λ E. needs_of direct E) chosen ∙ ap (λ z. needs_of z R) bits) in
     let report_is : report ≡ counts load updates R T (needs_of limits.sizes.direct R) = told ∙ (counted load updates fed R T n m needs f.counted f.has.counted (len ∙ ap length chosen) (long ∙ ap length kept) ∙ ap (counts load updates R T) needed) in
     ap (λ E. told_by (noted_in fed) direct E table (told_changes state) asks report) chosen
     ∙ (ap (λ E. told_by (noted_in fed) direct R E (told_changes state) asks report) kept
     ∙ (ap (λ z. told_by (noted_in fed) z R T (told_changes state) asks report) bits
-    ∙ (ap (λ c. told_by (noted_in fed) limits.sizes.direct R T c asks report) changes ∙ (ap (told_by (noted_in fed) limits.sizes.direct R T (changes_of limits.every hops load.elems updates.elems) asks) report_is
-    ∙ ap (λ rows. told_by rows limits.sizes.direct R T (changes_of limits.every hops load.elems updates.elems) asks (counts load updates R T (needs_of limits.sizes.direct R))) noted))))
+    ∙ (ap (λ c. told_by (noted_in fed) limits.sizes.direct R T c asks report) changes ∙ (ap (told_by (noted_in fed) limits.sizes.direct R T (changes_of limits.steady limits.every hops load.elems updates.elems) asks) report_is
+    ∙ ap (λ rows. told_by rows limits.sizes.direct R T (changes_of limits.steady limits.every hops load.elems updates.elems) asks (counts load updates R T (needs_of limits.sizes.direct R))) noted))))
 
 pub text_is : (limits : Limits) (load updates : Feed) (fed : Fed) (state : State) (asks hops : List Address) (run : Told) (text : List ℕ) → IsFed limits load updates fed state → run ≡ (printed limits load updates asks).told → hops ≡ state.engine.hops → text ≡ run_text hops run → text ≡ printed_text (printed limits load updates asks)
 text_is limits load updates fed state asks hops run text f r h is =

@@ -1,5 +1,5 @@
 -- What a run and a check are to come to.
-use Rattle.std.specs.Prelude.{ℕ, ◌+◌, List, [], ◌∷◌, ◌++◌, bytes_eq, codes, decimal, length, nat_lt, Option, Some, None, Result, Ok, Err, map, option_map, if◌then◌else◌}
+use Rattle.std.specs.Prelude.{Bool, false, ℕ, ◌+◌, List, [], ◌∷◌, ◌++◌, bytes_eq, codes, decimal, length, nat_lt, Option, Some, None, Result, Ok, Err, map, option_map, if◌then◌else◌}
 use Rattle.octet_fields.specs.Field.{◌>>=◌}
 use Rattle.address_model.specs.Address.{Address, Prefix}
 use Rattle.table_model.specs.Entries.{Entries, match_in}
@@ -10,7 +10,8 @@ use Rattle.route_model.specs.Events.{Elem, Event}
 use Rattle.route_model.specs.Choice.{Candidates, Offer, Place, after_elems, elems_after}
 use Rattle.reading_model.specs.Input.{Progress, Stopped, input}
 use Rattle.feed_model.specs.Feed.{hops_after, entries_of}
-use Rattle.kept_feed.specs.Kept.{kept_at_load, kept_changes_from, kept_from, kept_load_changes}
+use Rattle.kept_feed.specs.Kept.{kept_at_load, kept_from}
+use Rattle.steady_feed.specs.Told.{run_told}
 use Rattle.poptrie_build.specs.Tries.{visits_of}
 use Rattle.route_tries.specs.Sizes.{Sizes, needs_of, shortage}
 use Rattle.route_tries.specs.declared.needs.FamilyNeeds.{FamilyNeeds}
@@ -183,9 +184,9 @@ counts load updates routes kept needs = record {
 abbrev pub kept_of : ℕ → List Address → List Elem → List Elem → Entries
 kept_of every hops load updates = kept_from every hops 1 (after_elems [] load) (kept_at_load hops (after_elems [] load)) updates
 
--- its changes: those of the load, event 0, and those of each elementary event of the updates
-abbrev pub changes_of : ℕ → List Address → List Elem → List Elem → List (ℕ × Change)
-changes_of every hops load updates = kept_load_changes hops (after_elems [] load) ++ kept_changes_from every hops 1 (after_elems [] load) (kept_at_load hops (after_elems [] load)) updates
+-- its changes as they are told, in steady order or in that of prefixes: those of the load, event 0, and those of each elementary event of the updates
+abbrev pub changes_of : Bool → ℕ → List Address → List Elem → List Elem → List (ℕ × Change)
+changes_of steady every hops load updates = run_told steady every hops (after_elems [] load) updates
 
 -- of these routes, and of a kept table and its changes, with so many direct bits: the routes, the announcements that are Invalid, the changes, each address with its answer, the table, the aggregate of the routes with the kept table as the old one, the certificate that it is least, and the counts
 abbrev pub run_of : ℕ → Entries → Entries → List (ℕ × Change) → List Address → Feed → Feed → Told
@@ -200,7 +201,7 @@ run_of s routes kept changes asks load updates = record {
   report = counts load updates routes kept (needs_of s routes);
 }
 
--- what is to be printed: the rows, and the hops that their numbers stand for; and what they come from: the elementary events of the load and of the updates, how many of these each snapshot follows, and how large tries are
+-- what is to be printed: the rows, and the hops that their numbers stand for; and what they come from: the elementary events of the load and of the updates, how many of these each snapshot follows, whether changes are told in steady order, and how large tries are
 pub record Printed : Type 0 where
   pub told : Told
   pub hops : List Address
@@ -211,7 +212,7 @@ pub record Printed : Type 0 where
 -- the numbers are those after all elementary events
 abbrev pub printed_by : List Address → Limits → Feed → Feed → List Address → Printed
 printed_by hops limits load updates asks = record {
-  told = run_of limits.sizes.direct (entries_of hops (after_elems [] (load.elems ++ updates.elems))) (kept_of limits.every hops load.elems updates.elems) (changes_of limits.every hops load.elems updates.elems) asks load updates;
+  told = run_of limits.sizes.direct (entries_of hops (after_elems [] (load.elems ++ updates.elems))) (kept_of limits.every hops load.elems updates.elems) (changes_of limits.steady limits.every hops load.elems updates.elems) asks load updates;
   hops = hops;
   limits = limits;
   load = load.elems;
@@ -221,12 +222,12 @@ printed_by hops limits load updates asks = record {
 abbrev pub printed : Limits → Feed → Feed → List Address → Printed
 printed limits load updates asks = printed_by (hops_after [] (load.elems ++ updates.elems)) limits load updates asks
 
--- as many events to a snapshot, and tries as large, as are asked for
+-- as many events to a snapshot, changes in such an order, and tries as large, as are asked for
 abbrev pub sizes_of : Named → Sizes
 sizes_of named = record { direct = named.direct; nodes = named.nodes; leaves = named.leaves }
 
 abbrev pub limits_of : Named → Limits
-limits_of named = record { every = named.every; sizes = sizes_of named }
+limits_of named = record { every = named.every; steady = named.steady; sizes = sizes_of named }
 
 -- what the dump and the updates that are named bring: the tries of the dump's routes need room before the updates are read
 unfoldable pub feeds_at : (List ℕ → Option (List ℕ)) → List Vrp → Named → Result (Feed × Feed) Stop
@@ -274,7 +275,7 @@ made_content routes seed name =
 
 -- what the main job is asked to do with them
 abbrev pub made_named : Named
-made_named = record { dump = codes "dump"; updates = Some (codes "updates"); asks = None; vrps = None; every = 1000; direct = 16; nodes = 20; leaves = 22 }
+made_named = record { dump = codes "dump"; updates = Some (codes "updates"); asks = None; vrps = None; every = 1000; steady = false; direct = 16; nodes = 20; leaves = 22 }
 
 -- what it comes to
 unfoldable pub made_at : ℕ → ℕ → Result Printed Stop

@@ -15,6 +15,7 @@ use Rattle.route_model.specs.Events.{Elem}
 use Rattle.route_model.specs.Choice.{Candidates, after_elems}
 use Rattle.feed_model.specs.Feed.{changes_in, entries_of}
 use Rattle.kept_feed.specs.Kept.{changed_at, is_due}
+use Rattle.steady_feed.specs.Meanwhile.{AnswerMeanwhile, earlier_routes, event_routes}
 use Rattle.fib_main.specs.Due.{Printed}
 
 -- the changes up to the event of this number
@@ -47,6 +48,17 @@ has_snapshot every (suc n) = is_due every (suc n)
 -- After each event the table sends every address where the routes send it then.
 abbrev pub Follows : Printed → Type 0
 Follows p = (done rest : List Elem) (T : Entries) → p.updates ≡ done ++ rest → HasTable p (length done) T → AlikeInBoth T (routes_after p done)
+
+-- the routes before and after the event of a number; before the load, event 0, there are none
+abbrev pub routes_before : Printed → ℕ → Entries
+routes_before p = earlier_routes p.hops (held_after p []) p.updates
+
+abbrev pub routes_then : Printed → ℕ → Entries
+routes_then p = event_routes p.hops (held_after p []) p.updates
+
+-- Where changes are told in steady order, a router that makes them one by one misses no packet meanwhile: whatever front of them it has made, it sends each address where the routes before the event at hand send it or where those after it do, and never back.
+abbrev pub MissesNone : Printed → Type 0
+MissesNone p = p.limits.steady ≡ true → AnswerMeanwhile p.told.changes (routes_before p) (routes_then p)
 
 -- After each snapshot no table that does so has fewer entries, in either family.
 abbrev pub RenewsLeast : Printed → Type 0

@@ -1,5 +1,5 @@
 -- Why an elementary event isn't taken, and which of several is the first that isn't.
-use Rattle.std.specs.Prelude.{ℕ, ◌+◌, List, [], ◌∷◌, ◌++◌, length, nat_lt, Option, Some, None, option_map, if◌then◌else◌}
+use Rattle.std.specs.Prelude.{Bool, ℕ, ◌+◌, List, [], ◌∷◌, ◌++◌, length, nat_lt, Option, Some, None, option_map, if◌then◌else◌}
 use Rattle.table_model.specs.Entries.{Entries}
 use Rattle.route_model.specs.Events.{Elem}
 use Rattle.route_model.specs.Choice.{after_elems}
@@ -9,9 +9,10 @@ use Rattle.route_tries.specs.Sizes.{Sizes, Shortage, shortage}
 use Rattle.fib_main.specs.declared.outcome.MrtInput.{MrtInput}
 use Rattle.fib_main.specs.declared.outcome.MrtInput.TheVariants.{Dump, Updates}
 
--- how many elementary events of the updates a snapshot follows, and how large tries are
+-- how many elementary events of the updates a snapshot follows, whether changes are told in steady order, and how large tries are
 pub record Limits : Type 0 where
   pub every : ℕ
+  pub steady : Bool
   pub sizes : Sizes
 
 -- one different hop too many, or an arena that is too small for the tries of the routes

@@ -47,18 +47,19 @@ IsReady Dump count e = (e.loaded ≡ false) × (e.events ≡ 0)
 IsReady Updates count e = (e.loaded ≡ true) × (e.events ≡ count)
 
 -- the changes so far: none until the load ended, and then those of the load and of these elementary events of updates
-abbrev pub changes_so_far : MrtInput → ℕ → List Address → List Elem → List Elem → List (ℕ × Change)
-changes_so_far Dump every hops before elems = []
-changes_so_far Updates every hops before elems = changes_of every hops before elems
+abbrev pub changes_so_far : MrtInput → Limits → List Address → List Elem → List Elem → List (ℕ × Change)
+changes_so_far Dump limits hops before elems = []
+changes_so_far Updates limits hops before elems = changes_of limits.steady limits.every hops before elems
 
 -- The state after these elementary events of an input, which came after earlier ones, within these limits. Its hops are few enough, and its changes are those so far.
 pub record StateStands (which : MrtInput) (limits : Limits) (before elems : List Elem) (state : State) : Type 0 where
   pub engine : EngineHas which before elems state.engine
   pub every_is : state.engine.every ≡ limits.every
+  pub steady_is : state.steady ≡ limits.steady
   pub sizes_are : state.engine.sizes ≡ limits.sizes
   pub few : length state.engine.hops ≤ most_hops
   pub fits : stop_at (too_much which limits.sizes) before elems ≡ None
-  pub changes : told_changes state ≡ changes_so_far which limits.every state.engine.hops before elems
+  pub changes : told_changes state ≡ changes_so_far which limits state.engine.hops before elems
 
 -- the first of these elementary events after which something is too much has this number
 abbrev pub IsStopped : MrtInput → Limits → List Elem → List Elem → ℕ → Refusal → Type 0

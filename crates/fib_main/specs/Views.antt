@@ -1,5 +1,5 @@
 -- What a clause sees of this crate's values.
-use Rattle.std.specs.Prelude.{ℕ, ◌+◌, ◌++◌, List, map, option_map}
+use Rattle.std.specs.Prelude.{Bool, ℕ, ◌+◌, ◌++◌, List, map, option_map}
 use Rattle.table_model.specs.Changes.{Change, additions}
 use Rattle.feed_model.specs.Feed.{at_event}
 use Rattle.fib_addr.specs.Views.{entry_as}
@@ -35,9 +35,9 @@ wrong_as (wrong.Differ d) = Differs (difference_as d)
 abbrev pub reply_as : code_reply.Reply → Reply
 reply_as reply = record { text = reply.text.items; wrong = option_map wrong_as reply.wrong }
 
--- how often a snapshot comes, and how large tries are
-abbrev pub limits_as : code_limits.Limits → Limits
-limits_as limits = record { every = limits.every; sizes = sizes_as limits.sizes }
+-- how often a snapshot comes and how large tries are, and whether changes are told in steady order
+abbrev pub limits_as : code_limits.Limits → Bool → Limits
+limits_as limits steady = record { every = limits.every; steady = steady; sizes = sizes_as limits.sizes }
 
 -- the counts of two inputs, of the routes and of the table's entries, and what tries need
 abbrev pub totals : Counts → Counts → ℕ → ℕ → FamilyNeeds → Report

@@ -192,6 +192,7 @@ pub fn write_text(
         engine,
         added,
         changes,
+        ..
     } = state;
     // from here on no candidate is held
     let (settled, hops) = engine.settle();

@@ -264,7 +264,7 @@ fn updates_of<I: Inputs>(
 /// How often a snapshot comes and how large tries are, as the words ask for it.
 fn limits_of(command: &RunWords<'_>) -> Limits
     requires { IsWithin (CommandWords.Run command.now) }
-    ensures { limits_as result ≡ limits_of (named_as command.now) }
+    ensures { limits_as result command.now.steady ≡ limits_of (named_as command.now) }
 {
     Limits {
         every: command.every,
@@ -335,7 +335,7 @@ fn text_of<I: Inputs>(
         (ReadsOf (I.content inputs.old) (RunMayGoOn (I.content inputs.old) (named_as command.now))
         (feed_inputs (named_as command.now)) result) }
 {
-    let mut state = State::new(alloc, limits_of(command));
+    let mut state = State::new(alloc, limits_of(command), command.steady);
     let fed = feed_both(alloc, inputs, &mut state, vrps, command)?;
     match write_text(alloc, state, &fed, asks) {
         Ok(text) => Ok(text),
@@ -350,6 +350,7 @@ const MADE: RunWords<'static> = RunWords {
     asks: None,
     vrps: None,
     every: 1000,
+    steady: false,
     direct: 16,
     nodes: 20,
     leaves: 22,
@@ -402,7 +403,7 @@ fn made_for(alloc: Global, made: &MakeWords) -> Result<Vec<u8>, Outcome>
     let Ok(mut inputs) = made_inputs(alloc, made) else {
         return Err(Outcome::NoMemory);
     };
-    let mut state = State::new(alloc, limits_of(&MADE));
+    let mut state = State::new(alloc, limits_of(&MADE), MADE.steady);
     take_made(alloc, made, &mut inputs, &mut state)
 }
 

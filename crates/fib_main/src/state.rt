@@ -13,6 +13,7 @@ ghost use Rattle.fib_main.specs.Standing.{EndsShort, IsOfLoad, IsReady, of_input
 ghost use Rattle.fib_main.specs.Views.{changes_as, limits_as};
 ghost use Rattle.fib_main.specs.declared.state.FeedError.TheVariants.{Malformed as IsMalformed, NoMemory as IsNoMemory};
 
+use crate::order::{order_event, order_load};
 use crate::outcome::MrtInput;
 use fib_delta::Change;
 use fib_engine::{Engine, EngineError, Limits, TrieFull};
@@ -105,6 +106,8 @@ pub struct State {
     pub added: Vec<Entry>,
     /// The changes of the kept table that updates make, each with its event's number.
     pub changes: Vec<(u64, Change)>,
+    /// Whether both are told in steady order.
+    pub steady: bool,
 }
 
 /// Adds the changes of the event of this number.
@@ -124,9 +127,10 @@ fn push_changes(
 }
 
 impl State {
-    /// Nothing was brought; snapshots and tries are within these limits.
-    pub fn new(alloc: Global, limits: Limits) -> State
-        ensures stands { StateStands MrtInput.Dump (limits_as limits) [] [] result }
+    /// Nothing was brought; snapshots and tries are within these limits, and changes are told in steady order or in that of
+    /// prefixes.
+    pub fn new(alloc: Global, limits: Limits, steady: bool) -> State
+        ensures stands { StateStands MrtInput.Dump (limits_as limits steady) [] [] result }
         ensures ready { IsReady MrtInput.Dump 0 result.engine }
         ensures none { result.engine.candidates ≡ [] }
     {
@@ -134,6 +138,7 @@ impl State {
             engine: Engine::new(alloc, limits),
             added: Vec::new(alloc),
             changes: Vec::new(alloc),
+            steady,
         }
     }
 
@@ -151,7 +156,10 @@ impl State {
         ensures ready { OnOk result (IsReady MrtInput.Updates 0 self.new.engine) }
     {
         match self.engine.finish_load() {
-            Ok(added) => self.added = added,
+            Ok(mut added) => {
+                order_load(&mut added, self.steady);
+                self.added = added;
+            }
             Err(error) => return Err(refusal_at(LOAD, error)),
         }
         Ok(())
@@ -186,8 +194,9 @@ fn step(state: &mut State, which: MrtInput, event: u64, elem: &Elem) -> Result<(
             Err(error) => Err(refusal_at(event, error)),
         },
         MrtInput::Updates => match state.engine.apply(elem) {
-            Ok(changes) => {
-                push_changes(&mut state.changes, event, &changes)?;
+            Ok(mut told) => {
+                order_event(&mut told.changes, told.repaired, state.steady);
+                push_changes(&mut state.changes, event, &told.changes)?;
                 Ok(())
             }
             Err(error) => Err(refusal_at(event, error)),

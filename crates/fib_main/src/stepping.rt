@@ -92,6 +92,7 @@ fn load_of<I: Inputs>(
             every: 0,
             sizes: sizes_of(command),
         },
+        false,
     );
     let vrps = Vrps::none(alloc);
     feed_of(

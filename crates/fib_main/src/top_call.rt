@@ -6,7 +6,7 @@ ghost use Rattle.fib_save.specs.Restores.{Restores};
 ghost use Rattle.fib_main.specs.Views.{wrong_as};
 ghost use Rattle.fib_main.specs.Ends.{Completes, EndsBy, Meets, OneRose, ReadsFrom, TellsOf, text_due, Writes, WritesBy};
 ghost use Rattle.fib_main.specs.Judged.{Judges};
-ghost use Rattle.fib_main.specs.Keeps.{Follows, KeepsTables, RenewsLeast, RepairsFewest, RepairsWithin};
+ghost use Rattle.fib_main.specs.Keeps.{Follows, KeepsTables, MissesNone, RenewsLeast, RepairsFewest, RepairsWithin};
 ghost use Rattle.fib_io.specs.Reads.{Makes};
 ghost use Rattle.fib_main.specs.Owned.{IsOf};
 ghost use Rattle.fib_main.specs.Passes.{ReadsAt};
@@ -147,7 +147,7 @@ fn run_and_tell<I: Inputs, O: Sink, E: Sink>(
 /// table with its tree and its changes, and the whole text. A check keeps the printed text until it is read, its routes, least
 /// table and certificate, and then the runs of both tables. A run in steps keeps its script, the events of the updates and what
 /// they do, each family's routes with two sets of arenas, and its rows and their text.
-#[tactic(auto, using(crate::proofs::Completing::completes, crate::proofs::Running::sums_up, crate::proofs::Running::forwards, crate::proofs::Running::answers, crate::proofs::Running::least, crate::proofs::Running::follows, crate::proofs::Running::renewed, crate::proofs::Running::fewest, crate::proofs::Running::kept, crate::proofs::Running::outside, crate::proofs::Running::aggregated, crate::proofs::Running::sorted, crate::proofs::Running::certified, crate::proofs::Running::addressed, crate::proofs::Replies::decides, crate::proofs::Replies::yes_proves, crate::proofs::Replies::compares, crate::proofs::Judges::judges))]
+#[tactic(auto, using(crate::proofs::Completing::completes, crate::proofs::Running::sums_up, crate::proofs::Running::forwards, crate::proofs::Running::answers, crate::proofs::Running::least, crate::proofs::Running::follows, crate::proofs::Running::steadied, crate::proofs::Running::renewed, crate::proofs::Running::fewest, crate::proofs::Running::kept, crate::proofs::Running::outside, crate::proofs::Running::aggregated, crate::proofs::Running::sorted, crate::proofs::Running::certified, crate::proofs::Running::addressed, crate::proofs::Replies::decides, crate::proofs::Replies::yes_proves, crate::proofs::Replies::compares, crate::proofs::Judges::judges))]
 pub fn run_fib<I: Inputs, O: Sink, E: Sink>(
     alloc: Global,
     words: &[String],
@@ -164,9 +164,9 @@ pub fn run_fib<I: Inputs, O: Sink, E: Sink>(
 
     // Each input that the words name is read in order from its first octet on, each place once, and nothing is read after it failed
     // or ended: asks or a script, then the list of VRPs, then the dump, then the updates, each to its end before the next; and
-    // nothing after the input that is refused. No read of an input is made once what was read of it before is to be refused: a line of the asks that has
-    // its line feed, a record that is whole or whose header is refused, an event. A name that stands for two inputs is read for
-    // each. So each of them may be a pipe.
+    // nothing after the input that is refused. No read of an input is made once what was read of it before is to be refused: a line
+    // of the asks that has its line feed, a record that is whole or whose header is refused, an event. A name that stands for two
+    // inputs is read for each. So each of them may be a pipe.
     ensures reads { Makes (I.reads inputs.old) (I.reads inputs.new)
         (ReadsAt (I.content inputs.old) (asked_by words.now) result) }
 
@@ -226,6 +226,10 @@ pub fn run_fib<I: Inputs, O: Sink, E: Sink>(
     ensures renewed { IfRan (due_by words.now (I.content inputs.old)) RenewsLeast }
     ensures fewest { IfRan (due_by words.now (I.content inputs.old)) RepairsFewest }
     ensures outside { IfRan (due_by words.now (I.content inputs.old)) RepairsWithin }
+
+    // Where changes are told in steady order: a router that makes them one by one sends each address where the routes before the
+    // event at hand send it or where those after it do, whatever front of the changes it has made, and never back.
+    ensures steady { IfRan (due_by words.now (I.content inputs.old)) MissesNone }
 
     // Of the least tables it is the one that the best hops fix, with the kept table as the old one, whatever finds them; and all
     // tables stand in the order of prefixes.

@@ -1,6 +1,6 @@
 -- Lists of events that are judged.
-use Rattle.std.proofs.Common.{◌≡◌, ◌∙◌, ◌+◌, ◌<◌, ◌≤◌, ℕ, List, [], ◌∷◌, ◌++◌, Option, Some, None, length, map, take, drop, get_or, ap, sym, refl, arith, append_assoc, append-nil}
-use Rattle.std.specs.Prelude.{slice_set, flat_map, option_to_list, option_map}
+use Rattle.std.proofs.Common.{◌≡◌, ◌∙◌, ◌+◌, ◌<◌, ◌≤◌, ℕ, List, [], ◌∷◌, ◌++◌, length, map, take, drop, get_or, ap, sym, refl, arith, append_assoc, append-nil}
+use Rattle.std.specs.Prelude.{slice_set}
 use Rattle.std.proofs.lemmas.List.{drop_all, drop_more, drop-set-lt, length-map, map-append, take_all, take_more_set}
 use Rattle.fib_prefix.specs.Views.{event_as}
 use Rattle.fib_prefix.specs.declared.event.Event as code
@@ -9,7 +9,7 @@ use Rattle.route_model.specs.Events.{Event}
 use Rattle.printed_model.specs.Rows.{Announced, Vrp}
 use Rattle.fib_report.specs.Views.{invalid_as}
 use Rattle.fib_report.specs.declared.run.Invalid as code_invalid
-use Rattle.fib_rov.specs.Rov.{announced_with, invalid_in, invalid_of, judged, left_of}
+use Rattle.fib_rov.specs.Rov.{invalid_in, invalid_of, judged, left_of}
 
 -- what is left of events and of more is what is left of each
 pub left_more : (vrps : List Vrp) (events more : List Event) → left_of vrps (events ++ more) ≡ left_of vrps events ++ left_of vrps more

@@ -1,51 +1,74 @@
--- The index of a list of VRPs: for each prefix the first VRP that has it, and for each VRP the next one of its prefix.
-use Rattle.std.specs.Prelude.{◌≡◌, ℕ, ◌+◌, ◌≤◌, ◌<◌, Bool, false, List, length, drop, get_or, unwrap_or, nat_lt, Option, Some, None, if◌then◌else◌}
-use Rattle.std.specs.List.{position_or_len}
-use Rattle.indexmap.specs.IndexMap.{IndexMap, get}
-use Rattle.address_model.specs.Address.{same_prefix}
-use Rattle.address_model.specs.declared.family.Family.{Family}
-use Rattle.address_model.specs.declared.family.Family.TheVariants.{V4, V6}
+-- The index of a list of VRPs: they stand in the order of their prefixes, each with a link to the last before it that encloses it.
+use Rattle.std.specs.Prelude.{◌≡◌, ℕ, ◌+◌, ◌-◌, ◌<◌, ◌≤◌, Bool, true, false, not, ◌&&◌, List, [], ◌∷◌, length, get_or, nat_lt, Option, Some, None, if◌then◌else◌}
+use Rattle.std.specs.List.Sorted.{IsPermutation, IsPartitionPoint, IsSortedByKey}
+use Rattle.std.specs.Ordering.{is_le}
+use Rattle.address_model.specs.Address.{Prefix, same_prefix}
+use Rattle.address_model.specs.Order.{prefix_cmp}
+use Rattle.address_model.specs.Regions.{is_within}
 use Rattle.fib_addr.specs.Views.{prefix_as}
-use Rattle.fib_addr.specs.declared.prefix.Prefix.{Prefix}
-use Rattle.fib_addr.specs.contracts.prefix.PrefixPartialEq.TheImpl as prefix_eq
 use Rattle.fib_rov.specs.declared.vrp.Vrp.{Vrp}
+use Rattle.fib_rov.specs.declared.numbered.Numbered.{Numbered}
 
--- whether it has the prefix
-abbrev pub has_prefix : Prefix → Vrp → Bool
-has_prefix q v = same_prefix (prefix_as v.prefix) (prefix_as q)
+-- ---- VRPs with their numbers
 
--- the number of the first from a place on that has the prefix, or how many VRPs there are
-abbrev pub first_from : List Vrp → ℕ → Prefix → ℕ
-first_from list i q = i + position_or_len (has_prefix q) (drop i list)
+abbrev pub with_number : ℕ → Vrp → Numbered
+with_number n v = record { prefix = v.prefix; number = n; asn = v.asn; maxlen = v.maxlen }
 
--- from a place on, each VRP leads to the next one of its prefix
-abbrev pub AreChained : ℕ → List Vrp → List ℕ → Type 0
-AreChained from list next = (i : ℕ) (d : Vrp) → from ≤ i → i < length list → get_or next i 0 ≡ first_from list (i + 1) (get_or list i d).prefix
+abbrev pub vrp_of : Numbered → Vrp
+vrp_of r = record { prefix = r.prefix; maxlen = r.maxlen; asn = r.asn }
 
--- whether two prefixes of the code are equal
-abbrev pub prefix_test : Prefix → Prefix → Bool
-prefix_test = (prefix_eq.ghosts).eq
+-- the VRPs of a list with their numbers, counted from n
+unfoldable pub numbered : ℕ → List Vrp → List Numbered
+numbered n [] = []
+numbered n (v ∷ list) = with_number n v ∷ numbered (n + 1) list
 
--- an index of a list: the first VRP of each prefix, and for each VRP the next one of its prefix
-pub record IsIndex {S : Type 0} (list : List Vrp) (next : List ℕ) (first : IndexMap Prefix ℕ S) : Type 0 where
-  pub many : length next ≡ length list
-  pub chained : AreChained 0 list next
-  pub heads : (q : Prefix) → unwrap_or (get prefix_test first q) (length list) ≡ first_from list 0 q
+-- ---- their order
+
+-- in the order of their prefixes
+abbrev pub AreSorted : List Numbered → Type 0
+AreSorted = IsSortedByKey (λ (r : Numbered). prefix_as r.prefix) prefix_cmp
+
+-- its prefix comes before q in the order of prefixes, or is q
+abbrev pub stands_up_to : Prefix → Numbered → Bool
+stands_up_to q r = is_le (prefix_cmp (prefix_as r.prefix) q)
+
+-- so many stand up to q, and the others behind it
+abbrev pub IsPlaceOf : Prefix → List Numbered → ℕ → Type 0
+IsPlaceOf q = IsPartitionPoint (λ r. stands_up_to q r ≡ true) (λ r. stands_up_to q r ≡ false)
+
+-- the first so many stand up to q
+pub record AreUpTo (q : Prefix) (sorted : List Numbered) (count : ℕ) : Type 0 where
+  pub few : count ≤ length sorted
+  pub each : (i : ℕ) (r : Numbered) → i < count → stands_up_to q (get_or sorted i r) ≡ true
+
+-- ---- what covers a prefix
+
+-- its prefix contains q
+abbrev pub covers : Prefix → Numbered → Bool
+covers q r = is_within q (prefix_as r.prefix)
+
+-- its prefix contains q, and is another
+abbrev pub encloses : Prefix → Numbered → Bool
+encloses q r = covers q r && not (same_prefix (prefix_as r.prefix) q)
+
+-- of the first `count` of a list the last that passes the test is the one of number `at`, counted from 1; if `at` is 0 none passes
+pub record IsLast (f : Numbered → Bool) (sorted : List Numbered) (count at : ℕ) : Type 0 where
+  pub few : at ≤ count
+  pub passes : (r : Numbered) → 0 < at → f (get_or sorted (at - 1) r) ≡ true
+  pub none : (i : ℕ) (r : Numbered) → at ≤ i → i < count → f (get_or sorted i r) ≡ false
+
+-- each of the first `count` has a link to the last before it that encloses its prefix
+pub record AreLinked (sorted : List Numbered) (count : ℕ) (links : List ℕ) : Type 0 where
+  pub many : count ≤ length links
+  pub each : (i : ℕ) (r : Numbered) → i < count → IsLast (encloses (prefix_as (get_or sorted i r).prefix)) sorted i (get_or links i 0)
+
+-- ---- the index
+
+pub record IsIndex (list : List Vrp) (sorted : List Numbered) (links : List ℕ) : Type 0 where
+  pub same : IsPermutation (numbered 0 list) sorted
+  pub ordered : AreSorted sorted
+  pub linked : AreLinked sorted (length sorted) links
 
 -- a number below the count is a VRP's; the count itself is none's
 abbrev pub place_at : ℕ → ℕ → Option ℕ
 place_at number count = if nat_lt number count then Some number else None
-
--- ---- the lengths that prefixes of the list have
-
--- the place of a length: those of IPv6 stand behind the 33 of IPv4
-abbrev pub length_place : Family → ℕ → ℕ
-length_place V4 len = len
-length_place V6 len = 33 + len
-
-abbrev pub place_of : Prefix → ℕ
-place_of q = length_place q.family q.len
-
--- where the length of a prefix isn't marked, no VRP has the prefix
-abbrev pub AreMarked : List Vrp → List Bool → Type 0
-AreMarked list lengths = (q : Prefix) → get_or lengths (place_of q) false ≡ false → first_from list 0 q ≡ length list

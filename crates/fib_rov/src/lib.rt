@@ -1,14 +1,14 @@
 //! Route origin validation (RFC 6811): what a list of validated ROA payloads (VRPs) says of a route.
 //!
-//! `Vrps` is such a list with an index by prefix. A route of n bits is judged by at most n + 1 look-ups, one for each prefix that contains
-//! it and is as long as some VRP's, and by the VRPs of these prefixes, however long the list is.
+//! `Vrps` is such a list with an index by prefix. A route is judged by one search among the VRPs and by those that cover it.
 //!
 //! As text a list has a VRP `PREFIX,MAXLEN,AS` on each line that isn't empty. Lines end with a line feed, which the last may lack; one
 //! carriage return before it is dropped; an empty line has no VRP, but is counted.
 #![tactic(auto)]
 
-mod lengths;
+mod index;
 mod line;
+mod numbered;
 mod reading;
 mod state;
 mod vrp;

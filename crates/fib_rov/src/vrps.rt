@@ -1,25 +1,23 @@
 //! Lists of VRPs.
 
-ghost use Rattle.std.specs.Prelude.{◌≡◌, ◌+◌, ◌≤◌, ◌&&◌, ◌++◌, if◌then◌else◌, false, [], get_or, length, map, option_map, option_to_list, slice_get, unwrap_or, IfOk, OnOk};
-ghost use Rattle.std.specs.List.{position_or_len};
-ghost use Rattle.indexmap.specs.IndexMap.{get};
+ghost use Rattle.std.specs.Prelude.{◌≡◌, ◌++◌, [], map, option_map, option_to_list, slice_get, IfOk, OnOk};
 ghost use Rattle.fib_addr.specs.Views.{prefix_as};
 ghost use Rattle.fib_prefix.specs.Views.{event_as};
 ghost use Rattle.fib_rov.specs.Lines.{vrps_in};
 ghost use Rattle.fib_rov.specs.Lists.{IsRead};
 ghost use Rattle.fib_report.specs.Views.{invalid_as};
 ghost use Rattle.fib_rov.specs.Rov.{announced_with, decided, invalid_in, invalid_of, judged, left_of, state_of};
-ghost use Rattle.fib_rov.specs.Views.{vrp_as, allows};
-ghost use Rattle.fib_rov.specs.Index.{AreChained, AreMarked, IsIndex, first_from, has_prefix, place_at, place_of, prefix_test};
+ghost use Rattle.fib_rov.specs.Views.{vrp_as};
+ghost use Rattle.fib_rov.specs.Index.{IsIndex, place_at};
 
-use crate::lengths::{LENGTHS, has_length, lengths_of};
+use crate::index::{covering_before, last_covering, link_all, sort};
+use crate::numbered::Numbered;
 use crate::reading::{RovError, read_vrps};
 use crate::state::State;
 use crate::vrp::Vrp;
 use fib_addr::Prefix;
 use fib_prefix::Event;
 use fib_report::Invalid;
-use indexmap::IndexMap;
 use std::alloc::{AllocError, Global};
 use std::marker::Model;
 
@@ -27,111 +25,47 @@ use std::marker::Model;
 #[derive(Drop)]
 pub struct Vrps {
     list: Vec<Vrp>,
-    // for each VRP the number of the next one of its prefix, or how many VRPs there are
-    next: Vec<usize>,
-    // the number of the first VRP of a prefix
-    first: IndexMap<Prefix, usize>,
-    // which lengths these prefixes have
-    lengths: [bool; LENGTHS],
+    // the VRPs in the order of their prefixes
+    sorted: Vec<Numbered>,
+    // for each of these how many there are up to the last before it whose prefix contains its own and is another
+    links: Vec<usize>,
 }
 
 impl Model for Vrps {
     ghost use Rattle.std.specs.Prelude.{List, map};
     ghost use Rattle.printed_model.specs.Rows.{Vrp};
     ghost use Rattle.fib_rov.specs.Views.{vrp_as};
-    ghost use Rattle.fib_rov.specs.Index.{AreMarked, IsIndex};
+    ghost use Rattle.fib_rov.specs.Index.{IsIndex};
 
     ghost Value = { List Vrp };
 
     ghost view = { λ v. map vrp_as v.list.items };
 
-    ghost invariant = { λ v. IsIndex v.list.items v.next.items v.first × AreMarked v.list.items v.lengths };
+    ghost invariant = { λ v. IsIndex v.list.items v.sorted.items v.links.items };
 }
 
-/// The links from each VRP to the next one of its prefix, and the first one of each prefix. They are made from the last VRP to the
-/// first, so that each new one goes before those of its prefix.
-fn index_of(
-    alloc: Global,
-    list: &[Vrp],
-) -> Result<(Vec<usize>, IndexMap<Prefix, usize>), AllocError>
-    ensures { IfOk result (λ x. IsIndex list.now x.0.items x.1) }
-{
-    let count = list.len();
-    let mut next = vec![in alloc; count; count]?;
-    let mut first = IndexMap::new(alloc);
-    let mut number = count;
-    while number > 0 {
-        number -= 1;
-        let behind = first.insert(list[number].prefix, number)?;
-        next[number] = behind.unwrap_or(count);
-    }
-    Ok((next, first))
-}
-
-/// The number of the first VRP of a prefix, or the count if there is none. The map is asked only where some prefix has the length.
-fn first_at(
-    first: &IndexMap<Prefix, usize>,
-    lengths: &[bool; LENGTHS],
-    prefix: &Prefix,
-    count: usize,
-) -> usize
-    ensures { result ≡ (if get_or lengths.now (place_of prefix.now) false
-        then unwrap_or (get prefix_test first.now prefix.now) count else count) }
-{
-    if !has_length(lengths, prefix) {
-        return count;
-    }
-    match first.get(prefix) {
-        Some(number) => *number,
-        None => count,
-    }
-}
-
-/// The number of the first VRP of a prefix that matches a route of so many bits with this origin, or the count if none does. `at` is the
-/// number of the first VRP of that prefix.
-fn first_allowing(
-    list: &[Vrp],
-    next: &[usize],
-    wider: &Prefix,
-    at: usize,
-    len: u8,
-    origin: Option<u32>,
-) -> usize
-    requires chained { AreChained 0 list.now next.now }
-    requires many { length next.now ≡ length list.now }
-    requires at { at ≡ first_from list.now 0 wider.now }
-    ensures { result ≡ position_or_len (λ v. has_prefix wider.now v && allows len origin v) list.now }
-{
-    let mut number = at;
-    while number < list.len() && !list[number].allows(len, origin) {
-        number = next[number];
-    }
-    number
-}
-
-/// The state of a route, by the prefixes that contain its own, the shortest first.
+/// The state of a route, by the VRPs that cover it.
 fn decide(
     list: &[Vrp],
-    next: &[usize],
-    first: &IndexMap<Prefix, usize>,
-    lengths: &[bool; LENGTHS],
+    sorted: &[Numbered],
+    links: &[usize],
     prefix: &Prefix,
     origin: Option<u32>,
 ) -> State
-    requires index { IsIndex list.now next.now first.now }
-    requires marked { AreMarked list.now lengths.now }
+    requires { IsIndex list.now sorted.now links.now }
     ensures { result ≡ state_of (map vrp_as list.now) (prefix_as prefix.now) origin }
 {
     let count = list.len();
     let mut covering = count;
     let mut matching = count;
-    let address = prefix.first_addr();
-    for len in 0..prefix.len + 1 {
-        let wider = Prefix::new(&address, len);
-        let at = first_at(first, lengths, &wider, count);
-        covering = covering.min(at);
-        let allowing = first_allowing(list, next, &wider, at, prefix.len, origin);
-        matching = matching.min(allowing);
+    let mut at = last_covering(sorted, links, prefix);
+    while at > 0 {
+        let vrp = &sorted[at - 1];
+        covering = covering.min(vrp.number);
+        if vrp.vrp().allows(prefix.len, origin) {
+            matching = matching.min(vrp.number);
+        }
+        at = covering_before(sorted, links, at);
     }
     state(matching, covering, count)
 }
@@ -168,13 +102,12 @@ impl Vrps {
     {
         Vrps {
             list: Vec::new(alloc),
-            next: Vec::new(alloc),
-            first: IndexMap::new(alloc),
-            lengths: [false; LENGTHS],
+            sorted: Vec::new(alloc),
+            links: Vec::new(alloc),
         }
     }
 
-    /// The list with its index, which takes a word for each VRP and a place in a map for each prefix.
+    /// The list with its index, which takes 56 octets for each VRP. It costs a sort of the list.
     ///
     /// # Errors
     ///
@@ -182,13 +115,12 @@ impl Vrps {
     pub fn new(alloc: Global, list: Vec<Vrp>) -> Result<Vrps, AllocError>
         ensures { IfOk result (λ v. v ≡ map vrp_as list.items) }
     {
-        let (next, first) = index_of(alloc, &list)?;
-        let lengths = lengths_of(&list);
+        let sorted = sort(alloc, &list)?;
+        let links = link_all(alloc, &sorted)?;
         Ok(Vrps {
             list,
-            next,
-            first,
-            lengths,
+            sorted,
+            links,
         })
     }
 
@@ -214,19 +146,12 @@ impl Vrps {
         self.list.get(number)
     }
 
-    /// The state of a route of the prefix with this origin. It costs a look-up for each prefix that contains the route's and is as long as
-    /// some VRP's, and a step for each VRP of these prefixes. It takes no memory.
+    /// The state of a route of the prefix with this origin. It costs one search among the VRPs, at most a step for each length, and a step
+    /// for each VRP that covers the route. It takes no memory.
     pub fn state(&self, prefix: &Prefix, origin: Option<u32>) -> State
         ensures { result ≡ state_of self.now (prefix_as prefix.now) origin }
     {
-        decide(
-            &self.list,
-            &self.next,
-            &self.first,
-            &self.lengths,
-            prefix,
-            origin,
-        )
+        decide(&self.list, &self.sorted, &self.links, prefix, origin)
     }
 
     /// What is left of an event where routes that are Invalid are dropped (RFC 6811, section 3): an announcement of such a route is the

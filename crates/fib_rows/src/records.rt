@@ -393,6 +393,16 @@ pub const UPPER_HALF: &[&str] = &[
     "01 80",
 ];
 
+/// The first peer withdraws 0.0.0.0/2.
+pub const QUARTER_WITHDRAWN: &[&str] = &[
+    "00000000 0010 0004 0000002d",
+    SESSION,
+    "ffffffffffffffffffffffffffffffff 0019 02",
+    "0002",
+    "02 00",
+    "0000",
+];
+
 /// The first peer announces 0.0.0.0/0 by 192.0.2.2.
 pub const ALL_TO_B: &[&str] = &[
     "00000000 0010 0004 00000040",

@@ -1,28 +1,102 @@
 //! Rows over inputs and sinks in memory: what goes in, and the outcome, the status and all that comes out.
 
-use crate::harness::{
-    ALL, CHECK, Expected, FIRST, Given, READ_FAULT, Record, Rows, USAGE, WITH_SNAPSHOTS,
-    WITH_UPDATES, WORDS, YES, compare, inputs_of, malformed, rows_named, run_on, text_of,
-};
-use crate::records::{
-    ALL_TWICE, GONE_AND_BACK, HALVES, LONG_HEADER, LONGER, LOST, LOWER_HALF, ONE_ADDRESS,
-    ONE_OF_SIX, OTHER, PATH_CUT, PATH_WITHDRAWN, PEERS, PREFIX_OF_33, QUARTERS, SET_OF_THREE,
-    SEVEN_EIGHTHS, SHORT_HOP, SIX, TEN, TEN_LONG_ORIGIN, TEN_OF_TWO, TEN_ONE, TEN_ONE_BY_A,
-    TEN_SHORT_SEGMENT, TEN_TO_A, TEN_TO_B, TEN_TWICE, TEN_WRONG_SEGMENT, TOO_WIDE, TWO_PATHS,
-    TWO_PEERS, UPPER_HALF, WIDE_WITHDRAWN, WITH_A_GAP, WRONG_LENGTH, WRONG_SEGMENT,
-    WRONG_SEGMENT_AND_FLAGS,
-};
-use crate::texts::{
-    CERTIFICATE_OF_NONE, PRINTED_TIE, REPORT_OF_MADE, REPORT_OF_ONE_MADE, ROWS_OF_BOTH,
-    ROWS_OF_DROP, ROWS_OF_DROP_BEFORE_HOP, ROWS_OF_GONE_AND_BACK, ROWS_OF_KEPT_HOP,
-    ROWS_OF_LATER_SNAPSHOT, ROWS_OF_LONGER, ROWS_OF_LOST, ROWS_OF_LOST_PATHS, ROWS_OF_MEET,
-    ROWS_OF_NO_SUCH_PATH, ROWS_OF_OTHER_PATH, ROWS_OF_REDUNDANT, ROWS_OF_REPAIR, ROWS_OF_SET,
-    ROWS_OF_SIX, ROWS_OF_SNAPSHOT, ROWS_OF_TEN, ROWS_OF_TIE, ROWS_OF_TREATED, TIE_BOUNDS,
-    TIE_LEAST, TIE_LEAVES, TIE_ROUTES, WRONG_JOIN, WRONG_LEAST,
-};
-use fib_addr::{Addr, Family, Hop, Prefix};
+use crate::harness::ALL;
+use crate::harness::CHECK;
+use crate::harness::Expected;
+use crate::harness::FIRST;
+use crate::harness::Given;
+use crate::harness::READ_FAULT;
+use crate::harness::Record;
+use crate::harness::Rows;
+use crate::harness::USAGE;
+use crate::harness::WITH_SNAPSHOTS;
+use crate::harness::WITH_UPDATES;
+use crate::harness::WORDS;
+use crate::harness::YES;
+use crate::harness::compare;
+use crate::harness::inputs_of;
+use crate::harness::malformed;
+use crate::harness::rows_named;
+use crate::harness::run_on;
+use crate::harness::text_of;
+use crate::records::ALL_TWICE;
+use crate::records::GONE_AND_BACK;
+use crate::records::HALVES;
+use crate::records::LONG_HEADER;
+use crate::records::LONGER;
+use crate::records::LOST;
+use crate::records::LOWER_HALF;
+use crate::records::ONE_ADDRESS;
+use crate::records::ONE_OF_SIX;
+use crate::records::OTHER;
+use crate::records::PATH_CUT;
+use crate::records::PATH_WITHDRAWN;
+use crate::records::PEERS;
+use crate::records::PREFIX_OF_33;
+use crate::records::QUARTER_WITHDRAWN;
+use crate::records::QUARTERS;
+use crate::records::SET_OF_THREE;
+use crate::records::SEVEN_EIGHTHS;
+use crate::records::SHORT_HOP;
+use crate::records::SIX;
+use crate::records::TEN;
+use crate::records::TEN_LONG_ORIGIN;
+use crate::records::TEN_OF_TWO;
+use crate::records::TEN_ONE;
+use crate::records::TEN_ONE_BY_A;
+use crate::records::TEN_SHORT_SEGMENT;
+use crate::records::TEN_TO_A;
+use crate::records::TEN_TO_B;
+use crate::records::TEN_TWICE;
+use crate::records::TEN_WRONG_SEGMENT;
+use crate::records::TOO_WIDE;
+use crate::records::TWO_PATHS;
+use crate::records::TWO_PEERS;
+use crate::records::UPPER_HALF;
+use crate::records::WIDE_WITHDRAWN;
+use crate::records::WITH_A_GAP;
+use crate::records::WRONG_LENGTH;
+use crate::records::WRONG_SEGMENT;
+use crate::records::WRONG_SEGMENT_AND_FLAGS;
+use crate::texts::CERTIFICATE_OF_NONE;
+use crate::texts::PRINTED_TIE;
+use crate::texts::REPORT_OF_MADE;
+use crate::texts::REPORT_OF_ONE_MADE;
+use crate::texts::ROWS_IN_STEADY_ORDER;
+use crate::texts::ROWS_OF_BOTH;
+use crate::texts::ROWS_OF_DROP;
+use crate::texts::ROWS_OF_DROP_BEFORE_HOP;
+use crate::texts::ROWS_OF_GONE_AND_BACK;
+use crate::texts::ROWS_OF_KEPT_HOP;
+use crate::texts::ROWS_OF_LATER_SNAPSHOT;
+use crate::texts::ROWS_OF_LONGER;
+use crate::texts::ROWS_OF_LOST;
+use crate::texts::ROWS_OF_LOST_PATHS;
+use crate::texts::ROWS_OF_MEET;
+use crate::texts::ROWS_OF_NO_SUCH_PATH;
+use crate::texts::ROWS_OF_OTHER_PATH;
+use crate::texts::ROWS_OF_REDUNDANT;
+use crate::texts::ROWS_OF_REPAIR;
+use crate::texts::ROWS_OF_SET;
+use crate::texts::ROWS_OF_SIX;
+use crate::texts::ROWS_OF_SNAPSHOT;
+use crate::texts::ROWS_OF_TEN;
+use crate::texts::ROWS_OF_TIE;
+use crate::texts::ROWS_OF_TREATED;
+use crate::texts::TIE_BOUNDS;
+use crate::texts::TIE_LEAST;
+use crate::texts::TIE_LEAVES;
+use crate::texts::TIE_ROUTES;
+use crate::texts::WRONG_JOIN;
+use crate::texts::WRONG_LEAST;
+use fib_addr::Addr;
+use fib_addr::Family;
+use fib_addr::Hop;
+use fib_addr::Prefix;
 use fib_io::MemInputs;
-use fib_main::{No, Outcome, Which};
+use fib_main::No;
+use fib_main::Outcome;
+use fib_main::Which;
 use made_input::generate;
 use std::alloc::Global;
 use std::process::Abort;
@@ -203,6 +277,25 @@ fn rows_of_kept_and_least_tables(rt: HostRuntime) -> Result<(), Fail> {
                 ..given
             },
             ROWS_OF_SNAPSHOT,
+        ),
+        (
+            "changes in steady order",
+            Given {
+                words: &[
+                    "fib",
+                    "run",
+                    "--steady",
+                    "dump",
+                    "--updates",
+                    "updates",
+                    "--every",
+                    "1",
+                ],
+                dump: &[TWO_PEERS, QUARTERS],
+                updates: &[QUARTER_WITHDRAWN],
+                ..given
+            },
+            ROWS_IN_STEADY_ORDER,
         ),
         (
             "a snapshot after two events",

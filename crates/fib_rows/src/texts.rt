@@ -455,6 +455,46 @@ pub const ROWS_OF_SNAPSHOT: &[&[&str]] = &[
     ],
 ];
 
+/// Of four quarters the first is withdrawn, and a snapshot follows: in steady order. In that of prefixes 0.0.0.0/0 would be replaced
+/// before 128.0.0.0/2 is there, which would go elsewhere meanwhile.
+pub const ROWS_IN_STEADY_ORDER: &[&[&str]] = &[&[
+    "route,64.0.0.0/2,192.0.2.2",
+    "route,128.0.0.0/2,192.0.2.1",
+    "route,192.0.0.0/2,192.0.2.2",
+    "change,0,+,64.0.0.0/2,192.0.2.2",
+    "change,0,+,192.0.0.0/2,192.0.2.2",
+    "change,0,+,0.0.0.0/0,192.0.2.1",
+    "change,1,+,0.0.0.0/2,drop",
+    "change,1,+,128.0.0.0/2,192.0.2.1",
+    "change,1,=,0.0.0.0/0,192.0.2.2",
+    "change,1,-,64.0.0.0/2",
+    "change,1,-,192.0.0.0/2",
+    "table,0.0.0.0/0,192.0.2.2",
+    "table,0.0.0.0/2,drop",
+    "table,128.0.0.0/2,192.0.2.1",
+    "least,0.0.0.0/0,192.0.2.2",
+    "least,0.0.0.0/2,drop",
+    "least,128.0.0.0/2,192.0.2.1",
+    "cert,leaf,0.0.0.0/2,none",
+    "cert,leaf,64.0.0.0/2,192.0.2.2",
+    "cert,join,0.0.0.0/1,1",
+    "cert,leaf,128.0.0.0/2,192.0.2.1",
+    "cert,leaf,192.0.0.0/2,192.0.2.2",
+    "cert,join,128.0.0.0/1,1",
+    "cert,join,0.0.0.0/0,2",
+    "cert,bound,4,3",
+    "cert,leaf,::/0,none",
+    "cert,bound,6,0",
+    "report,records,6",
+    "report,skipped,0",
+    "report,events,5",
+    "report,routes,3",
+    "report,entries,3",
+    "report,nodes,0",
+    "report,leaves,0",
+    "report,treated,0",
+]];
+
 /// The same after a second event, which changes nothing.
 pub const ROWS_OF_LATER_SNAPSHOT: &[&[&str]] = &[
     HALVES_ROUTES,

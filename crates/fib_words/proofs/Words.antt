@@ -1,6 +1,6 @@
 -- What clap answers, and the definition of the command line.
 use Rattle.std.proofs.Common.{◌≡◌, ℕ, ◌^◌, true, false, cond, List, [], ◌∷◌, Option, Some, None, Result, Err, IfOk, refl, sym, ap, ◌∙◌, subst, inl, inr, codes}
-use Rattle.std.specs.Prelude.{◌≢◌, option_map, Box}
+use Rattle.std.specs.Prelude.{◌≢◌, Bool, option_map, Box}
 use Rattle.std.specs.Option.{option_and_then}
 use Rattle.std.specs.Str.{bytes_eq}
 use Rattle.std.specs.Box.{box_value}
@@ -20,7 +20,7 @@ use Rattle.fib_addr.specs.Text.{number_below}
 use Rattle.printed_model.specs.declared.kind.Kind.{Kind}
 use Rattle.fib_words.specs.declared.WordsError.{WordsError}
 use Rattle.fib_words.specs.declared.WordsError.TheVariants.{Usage, NoMemory}
-use Rattle.fib_words.specs.Commands.{Asked, Named, NamedSame, NamedSizes, HasApp, bare_app, run_app, check_app, make_app, steps_app, fib_app, takes, is_empty, Run, Check, Steps, asked_in, named_by, named_with, number_or, made_by, made_with, Make, Same, Save, same_by, same_with, save_by, save_with, from_one, kind_or, sizes_by, sizes_with, steps_by, steps_with, command_of, IsCommand}
+use Rattle.fib_words.specs.Commands.{Asked, Named, NamedSame, NamedSizes, HasApp, bare_app, run_app, check_app, make_app, steps_app, fib_app, takes, is_empty, is_on, Run, Check, Steps, asked_in, named_by, named_with, number_or, made_by, made_with, Make, Same, Save, same_by, same_with, save_by, save_with, from_one, kind_or, sizes_by, sizes_with, steps_by, steps_with, command_of, IsCommand}
 
 fib_free : is_simple_and_free fib_app ≡ true
 unfolding clap_on_literals
@@ -135,7 +135,7 @@ same_is m same names e f g = entered m same (codes "same") e f ∙ ap (option_ma
 abbrev found : ArgMatches → List ℕ → Option Text
 found m name = first_value (found_of m) name
 
-pub names_are : (m : ArgMatches) → named_with (found m (codes "dump")) (found m (codes "updates")) (found m (codes "ask")) (found m (codes "vrps")) (found m (codes "every")) (sizes_by (rows_of (found_of m))) ≡ named_by (rows_of (found_of m))
+pub names_are : (m : ArgMatches) → named_with (found m (codes "dump")) (found m (codes "updates")) (found m (codes "ask")) (found m (codes "vrps")) (found m (codes "every")) (found m (codes "steady")) (sizes_by (rows_of (found_of m))) ≡ named_by (rows_of (found_of m))
 names_are m =
     rw (
       first_value-rows (found_of m) (codes "dump"),
@@ -143,6 +143,7 @@ names_are m =
       first_value-rows (found_of m) (codes "ask"),
       first_value-rows (found_of m) (codes "vrps"),
       first_value-rows (found_of m) (codes "every"),
+      first_value-rows (found_of m) (codes "steady"),
     ) refl
 
 -- the names in the matches of `steps`
@@ -188,10 +189,10 @@ pub no_sizes : (m : ArgMatches) (dump : Text) (k : Option Text) (every : ℕ) �
     → None ≡ sizes_by (rows_of (found_of m)) → None ≡ named_by (rows_of (found_of m))
 no_sizes m dump k every d is e f = rw (← names_are m, ← d, ← is, ← e, ← f) refl
 
-pub all_names : (m : ArgMatches) (dump : Text) (u a v k : Option Text) (every : ℕ) (sizes : NamedSizes) → Is (Some dump) m (codes "dump") → Is k m (codes "every") → Some every ≡ number_or 0 (2 ^ 32) k
-    → Some sizes ≡ sizes_by (rows_of (found_of m)) → Is u m (codes "updates") → Is a m (codes "ask") → Is v m (codes "vrps")
-    → Some (record { dump = dump; updates = u; asks = a; vrps = v; every = every; direct = sizes.direct; nodes = sizes.nodes; leaves = sizes.leaves }) ≡ named_by (rows_of (found_of m))
-all_names m dump u a v k every sizes d is e f is_u is_a is_v = rw (← names_are m, ← d, ← is, ← e, ← f, ← is_u, ← is_a, ← is_v) refl
+pub all_names : (m : ArgMatches) (dump : Text) (u a v k t : Option Text) (every : ℕ) (steady : Bool) (sizes : NamedSizes) → Is (Some dump) m (codes "dump") → Is k m (codes "every") → Some every ≡ number_or 0 (2 ^ 32) k
+    → Some sizes ≡ sizes_by (rows_of (found_of m)) → Is u m (codes "updates") → Is a m (codes "ask") → Is v m (codes "vrps") → Is t m (codes "steady") → steady ≡ is_on t
+    → Some (record { dump = dump; updates = u; asks = a; vrps = v; every = every; steady = steady; direct = sizes.direct; nodes = sizes.nodes; leaves = sizes.leaves }) ≡ named_by (rows_of (found_of m))
+all_names m dump u a v k t every steady sizes d is e f is_u is_a is_v is_t on = rw (on, ← names_are m, ← d, ← is, ← e, ← f, ← is_u, ← is_a, ← is_v, ← is_t) refl
 
 -- the same of a run in steps
 

@@ -9,7 +9,7 @@ ghost use Rattle.std.specs.Option.{option_and_then};
 ghost use Rattle.std.specs.String.{string_bytes};
 ghost use Rattle.clap.specs.Words.{app_of, found_of, rows_of, subcommand_name_of, subcommand_rows_of, with_rule, with_subcommand};
 ghost use Rattle.clap.specs.Values.{kind_of};
-ghost use Rattle.fib_words.specs.Commands.{AreSizes, asked_as, asked_in, bare_app, check_app, command_of, due_option_rule, fib_app, from_one, HasApp, IsCommand, IsLocal, IsWithin, kind_or, made_by, make_app, named_as, named_by, number_or, option_rule, run_app, same_app, same_as, same_by, save_app, save_as, save_by, several_rule, sized_app, sizes_as, sizes_by, steps_app, steps_as, steps_by, word_rule};
+ghost use Rattle.fib_words.specs.Commands.{AreSizes, asked_as, asked_in, bare_app, check_app, command_of, due_option_rule, fib_app, flag_rule, from_one, HasApp, IsCommand, IsLocal, IsWithin, is_on, kind_or, made_by, make_app, named_as, named_by, number_or, option_rule, run_app, same_app, same_as, same_by, save_app, save_as, save_by, several_rule, sized_app, sizes_as, sizes_by, steps_app, steps_as, steps_by, word_rule};
 ghost use Rattle.fib_addr.specs.Text.{number_below};
 ghost use Rattle.fib_words.specs.declared.WordsError.TheVariants.{NoMemory};
 
@@ -32,6 +32,8 @@ pub struct RunWords<'a> {
     pub vrps: Option<&'a str>,
     /// How many elementary events of the updates a snapshot follows; 0 is never.
     pub every: u32,
+    /// Whether the changes of an event are told in steady order: no packet goes astray while a router makes them one by one.
+    pub steady: bool,
     /// The direct bits of a trie: 18 at most.
     pub direct: u8,
     /// The order of a trie's arena of nodes: 24 at most.
@@ -168,6 +170,20 @@ fn with_due_option<'a>(
     command.arg(option)
 }
 
+/// The command with one more flag.
+fn with_flag<'a>(
+    alloc: Global,
+    command: Command<'a>,
+    name: &'a str,
+) -> Result<Command<'a>, AllocError>
+    requires { IsLocal command }
+    ensures { IfOk result (λ c. HasApp c (with_rule (app_of command.entry)
+        (flag_rule name.entry.now))) }
+{
+    let flag = Arg::new(alloc, name).long(name).action(ArgAction::SetTrue);
+    command.arg(flag)
+}
+
 /// The command with one more word that has to be there.
 fn with_word<'a>(
     alloc: Global,
@@ -218,7 +234,7 @@ fn with_sizes<'a>(alloc: Global, command: Command<'a>) -> Result<Command<'a>, Al
     with_option(alloc, command, "leaves")
 }
 
-/// `run DUMP [--updates F] [--ask F] [--vrps F] [--every K] [--direct S] [--nodes N] [--leaves N]`.
+/// `run DUMP [--updates F] [--ask F] [--vrps F] [--every K] [--steady] [--direct S] [--nodes N] [--leaves N]`.
 fn run_command<'a>(alloc: Global) -> Result<Command<'a>, AllocError>
     ensures { IfOk result (λ c. HasApp c run_app) }
 {
@@ -227,6 +243,7 @@ fn run_command<'a>(alloc: Global) -> Result<Command<'a>, AllocError>
     let command = with_option(alloc, command, "ask")?;
     let command = with_option(alloc, command, "vrps")?;
     let command = with_option(alloc, command, "every")?;
+    let command = with_flag(alloc, command, "steady")?;
     with_sizes(alloc, command)
 }
 
@@ -342,6 +359,16 @@ fn sizes_of(matches: &ArgMatches<'_>) -> Option<SizesWords>
     })
 }
 
+/// Whether a flag stands: clap tells it by the word `true`.
+fn is_on(word: Option<&str>) -> bool
+    ensures { result ≡ is_on (option_map (λ w. w.now) word.entry) }
+{
+    match word {
+        Some(word) => word == "true",
+        None => false,
+    }
+}
+
 /// What the matches of `run` name.
 fn run_words<'a>(matches: &ArgMatches<'a>) -> Option<RunWords<'a>>
     ensures same { option_map named_as result ≡ named_by (rows_of (found_of matches.now)) }
@@ -356,6 +383,7 @@ fn run_words<'a>(matches: &ArgMatches<'a>) -> Option<RunWords<'a>>
         asks: matches.get_str("ask"),
         vrps: matches.get_str("vrps"),
         every,
+        steady: is_on(matches.get_str("steady")),
         direct: sizes.direct,
         nodes: sizes.nodes,
         leaves: sizes.leaves,

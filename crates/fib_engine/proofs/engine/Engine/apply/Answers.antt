@@ -17,8 +17,9 @@ use Rattle.kept_feed.specs.Kept.{kept_by}
 use Rattle.route_choice.specs.Held.{IsChoice, pick_elem}
 use Rattle.route_choice.specs.declared.choice.Choice.{Choice}
 use Rattle.fib_engine.specs.Held.{AreKeptNeeds, Held, IsSound, if_loaded}
-use Rattle.fib_engine.specs.Stands.{Takes, changes_of, routes_after}
+use Rattle.fib_engine.specs.Stands.{Takes, changes_of, repair_of, routes_after}
 use Rattle.fib_engine.specs.Tables.{needs_put, route_in, table_of}
+use Rattle.fib_engine.specs.declared.tables.EventChanges.{EventChanges}
 use Rattle.fib_engine.proofs.Taking.{applied, is_elem, kept_placed, not_over, stands_more, turned_routes}
 use Rattle.fib_engine.proofs.engine.Engine.apply.Goals as goal
 
@@ -162,7 +163,30 @@ returns-clause-changes c =
     applied t.limits.every (t.events + 1) C H c.room.new.self.list elem t.tables c.plan_fitting.new.tables c.commit-2.new.self choice c.in_ok-own.own c.changed_route-route.result c.in_ok-fitting.fitting.plan.v4 c.in_ok-fitting.fitting.plan.v6 c.is_due-due.result s (is_elem c.args.elem.now) c.room.ensures.list
     (not_over (length (hops_after H (elem ∷ []))) c.in_ok-own.ensures.full.1) c.in_ok-own.ensures.number ch c.changed_route-route.ensures c.plan_fitting.ensures.tables told.put told.told c.commit-2.ensures.routes c.commit-2.ensures.v4 c.commit-2.ensures.v6 c.is_due-due.ensures
     in
-    ap (map change_as) c.commit-2.ensures.changes ∙ (told.changes ∙ (T.changes ∙ ap (λ (o : Held). changes_of elem o) c.self.view_is))
+    ap (λ (e : EventChanges). map change_as e.changes.items) c.commit-2.ensures.changes ∙ (told.changes ∙ (T.changes ∙ ap (λ (o : Held). changes_of elem o) c.self.view_is))
+
+pub returns-clause-repaired : goal.returns-clause-repaired
+returns-clause-repaired c =
+    let t = c.self.inside in
+    let C = t.candidates.candidates in
+    let H = t.hops.list in
+    let z = sizes_as t.limits.sizes in
+    let elem = elem_as c.args.elem.now in
+    let loaded : t.is_loaded ≡ true = ap (λ (e : Held). e.loaded) c.self.view_is ∙ c.requires.loaded in
+    let s : IsSound C H true t.tables = subst (λ (b : Bool). IsSound C H b t.tables) loaded c.self.invariant.0 in
+    let pick = c.in_ok-pick.pick in
+    let choice = c.choice.result.now in
+    let ch : IsChoice C elem choice =
+    subst (λ (X : Candidates). IsChoice X elem choice) c.plan.ensures.candidates
+    (subst (λ (e : Elem). IsChoice c.plan.new.self.candidates e choice) c.in_ok-pick.ensures.elem
+    (subst (λ (z : Choice). IsChoice c.plan.new.self.candidates (pick_elem pick) z) (sym c.choice.ensures) c.in_ok-pick.ensures.planned.choice))
+    in
+    let told = c.in_ok-fitting.ensures in
+    let T =
+    applied t.limits.every (t.events + 1) C H c.room.new.self.list elem t.tables c.plan_fitting.new.tables c.commit-2.new.self choice c.in_ok-own.own c.changed_route-route.result c.in_ok-fitting.fitting.plan.v4 c.in_ok-fitting.fitting.plan.v6 c.is_due-due.result s (is_elem c.args.elem.now) c.room.ensures.list
+    (not_over (length (hops_after H (elem ∷ []))) c.in_ok-own.ensures.full.1) c.in_ok-own.ensures.number ch c.changed_route-route.ensures c.plan_fitting.ensures.tables told.put told.told c.commit-2.ensures.routes c.commit-2.ensures.v4 c.commit-2.ensures.v6 c.is_due-due.ensures
+    in
+    ap (λ (e : EventChanges). e.repaired) c.commit-2.ensures.changes ∙ (told.repaired ∙ (ap length T.repair ∙ ap (λ (o : Held). length (repair_of elem o)) c.self.view_is))
 
 pub returns-clause-fits : goal.returns-clause-fits
 returns-clause-fits c =

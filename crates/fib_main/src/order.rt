@@ -1,0 +1,44 @@
+//! The order in which the changes of an event are told: that of prefixes, or steady order, in which no packet goes astray while a
+//! router makes them one by one.
+
+ghost use Rattle.std.specs.Prelude.{◌≡◌, ◌≤◌, ◌++◌, length, map};
+ghost use Rattle.std.specs.List.Sorted.{IsStrictlySortedBy};
+ghost use Rattle.std.specs.Map.{keys_of};
+ghost use Rattle.address_model.specs.Order.{prefix_cmp};
+ghost use Rattle.table_model.specs.Entries.{Entries};
+ghost use Rattle.table_model.specs.Changes.{additions};
+ghost use Rattle.delta_model.specs.Between.{between};
+ghost use Rattle.steady_feed.specs.Told.{steady_if};
+ghost use Rattle.fib_addr.specs.Views.{entry_as};
+ghost use Rattle.fib_delta.specs.Views.{change_as};
+
+use fib_delta::Change;
+use fib_prefix::Entry;
+use steady_order::{put_entries_in_steady_order, put_event_in_steady_order};
+
+/// Puts an event's changes in the order in which they are told: the first so many, which are those of its repair, and then the
+/// others, which are those of the snapshot that follows it, each in itself. Both stand in the order of prefixes.
+pub fn order_event(changes: &mut [Change], repaired: usize, steady: bool)
+    requires { repaired ≤ length changes.old }
+    ensures same { length changes.new ≡ length changes.old }
+    ensures told { (T U V : Entries) → map change_as changes.old ≡ between T U ++ between U V →
+        length (between T U) ≡ repaired →
+        map change_as changes.new
+        ≡ steady_if steady (between T U) ++ steady_if steady (between U V) }
+{
+    if steady {
+        put_event_in_steady_order(changes, repaired);
+    }
+}
+
+/// Puts the entries that a load adds in the order in which they are told. They stand in the order of prefixes.
+pub fn order_load(entries: &mut [Entry], steady: bool)
+    ensures same { length entries.new ≡ length entries.old }
+    ensures told { IsStrictlySortedBy prefix_cmp (keys_of (map entry_as entries.old)) →
+        additions (map entry_as entries.new)
+        ≡ steady_if steady (additions (map entry_as entries.old)) }
+{
+    if steady {
+        put_entries_in_steady_order(entries);
+    }
+}

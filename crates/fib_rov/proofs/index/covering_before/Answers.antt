@@ -1,0 +1,34 @@
+use Rattle.std.proofs.Common.{◌-◌, sym, ap, ◌∙◌, arith}
+use Rattle.address_model.specs.Address.{same_prefix}
+use Rattle.address_model.specs.Regions.{is_within}
+use Rattle.address_model.proofs.Same.{same_prefix_is}
+use Rattle.fib_addr.specs.Views.{prefix_as}
+use Rattle.fib_rov.specs.declared.numbered.Numbered.{Numbered}
+use Rattle.fib_rov.proofs.Lasts.{at_place, before_linked, before_same, prefix_at}
+use Rattle.fib_rov.proofs.index.covering_before.Goals as goal
+use Rattle.fib_rov.proofs.index.covering_before.Goals.{else-at-gt1-via-then-at-gt1+else-has_prefix, else-at-gt1-via-else-at-gt1}
+
+pub returns-then-has_prefix : goal.returns-then-has_prefix
+returns-then-has_prefix c = λ p r fit is.
+    let sorted = c.args.sorted.now in
+    let one = c.index-sorted-at.result in
+    let two = c.index-sorted-at-then-at-gt1.result in
+    let same = same_prefix_is (prefix_as one.prefix) (at_place sorted (c.args.at - 1) two) (sym c.has_prefix.ensures ∙ c.if-has_prefix.true) in
+    before_same sorted c.args.at p
+    (λ d. ap (is_within p)
+    (prefix_at sorted (c.args.at - 2) d one (omega (arith, c.requires.within, c.if-at-gt1.true)) ∙ (ap (λ (x : Numbered). prefix_as x.prefix) (sym c.index-sorted-at.is)
+    ∙ (same ∙ prefix_at sorted (c.args.at - 1) two r (omega (arith, c.requires.within, c.if-at-gt1.true)))))
+    ∙ is)
+    c.if-at-gt1.true
+
+pub returns-else-at-gt1 : goal.returns-else-at-gt1
+returns-else-at-gt1 c = λ p r fit is.
+    let sorted = c.args.sorted.now in
+    before_linked sorted c.args.links.now c.args.at p fit c.requires.sorted c.requires.linked c.requires.some c.requires.within
+    (λ d. ap (is_within p) (prefix_at sorted (c.args.at - 1) d r (omega (arith, c.requires.within, c.requires.some))) ∙ is)
+    (λ d h. elim c.else-at-gt1.branch [
+      | else-at-gt1-via-then-at-gt1+else-has_prefix w ↦
+          ap (λ q. same_prefix q (at_place sorted (c.args.at - 1) d)) (prefix_at sorted (c.args.at - 2) d w.index-sorted-at.result (omega (arith, c.requires.within, h)) ∙ ap (λ (x : Numbered). prefix_as x.prefix) (sym w.index-sorted-at.is))
+          ∙ (ap (same_prefix (prefix_as w.index-sorted-at.result.prefix)) (prefix_at sorted (c.args.at - 1) d w.index-sorted-at-then-at-gt1.result (omega (arith, c.requires.within, h))) ∙ (sym w.has_prefix.ensures ∙ w.if-has_prefix.false))
+      | else-at-gt1-via-else-at-gt1 w ↦ absurd (omega (arith, h, w.if-at-gt1.false))
+    ])
