@@ -1,5 +1,5 @@
 -- The best candidate of the flat part and another one.
-use Rattle.std.proofs.Common.{◌+◌, ◌≡◌, ℕ, zero, suc, ◌<◌, ◌≤◌, List, [], ◌∷◌, ◌++◌, Bool, true, false, cond, Option, Some, None, refl, sym, ap, subst, ◌∙◌, arith, drop, length, nat_eq}
+use Rattle.std.proofs.Common.{◌+◌, ◌≡◌, ℕ, zero, suc, ◌<◌, ◌≤◌, List, [], ◌∷◌, Bool, true, false, Option, Some, None, refl, sym, ap, subst, ◌∙◌, arith, drop, length}
 use Rattle.std.specs.Prelude.{option_map, if◌then◌else◌, ◌&&◌, ◌||◌, ◌==◌, nat_lt, slice_get}
 use Rattle.std.specs.List.{list_any}
 use Rattle.std.specs.Map.{lookup}
@@ -10,11 +10,10 @@ use Rattle.std.proofs.lemmas.Cmp.{tied_back, tied_itself}
 use Rattle.std.proofs.lemmas.Option.{same_Some, none-some}
 use Rattle.address_model.specs.Address.{Prefix, same_prefix}
 use Rattle.address_model.proofs.Same.{same_prefix_is, same_prefix_itself}
-use Rattle.fib_addr.specs.Views.{addr_as, prefix_as}
+use Rattle.fib_addr.specs.Views.{prefix_as}
 use Rattle.fib_prefix.specs.Views.{peer_as, via_as}
 use Rattle.fib_addr.specs.Order.{code_cmp}
 use Rattle.fib_prefix.specs.Order.{code_via_cmp}
-use Rattle.fib_addr.specs.declared.addr.Addr.{Addr}
 use Rattle.fib_prefix.specs.declared.event.Peer.{Peer}
 use Rattle.fib_prefix.specs.declared.event.Via.{Via}
 use Rattle.fib_addr.specs.declared.prefix.Prefix as code
@@ -33,12 +32,12 @@ use Rattle.flat_base.specs.declared.flat.Flat.{Flat}
 use Rattle.flat_base.specs.Orders.{seat_cmp}
 use Rattle.flat_base.specs.Seats.{Seats, held_in, offer_at}
 use Rattle.flat_base.specs.Chains.{no_peer}
-use Rattle.flat_base.specs.Flat.{IsFlat, IsRow, IsRun, AreApart, via_or, via_on, seat_or, seat_on, offer_on, seat_then, seats_on, flat_seats, both, HasNoRow}
+use Rattle.flat_base.specs.Flat.{IsFlat, IsRow, IsRun, AreApart, via_or, via_on, seat_or, seat_on, offer_on, flat_seats, both, HasNoRow}
 use Rattle.flat_base.specs.Bests.{IsBestOf, IsBest, is_out, out_as, candidate_as, offer_as, better_one, better_on, is_via, waits, best_step}
 use Rattle.flat_base.proofs.Orders.{place_as, is_equal, via_is, via_same, prefix_same, prefix_total, via_total, seat_tied, tied_via}
 use Rattle.flat_base.proofs.Views.{at_seat}
 use Rattle.flat_base.proofs.Holds.{is_out_as, code_of, place_at, same_value, is_own, is_better}
-use Rattle.flat_base.proofs.Flats.{is_there, seat_slot, no_row_seat, seat_parts, seat_made, same_parts, parts_same, one_row, offer_found, in_run, same_lookup}
+use Rattle.flat_base.proofs.Flats.{is_there, seat_slot, no_row_seat, seat_parts, same_parts, one_row, offer_found, in_run}
 use Rattle.flat_base.proofs.Parts.{offer_over, offer_under}
 
 -- ---- one more peer

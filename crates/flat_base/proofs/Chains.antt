@@ -1,11 +1,11 @@
 -- Chains of slots stay chains.
-use Rattle.std.proofs.Common.{◌≡◌, ℕ, zero, suc, ◌<◌, ◌≤◌, List, [], ◌∷◌, ◌++◌, Option, Some, None, length, refl, sym, ap, subst, ◌∙◌, arith, inl, inr, length-append, length-set}
+use Rattle.std.proofs.Common.{◌≡◌, ℕ, zero, suc, ◌<◌, ◌≤◌, List, [], ◌∷◌, ◌++◌, Some, length, refl, sym, ap, subst, ◌∙◌, arith, inl, inr, length-append, length-set}
 use Rattle.std.specs.Prelude.{◌≢◌, ◌⊎◌, slice_get, slice_set}
 use Rattle.std.proofs.lemmas.Bool.{cases_lt}
 use Rattle.std.proofs.lemmas.Option.{same_Some, slice_get_within}
 use Rattle.flat_base.specs.declared.flat.Slot.{Slot}
-use Rattle.flat_base.specs.Chains.{AreChained, no_peer, end_or, end_of}
-use Rattle.flat_base.proofs.Places.{got_pushed, got_old, got_set, got_set_at}
+use Rattle.flat_base.specs.Chains.{AreChained, no_peer, end_of}
+use Rattle.flat_base.proofs.Places.{got_pushed, got_set, got_set_at}
 
 -- with other offers at the same slots
 pub chain_kept : (slots more : List Slot) (ends : List ℕ) → AreChained slots ends → length more ≡ length slots → ((i : ℕ) (u : Slot) → slice_get more i ≡ Some u → (s : Slot) × (slice_get slots i ≡ Some s) × (s.peer ≡ u.peer) × (s.link ≡ u.link)) → AreChained more ends

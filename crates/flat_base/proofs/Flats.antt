@@ -33,7 +33,7 @@ use Rattle.flat_base.specs.declared.flat.Slot.{Slot}
 use Rattle.flat_base.specs.declared.flat.Flat.{Flat}
 use Rattle.flat_base.specs.Orders.{seat_cmp}
 use Rattle.flat_base.specs.Seats.{Seats, flat, offer_at}
-use Rattle.flat_base.specs.Flat.{via_or, via_on, seat_or, seat_on, offer_on, seat_then, seats_on, flat_seats, IsPlaced, IsFlat, IsRow, HasNoRow, IsSlot, HasNoSlot, IsSlotOf, HasNoSeat, HasNoNumber, IsBehind, IsRun, off_or, IsLastRow, IsGrown, IsNumber, AreFlat, IsNext, IsHop, HasHop, AreNumbers, Puts, offer_by, with_offer, no_slot, no_hop, IsLastFree, emptied, Thins, Offers, NoSeatComes, Grows}
+use Rattle.flat_base.specs.Flat.{via_or, via_on, seat_or, seat_on, offer_on, seat_then, seats_on, flat_seats, IsPlaced, IsFlat, IsRow, HasNoRow, IsSlot, HasNoSlot, IsSlotOf, HasNoSeat, HasNoNumber, IsBehind, IsRun, off_or, IsLastRow, IsGrown, IsNumber, AreFlat, IsNext, IsHop, HasHop, AreNumbers, Puts, offer_by, with_offer, no_hop, IsLastFree, emptied, Thins, Offers, NoSeatComes, Grows}
 use Rattle.flat_base.proofs.Equals.{peer_eq}
 use Rattle.flat_base.proofs.Chains.{chain_pushed, chain_kept, chain_longer, chain_dropped, end_there}
 use Rattle.flat_base.proofs.Views.{lookup_by_test}

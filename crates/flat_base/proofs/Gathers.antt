@@ -1,6 +1,6 @@
 -- The walk over a row's run finds what is offered for its prefix, by ways.
 use Rattle.std.proofs.Common.{◌≡◌, ℕ, zero, suc, ◌+◌, ◌<◌, ◌≤◌, [], ◌∷◌, Bool, true, false, Option, Some, None, length, refl, sym, ap, subst, ◌∙◌, arith, inl, inr}
-use Rattle.std.specs.Prelude.{◌⊎◌, ◌==◌, List, slice_get, if◌then◌else◌}
+use Rattle.std.specs.Prelude.{◌⊎◌, ◌==◌, List, option_map, slice_get, if◌then◌else◌}
 use Rattle.std.specs.Map.{lookup}
 use Rattle.std.specs.Option.{option_or}
 use Rattle.std.specs.Ordering.{is_eq}
@@ -12,6 +12,7 @@ use Rattle.std.proofs.lemmas.Option.{same_Some}
 use Rattle.fib_addr.specs.declared.addr.Addr.{Addr}
 use Rattle.fib_addr.specs.declared.prefix.Prefix as code
 use Rattle.fib_addr.specs.Order.{code_cmp}
+use Rattle.fib_addr.specs.contracts.prefix.PrefixPartialEq.TheImpl as prefix_test
 use Rattle.fib_prefix.specs.Order.{code_via_cmp}
 use Rattle.fib_prefix.specs.declared.event.Peer.{Peer}
 use Rattle.fib_prefix.specs.declared.event.Via.{Via}
@@ -24,6 +25,7 @@ use Rattle.flat_base.specs.Orders.{seat_cmp}
 use Rattle.flat_base.specs.Seats.{flat, offer_at}
 use Rattle.flat_base.specs.Flat.{IsFlat, IsRow, HasNoRow, IsRun, IsSlotOf, via_or, via_on, offer_on, flat_seats}
 use Rattle.flat_base.specs.Ways.{Ways, way_offer, seat_by, AddsWays, way_put, way_step}
+use Rattle.flat_base.proofs.Equals.{prefix_eq}
 use Rattle.flat_base.proofs.Orders.{is_equal, prefix_total, via_total, seat_tied, tied_via}
 use Rattle.flat_base.proofs.Betters.{seat_of_via, same_number, number_same}
 use Rattle.flat_base.proofs.Flats.{seat_slot, seat_parts, same_parts, offer_found, no_row_seat, one_row, in_run}
@@ -114,6 +116,14 @@ gather_ends b p r from to i old now f row run l gathered v = elim (gathered v) [
         let by : is_eq (code_via_cmp way v) ≡ true = ap is_eq (tied_back via_total v way (ap (λ (k : Seat). code_via_cmp v k.via) x.is ∙ tied_via s y.2 (is_equal _ y.5))) in
         let not : is_eq (code_via_cmp way v) ≡ false = yet y.0 y.1 way o (let m = (in_run b r from to y.0 y.1 f run y.3 its).1 in omega (arith, m, l)) y.3 its (ap (λ k. via_or k y.1.id) x.peer_there) offered in
         absurd cc
+
+-- the row of a number, where its prefix is this one
+pub near_row : (rows : List Row) (n : ℕ) (p held : code.Prefix) (same : Bool) → Some held ≡ option_map (λ (r : Row). r.prefix) (slice_get rows n) → same ≡ (prefix_test.ghosts).eq p held → same ≡ true → IsRow rows p n
+near_row rows n p held same e test t = by_row (slice_get rows n) refl e
+  where
+    by_row : (o : Option Row) → slice_get rows n ≡ o → Some held ≡ option_map (λ (r : Row). r.prefix) o → IsRow rows p n
+    by_row None g h = absurd cc
+    by_row (Some row) g h = (row, g, ap (λ q. is_eq (code_cmp p q)) (sym (same_Some held row.prefix h)) ∙ (sym (prefix_eq p held) ∙ (sym test ∙ t)))
 
 pub no_ways : (b : Flat) (p : code.Prefix) (old : Ways) → HasNoRow b.rows.items p → AddsWays (flat_seats b) p old old
 no_ways b p old none v = sym (ap (λ x. option_or (flat x) (way_offer old v)) (no_row_seat b (seat_by v p) none))

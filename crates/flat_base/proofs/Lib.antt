@@ -10,3 +10,4 @@ pub mod Parts
 pub mod Betters
 pub mod Sessions
 pub mod Gathers
+pub mod WayLists

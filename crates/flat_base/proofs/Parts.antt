@@ -9,7 +9,7 @@ use Rattle.flat_base.specs.declared.keys.Seat.{Seat}
 use Rattle.flat_base.specs.declared.keys.Offer.{Offer}
 use Rattle.flat_base.specs.Orders.{seat_cmp}
 use Rattle.flat_base.specs.Seats.{Seats, flat, offer_at}
-use Rattle.flat_base.specs.Flat.{AreApart, Puts, Offers, SameOffers, Thins, NoSeatComes}
+use Rattle.flat_base.specs.Flat.{AreApart, Puts, Offers, SameOffers, NoSeatComes}
 use Rattle.flat_base.proofs.Flats.{or_else, same_lookup}
 
 pub lookup_both : {X : Type 0} (f : Seat → Bool) (xs ys : List (Seat × X)) → lookup f (xs ++ ys) ≡ or_else (lookup f xs) (lookup f ys)

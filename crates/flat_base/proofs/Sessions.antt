@@ -1,5 +1,5 @@
 -- The walk over a peer's chain finds the seats where it offers something.
-use Rattle.std.proofs.Common.{cond, ◌≡◌, ℕ, zero, suc, ◌<◌, ◌≤◌, List, [], ◌∷◌, Bool, true, false, Option, Some, None, length, refl, sym, ap, subst, ◌∙◌, arith, inl, inr}
+use Rattle.std.proofs.Common.{cond, ◌≡◌, ℕ, suc, ◌<◌, ◌≤◌, List, Bool, true, false, Option, Some, None, length, refl, sym, ap, subst, ◌∙◌, arith, inl, inr}
 use Rattle.std.specs.Prelude.{◌⊎◌, ◌≢◌, ◌||◌, ◌&&◌, is_some, slice_get}
 use Rattle.std.specs.Map.{lookup}
 use Rattle.std.specs.Ordering.{is_eq}
@@ -7,7 +7,7 @@ use Rattle.std.specs.BTreeMap.{is_at}
 use Rattle.std.specs.declared.cmp.Ordering.TheVariants.{Equal}
 use Rattle.std.proofs.lemmas.Bool.{cases_lt}
 use Rattle.std.proofs.lemmas.Cmp.{tied_back}
-use Rattle.std.proofs.lemmas.Option.{same_Some, none-some}
+use Rattle.std.proofs.lemmas.Option.{same_Some}
 use Rattle.fib_prefix.specs.Views.{peer_as}
 use Rattle.fib_prefix.specs.Order.{code_peer_cmp}
 use Rattle.fib_prefix.specs.declared.event.Peer.{Peer}
@@ -19,11 +19,11 @@ use Rattle.flat_base.specs.declared.rows.Row.{Row}
 use Rattle.flat_base.specs.declared.flat.Slot.{Slot}
 use Rattle.flat_base.specs.declared.flat.Flat.{Flat}
 use Rattle.flat_base.specs.Orders.{seat_cmp}
-use Rattle.flat_base.specs.Seats.{Seats, flat, offer_at}
+use Rattle.flat_base.specs.Seats.{flat, offer_at}
 use Rattle.flat_base.specs.Chains.{no_peer, end_of}
-use Rattle.flat_base.specs.Flat.{IsFlat, IsNumber, HasNoNumber, IsSlotOf, via_on, via_or, seat_or, seat_on, offer_on, flat_seats, live_or, live_on, is_seat, is_among, is_offered_by}
+use Rattle.flat_base.specs.Flat.{IsFlat, IsNumber, HasNoNumber, IsSlotOf, via_on, seat_or, seat_on, offer_on, flat_seats, live_or, live_on, is_seat, is_among, is_offered_by}
 use Rattle.flat_base.proofs.Orders.{is_equal, peer_same, peer_total, seat_total}
-use Rattle.flat_base.proofs.Flats.{is_there, seat_parts, same_parts, seat_slot, offer_found, no_number_seat}
+use Rattle.flat_base.proofs.Flats.{seat_parts, same_parts, seat_slot, offer_found, no_number_seat}
 
 -- what a slot where something is offered is
 record LiveParts (b : Flat) (s : Slot) (t : Seat) : Type 0 where

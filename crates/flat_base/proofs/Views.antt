@@ -7,7 +7,6 @@ use Rattle.std.specs.Ordering.{is_eq, ordering_reverse}
 use Rattle.std.specs.BTreeMap.{is_at}
 use Rattle.std.specs.declared.cmp.Ordering.{Ordering}
 use Rattle.std.specs.declared.cmp.Ordering.TheVariants.{Less, Equal, Greater}
-use Rattle.fib_addr.specs.Views.{addr_as}
 use Rattle.route_model.specs.Choice as model
 use Rattle.route_model.specs.Choice.{Place, Candidates, AreCandidates, IsElem, same_place, after_elem, is_about, offered}
 use Rattle.route_model.proofs.Keyed.{same_entries}
@@ -18,7 +17,7 @@ use Rattle.flat_base.specs.declared.keys.Offer.{Offer}
 use Rattle.flat_base.specs.Orders.{seat_cmp}
 use Rattle.flat_base.specs.Seats.{Seats, said_by, held_in, flat, offer_at}
 use Rattle.flat_base.specs.Bests.{offer_as}
-use Rattle.flat_base.proofs.Orders.{place_as, seat_same, seat_total, is_place, is_prefix, is_peer}
+use Rattle.flat_base.proofs.Orders.{place_as, seat_same, is_place}
 
 said_is : (s : Seat) (o : Option Offer) → IsElem (said_by s o)
 said_is s (Some offer) = is_place s

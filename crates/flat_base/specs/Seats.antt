@@ -5,7 +5,7 @@ use Rattle.std.specs.BTreeMap.{is_at}
 use Rattle.fib_addr.specs.Views.{addr_as, prefix_as}
 use Rattle.fib_prefix.specs.Views.{via_as}
 use Rattle.route_model.specs.Events as model
-use Rattle.route_model.specs.Choice.{Place, Candidates, after_elem}
+use Rattle.route_model.specs.Choice.{Candidates, after_elem}
 use Rattle.flat_base.specs.declared.keys.Seat.{Seat}
 use Rattle.flat_base.specs.declared.keys.Rank.{Rank}
 use Rattle.flat_base.specs.declared.keys.Offer.{Offer}

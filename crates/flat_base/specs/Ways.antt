@@ -1,9 +1,11 @@
 -- What is offered for a prefix, by ways.
-use Rattle.std.specs.Prelude.{◌≡◌, ◌==◌, ℕ, List, Option, Some, None, if◌then◌else◌}
+use Rattle.std.specs.Prelude.{◌≡◌, ◌==◌, ◌<◌, ◌≤◌, ℕ, List, length, Option, Some, None, if◌then◌else◌}
+use Rattle.std.specs.List.{AllWithin, HoldsAt}
 use Rattle.std.specs.Map.{lookup}
 use Rattle.std.specs.Option.{option_or}
 use Rattle.std.specs.Ordering.{is_eq}
 use Rattle.std.specs.BTreeMap.{is_at}
+use Rattle.std.specs.declared.cmp.Ordering.TheVariants.{Less, Equal, Greater}
 use Rattle.fib_addr.specs.declared.addr.Addr.{Addr}
 use Rattle.fib_addr.specs.declared.prefix.Prefix as code
 use Rattle.fib_prefix.specs.Order.{code_via_cmp}
@@ -22,6 +24,13 @@ Ways = List (Via × Offer)
 -- what comes by a way
 abbrev pub way_offer : Ways → Via → Option Offer
 way_offer ways v = lookup (is_at (code_via_cmp v)) ways
+
+-- the place of a way, and the one where it is to go
+abbrev pub IsWayAt : Ways → Via → ℕ → Type 0
+IsWayAt ways v i = (i < length ways) × HoldsAt (λ e. code_via_cmp e.0 v ≡ Equal) ways i
+
+abbrev pub GoesTo : Ways → Via → ℕ → Type 0
+GoesTo ways v i = (i ≤ length ways) × AllWithin (λ e. code_via_cmp e.0 v ≡ Less) ways 0 i × AllWithin (λ e. code_via_cmp e.0 v ≡ Greater) ways i (length ways)
 
 -- the seat of a way and a prefix
 abbrev pub seat_by : Via → code.Prefix → Seat

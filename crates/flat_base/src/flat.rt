@@ -14,11 +14,12 @@ ghost use Rattle.flat_base.specs.Ways.{AddsWays, way_offer, way_put, way_step};
 
 use crate::keys::{Candidate, Offer, Seat};
 use crate::rows::Row;
+use crate::ways::WayOffers;
 use fib_prefix::{Addr, Peer, Prefix, Via};
 use indexmap::IndexSet;
 use std::alloc::{AllocError, Global};
 use std::cmp::Ordering;
-use std::collections::{BTreeMap, BTreeSet};
+use std::collections::BTreeSet;
 
 /// The hop number of a slot that offers nothing.
 const NO_HOP: u32 = u32::MAX;
@@ -724,35 +725,48 @@ impl Flat {
         Ok(())
     }
 
-    /// Adds what is offered for a prefix, by ways.
+    /// The number of a prefix's row: that one if it is the prefix's, a guess that is tested, in place of a search.
+    fn row_near(&self, near: usize, prefix: &Prefix) -> Option<usize>
+        requires { IsFlat self.now }
+        ensures { MatchOption result (HasNoRow self.now.rows.items prefix.now) (IsRow self.now.rows.items prefix.now) }
+    {
+        if let Some(held) = self.prefix_of(near) {
+            if *prefix == held {
+                return Some(near);
+            }
+        }
+        self.row_of(prefix)
+    }
+
+    /// Adds what is offered for a prefix, by ways. Where prefixes come in order, the row that one call gives is `near` in the next one,
+    /// which hardly searches then.
     ///
     /// # Errors
     ///
     /// No memory.
     pub fn add_ways(
         &self,
+        near: usize,
         prefix: &Prefix,
-        ways: &mut BTreeMap<Via, Offer>,
-    ) -> Result<(), AllocError>
+        ways: &mut WayOffers,
+    ) -> Result<usize, AllocError>
         requires { IsFlat self.now }
-        ensures { OnOk result (AddsWays (flat_seats self.now) prefix.now ways.old.entries ways.new.entries) }
+        ensures { OnOk result (AddsWays (flat_seats self.now) prefix.now ways.old ways.new) }
     {
-        match self.row_of(prefix) {
-            Some(row) => self.add_row(row, prefix, ways),
-            None => Ok(()),
+        match self.row_near(near, prefix) {
+            Some(row) => {
+                self.add_row(row, prefix, ways)?;
+                Ok(row.saturating_add(1))
+            }
+            None => Ok(near),
         }
     }
 
     /// Adds what the slots of a row offer, by ways.
-    fn add_row(
-        &self,
-        row: usize,
-        prefix: &Prefix,
-        ways: &mut BTreeMap<Via, Offer>,
-    ) -> Result<(), AllocError>
+    fn add_row(&self, row: usize, prefix: &Prefix, ways: &mut WayOffers) -> Result<(), AllocError>
         requires flat { IsFlat self.now }
         requires row { IsRow self.now.rows.items prefix.now row }
-        ensures { OnOk result (AddsWays (flat_seats self.now) prefix.now ways.old.entries ways.new.entries) }
+        ensures { OnOk result (AddsWays (flat_seats self.now) prefix.now ways.old ways.new) }
     {
         let run = self.run_of(row);
         for i in run.from..run.to {
@@ -762,14 +776,9 @@ impl Flat {
     }
 
     /// Adds what the slot at a place offers, if it is the row's.
-    fn add_at(
-        &self,
-        at: usize,
-        row: usize,
-        ways: &mut BTreeMap<Via, Offer>,
-    ) -> Result<(), AllocError>
-        ensures { OnOk result ((v : code.Via) → way_offer ways.new.entries v ≡ way_step self.now.peers.keys
-            self.now.hops.keys row (slice_get self.now.slots.items at) v (way_offer ways.old.entries v)) }
+    fn add_at(&self, at: usize, row: usize, ways: &mut WayOffers) -> Result<(), AllocError>
+        ensures { OnOk result ((v : code.Via) → way_offer ways.new v ≡ way_step self.now.peers.keys
+            self.now.hops.keys row (slice_get self.now.slots.items at) v (way_offer ways.old v)) }
     {
         match self.slots.get(at) {
             Some(slot) => {
@@ -783,14 +792,19 @@ impl Flat {
     }
 
     /// Adds what a slot offers.
-    fn add_way(&self, slot: &Slot, ways: &mut BTreeMap<Via, Offer>) -> Result<(), AllocError>
-        ensures { OnOk result ((v : code.Via) → way_offer ways.new.entries v ≡ way_put (via_on self.now.peers.keys slot.now)
-            (offer_on self.now.hops.keys slot.now) v (way_offer ways.old.entries v)) }
+    fn add_way(&self, slot: &Slot, ways: &mut WayOffers) -> Result<(), AllocError>
+        ensures { OnOk result ((v : code.Via) → way_offer ways.new v ≡ way_put (via_on self.now.peers.keys slot.now)
+            (offer_on self.now.hops.keys slot.now) v (way_offer ways.old v)) }
     {
         if let (Some(via), Some(offer)) = (self.via_of(slot), self.offer(slot)) {
-            ways.insert(via, offer)?;
+            ways.put(via, offer)?;
         }
         Ok(())
+    }
+
+    /// How many slots there are: no fewer than the candidates that lie in them.
+    pub fn slot_count(&self) -> usize {
+        self.slots.len()
     }
 
     /// How many rows there are.

@@ -12,6 +12,8 @@
 mod flat;
 mod keys;
 mod rows;
+mod ways;
 
 pub use flat::Flat;
 pub use keys::{Candidate, Offer, Rank, Seat};
+pub use ways::WayOffers;

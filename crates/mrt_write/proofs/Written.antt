@@ -102,6 +102,11 @@ pub path_none : (before : List ℕ) (asn n : ℕ) → n ≡ 0 → before ≡ bef
 unfolding path_attribute
 path_none before asn n e = let none : (n == 0) ≡ true = ap (λ k. k == 0) e in sym (append-nil before) ∙ ap (λ xs. before ++ xs) (sym (rw none refl))
 
+-- three octets, one by one
+pub three_behind : (before one two three : List ℕ) (a b c : ℕ) → one ≡ before ++ a ∷ [] → two ≡ one ++ b ∷ [] → three ≡ two ++ c ∷ [] → three ≡ before ++ a ∷ b ∷ c ∷ []
+three_behind before one two three a b c e f g =
+    g ∙ (ap (λ xs. xs ++ c ∷ []) (f ∙ ap (λ xs. xs ++ b ∷ []) e) ∙ (ap (λ xs. xs ++ c ∷ []) (append_assoc before (a ∷ []) (b ∷ [])) ∙ append_assoc before (a ∷ b ∷ []) (c ∷ [])))
+
 pub value_short : (before value : List ℕ) → length value < 256 → (before ++ 64 ∷ 2 ∷ length value ∷ []) ++ value ≡ before ++ as_path_of value
 value_short before value few =
     let short : nat_lt (length value) 256 ≡ true = lt-ltb _ _ few in

@@ -31,7 +31,9 @@ fn put_value(value: &[u8], out: &mut Vec<u8>) -> Result<(), AllocError>
     ensures { OnOk result (out.new.items ≡ out.old.items ++ as_path_of value.now) }
 {
     if value.len() < 256 {
-        out.extend_from_slice(&[0x40, 2, value.len() as u8])?;
+        out.push(0x40)?;
+        out.push(2)?;
+        out.push(value.len() as u8)?;
         out.extend_from_slice(value)
     } else {
         out.extend_from_slice(&[0x50, 2])?;
@@ -62,7 +64,11 @@ pub fn put_hop(hop: &Addr, out: &mut Vec<u8>) -> Result<(), AllocError>
     ensures { OnOk result (out.new.items ≡ out.old.items ++ hop_attribute (addr_as hop.now)) }
 {
     match hop.family {
-        Family::V4 => out.extend_from_slice(&[0x40, 3, 4])?,
+        Family::V4 => {
+            out.push(0x40)?;
+            out.push(3)?;
+            out.push(4)?;
+        }
         Family::V6 => out.extend_from_slice(&[0x80, 14, 17, 16])?,
     }
     put_addr(hop, out)

@@ -5,7 +5,7 @@ ghost use Rattle.fib_addr.specs.Views.{addr_as, prefix_as};
 ghost use Rattle.written_model.specs.Octets.{address_octets, prefix_octets};
 
 use fib_addr::{Addr, Family, Prefix};
-use octet_put::put_bits;
+use octet_put::{put_bits, put_u32};
 use std::alloc::AllocError;
 
 /// Puts an address.
@@ -13,7 +13,7 @@ pub fn put_addr(addr: &Addr, out: &mut Vec<u8>) -> Result<(), AllocError>
     ensures { OnOk result (out.new.items ≡ out.old.items ++ address_octets (addr_as addr.now)) }
 {
     match addr.family {
-        Family::V4 => out.extend_from_slice(&(addr.bits as u32).to_be_bytes()),
+        Family::V4 => put_u32(addr.bits as u32, out),
         Family::V6 => out.extend_from_slice(&addr.bits.to_be_bytes()),
     }
 }

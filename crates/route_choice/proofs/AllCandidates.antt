@@ -1,15 +1,14 @@
 -- The candidates of all prefixes that rows and ranks have are all candidates.
 use Rattle.std.proofs.Common.{◌≡◌, List, [], ◌∷◌, ◌++◌, Bool, true, false, cond, Option, Some, None, refl, sym, ap, ◌∙◌, append_assoc, append-nil}
-use Rattle.std.specs.Prelude.{option_map, map, filter, flat_map, ◌&&◌, ◌||◌, Result, Ok, Err, IfOk}
+use Rattle.std.specs.Prelude.{option_map, map, filter, ◌&&◌, ◌||◌, Result, Ok, Err, IfOk}
 use Rattle.std.specs.declared.vec.Vec.{Vec}
 use Rattle.std.specs.List.{AllByRecursion, list_any}
 use Rattle.std.specs.List.Sorted.{IsStrictlySortedBy}
 use Rattle.std.specs.Map.{lookup, keys_of}
 use Rattle.std.specs.Option.{option_and_then, option_or}
-use Rattle.std.specs.Ordering.{is_eq, ordering_then}
+use Rattle.std.specs.Ordering.{ordering_then}
 use Rattle.std.specs.BTreeMap.{is_at}
-use Rattle.std.specs.declared.cmp.Ordering.TheVariants.{Less, Equal}
-use Rattle.std.proofs.lemmas.Bool.{and_parts, and_from}
+use Rattle.std.specs.declared.cmp.Ordering.TheVariants.{Less}
 use Rattle.std.proofs.lemmas.Cmp.{tied_itself}
 use Rattle.address_model.specs.Address.{Prefix, same_prefix}
 use Rattle.address_model.specs.Order.{prefix_cmp}
@@ -36,12 +35,12 @@ use Rattle.flat_base.specs.declared.flat.Flat.{Flat}
 use Rattle.flat_base.specs.Orders.{seat_cmp}
 use Rattle.flat_base.specs.Bests.{offer_as}
 use Rattle.flat_base.specs.Seats.{Seats, held_in, flat, offer_at}
-use Rattle.flat_base.specs.Flat.{AreApart, flat_seats, both}
+use Rattle.flat_base.specs.Flat.{AreApart, both}
 use Rattle.flat_base.specs.Ways.{Ways, way_offer, seat_by, AddsWays}
 use Rattle.flat_base.proofs.Orders.{place_as, is_place, via_is, via_same, prefix_same as prefix_test}
 use Rattle.flat_base.proofs.Views.{are_candidates, at_seat, held_seat, lookup_by_test}
 use Rattle.flat_base.proofs.Parts.{offer_over, offer_under}
-use Rattle.route_choice.specs.Walks.{by_way, by_ways, has_prefix, held_at, held_for, HasRanks, HasRows}
+use Rattle.route_choice.specs.Walks.{by_way, by_ways, held_at, held_for, HasRanks, HasRows}
 use Rattle.route_choice.specs.Seats.{IsIndexed}
 use Rattle.route_choice.proofs.AllRoutes.{Covers, covered}
 use Rattle.route_choice.proofs.Rooms.{any_by_test}
@@ -275,19 +274,25 @@ pub cand_pushed : (old : List Cand) (c : Cand) → map cand_as (old ++ c ∷ [])
 cand_pushed [] c = refl
 cand_pushed (x ∷ old) c = ap (λ xs. cand_as x ∷ xs) (cand_pushed old c)
 
-pub way_pushed : (p : code.Prefix) (old new : List Cand) (c : Cand) (whole : Candidates) (it rest : Ways) (e : Via × Offer) → it ≡ e ∷ rest → cand_as c ≡ by_way p e → new ≡ old ++ c ∷ [] → map cand_as old ++ by_ways p it ≡ whole → map cand_as new ++ by_ways p rest ≡ whole
-way_pushed p old new c whole it rest e i is n h =
-    ap (λ xs. map cand_as xs ++ by_ways p rest) n
-    ∙ (ap (λ xs. xs ++ by_ways p rest) (cand_pushed old c)
-    ∙ (append_assoc (map cand_as old) (cand_as c ∷ []) (by_ways p rest)
-    ∙ (ap (λ x. map cand_as old ++ x ∷ by_ways p rest) is ∙ (ap (λ ws. map cand_as old ++ by_ways p ws) (sym i) ∙ h))))
+pub cand_behind : (p : code.Prefix) (e : Via × Offer) (c : Cand) (old new : List Cand) → cand_as c ≡ by_way p e → new ≡ old ++ c ∷ [] → map cand_as new ≡ map cand_as old ++ by_way p e ∷ []
+cand_behind p e c old new is n = ap (map cand_as) n ∙ (cand_pushed old c ∙ ap (λ x. map cand_as old ++ x ∷ []) is)
 
-pub ways_pushed : (p : code.Prefix) (old : List Cand) (whole : Candidates) (it : Ways) → it ≡ [] → map cand_as old ++ by_ways p it ≡ whole → map cand_as old ≡ whole
-ways_pushed p old whole it i h = sym (append-nil (map cand_as old)) ∙ (ap (λ ws. map cand_as old ++ by_ways p ws) (sym i) ∙ h)
+pub way_pushed : (p : code.Prefix) (old new whole : Candidates) (it rest : Ways) (e : Via × Offer) → it ≡ e ∷ rest → new ≡ old ++ by_way p e ∷ [] → old ++ by_ways p it ≡ whole → new ++ by_ways p rest ≡ whole
+way_pushed p old new whole it rest e i n h = ap (λ xs. xs ++ by_ways p rest) n ∙ (append_assoc old (by_way p e ∷ []) (by_ways p rest) ∙ (ap (λ ws. old ++ by_ways p ws) (sym i) ∙ h))
+
+pub ways_pushed : (p : code.Prefix) (old whole : Candidates) (it : Ways) → it ≡ [] → old ++ by_ways p it ≡ whole → old ≡ whole
+ways_pushed p old whole it i h = sym (append-nil old) ∙ (ap (λ ws. old ++ by_ways p ws) (sym i) ∙ h)
 
 -- the candidates of a prefix are pushed, by what was gathered for it
 pub gathered_pushed : (base over : Seats) (p : code.Prefix) (none mid now : Ways) (old new : Candidates) → AreApart base over → none ≡ [] → AddsWays base p none mid → AddsWays over p mid now → IsStrictlySortedBy code_via_cmp (keys_of now) → new ≡ old ++ by_ways p now → new ≡ old ++ held_at (base ++ over) p
 gathered_pushed base over p none mid now old new apart e first then s h = h ∙ ap (λ xs. old ++ xs) (ways_are (base ++ over) p now s (both_gathered base over p none mid now e apart first then))
+
+-- those of the base alone, and with those of the maps
+pub list_pushed : (base over : Seats) (p : code.Prefix) (ways list : Ways) (old new : Candidates) → AreApart base over → AddsWays base p [] ways → AddsWays over p ways ways → IsStrictlySortedBy code_via_cmp (keys_of ways) → list ≡ ways → new ≡ old ++ by_ways p list → new ≡ old ++ held_at (base ++ over) p
+list_pushed base over p ways list old new apart first then s e h = gathered_pushed base over p [] ways ways old new apart refl first then s (h ∙ ap (λ ws. old ++ by_ways p ws) e)
+
+pub map_pushed : (base over : Seats) (p : code.Prefix) (ways list mid now : Ways) (old new : Candidates) → AreApart base over → AddsWays base p [] ways → list ≡ ways → ((v : Via) → way_offer mid v ≡ way_offer list v) → AddsWays over p mid now → IsStrictlySortedBy code_via_cmp (keys_of now) → new ≡ old ++ by_ways p now → new ≡ old ++ held_at (base ++ over) p
+map_pushed base over p ways list mid now old new apart first e same then s h = gathered_pushed base over p [] mid now old new apart refl (λ v. same v ∙ (ap (λ ws. way_offer ws v) e ∙ first v)) then s h
 
 pub all_octets : (cs : List Cand) → AllByRecursion IsOfOctets (map cand_as cs)
 all_octets [] = tt
@@ -297,5 +302,5 @@ pub octets_of : {A E : Type 0} (r : Result (Vec Cand A) E) → IfOk r (λ cs. Al
 octets_of (Ok cs) = all_octets cs.items
 octets_of (Err e) = tt
 
-pub by_all_prefixes : (b : Flat) (over : Seats) (ranks : List Rank) (before ps : List code.Prefix) (cs : Candidates) → IsIndexed over ranks → HasRows b.rows.items before → ((p : code.Prefix) → has_prefix before p ≡ true → has_prefix ps p ≡ true) → HasRanks ranks ps → IsStrictlySortedBy code_cmp ps → cs ≡ held_for (both b over) ps → cs ≡ held_in (both b over)
-by_all_prefixes b over ranks before ps cs i rows kept has s h = h ∙ held_all (both b over) ps s (covered b over ranks ps i (λ j row g. kept row.prefix (rows j row g)) has)
+pub by_all_prefixes : (b : Flat) (over : Seats) (ranks : List Rank) (ps read : List code.Prefix) (cs : Candidates) → IsIndexed over ranks → HasRows b.rows.items ps → HasRanks ranks ps → IsStrictlySortedBy code_cmp ps → read ≡ ps → cs ≡ held_for (both b over) read → cs ≡ held_in (both b over)
+by_all_prefixes b over ranks ps read cs i rows has s e h = h ∙ (ap (held_for (both b over)) e ∙ held_all (both b over) ps s (covered b over ranks ps i rows has))

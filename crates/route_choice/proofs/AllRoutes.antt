@@ -1,5 +1,5 @@
 -- The routes of all prefixes that rows and ranks have are all routes.
-use Rattle.std.proofs.Common.{inl, inr, append_assoc, ◌+◌, ◌≡◌, ◌<◌, ◌≤◌, ℕ, zero, suc, length, List, [], ◌∷◌, ◌++◌, Bool, true, false, cond, Option, Some, None, refl, sym, ap, subst, ◌∙◌, arith, append-nil}
+use Rattle.std.proofs.Common.{append_assoc, ◌+◌, ◌≡◌, ◌<◌, ◌≤◌, ℕ, zero, suc, length, List, [], ◌∷◌, ◌++◌, Bool, true, false, cond, Option, Some, None, refl, sym, ap, subst, ◌∙◌, arith, append-nil}
 use Rattle.std.specs.Prelude.{option_map, map, ◌||◌, slice_get}
 use Rattle.std.specs.List.{AllByRecursion, list_any}
 use Rattle.std.specs.List.Sorted.{IsStrictlySortedBy}
@@ -7,7 +7,6 @@ use Rattle.std.specs.Map.{lookup, keys_of}
 use Rattle.std.specs.Ordering.{is_eq}
 use Rattle.std.specs.BTreeMap.{is_at}
 use Rattle.std.specs.declared.cmp.Ordering.TheVariants.{Less, Equal}
-use Rattle.std.proofs.lemmas.Bool.{cases_lt}
 use Rattle.address_model.specs.Address.{Address, Prefix, IsPrefix, same_prefix}
 use Rattle.address_model.specs.Order.{prefix_cmp}
 use Rattle.address_model.proofs.Same.{same_prefix_is, same_prefix_itself}
@@ -214,6 +213,10 @@ first_rows zero rows = []
 first_rows (suc n) [] = []
 first_rows (suc n) (r ∷ rows) = r.prefix ∷ first_rows n rows
 
+pub no_rows : (rows : List Row) → first_rows 0 rows ≡ []
+unfolding first_rows
+no_rows rows = refl
+
 abbrev pub prefix_or : Option Row → Option code.Prefix
 prefix_or row = option_map (λ (r : Row). r.prefix) row
 
@@ -239,7 +242,7 @@ past_rows [] (suc n) l = refl
 past_rows (r ∷ rows) zero l = absurd (omega (arith, l))
 past_rows (r ∷ rows) (suc n) l = ap (λ xs. r.prefix ∷ xs) (past_rows rows n (omega (arith, l)))
 
--- ---- walks over prefixes and ranks
+-- ---- walks over prefixes and rows
 
 pub prefix_told : (seats : Seats) (old new whole : Routes) (p : code.Prefix) (it rest : List code.Prefix) → it ≡ p ∷ rest → new ≡ old ++ routes_at seats (p ∷ []) → old ++ routes_at seats it ≡ whole → new ++ routes_at seats rest ≡ whole
 prefix_told seats old new whole p it rest i n h =
@@ -249,33 +252,6 @@ prefix_told seats old new whole p it rest i n h =
 pub all_told : (seats : Seats) (old whole : Routes) (it : List code.Prefix) → it ≡ [] → old ++ routes_at seats it ≡ whole → old ≡ whole
 unfolding routes_at
 all_told seats old whole it i h = sym (append-nil old) ∙ (ap (λ ps. old ++ routes_at seats ps) (sym i) ∙ h)
-
-pub still_there : (now new : List code.Prefix) (p : code.Prefix) → ((q : code.Prefix) → has_prefix new q ≡ cond (is_eq (code_cmp p q)) true (has_prefix now q)) → (q : code.Prefix) → has_prefix now q ≡ true → has_prefix new q ≡ true
-still_there now new p h q e = h q ∙ by_test (is_eq (code_cmp p q))
-  where
-    by_test : (b : Bool) → cond b true (has_prefix now q) ≡ true
-    by_test true = refl
-    by_test false = e
-
-pub now_there : (now new : List code.Prefix) (p q : code.Prefix) → ((q : code.Prefix) → has_prefix new q ≡ cond (is_eq (code_cmp p q)) true (has_prefix now q)) → p ≡ q → has_prefix new q ≡ true
-now_there now new p q h e = h q ∙ ap (λ b. cond b true (has_prefix now q)) (prefix_same p q ∙ (ap (λ r. same_prefix (prefix_as r) (prefix_as q)) e ∙ same_prefix_itself (prefix_as q)))
-
-pub rank_told : (now new more : List code.Prefix) (ranks it rest : List Rank) (r : Rank) (p : code.Prefix) → it ≡ r ∷ rest → p ≡ r.prefix → ((q : code.Prefix) → has_prefix new q ≡ cond (is_eq (code_cmp p q)) true (has_prefix now q))
-    → ((((q : code.Prefix) → has_prefix now q ≡ true → has_prefix more q ≡ true) → HasRanks it more → HasRanks ranks more)) → ((q : code.Prefix) → has_prefix new q ≡ true → has_prefix more q ≡ true) → HasRanks rest more → HasRanks ranks more
-rank_told now new more ranks it rest r p i e h told f left = told (λ q g. f q (still_there now new p h q g)) (subst (λ xs. HasRanks xs more) (sym i) (f r.prefix (now_there now new p r.prefix h e), left))
-
-pub row_told : (rows : List Row) (n : ℕ) (now new : List code.Prefix) (p : code.Prefix) → Some p ≡ prefix_or (slice_get rows n) → ((q : code.Prefix) → has_prefix new q ≡ cond (is_eq (code_cmp p q)) true (has_prefix now q))
-    → ((i : ℕ) (row : Row) → i < n → slice_get rows i ≡ Some row → has_prefix now row.prefix ≡ true) → (i : ℕ) (row : Row) → i < n + 1 → slice_get rows i ≡ Some row → has_prefix new row.prefix ≡ true
-row_told rows n now new p e h told i row l g = elim (cases_lt i n) [
-  | inl m ↦ still_there now new p h row.prefix (told i row m g)
-  | inr m ↦
-      let k : i ≡ n = omega (arith, l, m) in
-      let x : Some p ≡ Some row.prefix = e ∙ ap prefix_or (ap (slice_get rows) (sym k) ∙ g) in
-      now_there now new p row.prefix h (same_prefixes p row.prefix x)
-]
-  where
-    same_prefixes : (v w : code.Prefix) → Some v ≡ Some w → v ≡ w
-    same_prefixes v w i = cc
 
 -- a row that isn't there
 pub no_row_here : (rows : List Row) (n : ℕ) → None ≡ prefix_or (slice_get rows n) → n < length rows → ⊥
@@ -309,8 +285,8 @@ rows_end seats rows n routes l h = h ∙ ap (routes_at seats) (past_rows rows n 
 pub by_rows : (b : Flat) (over : Seats) (ranks : List Rank) (routes : Routes) → IsFlat b → IsIndexed over ranks → ranks ≡ [] → routes ≡ routes_at (both b over) (row_prefixes b.rows.items) → routes ≡ routes_of (held_in (both b over))
 by_rows b over ranks routes f i e h = h ∙ routes_are (both b over) (row_prefixes b.rows.items) (rows_sorted b.rows.items f.ordered) (covered b over ranks (row_prefixes b.rows.items) i (all_rows b.rows.items) (subst (λ rs. HasRanks rs (row_prefixes b.rows.items)) (sym e) tt))
 
-pub by_prefixes : (b : Flat) (over : Seats) (ranks : List Rank) (before ps : List code.Prefix) (routes : Routes) → IsIndexed over ranks → HasRows b.rows.items before → ((p : code.Prefix) → has_prefix before p ≡ true → has_prefix ps p ≡ true) → HasRanks ranks ps → IsStrictlySortedBy code_cmp ps → routes ≡ routes_at (both b over) ps → routes ≡ routes_of (held_in (both b over))
-by_prefixes b over ranks before ps routes i rows kept has s h = h ∙ routes_are (both b over) ps s (covered b over ranks ps i (λ j row g. kept row.prefix (rows j row g)) has)
+pub by_prefixes : (b : Flat) (over : Seats) (ranks : List Rank) (ps read : List code.Prefix) (routes : Routes) → IsIndexed over ranks → HasRows b.rows.items ps → HasRanks ranks ps → IsStrictlySortedBy code_cmp ps → read ≡ ps → routes ≡ routes_at (both b over) read → routes ≡ routes_of (held_in (both b over))
+by_prefixes b over ranks ps read routes i rows has s e h = h ∙ (ap (routes_at (both b over)) e ∙ routes_are (both b over) ps s (covered b over ranks ps i rows has))
 
 pub no_elements : {X : Type 0} (xs : List X) → length xs ≡ 0 → xs ≡ []
 no_elements [] e = refl

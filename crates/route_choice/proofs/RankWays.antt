@@ -1,6 +1,6 @@
 -- The walk over a prefix's ranks finds what is offered for it, by ways.
 use Rattle.std.proofs.Common.{◌≡◌, List, [], ◌∷◌, Bool, true, false, cond, not, Option, Some, None, refl, sym, ap, subst, ◌∙◌, inl, inr}
-use Rattle.std.specs.Prelude.{◌⊎◌, ◌||◌, ◌&&◌, if◌then◌else◌}
+use Rattle.std.specs.Prelude.{◌⊎◌, ◌||◌, if◌then◌else◌}
 use Rattle.std.specs.List.{AllByRecursion, list_any}
 use Rattle.std.specs.List.Sorted.{IsStrictlySortedBy}
 use Rattle.std.specs.Option.{option_or}
@@ -8,7 +8,7 @@ use Rattle.std.specs.Ordering.{is_eq, is_gt}
 use Rattle.std.specs.BTreeMap.{is_at}
 use Rattle.std.specs.declared.cmp.Ordering.TheVariants.{Equal}
 use Rattle.std.proofs.lemmas.Bool.{not-true, not-false}
-use Rattle.std.proofs.lemmas.Cmp.{tied_back, tied_itself}
+use Rattle.std.proofs.lemmas.Cmp.{tied_back}
 use Rattle.fib_addr.specs.contracts.prefix.PrefixPartialEq.TheImpl as prefix_test
 use Rattle.fib_addr.specs.Order.{code_cmp}
 use Rattle.fib_addr.specs.declared.prefix.Prefix as code
@@ -20,7 +20,7 @@ use Rattle.flat_base.specs.Orders.{rank_cmp}
 use Rattle.flat_base.specs.Seats.{Seats, offer_at, rank_at, seat_of}
 use Rattle.flat_base.specs.Ways.{Ways, way_offer, seat_by, AddsWays, way_put}
 use Rattle.flat_base.proofs.Equals.{prefix_eq}
-use Rattle.flat_base.proofs.Orders.{is_equal, prefix_total, via_total, rank_total, seat_tied}
+use Rattle.flat_base.proofs.Orders.{is_equal, prefix_total, rank_total, seat_tied}
 use Rattle.route_choice.specs.Seats.{has_rank, IsIndexed}
 use Rattle.route_choice.specs.Walks.{ranks_of, offer_ranked}
 use Rattle.route_choice.proofs.Best.{any_filtered, same_rank, same_offer, with_path_parts}

@@ -89,9 +89,12 @@ HasRows rows ps = (i : ℕ) (row : Row) → slice_get rows i ≡ Some row → ha
 abbrev pub HasRanks : List Rank → List code.Prefix → Type 0
 HasRanks ranks ps = AllByRecursion (λ r. has_prefix ps r.prefix ≡ true) ranks
 
--- the prefixes of rows
+-- the prefixes of rows, and those of ranks
 abbrev pub row_prefixes : List Row → List code.Prefix
 row_prefixes rows = map (λ (r : Row). r.prefix) rows
+
+abbrev pub rank_prefixes : List Rank → List code.Prefix
+rank_prefixes ranks = map (λ (r : Rank). r.prefix) ranks
 
 -- the candidates of a prefix, and those of these prefixes, in their order
 abbrev pub held_at : Seats → code.Prefix → Candidates

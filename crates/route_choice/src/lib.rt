@@ -28,6 +28,7 @@ mod choice;
 mod down;
 mod over;
 mod plan;
+mod prefixes;
 mod routes;
 
 pub use candidates::Candidates;

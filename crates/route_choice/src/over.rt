@@ -1,13 +1,16 @@
 //! Seats and ranks: the routes that lie in the two ordered maps over the base.
 
-ghost use Rattle.std.specs.Prelude.{IfOk, ◌≡◌, ◌&&◌, ◌||◌, List, true, false, cond, is_some, Some, None, Bool, OnOk, OnErr};
+ghost use Rattle.std.specs.Prelude.{IfOk, ◌≡◌, [], ◌&&◌, ◌||◌, List, true, false, cond, is_some, Some, None, Bool, OnOk, OnErr};
 ghost use Rattle.std.specs.Ordering.{is_eq};
 ghost use Rattle.std.specs.BTreeMap as tree;
+ghost use Rattle.std.specs.List.Sorted.{IsStrictlySortedBy};
+ghost use Rattle.std.specs.Map.{keys_of};
+ghost use Rattle.fib_prefix.specs.Order.{code_via_cmp};
 ghost use Rattle.std.specs.BTreeSet as set;
 ghost use Rattle.fib_prefix.specs.declared.event.Via as code;
 ghost use Rattle.flat_base.specs.Orders.{seat_cmp, rank_cmp};
 ghost use Rattle.flat_base.specs.Seats.{offer_at as offered};
-ghost use Rattle.flat_base.specs.Ways.{AddsWays, way_offer, way_put};
+ghost use Rattle.flat_base.specs.Ways.{Ways, AddsWays, way_offer, way_put};
 ghost use Rattle.route_choice.specs.Seats.{IsIndexed, HasRoom, has_rank, has_seat, seat_in, offer_in};
 ghost use Rattle.route_choice.specs.Kept.{IsKept, StaysKept, KeepsBeside, EachSeatServes, EachRankServes, holds_seat as seat_held, holds_rank as rank_held};
 ghost use Rattle.route_choice.specs.Walks.{offer_ranked as ranked, first_in, better_of, cuts_in, ranks_of, seats_of};
@@ -81,6 +84,33 @@ pub fn best_but(
         }
     }
     None
+}
+
+/// Whether no rank is of a prefix: nothing is offered here for it then.
+pub fn has_no_rank(
+    seats: &BTreeMap<Seat, Option<Offer>>,
+    ranks: &BTreeSet<Rank>,
+    prefix: &Prefix,
+) -> bool
+    requires { IsIndexed seats.now.entries ranks.now.keys }
+    ensures { result ≡ true → (ways : Ways) → AddsWays seats.now.entries prefix.now ways ways }
+{
+    match ranks.range(Rank::first(prefix)..).next() {
+        Some(rank) => *prefix != rank.prefix(),
+        None => true,
+    }
+}
+
+/// Adds what comes by ways in their order, where nothing came yet.
+pub fn add_list(list: &[(Via, Offer)], ways: &mut BTreeMap<Via, Offer>) -> Result<(), AllocError>
+    requires none { ways.old.entries ≡ [] }
+    requires sorted { IsStrictlySortedBy code_via_cmp (keys_of list.now) }
+    ensures { OnOk result ((v : code.Via) → way_offer ways.new.entries v ≡ way_offer list.now v) }
+{
+    for way in list {
+        ways.insert(way.0, way.1)?;
+    }
+    Ok(())
 }
 
 /// Adds what is offered here for a prefix, by ways.

@@ -1,18 +1,16 @@
 //! All routes: each prefix with the next hop of its chosen one.
 
-ghost use Rattle.std.specs.Prelude.{◌≡◌, ◌++◌, ◌∷◌, [], map, true, IfOk, None, OnOk};
-ghost use Rattle.std.specs.BTreeSet as set;
+ghost use Rattle.std.specs.Prelude.{◌≡◌, ◌++◌, ◌∷◌, [], map, IfOk, None, OnOk};
 ghost use Rattle.fib_addr.specs.Views.{route_as};
-ghost use Rattle.fib_addr.specs.Order.{code_cmp};
-ghost use Rattle.fib_addr.specs.declared.prefix.Prefix as code;
 ghost use Rattle.route_model.specs.Choice.{routes_of as model_routes};
 ghost use Rattle.flat_base.specs.Seats.{Seats, held_in};
 ghost use Rattle.flat_base.specs.Bests.{IsBest};
 ghost use Rattle.flat_base.specs.Flat.{IsFlat, AreApart, flat_seats, both};
 ghost use Rattle.route_choice.specs.Seats.{IsIndexed};
-ghost use Rattle.route_choice.specs.Walks.{routes_at, has_prefix, row_prefixes, HasRows, HasRanks};
+ghost use Rattle.route_choice.specs.Walks.{routes_at, row_prefixes};
 
 use crate::both::{best_of, best_of_row};
+use crate::prefixes::all_prefixes;
 use fib_prefix::{Addr, Prefix};
 use flat_base::{Candidate, Flat, Offer, Rank, Seat};
 use std::alloc::{AllocError, Global};
@@ -35,9 +33,7 @@ pub fn routes_of(
         let routes = routes_of_rows(alloc, flat, seats, ranks)?;
         return Ok(routes);
     }
-    let mut prefixes = BTreeSet::new(alloc);
-    add_rows(flat, &mut prefixes)?;
-    add_ranks(ranks, &mut prefixes)?;
+    let prefixes = all_prefixes(alloc, flat, ranks)?;
     let routes = routes_of_prefixes(alloc, flat, seats, ranks, &prefixes)?;
     Ok(routes)
 }
@@ -71,17 +67,16 @@ fn routes_of_prefixes(
     flat: &Flat,
     seats: &BTreeMap<Seat, Option<Offer>>,
     ranks: &BTreeSet<Rank>,
-    prefixes: &BTreeSet<Prefix>,
+    prefixes: &[Prefix],
 ) -> Result<Vec<(Prefix, Addr)>, AllocError>
     requires flat { IsFlat flat.now }
     requires apart { AreApart (flat_seats flat.now) seats.now.entries }
     requires indexed { IsIndexed seats.now.entries ranks.now.keys }
-    ensures routes { IfOk result (λ routes. map route_as routes.items
-        ≡ routes_at (both flat.now seats.now.entries) prefixes.now.keys) }
-    ensures ordered { set.IsOrdered code_cmp prefixes.now }
+    ensures { IfOk result (λ routes. map route_as routes.items
+        ≡ routes_at (both flat.now seats.now.entries) prefixes.now) }
 {
     let mut routes = Vec::new(alloc);
-    for prefix in prefixes.iter() {
+    for prefix in prefixes {
         let best = best_of(flat, seats, ranks, prefix, None);
         push_route(prefix, best, &mut routes)?;
     }
@@ -100,30 +95,6 @@ fn push_route(
 {
     if let Some(best) = best {
         routes.push((*prefix, best.offer.hop()))?;
-    }
-    Ok(())
-}
-
-/// Adds the prefixes of all rows.
-pub fn add_rows(flat: &Flat, prefixes: &mut BTreeSet<Prefix>) -> Result<(), AllocError>
-    ensures { OnOk result (HasRows flat.now.rows.items prefixes.new.keys) }
-{
-    for row in 0..flat.row_count() {
-        if let Some(prefix) = flat.prefix_of(row) {
-            prefixes.insert(prefix)?;
-        }
-    }
-    Ok(())
-}
-
-/// Adds the prefixes of all ranks.
-pub fn add_ranks(ranks: &BTreeSet<Rank>, prefixes: &mut BTreeSet<Prefix>) -> Result<(), AllocError>
-    ensures ranks { OnOk result (HasRanks ranks.now.keys prefixes.new.keys) }
-    ensures kept { OnOk result ((p : code.Prefix) → has_prefix prefixes.old.keys p ≡ true
-        → has_prefix prefixes.new.keys p ≡ true) }
-{
-    for rank in ranks.iter() {
-        prefixes.insert(rank.prefix())?;
     }
     Ok(())
 }

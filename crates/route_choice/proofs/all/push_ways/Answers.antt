@@ -5,8 +5,8 @@ pub loop-via-preserved : goal.loop-via-preserved
 loop-via-preserved c = record {
   next = tt;
   finite = tt;
-  candidates = way_pushed c.args.prefix.now c.loop-via.cands.items c.push.new.self.items c.candidate.result _ c.loop-via.via-iterator c.next.new.self (c.in-Some.via.now, c.in-Some.offer.now) c.in-Some.ensures.steps c.candidate.ensures c.in_ok-push.ensures.items c.loop-via.invariant.candidates;
+  candidates = way_pushed c.args.prefix.now _ _ _ c.loop-via.via-iterator c.next.new.self (c.in-Some.via.now, c.in-Some.offer.now) c.in-Some.ensures.steps c.in_ok-push_way.ensures c.loop-via.invariant.candidates;
 }
 
 pub returns-clause-candidates : goal.returns-clause-candidates
-returns-clause-candidates c = ways_pushed c.args.prefix.now c.loop-via.cands.items _ c.loop-via.via-iterator c.in-None.ensures.steps.0 c.loop-via.invariant.candidates
+returns-clause-candidates c = ways_pushed c.args.prefix.now _ _ c.loop-via.via-iterator c.in-None.ensures.steps.0 c.loop-via.invariant.candidates

@@ -10,4 +10,4 @@ returns-then-is_empty c =
     by_rows c.args.flat.now c.args.seats.now.entries c.args.ranks.now.keys (map route_as c.in_ok-routes.routes.items) c.requires.flat c.requires.indexed (no_elements c.args.ranks.now.keys l) c.in_ok-routes.ensures
 
 pub returns : goal.returns
-returns c = by_prefixes c.args.flat.now c.args.seats.now.entries c.args.ranks.now.keys c.add_rows.new.prefixes.keys c.add_ranks.new.prefixes.keys (map route_as c.in_ok-routes-2.routes.items) c.requires.indexed c.in_ok-add_rows.ensures c.in_ok-add_ranks.ensures.kept c.in_ok-add_ranks.ensures.ranks c.routes_of_prefixes.ensures.ordered c.in_ok-routes-2.ensures.routes
+returns c = by_prefixes c.args.flat.now c.args.seats.now.entries c.args.ranks.now.keys c.in_ok-prefixes.prefixes.items c.deref.result.now (map route_as c.in_ok-routes-2.routes.items) c.requires.indexed c.in_ok-prefixes.ensures.rows c.in_ok-prefixes.ensures.ranks c.in_ok-prefixes.ensures.sorted c.deref.ensures.value c.in_ok-routes-2.ensures

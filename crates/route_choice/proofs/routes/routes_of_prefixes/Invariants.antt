@@ -1,4 +1,4 @@
-use Rattle.std.proofs.Common.{◌≡◌, ◌++◌}
+use Rattle.std.proofs.Common.{◌≡◌, ◌++◌, drop}
 use Rattle.std.specs.Prelude.{map}
 use Rattle.fib_addr.specs.Views.{route_as}
 use Rattle.flat_base.specs.Flat.{both}
@@ -6,8 +6,4 @@ use Rattle.route_choice.specs.Walks.{routes_at}
 use Rattle.route_choice.proofs.routes.routes_of_prefixes.Given as goal
 
 abbrev pub invariant-loop-prefix : goal.invariant-loop-prefix
-invariant-loop-prefix l = record {
-  next : (goal.iterator-loop-prefix).can_next l.prefix-iterator;
-  finite : (goal.iterator-loop-prefix).is_finite l.prefix-iterator;
-  routes : map route_as l.routes.items ++ routes_at (both l.flat l.seats.entries) l.prefix-iterator ≡ routes_at (both l.flat l.seats.entries) l.prefixes.keys;
-}
+invariant-loop-prefix l = map route_as l.routes.items ++ routes_at (both l.flat l.seats.entries) (drop l.prefix-index l.prefixes) ≡ routes_at (both l.flat l.seats.entries) l.prefixes

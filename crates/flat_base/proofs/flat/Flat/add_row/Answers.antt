@@ -3,10 +3,10 @@ use Rattle.flat_base.proofs.Gathers.{gather_starts, gather_step, gather_ends}
 use Rattle.flat_base.proofs.flat.Flat.add_row.Goals as goal
 
 pub loop-i-init : goal.loop-i-init
-loop-i-init c = gather_starts c.args.self.now c.args.prefix.now c.args.row c.run_of-run.result.from c.run_of-run.result.to c.args.ways.now.entries c.requires.flat c.run_of-run.ensures
+loop-i-init c = gather_starts c.args.self.now c.args.prefix.now c.args.row c.run_of-run.result.from c.run_of-run.result.to c.args.ways.now c.requires.flat c.run_of-run.ensures
 
 pub loop-i-preserved : goal.loop-i-preserved
-loop-i-preserved c = gather_step c.args.self.now c.args.prefix.now c.args.row c.loop-i.i c.args.ways.now.entries c.loop-i.ways.entries c.add_at.new.ways.entries c.requires.flat c.requires.row c.in_ok-add_at.ensures c.loop-i.invariant
+loop-i-preserved c = gather_step c.args.self.now c.args.prefix.now c.args.row c.loop-i.i c.args.ways.now c.loop-i.ways c.add_at.new.ways c.requires.flat c.requires.row c.in_ok-add_at.ensures c.loop-i.invariant
 
 pub returns : goal.returns
-returns c = gather_ends c.args.self.now c.args.prefix.now c.args.row c.run_of-run.result.from c.run_of-run.result.to c.loop-i.i c.args.ways.now.entries c.loop-i.ways.entries c.requires.flat c.requires.row c.run_of-run.ensures (omega (arith, c.loop-i-test.false)) c.loop-i.invariant
+returns c = gather_ends c.args.self.now c.args.prefix.now c.args.row c.run_of-run.result.from c.run_of-run.result.to c.loop-i.i c.args.ways.now c.loop-i.ways c.requires.flat c.requires.row c.run_of-run.ensures (omega (arith, c.loop-i-test.false)) c.loop-i.invariant

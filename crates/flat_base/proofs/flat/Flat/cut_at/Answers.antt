@@ -1,6 +1,6 @@
 use Rattle.flat_base.proofs.Flats.{thin_itself, thin_cut, thin_none, offer_found, puts_from, nothing_by}
-use Rattle.std.proofs.Common.{refl, subst, None}
-use Rattle.flat_base.specs.Flat.{Puts, flat_seats}
+use Rattle.std.proofs.Common.{refl}
+use Rattle.flat_base.specs.Flat.{flat_seats}
 use Rattle.flat_base.proofs.flat.Flat.cut_at.Goals as goal
 
 pub returns-in-Some-clause-offers : goal.returns-in-Some-clause-offers

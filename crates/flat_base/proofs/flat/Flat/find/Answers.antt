@@ -1,4 +1,4 @@
-use Rattle.std.proofs.Common.{ap, sym, subst, ◌∙◌, rules}
+use Rattle.std.proofs.Common.{subst}
 use Rattle.std.specs.Prelude.{MatchOption}
 use Rattle.flat_base.specs.Flat.{HasNoRow, IsRow, HasNoNumber, IsNumber, HasNoSlot, IsSlot}
 use Rattle.flat_base.proofs.Flats.{no_row_seat, no_number_seat, found_seat, no_seat}

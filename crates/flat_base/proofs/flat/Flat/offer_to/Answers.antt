@@ -1,5 +1,4 @@
-use Rattle.std.proofs.Common.{inl, ap, sym, ◌∙◌}
-use Rattle.std.specs.Prelude.{slice_get}
+use Rattle.std.proofs.Common.{inl}
 use Rattle.flat_base.proofs.Flats.{slot_kept, puts_from, offer_made}
 use Rattle.flat_base.proofs.flat.Flat.offer_to.Goals as goal
 

@@ -1,4 +1,4 @@
-use Rattle.std.proofs.Common.{ap, sym, subst, ◌∙◌, rules}
+use Rattle.std.proofs.Common.{ap, subst, rules}
 use Rattle.flat_base.specs.declared.rows.Row.{Row}
 use Rattle.flat_base.specs.Flat.{IsRow}
 use Rattle.flat_base.proofs.Flats.{behind_none, row_told}

@@ -1,4 +1,4 @@
-use Rattle.std.proofs.Common.{◌≤◌, arith}
+use Rattle.std.proofs.Common.{arith}
 use Rattle.flat_base.proofs.Flats.{none_at_all}
 use Rattle.flat_base.proofs.flat.Flat.slot_of.Goals as goal
 
