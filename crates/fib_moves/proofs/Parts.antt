@@ -17,10 +17,11 @@ use Rattle.moves_cert.specs.Demands.{is_bare, has_no_entries}
 use Rattle.moves_cert.proofs.Regions.{inner_bare, bare_half, inner_alike, inner_more}
 use Rattle.fib_moves.specs.declared.needs.RegionNeeds.{RegionNeeds}
 use Rattle.fib_moves.specs.declared.needs.RegionNeeds.TheViews.{out-RegionNeeds}
-use Rattle.fib_moves.specs.declared.needs.Place.{Place}
-use Rattle.fib_moves.specs.Needs.{Knows, IsJoined, IsNodeOf}
+use Rattle.fib_moves.specs.declared.place.Place.{Place}
+use Rattle.fib_moves.specs.Needs.{Knows, AreFound, IsJoined, IsNodeOf}
+use Rattle.allowed_hops.specs.declared.allowed.AllowedHops.{AllowedHops}
 use Rattle.allowed_hops.specs.Views.{SameAllowed, allowed_as}
-use Rattle.allowed_hops.proofs.Same.{same_both, same_least, same_then}
+use Rattle.allowed_hops.proofs.Same.{same_allowed, same_both, same_least, same_then}
 
 -- ---- what is known
 
@@ -35,24 +36,34 @@ module _ (d : ℕ) (f : List Bool → ℕ) (T : Table) (s : Option (Box RegionNe
       by_depth zero x = absurd x
       by_depth (suc d) x = x.1
 
-  pub none_holds : (h : ℕ) → s ≡ None → is_in h (set_of d f) ≡ is_allowed h (inner_set d f T)
-  none_holds h e = sym (ap (is_allowed h) (inner_bare d f T (known_bare e)).0)
-
-  pub none_least : s ≡ None → smallest (set_of d f) ≡ least_allowed (inner_set d f T)
-  none_least e = sym (ap least_allowed (inner_bare d f T (known_bare e)).0)
-
-  pub none_set : (S : List ℕ) → s ≡ None → SameHops S (set_of d f) → SameAllowed (these S) (inner_set d f T)
-  none_set S e h = subst (SameAllowed (these S)) (sym (inner_bare d f T (known_bare e)).0) h
-
   pub none_k : s ≡ None → k_of d f ≡ inner_k d f T
   none_k e = sym (inner_bare d f T (known_bare e)).1
 
-  pub some_least : (b : Box RegionNeeds Global) → s ≡ Some b → least_allowed (allowed_as (out-RegionNeeds (box_value b)).hops) ≡ least_allowed (inner_set d f T)
-  some_least b e = same_least (allowed_as (out-RegionNeeds (box_value b)).hops) (inner_set d f T) (known_set b e) (set_hop d f T)
+module _ (d : ℕ) (f : List Bool → ℕ) (T : Table) (o : Option AllowedHops) (x : AreFound d f T o) where
+  pub found_bare : o ≡ None → is_bare T ≡ true
+  found_bare e = subst (AreFound d f T) e x
+
+  pub found_set : (w : AllowedHops) → o ≡ Some w → SameAllowed (allowed_as w) (inner_set d f T)
+  found_set w e = subst (AreFound d f T) e x
+
+  pub none_holds : (h : ℕ) → o ≡ None → is_in h (set_of d f) ≡ is_allowed h (inner_set d f T)
+  none_holds h e = sym (ap (is_allowed h) (inner_bare d f T (found_bare e)).0)
+
+  pub none_least : o ≡ None → smallest (set_of d f) ≡ least_allowed (inner_set d f T)
+  none_least e = sym (ap least_allowed (inner_bare d f T (found_bare e)).0)
+
+  pub none_set : (S : List ℕ) → o ≡ None → SameHops S (set_of d f) → SameAllowed (these S) (inner_set d f T)
+  none_set S e h = subst (SameAllowed (these S)) (sym (inner_bare d f T (found_bare e)).0) h
+
+  pub some_holds : (w : AllowedHops) (h : ℕ) → o ≡ Some w → is_allowed h (allowed_as w) ≡ is_allowed h (inner_set d f T)
+  some_holds w h e = same_allowed (allowed_as w) (inner_set d f T) h (found_set w e)
+
+  pub some_least : (w : AllowedHops) → o ≡ Some w → least_allowed (allowed_as w) ≡ least_allowed (inner_set d f T)
+  some_least w e = same_least (allowed_as w) (inner_set d f T) (found_set w e) (set_hop d f T)
 
 -- ---- where there is no old entry
 
-nothing : (L : Table) → root L ≡ None → half false L ≡ [] → half true L ≡ [] → L ≡ []
+pub nothing : (L : Table) → root L ≡ None → half false L ≡ [] → half true L ≡ [] → L ≡ []
 nothing [] r a b = refl
 nothing (e ∷ L) r a b = one e.prefix e.hop r a b
   where
@@ -61,7 +72,7 @@ nothing (e ∷ L) r a b = one e.prefix e.hop r a b
     one (false ∷ p) g r a b = cc
     one (true ∷ p) g r a b = cc
 
-no_some : {X : Type 0} (o : Option X) (b : Bool) → is_some o ≡ not b → b ≡ true → o ≡ None
+pub no_some : {X : Type 0} (o : Option X) (b : Bool) → is_some o ≡ not b → b ≡ true → o ≡ None
 no_some None b e t = refl
 no_some (Some x) b e t = let z : true ≡ false = e ∙ ap not t in cc
 
@@ -126,7 +137,7 @@ module _ (s t : Spot) (b : Bool) (n : suc t.bits ≡ s.bits) (r : t.routes ≡ h
 
 -- ---- a region from its halves
 
-bare_from : (T : Table) → half false T ≡ [] → half true T ≡ [] → is_bare T ≡ true
+pub bare_from : (T : Table) → half false T ≡ [] → half true T ≡ [] → is_bare T ≡ true
 bare_from T e f = both_empty (half false T) (half true T) e f
   where
     both_empty : (A B : Table) → A ≡ [] → B ≡ [] → (has_no_entries A && has_no_entries B) ≡ true

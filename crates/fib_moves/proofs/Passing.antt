@@ -27,9 +27,10 @@ use Rattle.moves_cert.specs.Demands.{is_bare}
 use Rattle.moves_cert.proofs.Regions.{bare_half, inner_leaf, inner_alike}
 use Rattle.fib_moves.specs.declared.needs.RegionNeeds.{RegionNeeds}
 use Rattle.fib_moves.specs.declared.down.Differing.{Differing}
-use Rattle.fib_moves.specs.Needs.{Knows, half_needs}
+use Rattle.fib_moves.specs.Needs.{Knows, AreFound, half_needs}
+use Rattle.allowed_hops.specs.declared.allowed.AllowedHops.{AllowedHops}
 use Rattle.fib_moves.specs.Passes.{EndsThere, ListsDiffering}
-use Rattle.fib_moves.proofs.Parts.{known_bare, knows_back}
+use Rattle.fib_moves.proofs.Parts.{found_bare, knows_back}
 
 -- ---- the pass, by answers alike and by halves
 
@@ -109,13 +110,13 @@ pub end_leaf : (d : ℕ) (f : List Bool → ℕ) (T : Table) (x : ℕ) → IsTab
 end_leaf zero f T x t n u = end_zero f T t
 end_leaf (suc d) f T x t n u = end_more d f T x n u
 
-pub end_some : (d : ℕ) (f : List Bool → ℕ) (T : Table) (s : Option (Box RegionNeeds Global)) (o : Option ℕ) (b : Bool) → IsTable d T → Knows d f T s → s ≡ None → IfSome o (λ h. (a : List Bool) → length a ≡ d → f a ≡ h) → is_some o ≡ b → b ≡ true → EndsThere d f T
+pub end_some : (d : ℕ) (f : List Bool → ℕ) (T : Table) (s : Option AllowedHops) (o : Option ℕ) (b : Bool) → IsTable d T → AreFound d f T s → s ≡ None → IfSome o (λ h. (a : List Bool) → length a ≡ d → f a ≡ h) → is_some o ≡ b → b ≡ true → EndsThere d f T
 end_some d f T s None b t k e u i j = let z : false ≡ true = i ∙ j in cc
-end_some d f T s (Some x) b t k e u i j = end_leaf d f T x t (known_bare d f T s k e) u
+end_some d f T s (Some x) b t k e u i j = end_leaf d f T x t (found_bare d f T s k e) u
 
 -- ---- what is told
 
-here_table : (d : ℕ) (o : Option ℕ) → IsTable d (here o)
+pub here_table : (d : ℕ) (o : Option ℕ) → IsTable d (here o)
 here_table d None = (tt, tt)
 here_table d (Some h) = ((tt, tt), (omega arith, tt))
 
@@ -123,6 +124,10 @@ own_both : (s : Spot) (g : ℕ) (had gets o n : Option ℕ) → had ≡ root s.e
     → BothOrNeither (root s.entries) (root (near_of s.bits (answers_in s) s.entries g)) o n
 own_both s g had gets o n e f x =
     subst (λ (a : Option ℕ). BothOrNeither a (root (near_of s.bits (answers_in s) s.entries g)) o n) e (subst (λ (b : Option ℕ). BothOrNeither had b o n) (f ∙ sym (root_near s.bits (answers_in s) s.entries g)) x)
+
+-- the new entry, from the old one as it was told
+pub own_due : (s : Spot) (g : ℕ) (had gets : Option ℕ) → had ≡ root s.entries → gets ≡ new_entry (inner_set s.bits (answers_in s) s.entries) had g → gets ≡ new_entry (inner_set s.bits (answers_in s) s.entries) (root s.entries) g
+own_due s g had gets e f = f ∙ ap (λ o. new_entry (inner_set s.bits (answers_in s) s.entries) o g) e
 
 -- a region with nothing below its prefix
 pub pass_end : (s : Spot) (q : Prefix) (g : ℕ) (had gets o n : Option ℕ) (before after : Differing) → EndsThere s.bits (answers_in s) s.entries → had ≡ root s.entries → gets ≡ new_entry (inner_set s.bits (answers_in s) s.entries) (root s.entries) g → BothOrNeither had gets o n

@@ -256,7 +256,7 @@ as_long r p b l =
     no_length [] e = refl
     no_length (b ∷ y) e = absurd (omega (arith, e))
 
-self : (p : List Bool) → begins p p ≡ true
+pub self : (p : List Bool) → begins p p ≡ true
 self p = ap (begins p) (sym (none_more p)) ∙ begins_append p []
 
 not_front : (p r : List Bool) → length r < length p → begins p r ≡ false

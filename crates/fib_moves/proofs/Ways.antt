@@ -13,6 +13,7 @@ use Rattle.least_model.proofs.Patch.{cut_cut}
 use Rattle.fib_addr.specs.Views.{prefix_as}
 use Rattle.fib_addr.specs.declared.prefix.Prefix as code
 use Rattle.orig_tree.specs.Cover.{SomeGets}
+use Rattle.orig_tree.specs.Walk.{behind}
 use Rattle.orig_tree.specs.Spots.{EachFixed}
 use Rattle.orig_tree.specs.Views.{Fits}
 use Rattle.orig_tree.proofs.Paths.{no_bits, first_bit}
@@ -39,9 +40,12 @@ record IsTurn (f : Family) (T : Table) (t : Turn) : Type 0 where
   inherited : t.inherited ≡ above (prefix_as t.prefix).bits T 0
   family : t.prefix.family ≡ f
 
-module _ (f : Family) (T : Table) (q : List Bool) (b : Bool) (x y : Way) (w : IsWay f T q x) (s : IsStep b x y) where
+module _ (f : Family) (R T : Table) (q : List Bool) (b : Bool) (x y : Way) (w : IsWay f R T q x) (s : IsStep b x y) where
   at_is : prefix_as y.at ≡ record { family = f; bits = q ++ (b ∷ []) }
   at_is = s.at ∙ ap (half_at b) w.at
+
+  routes_is : (behind y.place.node).routes ≡ cut (q ++ (b ∷ [])) R
+  routes_is = s.routes ∙ (ap (half b) w.routes ∙ sym (cut_cut q (b ∷ []) R))
 
   entries_is : y.place.region.entries ≡ cut (q ++ (b ∷ [])) T
   entries_is = s.entries ∙ (ap (half b) w.entries ∙ sym (cut_cut q (b ∷ []) T))
@@ -87,11 +91,12 @@ module _ (f : Family) (T : Table) (q : List Bool) (b : Bool) (x y : Way) (w : Is
       ∙ (sym (turn_step q (prefix_as x.turn.prefix).bits b r d (cut q T))
       ∙ (w.turn (b ∷ r) (suc d) (omega (arith, e, longer)) ∙ ap (λ z. turn_by [] [] z (width f) T) (sym (append_assoc q (b ∷ []) r)))))
 
-  pub step_way : IsWay f T (q ++ (b ∷ [])) y
+  pub step_way : IsWay f R T (q ++ (b ∷ [])) y
   step_way = record {
     place = s.place;
     at = at_is;
     bits = bits_is;
+    routes = routes_is;
     entries = entries_is;
     comes = comes_is;
     old = new_turn.old;
@@ -100,10 +105,10 @@ module _ (f : Family) (T : Table) (q : List Bool) (b : Bool) (x y : Way) (w : Is
     turn = turn_goes;
   }
 
-pub gone_on : (f : Family) (T : Table) (p : List Bool) (left q : ℕ) (b : Bool) (x y : Way) → left ≢ 0 → b ≡ nat_eq (bit_at q (left - 1)) 1 → IsGone f T p (bits_of left q) x → IsStep b x y → IsGone f T p (bits_of (left - 1) q) y
-gone_on f T p left q b x y n e g s = record {
+pub gone_on : (f : Family) (R T : Table) (p : List Bool) (left q : ℕ) (b : Bool) (x y : Way) → left ≢ 0 → b ≡ nat_eq (bit_at q (left - 1)) 1 → IsGone f R T p (bits_of left q) x → IsStep b x y → IsGone f R T p (bits_of (left - 1) q) y
+gone_on f R T p left q b x y n e g s = record {
   front = g.front ++ (b ∷ []);
-  way = step_way f T g.front b x y g.way s;
+  way = step_way f R T g.front b x y g.way s;
   rest = append_assoc g.front (b ∷ []) (bits_of (left - 1) q) ∙ (ap (λ z. g.front ++ z) (sym (first_bit left q b n e)) ∙ g.rest);
 }
 
@@ -111,13 +116,13 @@ append_none : (p : List Bool) → p ++ [] ≡ p
 append_none [] = refl
 append_none (b ∷ p) = ap (λ z. b ∷ z) (append_none p)
 
-pub gone_all : (f : Family) (T : Table) (p r : List Bool) (left q : ℕ) (x : Way) → left ≡ 0 → p ≡ r → IsGone f T p (bits_of left q) x → IsWay f T r x
-gone_all f T p r left q x e v g =
-    subst (λ (z : List Bool). IsWay f T z x) (sym (append_none g.front) ∙ (ap (λ z. g.front ++ z) (sym (no_bits left q e)) ∙ (g.rest ∙ v))) g.way
+pub gone_all : (f : Family) (R T : Table) (p r : List Bool) (left q : ℕ) (x : Way) → left ≡ 0 → p ≡ r → IsGone f R T p (bits_of left q) x → IsWay f R T r x
+gone_all f R T p r left q x e v g =
+    subst (λ (z : List Bool). IsWay f R T z x) (sym (append_none g.front) ∙ (ap (λ z. g.front ++ z) (sym (no_bits left q e)) ∙ (g.rest ∙ v))) g.way
 
 -- the turn at the way's end
-pub way_turn : (f : Family) (T : Table) (p : List Bool) (x : Way) → IsWay f T p x → (prefix_as x.turn.prefix).bits ≡ turn p (width f) T
-way_turn f T p x w =
+pub way_turn : (f : Family) (R T : Table) (p : List Bool) (x : Way) → IsWay f R T p x → (prefix_as x.turn.prefix).bits ≡ turn p (width f) T
+way_turn f R T p x w =
     sym (turn_end p (prefix_as x.turn.prefix).bits x.place.region.bits (cut p T))
     ∙ (w.turn [] x.place.region.bits w.bits ∙ (ap (λ z. turn_by [] [] z (width f) T) (append_none p) ∙ sym (turn_start p (width f) T)))
 
@@ -130,8 +135,8 @@ breaks_is b r L M T d e x l m n =
 pub turn_told : (b c r : Bool) (x y : Way) → r ≡ c → r ≡ is_blocked b y.place.region.bits x.place.region.entries → y.turn ≡ turn_after b c x y → y.turn ≡ turn_after b (is_blocked b y.place.region.bits x.place.region.entries) x y
 turn_told b c r x y e f t = t ∙ ap (λ z. turn_after b z x y) (sym e ∙ f)
 
-pub gone_more : (f : Family) (T : Table) (p : List Bool) (left q : ℕ) (x : Way) → length p ≤ width f → left ≢ 0 → IsGone f T p (bits_of left q) x → x.place.region.bits ≢ 0
-gone_more f T p left q x l n g z =
+pub gone_more : (f : Family) (R T : Table) (p : List Bool) (left q : ℕ) (x : Way) → length p ≤ width f → left ≢ 0 → IsGone f R T p (bits_of left q) x → x.place.region.bits ≢ 0
+gone_more f R T p left q x l n g z =
     let a : x.at.len ≡ length g.front = sym (length_prefix (width x.at.family) x.at.len x.at.bits x.at.fits) ∙ ap (λ (p : Prefix). length p.bits) g.way.at in
     let m : length g.front + left ≡ length p = ap (λ k. length g.front + k) (sym (length-bits_of left q)) ∙ (sym (length-append g.front (bits_of left q)) ∙ ap length g.rest) in
     n (omega (arith, a, m, l, z, g.way.bits))

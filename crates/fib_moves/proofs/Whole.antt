@@ -34,7 +34,7 @@ use Rattle.moves_cert.specs.Shortest.{AreProvedShortest, AreShortest}
 use Rattle.moves_cert.specs.Rows.{near_region_rows, near_rows, near_in}
 use Rattle.moves_cert.proofs.Regions.{inner_alike}
 use Rattle.moves_cert.proofs.Whole.{near_entries, near_count, near_shortest, are_shortest}
-use Rattle.fib_moves.specs.declared.needs.Place.{Place}
+use Rattle.fib_moves.specs.declared.place.Place.{Place}
 use Rattle.fib_moves.specs.declared.down.Differing.{Differing}
 use Rattle.fib_moves.specs.Needs.{IsNodeOf}
 use Rattle.fib_moves.specs.Passes.{ListsDiffering, ListsChanges}

@@ -11,7 +11,7 @@ use Rattle.moves_cert.specs.Demands.{is_bare}
 use Rattle.allowed_hops.specs.declared.allowed.AllowedHops.{AllowedHops}
 use Rattle.fib_moves.specs.declared.needs.RegionNeeds.{RegionNeeds}
 use Rattle.fib_moves.specs.declared.needs.RegionNeeds.TheViews.{out-RegionNeeds}
-use Rattle.fib_moves.specs.declared.needs.Place.{Place}
+use Rattle.fib_moves.specs.declared.place.Place.{Place}
 use Rattle.allowed_hops.specs.Views.{SameAllowed, allowed_as}
 
 -- Of a region of d more bits with the answers f and the old entries T nothing is kept if none stands strictly within it; else the hops
@@ -22,6 +22,11 @@ Knows zero f T (Some b) = ⊥
 Knows (suc d) f T (Some b) =
     (is_bare T ≡ false) × SameAllowed (allowed_as (out-RegionNeeds (box_value b)).hops) (inner_set (suc d) f T) × ((out-RegionNeeds (box_value b)).k ≡ inner_k (suc d) f T)
     × Knows d (side false f) (half false T) (out-RegionNeeds (box_value b)).low × Knows d (side true f) (half true T) (out-RegionNeeds (box_value b)).high
+
+-- Of such a region: the hops that its own entry should have, if these were found; else no old entry stands strictly within it.
+abbrev pub AreFound : ℕ → (List Bool → ℕ) → Table → Option AllowedHops → Type 0
+AreFound d f T None = is_bare T ≡ true
+AreFound d f T (Some w) = SameAllowed (allowed_as w) (inner_set d f T)
 
 -- what is kept of a half, x if nothing is kept of the region
 abbrev pub half_needs : Bool → Option (Box RegionNeeds Global) → Option (Box RegionNeeds Global) → Option (Box RegionNeeds Global)

@@ -1,6 +1,7 @@
 //! The shortest list of changes after one event, from the way to its prefix and the prefix's region alone.
 
 ghost use Rattle.std.specs.Prelude.{◌≡◌, ◌≤◌, ◌+◌, map, IfOk};
+ghost use Rattle.std.specs.Option.{option_copied};
 ghost use Rattle.address_model.specs.Width.{width};
 ghost use Rattle.table_model.specs.Table.{IsTable};
 ghost use Rattle.table_model.specs.Entries.{of_family};
@@ -11,33 +12,40 @@ ghost use Rattle.orig_tree.specs.Spots.{answers_in};
 ghost use Rattle.moves_cert.specs.Rows.{near_in};
 ghost use Rattle.moves_cert.specs.Shortest.{AreShortest};
 ghost use Rattle.moves_event.specs.Way.{AlikeBeside};
-ghost use Rattle.fib_moves.specs.Needs.{Knows};
+ghost use Rattle.fib_moves.specs.Needs.{Knows, AreFound};
 ghost use Rattle.fib_moves.specs.Turns.{IsTurned, AreTurned};
 
-use crate::down::{Differing, below, due_hop, if_differing, list_differing};
-use crate::needs::{Place, RegionNeeds, climb};
+use crate::down::{Differing, below, if_differing, list_differing};
+use crate::hops::due_hop;
+use crate::needs::{RegionNeeds, climb, hops_of};
+use crate::place::Place;
 use crate::way::{Turn, walk};
+use allowed_hops::AllowedHops;
 use fib_addr::{Prefix, push_entry};
 use fib_delta::{Change, between};
 use orig_tree::{Region, Tree};
 use std::alloc::{AllocError, Global};
 
-/// Adds the turn's entries in both tables if they differ, where it isn't the event's prefix itself. Returns what that prefix comes to
-/// inherit.
-fn list_turn(
+/// Adds the turn's entries in both tables if they differ, where it isn't the event's prefix itself, whose length and region these
+/// are, with the hops that were found for its own entry. Returns what that prefix comes to inherit.
+///
+/// # Errors
+///
+/// No memory.
+pub fn list_turn(
     region: &Region<'_>,
-    needs: &Option<Box<RegionNeeds>>,
+    found: Option<&AllowedHops>,
     len: u8,
     turn: &Turn,
     out: &mut Differing,
 ) -> Result<u16, AllocError>
-    requires { Knows region.now.bits (answers_in region.now) region.now.entries needs.now }
+    requires { AreFound region.now.bits (answers_in region.now) region.now.entries (option_copied found) }
     ensures { IfOk result (λ hop. IsTurned region.now len turn.now out.old out.new hop) }
 {
     if turn.prefix.len == len {
         return Ok(turn.inherited);
     }
-    let gets = due_hop(region, needs, turn.old, turn.inherited);
+    let gets = due_hop(region, found, turn.old, turn.inherited);
     let (old, new) = if_differing(turn.old, gets);
     push_entry(turn.prefix, old, &mut out.had)?;
     push_entry(turn.prefix, new, &mut out.gets)?;
@@ -63,7 +71,7 @@ fn list_event(
         had: Vec::new(alloc),
         gets: Vec::new(alloc),
     };
-    let hop = list_turn(region, needs, prefix.len, turn, &mut out)?;
+    let hop = list_turn(region, hops_of(needs), prefix.len, turn, &mut out)?;
     list_differing(region, needs, prefix, hop, &mut out)?;
     between(alloc, &out.had, &out.gets)
 }

@@ -5,16 +5,25 @@
 //! changes it needs then. From the whole space down: where an old entry stays, goes or gets another hop, and where a new one
 //! comes. A region without old entries within needs what the tree keeps of it (its best hops and its k). After one event the way
 //! to its prefix and the prefix's region are enough (`near_at`). No call goes more than 128 levels down.
+//!
+//! Steps of these passes are offered to other passes: the way to a prefix (`walk`) with its turn (`list_turn`), what a region may
+//! inherit (`may_inherit`), what its entry becomes (`due_hop`), and the entries that differ (`Differing`).
 #![tactic(auto)]
 
 mod answer;
 mod down;
 mod event;
+mod hops;
 mod needs;
+mod place;
 mod rows;
 mod shortest;
 mod way;
 
 pub use answer::Near;
-pub use event::near_at;
+pub use down::{Differing, below, if_differing, is_end};
+pub use event::{list_turn, near_at};
+pub use hops::{due_hop, may_inherit};
+pub use place::Place;
 pub use shortest::near;
+pub use way::{Turn, Way, is_filled, walk};

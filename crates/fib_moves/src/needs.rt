@@ -3,19 +3,19 @@
 //! A region without an old entry strictly within it needs what the tree keeps of it: its best hops are those that its own entry
 //! may have, and its k is how many changes are needed within it. What any other needs is kept here.
 
-ghost use Rattle.std.specs.Prelude.{◌≡◌, ◌+◌, ◌≢◌, suc, [], true, false, Some, IfOk};
+ghost use Rattle.std.specs.Prelude.{◌≡◌, ◌+◌, ◌≢◌, [], true, false, ℕ, List, Bool, Some, IfOk};
+ghost use Rattle.std.specs.Option.{option_copied};
 ghost use Rattle.address_model.specs.Width.{width};
-ghost use Rattle.table_model.specs.Table.{root, half, inherit};
+ghost use Rattle.table_model.specs.Table.{Table};
 ghost use Rattle.orig_tree.specs.Spots.{answers_in};
-ghost use Rattle.orig_tree.specs.Walk.{behind};
-ghost use Rattle.moves_model.specs.Sets.{is_allowed, least_allowed, inner_set, inner_k, near_k, near_set};
-ghost use Rattle.moves_cert.specs.Demands.{is_bare};
-ghost use Rattle.fib_moves.specs.Needs.{Knows, IsBoxed, IsJoined, IsNodeOf, half_needs};
-ghost use Rattle.allowed_hops.specs.Views.{SameAllowed, allowed_as};
+ghost use Rattle.moves_model.specs.Sets.{inner_k, near_k};
+ghost use Rattle.fib_moves.specs.Needs.{Knows, AreFound, IsBoxed, IsJoined, IsNodeOf, half_needs};
 
+use crate::hops::{allows, may_inherit};
+use crate::place::Place;
 use allowed_hops::{AllowedHops, one_more_if, sum};
 use fib_addr::Prefix;
-use orig_tree::{NodeRef, Region};
+use orig_tree::Region;
 use std::alloc::{AllocError, Global};
 
 /// What a region needs that has old entries strictly within it.
@@ -29,106 +29,14 @@ pub(crate) struct RegionNeeds {
     pub(crate) high: Option<Box<RegionNeeds>>,
 }
 
-/// A region with its node in the tree, if it is one: below a region that is none no entry stands.
-#[derive(Drop)]
-pub(crate) struct Place<'a> {
-    pub(crate) region: Region<'a>,
-    pub(crate) node: Option<NodeRef<'a>>,
-}
-
-fn half_node<'a>(node: &Option<NodeRef<'a>>, bit: bool) -> Option<NodeRef<'a>>
-    ensures { (behind result).entries ≡ half bit (behind node.now).entries }
+/// The hops that were found for a region's own entry, if any were.
+pub(crate) fn hops_of(needs: &Option<Box<RegionNeeds>>) -> Option<&AllowedHops>
+    ensures { (d : ℕ) (f : List Bool → ℕ) (T : Table) → Knows d f T needs.now
+        → AreFound d f T (option_copied result) }
 {
-    match node {
-        Some(node) => node.half(bit),
+    match needs {
+        Some(needs) => Some(&needs.hops),
         None => None,
-    }
-}
-
-impl<'a> Place<'a> {
-    /// One half.
-    pub(crate) fn half(&self, bit: bool) -> Place<'a>
-        requires { self.now.region.bits ≢ 0 }
-        ensures bits { suc result.region.bits ≡ self.now.region.bits }
-        ensures routes { result.region.routes ≡ half bit self.now.region.routes }
-        ensures entries { result.region.entries ≡ half bit self.now.region.entries }
-        ensures hop { result.region.hop ≡ inherit (root self.now.region.routes) self.now.region.hop }
-        ensures node { (behind result.node).entries ≡ half bit (behind self.now.node).entries }
-    {
-        Place {
-            region: self.region.half(bit),
-            node: half_node(&self.node, bit),
-        }
-    }
-
-    /// Whether no node stands below its own, so that no old entry stands strictly within it.
-    fn is_end(&self, prefix: &Prefix) -> bool
-        requires bits { self.now.region.bits + prefix.now.len ≡ width prefix.now.family }
-        requires place { IsNodeOf self.now }
-        ensures end { result ≡ true → is_bare self.now.region.entries ≡ true }
-        ensures more { result ≡ false → self.now.region.bits ≢ 0 }
-    {
-        if prefix.len == prefix.family.width() {
-            return true;
-        }
-        self.node.is_none()
-    }
-}
-
-/// Whether a region's own entry should have this hop, or what it inherits if it has none.
-pub(crate) fn allows(region: &Region<'_>, needs: &Option<Box<RegionNeeds>>, hop: u16) -> bool
-    requires { Knows region.now.bits (answers_in region.now) region.now.entries needs.now }
-    ensures { result ≡ is_allowed hop (inner_set region.now.bits (answers_in region.now) region.now.entries) }
-{
-    match needs {
-        Some(needs) => needs.hops.contains(hop),
-        None => region.is_best(hop),
-    }
-}
-
-/// The least such hop, if not any will do.
-pub(crate) fn least_hop(region: &Region<'_>, needs: &Option<Box<RegionNeeds>>) -> u16
-    requires { Knows region.now.bits (answers_in region.now) region.now.entries needs.now }
-    ensures { result ≡ least_allowed (inner_set region.now.bits (answers_in region.now) region.now.entries) }
-{
-    match needs {
-        Some(needs) => needs.hops.least(),
-        None => region.least(),
-    }
-}
-
-/// All such hops.
-fn due_hops(
-    alloc: Global,
-    region: &Region<'_>,
-    needs: &Option<Box<RegionNeeds>>,
-) -> Result<AllowedHops, AllocError>
-    requires { Knows region.now.bits (answers_in region.now) region.now.entries needs.now }
-    ensures { IfOk result (λ w. SameAllowed (allowed_as w)
-        (inner_set region.now.bits (answers_in region.now) region.now.entries)) }
-{
-    match needs {
-        Some(needs) => needs.hops.copied(alloc),
-        None => {
-            let set = region.hops(alloc)?;
-            Ok(AllowedHops::These(set))
-        }
-    }
-}
-
-/// The hops that a region may inherit at no further change.
-pub(crate) fn may_inherit(
-    alloc: Global,
-    region: &Region<'_>,
-    needs: &Option<Box<RegionNeeds>>,
-) -> Result<AllowedHops, AllocError>
-    requires { Knows region.now.bits (answers_in region.now) region.now.entries needs.now }
-    ensures { IfOk result (λ w. SameAllowed (allowed_as w)
-        (near_set region.now.bits (answers_in region.now) region.now.entries)) }
-{
-    match region.entry() {
-        Some(_) => Ok(AllowedHops::Any),
-        None => due_hops(alloc, region, needs),
     }
 }
 
@@ -153,7 +61,7 @@ pub(crate) fn changes_of(
 {
     let k = changes_within(region, needs);
     match region.entry() {
-        Some(hop) => one_more_if(!allows(region, needs, hop), k),
+        Some(hop) => one_more_if(!allows(region, hops_of(needs), hop), k),
         None => Ok(k),
     }
 }
@@ -231,8 +139,8 @@ fn put_together(
     requires some { low.now.entries ≡ [] → high.now.entries ≡ [] → ⊥ }
     ensures { IfOk result (λ b. IsJoined low.now high.now (Some b)) }
 {
-    let first = may_inherit(alloc, low, &under_low)?;
-    let second = may_inherit(alloc, high, &under_high)?;
+    let first = may_inherit(alloc, low, hops_of(&under_low))?;
+    let second = may_inherit(alloc, high, hops_of(&under_high))?;
     let joined = AllowedHops::joint(alloc, first, second)?;
     let low_k = changes_of(low, &under_low)?;
     let high_k = changes_of(high, &under_high)?;

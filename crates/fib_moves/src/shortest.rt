@@ -21,7 +21,9 @@ ghost use Rattle.fib_moves.specs.Passes.{ListsChanges};
 
 use crate::answer::Near;
 use crate::down::{Differing, list_differing};
-use crate::needs::{Place, RegionNeeds, changes_of, climb, may_inherit};
+use crate::hops::may_inherit;
+use crate::needs::{RegionNeeds, changes_of, climb, hops_of};
+use crate::place::Place;
 use crate::rows::{list_rows, push_row};
 use allowed_hops::one_more_if;
 use cert_rows::Row;
@@ -41,7 +43,7 @@ fn bound_of(
         (near_set region.now.bits (answers_in region.now) region.now.entries)
         (near_k region.now.bits (answers_in region.now) region.now.entries)) }
 {
-    let hops = may_inherit(alloc, region, needs)?;
+    let hops = may_inherit(alloc, region, hops_of(needs))?;
     let k = changes_of(region, needs)?;
     one_more_if(!hops.contains(Hop::NONE.0), k)
 }

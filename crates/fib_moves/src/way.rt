@@ -15,30 +15,36 @@ ghost use Rattle.fib_moves.specs.Needs.{IsNodeOf};
 ghost use Rattle.fib_moves.specs.Ways.{IsStep, IsWay};
 
 use crate::down::below;
-use crate::needs::Place;
+use crate::place::Place;
 use fib_addr::{Hop, Prefix, bit_at};
 use orig_tree::{Label, Region, Tree, path_bits};
 
-/// The last step on the way that isn't clear: its prefix, its old entry, and what it inherits in the old table.
+/// The last step on the way that isn't clear.
 #[derive(Clone, Copy)]
-pub(crate) struct Turn {
-    pub(crate) prefix: Prefix,
-    pub(crate) old: Option<u16>,
-    pub(crate) inherited: u16,
+pub struct Turn {
+    /// Its prefix.
+    pub prefix: Prefix,
+    /// The hop of its old entry.
+    pub old: Option<u16>,
+    /// What it inherits in the old table.
+    pub inherited: u16,
 }
 
 /// How far the way is gone, and its turn up to there.
 #[derive(Drop)]
-pub(crate) struct Way<'a> {
-    pub(crate) place: Place<'a>,
-    pub(crate) at: Prefix,
+pub struct Way<'a> {
+    /// The region that it is gone to.
+    pub place: Place<'a>,
+    /// That region's prefix.
+    pub at: Prefix,
     /// What the region inherits in the old table.
-    pub(crate) comes: u16,
-    pub(crate) turn: Turn,
+    pub comes: u16,
+    /// The turn.
+    pub turn: Turn,
 }
 
 /// Whether each address of a region is within an entry there.
-fn is_filled(region: &Region<'_>) -> bool
+pub fn is_filled(region: &Region<'_>) -> bool
     requires { IsTable region.now.bits region.now.entries }
     ensures { result ≡ fills region.now.bits region.now.entries }
 {
@@ -87,7 +93,8 @@ fn step<'a>(way: Way<'a>, bit: bool) -> Way<'a>
 /// The way at its start, the whole space.
 fn start(tree: &Tree) -> Way<'_>
     ensures order { InPlace tree.now.entries }
-    ensures way { IsWay tree.now.family (of_family tree.now.family tree.now.entries) [] result }
+    ensures way { IsWay tree.now.family (of_family tree.now.family tree.now.routes)
+        (of_family tree.now.family tree.now.entries) [] result }
 {
     let whole = Prefix::whole(tree.family());
     let region = tree.region(&whole);
@@ -108,10 +115,10 @@ fn start(tree: &Tree) -> Way<'_>
 }
 
 /// The way to the prefix.
-pub(crate) fn walk<'a>(tree: &'a Tree, prefix: &Prefix) -> Way<'a>
+pub fn walk<'a>(tree: &'a Tree, prefix: &Prefix) -> Way<'a>
     requires { prefix.now.family ≡ tree.now.family }
-    ensures { IsWay tree.now.family (of_family tree.now.family tree.now.entries) (prefix_as
-        prefix.now).bits result }
+    ensures { IsWay tree.now.family (of_family tree.now.family tree.now.routes)
+        (of_family tree.now.family tree.now.entries) (prefix_as prefix.now).bits result }
 {
     let q = path_bits(prefix);
     let mut left = prefix.len;

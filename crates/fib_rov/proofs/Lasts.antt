@@ -13,23 +13,23 @@ use Rattle.address_model.proofs.Ordered.{prefix_total}
 use Rattle.address_model.proofs.Same.{same_prefix_is, same_prefix_itself}
 use Rattle.fib_addr.specs.Views.{prefix_as}
 use Rattle.fib_rov.specs.declared.numbered.Numbered.{Numbered}
-use Rattle.fib_rov.specs.Index.{AreLinked, AreSorted, AreUpTo, IsLast, IsPlaceOf, covers, encloses, stands_up_to}
+use Rattle.fib_rov.specs.Index.{AreLinked, AreSorted, AreUpTo, IsLast, IsPlaceOf, covers, encloses, prefix_of, stands_up_to}
 use Rattle.fib_rov.proofs.Same.{is_prefix}
 use Rattle.fib_rov.proofs.Between.{UpTo, between, container_up, le_from_up, one_from_up, up_from_le, up_through, within_through}
 
 -- the prefix of the VRP at a place
 abbrev pub at_place : List Numbered → ℕ → Numbered → Prefix
-at_place sorted i r = prefix_as (get_or sorted i r).prefix
+at_place sorted i r = prefix_as (prefix_of (get_or sorted i r))
 
 fits : (sorted : List Numbered) (i : ℕ) (r : Numbered) → IsPrefix (at_place sorted i r)
-fits sorted i r = is_prefix (get_or sorted i r).prefix
+fits sorted i r = is_prefix (prefix_of (get_or sorted i r))
 
 pub rise : (sorted : List Numbered) (i j : ℕ) (r : Numbered) → AreSorted sorted → i ≤ j → j < length sorted → UpTo (at_place sorted i r) (at_place sorted j r)
-rise sorted i j r s h k = sorted_far (λ (x y : Numbered). is_lt (prefix_cmp (prefix_as x.prefix) (prefix_as y.prefix))) (ranks_by prefix_total (λ (x : Numbered). prefix_as x.prefix)) sorted s i j r h k
+rise sorted i j r s h k = sorted_far (λ (x y : Numbered). is_lt (prefix_cmp (prefix_as (prefix_of x)) (prefix_as (prefix_of y)))) (ranks_by prefix_total (λ (x : Numbered). prefix_as (prefix_of x))) sorted s i j r h k
 
 -- at whatever default
 pub prefix_at : (sorted : List Numbered) (i : ℕ) (d e : Numbered) → i < length sorted → at_place sorted i d ≡ at_place sorted i e
-prefix_at sorted i d e h = ap (λ (x : Numbered). prefix_as x.prefix) (get_or_default sorted i d e h)
+prefix_at sorted i d e h = ap (λ (x : Numbered). prefix_as (prefix_of x)) (get_or_default sorted i d e h)
 
 not_true : (b : Bool) → (b ≡ true → ⊥) → b ≡ false
 not_true true f = absurd (f refl)
@@ -39,8 +39,8 @@ pub apart : (b : Bool) → b ≡ true → b ≡ false → ⊥
 apart b e f = cc
 
 -- it covers the prefix without enclosing it: it has that prefix
-pub has_from : (q : Prefix) (r : Numbered) → covers q r ≡ true → encloses q r ≡ false → prefix_as r.prefix ≡ q
-has_from q r c e = same_prefix_is (prefix_as r.prefix) q (by_tests (covers q r) (same_prefix (prefix_as r.prefix) q) c e)
+pub has_from : (q : Prefix) (r : Numbered) → covers q r ≡ true → encloses q r ≡ false → prefix_as (prefix_of r) ≡ q
+has_from q r c e = same_prefix_is (prefix_as (prefix_of r)) q (by_tests (covers q r) (same_prefix (prefix_as (prefix_of r)) q) c e)
   where
     by_tests : (a b : Bool) → a ≡ true → (a && not b) ≡ false → b ≡ true
     by_tests true true x y = refl
@@ -48,13 +48,13 @@ has_from q r c e = same_prefix_is (prefix_as r.prefix) q (by_tests (covers q r) 
     by_tests false b x y = cc
 
 pub encloses_parts : (q : Prefix) (r : Numbered) → encloses q r ≡ true → covers q r ≡ true
-encloses_parts q r e = (and_parts (covers q r) (not (same_prefix (prefix_as r.prefix) q)) e).0
+encloses_parts q r e = (and_parts (covers q r) (not (same_prefix (prefix_as (prefix_of r)) q)) e).0
 
 pub not_enclosing : (q : Prefix) (r : Numbered) → covers q r ≡ false → encloses q r ≡ false
-not_enclosing q r c = ap (λ b. b && not (same_prefix (prefix_as r.prefix) q)) c
+not_enclosing q r c = ap (λ b. b && not (same_prefix (prefix_as (prefix_of r)) q)) c
 
-pub not_enclosing_same : (q : Prefix) (r : Numbered) → prefix_as r.prefix ≡ q → encloses q r ≡ false
-not_enclosing_same q r e = by_tests (covers q r) (same_prefix (prefix_as r.prefix) q) (ap (same_prefix (prefix_as r.prefix)) (sym e) ∙ same_prefix_itself (prefix_as r.prefix))
+pub not_enclosing_same : (q : Prefix) (r : Numbered) → prefix_as (prefix_of r) ≡ q → encloses q r ≡ false
+not_enclosing_same q r e = by_tests (covers q r) (same_prefix (prefix_as (prefix_of r)) q) (ap (same_prefix (prefix_as (prefix_of r))) (sym e) ∙ same_prefix_itself (prefix_as (prefix_of r)))
   where
     by_tests : (a b : Bool) → b ≡ true → (a && not b) ≡ false
     by_tests true true x = refl

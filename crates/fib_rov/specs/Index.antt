@@ -6,16 +6,20 @@ use Rattle.address_model.specs.Address.{Prefix, same_prefix}
 use Rattle.address_model.specs.Order.{prefix_cmp}
 use Rattle.address_model.specs.Regions.{is_within}
 use Rattle.fib_addr.specs.Views.{prefix_as}
+use Rattle.fib_addr.specs.declared.prefix.Prefix as code
 use Rattle.fib_rov.specs.declared.vrp.Vrp.{Vrp}
 use Rattle.fib_rov.specs.declared.numbered.Numbered.{Numbered}
 
 -- ---- VRPs with their numbers
 
 abbrev pub with_number : ℕ → Vrp → Numbered
-with_number n v = record { prefix = v.prefix; number = n; asn = v.asn; maxlen = v.maxlen }
+with_number n v = record { bits = v.prefix.bits; number = n; asn = v.asn; family = v.prefix.family; len = v.prefix.len; maxlen = v.maxlen; fits = v.prefix.fits; below = v.prefix.below; cleared = v.prefix.cleared }
+
+abbrev pub prefix_of : Numbered → code.Prefix
+prefix_of r = record { bits = r.bits; family = r.family; len = r.len; fits = r.fits; below = r.below; cleared = r.cleared }
 
 abbrev pub vrp_of : Numbered → Vrp
-vrp_of r = record { prefix = r.prefix; maxlen = r.maxlen; asn = r.asn }
+vrp_of r = record { prefix = prefix_of r; maxlen = r.maxlen; asn = r.asn }
 
 -- the VRPs of a list with their numbers, counted from n
 unfoldable pub numbered : ℕ → List Vrp → List Numbered
@@ -26,11 +30,11 @@ numbered n (v ∷ list) = with_number n v ∷ numbered (n + 1) list
 
 -- in the order of their prefixes
 abbrev pub AreSorted : List Numbered → Type 0
-AreSorted = IsSortedByKey (λ (r : Numbered). prefix_as r.prefix) prefix_cmp
+AreSorted = IsSortedByKey (λ (r : Numbered). prefix_as (prefix_of r)) prefix_cmp
 
 -- its prefix comes before q in the order of prefixes, or is q
 abbrev pub stands_up_to : Prefix → Numbered → Bool
-stands_up_to q r = is_le (prefix_cmp (prefix_as r.prefix) q)
+stands_up_to q r = is_le (prefix_cmp (prefix_as (prefix_of r)) q)
 
 -- so many stand up to q, and the others behind it
 abbrev pub IsPlaceOf : Prefix → List Numbered → ℕ → Type 0
@@ -45,11 +49,11 @@ pub record AreUpTo (q : Prefix) (sorted : List Numbered) (count : ℕ) : Type 0 
 
 -- its prefix contains q
 abbrev pub covers : Prefix → Numbered → Bool
-covers q r = is_within q (prefix_as r.prefix)
+covers q r = is_within q (prefix_as (prefix_of r))
 
 -- its prefix contains q, and is another
 abbrev pub encloses : Prefix → Numbered → Bool
-encloses q r = covers q r && not (same_prefix (prefix_as r.prefix) q)
+encloses q r = covers q r && not (same_prefix (prefix_as (prefix_of r)) q)
 
 -- of the first `count` of a list the last that passes the test is the one of number `at`, counted from 1; if `at` is 0 none passes
 pub record IsLast (f : Numbered → Bool) (sorted : List Numbered) (count at : ℕ) : Type 0 where
@@ -60,7 +64,7 @@ pub record IsLast (f : Numbered → Bool) (sorted : List Numbered) (count at : �
 -- each of the first `count` has a link to the last before it that encloses its prefix
 pub record AreLinked (sorted : List Numbered) (count : ℕ) (links : List ℕ) : Type 0 where
   pub many : count ≤ length links
-  pub each : (i : ℕ) (r : Numbered) → i < count → IsLast (encloses (prefix_as (get_or sorted i r).prefix)) sorted i (get_or links i 0)
+  pub each : (i : ℕ) (r : Numbered) → i < count → IsLast (encloses (prefix_as (prefix_of (get_or sorted i r)))) sorted i (get_or links i 0)
 
 -- ---- the index
 

@@ -10,9 +10,9 @@ ghost use Rattle.std.specs.List.Sorted.{IsPermutation};
 ghost use Rattle.address_model.specs.Address.{IsPrefix, Prefix as model_prefix};
 ghost use Rattle.fib_addr.specs.Views.{prefix_as};
 ghost use Rattle.fib_rov.specs.declared.numbered.Numbered as code;
-ghost use Rattle.fib_rov.specs.Index.{AreLinked, AreSorted, AreUpTo, IsLast, IsPlaceOf, covers, encloses, numbered, stands_up_to};
+ghost use Rattle.fib_rov.specs.Index.{AreLinked, AreSorted, AreUpTo, IsLast, IsPlaceOf, covers, encloses, numbered, prefix_of, stands_up_to};
 
-use crate::numbered::{Numbered, compare};
+use crate::numbered::Numbered;
 use crate::vrp::Vrp;
 use fib_addr::Prefix;
 use std::alloc::{AllocError, Global};
@@ -34,7 +34,7 @@ pub(crate) fn sort(alloc: Global, list: &[Vrp]) -> Result<Vec<Numbered>, AllocEr
     ensures sorted { IfOk result (λ sorted. AreSorted sorted.items) }
 {
     let mut vrps = number(alloc, list)?;
-    vrps.sort_unstable_by(|a, b| compare(a, b));
+    vrps.sort_unstable_by(|a, b| a.compare(b));
     Ok(vrps)
 }
 
@@ -46,7 +46,7 @@ fn last_cover(sorted: &[Numbered], links: &[usize], count: usize, prefix: &Prefi
     ensures { IsLast (covers (prefix_as prefix.now)) sorted.now count result }
 {
     let mut at = count;
-    while at > 0 && !prefix.is_within(&sorted[at - 1].prefix) {
+    while at > 0 && !sorted[at - 1].covers(prefix) {
         at = links[at - 1];
     }
     at
@@ -57,11 +57,11 @@ fn link(sorted: &[Numbered], links: &[usize], place: usize) -> usize
     requires within { place < length sorted.now }
     requires sorted { AreSorted sorted.now }
     requires linked { AreLinked sorted.now place links.now }
-    ensures { (r : code.Numbered) → IsLast (encloses (prefix_as (get_or sorted.now place r).prefix)) sorted.now place result }
+    ensures { (r : code.Numbered) → IsLast (encloses (prefix_as (prefix_of (get_or sorted.now place r)))) sorted.now place result }
 {
-    let prefix = &sorted[place].prefix;
-    let at = last_cover(sorted, links, place, prefix);
-    if at > 0 && sorted[at - 1].has_prefix(prefix) {
+    let vrp = &sorted[place];
+    let at = last_cover(sorted, links, place, &vrp.prefix());
+    if at > 0 && sorted[at - 1].has_prefix_of(vrp) {
         links[at - 1]
     } else {
         at
@@ -90,7 +90,7 @@ fn place_of(sorted: &[Numbered], prefix: &Prefix) -> usize
     sorted.partition_point(
         |vrp: &Numbered| -> bool
             ensures { result ≡ stands_up_to (prefix_as prefix.entry.now) vrp.now }
-        { vrp.prefix.cmp(prefix).is_le() },
+        { vrp.stands_up_to(prefix) },
     )
 }
 
@@ -112,7 +112,7 @@ pub(crate) fn covering_before(sorted: &[Numbered], links: &[usize], at: usize) -
     ensures { (p : model_prefix) (r : code.Numbered) → IsPrefix p → covers p (get_or sorted.now (at - 1) r) ≡ true →
         IsLast (covers p) sorted.now (at - 1) result }
 {
-    if at > 1 && sorted[at - 2].has_prefix(&sorted[at - 1].prefix) {
+    if at > 1 && sorted[at - 2].has_prefix_of(&sorted[at - 1]) {
         at - 1
     } else {
         links[at - 1]

@@ -107,7 +107,7 @@ impl Vrps {
         }
     }
 
-    /// The list with its index, which takes 56 octets for each VRP. It costs a sort of the list.
+    /// The list with its index, which takes 40 octets for each VRP. It costs a sort of the list.
     ///
     /// # Errors
     ///

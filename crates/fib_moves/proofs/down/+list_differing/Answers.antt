@@ -5,13 +5,23 @@ use Rattle.address_model.specs.Address.{Prefix}
 use Rattle.address_model.specs.Width.{width}
 use Rattle.fib_addr.specs.Views.{prefix_as}
 use Rattle.orig_tree.proofs.Telling.{half_longer}
-use Rattle.fib_moves.proofs.Passing.{knows_down, table_down, pass_end, pass_join}
+use Rattle.fib_moves.proofs.Passing.{knows_down, table_down, own_due, pass_end, pass_join}
 use Rattle.fib_moves.proofs.down.+list_differing.Goals as goal
+
+pub due_hop-gets-requires : goal.due_hop-gets-requires
+due_hop-gets-requires t c =
+    let s = c.args.region.now in
+    c.hops_of-found.ensures s.bits (answers_in s) s.entries c.requires.knows
+
+pub is_end-requires-clause-found : goal.is_end-requires-clause-found
+is_end-requires-clause-found t c =
+    let s = c.args.region.now in
+    c.hops_of-found.ensures s.bits (answers_in s) s.entries c.requires.knows
 
 pub returns-then-is_end : goal.returns-then-is_end
 returns-then-is_end t c =
     pass_end c.args.region.now (prefix_as c.args.prefix) c.args.inherited c.entry-had.result c.due_hop-gets.result c.if_differing-old.result.0 c.if_differing-old.result.1 c.args.out.now
-    (record { had = c.push_entry.new.out; gets = c.push_entry-2.new.out }) (c.is_end.ensures.end c.if-is_end.true) c.entry-had.ensures (c.due_hop-gets.ensures ∙ ap (λ o. new_entry (inner_set c.args.region.now.bits (answers_in c.args.region.now) c.args.region.now.entries) o c.args.inherited) c.entry-had.ensures) c.if_differing-old.ensures c.in_ok-push_entry.ensures c.in_ok-push_entry-2.ensures
+    (record { had = c.push_entry.new.out; gets = c.push_entry-2.new.out }) (c.is_end.ensures.end c.if-is_end.true) c.entry-had.ensures (own_due c.args.region.now c.args.inherited c.entry-had.result c.due_hop-gets.result c.entry-had.ensures c.due_hop-gets.ensures) c.if_differing-old.ensures c.in_ok-push_entry.ensures c.in_ok-push_entry-2.ensures
 
 pub list_differing-requires : goal.list_differing-requires
 list_differing-requires t c =
@@ -34,5 +44,5 @@ returns t c =
     let h = c.half-3.ensures in
     pass_join (prefix_as c.args.prefix) c.half-2.result c.half-4.result s c.half.result c.half-3.result c.args.inherited c.below-inherited.result c.entry-had.result c.due_hop-gets.result c.if_differing-old.result.0 c.if_differing-old.result.1
     c.args.out.now (record { had = c.push_entry.new.out; gets = c.push_entry-2.new.out }) c.list_differing.new.out c.list_differing-2.new.out
-    c.entry-had.ensures (c.due_hop-gets.ensures ∙ ap (λ o. new_entry (inner_set c.args.region.now.bits (answers_in c.args.region.now) c.args.region.now.entries) o c.args.inherited) c.entry-had.ensures) c.below-inherited.ensures c.if_differing-old.ensures c.in_ok-push_entry.ensures c.in_ok-push_entry-2.ensures
+    c.entry-had.ensures (own_due c.args.region.now c.args.inherited c.entry-had.result c.due_hop-gets.result c.entry-had.ensures c.due_hop-gets.ensures) c.below-inherited.ensures c.if_differing-old.ensures c.in_ok-push_entry.ensures c.in_ok-push_entry-2.ensures
     l.bits l.routes l.entries l.hop h.bits h.routes h.entries h.hop c.half-2.ensures c.half-4.ensures c.in_ok-list_differing.ensures c.in_ok-list_differing-2.ensures

@@ -1,4 +1,5 @@
-use Rattle.std.proofs.Common.{sym, arith}
+use Rattle.std.proofs.Common.{sym, ap, arith}
+use Rattle.std.specs.Option.{option_copied}
 use Rattle.orig_tree.specs.Spots.{answers_in}
 use Rattle.fib_moves.proofs.Passing.{end_last, end_some}
 use Rattle.fib_moves.proofs.down.is_end.Goals as goal
@@ -11,4 +12,4 @@ returns-then-prefix-width-clause-end c = λ z.
 pub returns-in-None-clause-end : goal.returns-in-None-clause-end
 returns-in-None-clause-end c = λ z.
     let r = c.args.region.now in
-    end_some r.bits (answers_in r) r.entries c.args.needs.now c.leaf.result c.is_some.result c.requires.table c.requires.knows c.in-None.is c.leaf.ensures.one (sym c.is_some.ensures) z
+    end_some r.bits (answers_in r) r.entries (option_copied c.args.found) c.leaf.result c.is_some.result c.requires.table c.requires.found (ap option_copied c.in-None.is) c.leaf.ensures.one (sym c.is_some.ensures) z

@@ -38,7 +38,7 @@ pub list_event-requires-clause-within : goal.list_event-requires-clause-within
 list_event-requires-clause-within c =
     let k = c.args.tree.now in
     let T = of_family k.family k.entries in
-    turn_short (width k.family) T c.args.prefix.now c.walk-way.result.turn (way_turn k.family T (prefix_as c.args.prefix.now).bits c.walk-way.result c.walk-way.ensures)
+    turn_short (width k.family) T c.args.prefix.now c.walk-way.result.turn (way_turn k.family (of_family k.family k.routes) T (prefix_as c.args.prefix.now).bits c.walk-way.result c.walk-way.ensures)
 
 pub returns : goal.returns
 returns c =
@@ -52,10 +52,10 @@ returns c =
     record {
       changes = IfOk-weaker c.list_event.result (λ v. AreTurned r.result p w.result.turn (map change_as v.items)) (λ v. map change_as v.items ≡ between k.entries (near_in k.family k.routes k.entries))
           (λ v x. near_told k p w.result.turn r.result (map change_as v.items) c.requires.family order.1 all c.requires.beside
-          r.ensures.bits r.ensures.answers r.ensures.entries (way_turn k.family T (prefix_as p).bits w.result w.ensures) w.ensures.old w.ensures.inherited x)
+          r.ensures.bits r.ensures.answers r.ensures.entries (way_turn k.family (of_family k.family k.routes) T (prefix_as p).bits w.result w.ensures) w.ensures.old w.ensures.inherited x)
           c.list_event.ensures;
       shortest = IfOk-weaker c.list_event.result (λ v. AreTurned r.result p w.result.turn (map change_as v.items)) (λ v. AreShortest k.family k.routes k.entries (map change_as v.items))
           (λ v x. subst (λ (cs : List ModelChange). AreShortest k.family k.routes k.entries cs) (sym (near_told k p w.result.turn r.result (map change_as v.items) c.requires.family order.1 all c.requires.beside
-          r.ensures.bits r.ensures.answers r.ensures.entries (way_turn k.family T (prefix_as p).bits w.result w.ensures) w.ensures.old w.ensures.inherited x)) (near_is_shortest k order.1 order.0 all))
+          r.ensures.bits r.ensures.answers r.ensures.entries (way_turn k.family (of_family k.family k.routes) T (prefix_as p).bits w.result w.ensures) w.ensures.old w.ensures.inherited x)) (near_is_shortest k order.1 order.0 all))
           c.list_event.ensures;
     }

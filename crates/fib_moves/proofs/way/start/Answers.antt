@@ -4,6 +4,7 @@ use Rattle.address_model.specs.Width.{width}
 use Rattle.table_model.specs.Table.{root, cut}
 use Rattle.table_model.specs.Entries.{of_family}
 use Rattle.least_model.specs.Regions.{above}
+use Rattle.least_model.proofs.Both.{family_is}
 use Rattle.cert_model.specs.Rows.{whole_prefix}
 use Rattle.fib_addr.specs.Views.{prefix_as}
 use Rattle.orig_tree.proofs.Telling.{whole_len}
@@ -23,6 +24,7 @@ returns-clause-way c =
       place = whole_place k p r.result e r.ensures.bits r.ensures.answers r.ensures.entries c.family.ensures.order.1 c.family.ensures.order.0 (tree_family k c.root.result.entries c.root.ensures.entries) _ c.root.result refl refl c.root.ensures.entries;
       at = e;
       bits = r.ensures.bits;
+      routes = sym (family_is k.family c.root.result.routes) ∙ ap (of_family k.family) c.root.ensures.routes;
       entries = r.ensures.entries ∙ ap (λ (q : Prefix). cut q.bits T) e;
       comes = sym (above_nil T 0);
       old = c.entry-old.ensures ∙ ap root r.ensures.entries;

@@ -23,6 +23,7 @@ returns c =
       place = place_half x.place c.half-place.result c.args.bit c.requires.place h.bits h.entries h.node;
       at = c.half-at.ensures;
       bits = h.bits;
+      routes = h.node_routes;
       entries = h.entries;
       comes = c.below-comes.ensures ∙ ap (λ o. inherit o x.comes) c.entry.ensures;
       turn = elim c.if-is_blocked.branch [

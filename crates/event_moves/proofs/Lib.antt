@@ -1,0 +1,4 @@
+pub mod Settled
+pub mod Finding
+pub mod Prefix
+pub mod Routed
