@@ -1,0 +1,9 @@
+use Rattle.std.proofs.Common.{[]}
+use Rattle.feed_model.specs.Feed.{entries_of}
+use Rattle.kept_feed.specs.Kept.{kept_at_load}
+use Rattle.kept_feed.proofs.Sums.{snapshot_placed}
+use Rattle.fewest_feed.proofs.Moved.{from_placed}
+use Rattle.fewest_feed.proofs.order_law.Goals as goal
+
+pub returns : goal.returns
+returns c = λ fewest every hops held elems e. from_placed fewest every hops 1 held (kept_at_load hops held) elems e (snapshot_placed (entries_of hops held) [])
