@@ -109,7 +109,7 @@ fn undoes(
     requires { keep.old.family ≡ V4 }
     ensures { keep.new.family ≡ keep.old.family }
 {
-    let planned = keep.plan(Some((prefix(route.0), Hop(route.1))), true)?;
+    let planned = keep.plan(Some((prefix(route.0), Hop(route.1))), true, false)?;
     let moved = planned.moved();
     let is_right = are_moves(&moved.repair, repair) && are_moves(&moved.snapshot, snapshot);
     keep.undo(planned);

@@ -195,14 +195,14 @@ stands_end load old new c h t l e f s = record {
 -- ---- one elementary event after the load
 
 -- what a plan of one family tells, and what making it leaves
-one_side : (f : Family) (n m : Labels) (R A : Entries) (at : Option Prefix) (due : Bool) (r : Repair) → n.family ≡ f → n.routes ≡ R → n.entries ≡ A → Tells n at due (moved_of r) → MadeBy r n m
+one_side : (f : Family) (n m : Labels) (R A : Entries) (at : Option Prefix) (due : Bool) (r : Repair) → n.family ≡ f → n.routes ≡ R → n.entries ≡ A → Tells n false at due (moved_of r) → MadeBy r n m
     → (m.entries ≡ after_snapshot f R due (after_repair R at A)) × (repair_as (moved_of r) ≡ between A (after_repair R at A)) × (snapshot_as (moved_of r) ≡ between (after_repair R at A) (after_snapshot f R due (after_repair R at A)))
 one_side f n m R A at due r s e t tells made =
     let k : Labels = record { family = f; routes = R; entries = A; nodes = n.nodes; before = n.before } in
     let same : n ≡ k = labels_are n.family f n.routes R n.entries A n.before n.before n.nodes n.nodes s e t refl refl in
-    let told : Tells k at due (moved_of r) = subst (λ (x : Labels). Tells x at due (moved_of r)) same tells in
+    let told : Tells k false at due (moved_of r) = subst (λ (x : Labels). Tells x false at due (moved_of r)) same tells in
     let done : after_changes (repair_as (moved_of r) ++ snapshot_as (moved_of r)) k.entries ≡ Some m.entries = ap (λ (T : Entries). after_changes (repair_as (moved_of r) ++ snapshot_as (moved_of r)) T) (sym t) ∙ made in
-    (committed k m.entries at due (moved_of r) told done, told.repair, told.snapshot)
+    (committed k m.entries false at due (moved_of r) told done, told.repair, told.snapshot)
 
 some_least : (n : ℕ) → 1 ≤ n → some_of n ≡ Some n
 some_least zero l = absurd (omega arith)

@@ -18,7 +18,7 @@ use Rattle.route_tries.specs.Sizes.{needs_of_both}
 use Rattle.route_tries.specs.Parts.{IsNeedAfter}
 use Rattle.route_tries.specs.declared.needs.FamilyNeeds.{FamilyNeeds}
 use Rattle.fib_engine.specs.declared.tables.Plan.{Plan}
-use Rattle.std.specs.Prelude.{Bool}
+use Rattle.std.specs.Prelude.{Bool, false}
 
 -- what is seen of both
 pub record Both : Type 0 where
@@ -95,8 +95,8 @@ pub record ArePlanned (both : Both) (plan : Plan) : Type 0 where
 
 -- what both plans tell
 pub record AreTold (both : Both) (route : Route) (due : Bool) (v4 v6 : Repair) : Type 0 where
-  pub v4_tells : Tells both.v4 (place_in (route_in V4 route)) due (moved_of v4)
-  pub v6_tells : Tells both.v6 (place_in (route_in V6 route)) due (moved_of v6)
+  pub v4_tells : Tells both.v4 false (place_in (route_in V4 route)) due (moved_of v4)
+  pub v6_tells : Tells both.v6 false (place_in (route_in V6 route)) due (moved_of v6)
 
 -- the changes of a family's plan, made
 abbrev pub MadeBy : Repair → Labels → Labels → Type 0

@@ -152,8 +152,8 @@ impl Tables {
             ≡ length (both_repairs (moved_of p.v4) (moved_of p.v6))) }
         ensures err { OnErr result (KeepRoutes self.old self.new) }
     {
-        let v4 = self.v4.plan(route_of(route, Family::V4), snapshot)?;
-        let v6 = match self.v6.plan(route_of(route, Family::V6), snapshot) {
+        let v4 = self.v4.plan(route_of(route, Family::V4), snapshot, false)?;
+        let v6 = match self.v6.plan(route_of(route, Family::V6), snapshot, false) {
             Ok(v6) => v6,
             Err(failed) => {
                 self.v4.undo(v4);

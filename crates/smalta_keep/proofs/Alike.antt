@@ -26,8 +26,8 @@ use Rattle.smalta_keep.proofs.Tables.{some_is}
 use Rattle.smalta_keep.proofs.Making.{routed_elsewhere}
 
 -- what a commit makes of the table that was planned for
-pub committed : (kept : Labels) (T : Entries) (at : Option Prefix) (due : Bool) (m : Moved) → Tells kept at due m → after_changes (repair_as m ++ snapshot_as m) kept.entries ≡ Some T → T ≡ planned_table kept at due
-committed kept T at due m t e = some_is T (planned_table kept at due) (sym e ∙ t.makes)
+pub committed : (kept : Labels) (T : Entries) (fewest : Bool) (at : Option Prefix) (due : Bool) (m : Moved) → Tells kept fewest at due m → after_changes (repair_as m ++ snapshot_as m) kept.entries ≡ Some T → T ≡ planned_table fewest kept at due
+committed kept T fewest at due m t e = some_is T (planned_table fewest kept at due) (sym e ∙ t.makes)
 
 -- ---- a change
 

@@ -1,6 +1,7 @@
 -- What is known of a table after a change.
 use Rattle.std.proofs.Common.{◌≡◌, ◌-◌, ℕ, List, [], Bool, true, false, cond, Option, Some, None, length, refl, sym, ap, subst, ◌∙◌, arith}
 use Rattle.std.specs.Prelude.{◌&&◌, option_map}
+use Rattle.std.specs.Option.{ForSome}
 use Rattle.address_model.specs.Bits.{begins}
 use Rattle.address_model.specs.Address.{Prefix, IsPrefix, same_family, same_prefix}
 use Rattle.address_model.specs.Width.{width}
@@ -16,7 +17,7 @@ use Rattle.least_model.proofs.Region.{cut_lift}
 use Rattle.route_model.proofs.Keyed.{lookup-put}
 use Rattle.route_model.proofs.Places.{prefix_key}
 use Rattle.delta_model.specs.Between.{hop_at}
-use Rattle.kept_model.specs.Patched.{with_route, patch_of, after_repair, region_aggregate}
+use Rattle.kept_model.specs.Patched.{with_route, patch_of, after_snapshot, region_aggregate}
 use Rattle.kept_model.proofs.Patches.{family_hop, hop_patched}
 use Rattle.address_model.specs.Regions.{is_within}
 use Rattle.stays_model.specs.Stays.{Settled, IsMarked}
@@ -29,7 +30,6 @@ use Rattle.smalta_keep.specs.declared.routes.Former.{Former}
 use Rattle.smalta_keep.specs.Known.{IsOfFamily, IsTouched, IsTouchedAt, AreMore, AreLeft, KnownAt, SameBeside}
 use Rattle.smalta_keep.specs.Routes.{put_back_in, undone_in, former_place}
 use Rattle.smalta_keep.specs.Views.{with_planned, place_in}
-use Rattle.smalta_keep.specs.Plans.{planned_table}
 use Rattle.smalta_keep.proofs.Making.{routed_elsewhere, put_back_hop}
 use Rattle.fib_addr.specs.Views.{prefix_as}
 use Rattle.fib_addr.specs.declared.prefix.Prefix as code_prefix
@@ -142,26 +142,18 @@ pub beside_undone : (o : Option Former) (f : Family) (R S : Entries) → InPlace
 beside_undone None f R S r e = e
 beside_undone (Some x) f R S r e = beside_put_back (prefix_as x.prefix) f (option_map (λ h. h.0) x.hop) R S (is_prefix x.prefix) r e
 
-pub former_is : (o : Option Former) (p : Prefix) → former_place o ≡ Some p → IsPrefix p
-former_is None p e = cc
-former_is (Some x) p e = let same : prefix_as x.prefix ≡ p = cc in subst IsPrefix same (is_prefix x.prefix)
-
 -- a repair
 and_false : (b : Bool) → (b && false) ≡ false
 and_false true = refl
 and_false false = refl
 
-not_within : (p : Prefix) (f : Family) (q : List Bool) → begins p.bits q ≡ false → is_within (record { family = f; bits = q }) p ≡ false
+pub not_within : (p : Prefix) (f : Family) (q : List Bool) → begins p.bits q ≡ false → is_within (record { family = f; bits = q }) p ≡ false
 not_within p f q n = ap (λ b. same_family p.family f && b) n ∙ and_false (same_family p.family f)
 
-beside_patch : (R T : Entries) (p : Prefix) (f : Family) → IsPrefix p → InPlace T → SameBeside (Some p) f T (patch_of R p T)
+pub beside_patch : (R T : Entries) (p : Prefix) (f : Family) → IsPrefix p → InPlace T → SameBeside (Some p) f T (patch_of R p T)
 beside_patch R T p f x t q n =
     let a : Prefix = record { family = f; bits = q } in
     family_hop f q T ∙ (sym (hop_patched R T p a x t ∙ ap (λ b. cond b (hop_at a (region_aggregate R p T)) (hop_at a T)) (not_within p f q n)) ∙ sym (family_hop f q (patch_of R p T)))
-
-pub beside_repair : (R T U : Entries) (at : Option Prefix) (f : Family) → ((p : Prefix) → at ≡ Some p → IsPrefix p) → InPlace T → U ≡ after_repair R at T → SameBeside at f T U
-beside_repair R T U None f x t e = e
-beside_repair R T U (Some p) f x t e = λ q n. beside_patch R T p f (x p refl) t q n ∙ ap (λ (E : Entries). entry_at q (of_family f E)) (sym e)
 
 -- ---- a snapshot
 
@@ -206,15 +198,26 @@ known_set route k l u r x f s e = known_marked (place_in route) k l u x f (known
 pub known_undone : (o : Option Former) (k l : Labels) (t u : Option Labels) → InPlace k.routes → IsTouchedAt (former_place o) t u → IsKnown k t → l.family ≡ k.family → l.routes ≡ undone_in o k.routes → l.entries ≡ k.entries → IsKnown l u
 known_undone o k l t u r a x f s e = known_after (former_place o) k l u f (beside_undone o k.family k.routes l.routes r s) (beside_itself (former_place o) k.family k.entries l.entries e) (known_at (former_place o) k t u a x)
 
-pub known_repaired : (o : Option Former) (k l : Labels) (t u : Option Labels) → InPlace k.entries → IsTouchedAt (former_place o) t u → IsKnown k t → l.family ≡ k.family → l.routes ≡ k.routes → l.entries ≡ after_repair k.routes (former_place o) k.entries → IsKnown l u
-known_repaired o k l t u r a x f s e =
-    known_after (former_place o) k l u f (beside_itself (former_place o) k.family k.routes l.routes s) (beside_repair k.routes k.entries l.entries (former_place o) k.family (former_is o) r e) (known_at (former_place o) k t u a x)
+pub known_made : (due : Bool) (at : Option Prefix) (k l : Labels) (N : Entries) (t u : Option Labels) → AreLeft due k.family at t u → IsKnown k t → l.family ≡ k.family → l.routes ≡ k.routes → SameBeside at k.family k.entries N
+    → l.entries ≡ after_snapshot k.family k.routes due N → IsKnown l u
+known_made true at k l N t u a x f s b e = known_fresh l k.family k.routes N u f s e a
+known_made false at k l N t u a x f s b e = known_after at k l u f (beside_itself at k.family k.routes l.routes s) (subst (λ (T : Entries). SameBeside at k.family k.entries T) (sym e) b) (known_at at k t u a x)
 
-pub known_made : (due : Bool) (o : Option Former) (k l : Labels) (t u : Option Labels) → InPlace k.entries → AreLeft due k.family (former_place o) t u → IsKnown k t → l.family ≡ k.family → l.routes ≡ k.routes → l.entries ≡ planned_table k (former_place o) due → IsKnown l u
-known_made true o k l t u r a x f s e = known_fresh l k.family k.routes (after_repair k.routes (former_place o) k.entries) u f s e a
-known_made false o k l t u r a x f s e = known_repaired o k l t u r a x f s e
+-- the marks are of the family
+pub known_family : (at : Option Prefix) (k : Labels) (u : Option Labels) (f : Family) → f ≡ k.family → KnownAt at k u → IsOfFamily f u
+known_family None k None f e x = tt
+known_family None k (Some n) f e x = e ∙ sym x.0
+known_family (Some p) k None f e x = tt
+known_family (Some p) k (Some n) f e x = e ∙ sym x.0
 
--- the marks that are left, by which the code marks
-pub former_left : (due : Bool) (f : Family) (o : Option Former) (at : Option code_prefix.Prefix) (t u : Option Labels) → at ≡ option_map (λ f. f.prefix) o → AreLeft due f (option_map prefix_as at) t u → AreLeft due f (former_place o) t u
-former_left true f o at t u e x = x
-former_left false f o at t u e x = former_places o at t u e x
+pub reach_family : (o : Option code_prefix.Prefix) (at : Option Prefix) (k : Labels) (u : Option Labels) → ForSome o (λ p. p.family ≡ k.family) → KnownAt at k u → ForSome o (λ p. IsOfFamily p.family u)
+reach_family o at k u e x = λ p s. known_family at k u p.family (e p s) x
+
+-- what was marked still is
+pub more_itself : (t : Option Labels) → AreMore t t
+more_itself None = tt
+more_itself (Some m) = (refl, λ r z. z)
+
+pub more_at : (at : Option Prefix) (t u : Option Labels) → IsTouchedAt at t u → AreMore t u
+more_at None t u x = subst (λ (v : Option Labels). AreMore t v) (sym x) (more_itself t)
+more_at (Some p) t u x = more_touched p t u x

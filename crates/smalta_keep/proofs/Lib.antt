@@ -3,3 +3,4 @@ pub mod Tables
 pub mod Knowing
 pub mod Planned
 pub mod Alike
+pub mod Near

@@ -1,8 +1,8 @@
 -- What a plan has, and what it tells.
-use Rattle.std.proofs.Common.{◌≡◌, List, [], ◌∷◌, ◌++◌, Bool, true, Option, Some, None, refl, sym, ap, subst, ◌∙◌}
-use Rattle.std.specs.Prelude.{option_map, IsSome}
-use Rattle.std.specs.Option.{option_and_then}
-use Rattle.table_model.specs.Entries.{Entries}
+use Rattle.std.proofs.Common.{◌≡◌, List, [], ◌∷◌, ◌++◌, Bool, true, false, Option, Some, None, refl, sym, ap, subst, ◌∙◌}
+use Rattle.std.specs.Prelude.{not, option_map, IsSome}
+use Rattle.std.specs.Option.{option_and_then, ForSome}
+use Rattle.table_model.specs.Entries.{Entries, of_family}
 use Rattle.table_model.specs.Changes.{Change, after_change, after_changes}
 use Rattle.delta_model.specs.Between.{between}
 use Rattle.delta_model.proofs.Alike.{made_placed}
@@ -12,14 +12,21 @@ use Rattle.fib_addr.specs.declared.prefix.Prefix as code_prefix
 use Rattle.fib_addr.specs.declared.entry.Hop as code_hop
 use Rattle.orig_tree.specs.Views.{Labels, InPlace}
 use Rattle.smalta_keep.specs.declared.routes.Former.{Former}
-use Rattle.smalta_keep.specs.declared.repair.Moved.{Moved}
+use Rattle.smalta_keep.specs.declared.repair.Repair.{Repair}
 use Rattle.smalta_keep.specs.declared.told.Mend.{Mend}
-use Rattle.kept_model.specs.Patched.{after_repair}
-use Rattle.address_model.specs.declared.family.Family.{Family}
+use Rattle.kept_model.specs.Patched.{with_route, after_repair, after_snapshot}
+use Rattle.address_model.specs.Width.{width}
+use Rattle.table_model.specs.Table.{Alike}
 use Rattle.least_model.specs.Both.{aggregate_in}
+use Rattle.event_moves.specs.Event.{AlikeBefore}
+use Rattle.event_moves.proofs.Routed.{routed_before}
+use Rattle.fib_delta.proofs.Held.{is_prefix}
+use Rattle.smalta_keep.specs.Answers.{IsAlikeFor}
+use Rattle.moves_cert.specs.Rows.{near_in}
+use Rattle.address_model.specs.declared.family.Family.{Family}
 use Rattle.smalta_keep.specs.Routes.{HasFormer, former_in, former_place, undone_in}
-use Rattle.smalta_keep.specs.Plans.{IsMend, IsMoved, IsSet, IsStill, IsPlanned, Tells, repaired_table, planned_table}
-use Rattle.smalta_keep.specs.Views.{repair_as, snapshot_as, place_in}
+use Rattle.smalta_keep.specs.Plans.{IsMend, IsMoved, IsSet, IsStill, IsPlanned, Tells, IsBeforeAt, some_or, mended, repaired_table, planned_table}
+use Rattle.smalta_keep.specs.Views.{moved_of, repair_as, snapshot_as, with_planned, place_in}
 use Rattle.orig_tree.specs.Walk.{has_node}
 use Rattle.smalta_keep.specs.Rooms.{IsNodeAt, KeepsEntries}
 
@@ -35,6 +42,16 @@ some_place (Some r) o p e s =
 pub places : (route : Route) (o : Option code_prefix.Prefix) → o ≡ option_map (λ r. r.0) route → option_map prefix_as o ≡ place_in route
 places None o e = ap (option_map prefix_as) e
 places (Some r) o e = ap (option_map prefix_as) e
+
+-- ---- whether a snapshot is due
+
+pub is_off : (b : Bool) → not b ≡ true → b ≡ false
+is_off true e = sym e
+is_off false e = refl
+
+pub is_on : (b : Bool) → not b ≡ false → b ≡ true
+is_on true e = refl
+is_on false e = sym e
 
 -- ---- a plan's route that is set
 
@@ -87,29 +104,62 @@ first_run cs ds T e = by_first (after_changes cs T) (subst (λ (o : Option Entri
 pub second_run : (cs ds : List Change) (T N : Entries) → IsSome (after_changes (cs ++ ds) T) → after_changes cs T ≡ Some N → after_changes (cs ++ ds) T ≡ after_changes ds N
 second_run cs ds T N e s = after_more cs ds T ∙ ap (option_and_then (after_changes ds)) s
 
-pub mend_there : (f g : Family) (R S T U : Entries) (a b : Option Prefix) (back : Bool) (m : Mend) → f ≡ g → R ≡ S → T ≡ U → a ≡ b → IsMend f back T (after_repair R a T) m → IsMend g back U (after_repair S b U) m
-mend_there f g R S T U a b back m e r t p i =
-    subst (λ (z : Family). IsMend z back U (after_repair S b U) m) e
-    (subst (λ (z : Entries). IsMend f back U (after_repair z b U) m) r (subst (λ (z : Entries). IsMend f back z (after_repair R b z) m) t (subst (λ (z : Option Prefix). IsMend f back T (after_repair R z T) m) p i)))
+-- the repaired table, as long as routes and entries stay
+pub repaired_there : (fewest : Bool) (a b : Labels) (at : Option Prefix) → b.family ≡ a.family → b.routes ≡ a.routes → b.entries ≡ a.entries → repaired_table fewest a at ≡ repaired_table fewest b at
+repaired_there false a b at f r e = ap (λ (R : Entries). after_repair R at a.entries) (sym r) ∙ ap (λ (T : Entries). after_repair b.routes at T) (sym e)
+repaired_there true a b None f r e = sym e
+repaired_there true a b (Some p) f r e =
+    ap (λ (g : Family). near_in g a.routes a.entries) (sym f) ∙ (ap (λ (R : Entries). near_in b.family R a.entries) (sym r) ∙ ap (λ (T : Entries). near_in b.family b.routes T) (sym e))
 
-pub renewed_there : (f g : Family) (R S T U : Entries) (a b : Option Prefix) (cs : List Change) → f ≡ g → R ≡ S → T ≡ U → a ≡ b → cs ≡ between (after_repair R a T) (aggregate_in f R (after_repair R a T)) → cs ≡ between (after_repair S b U) (aggregate_in g S (after_repair S b U))
-renewed_there f g R S T U a b cs e r t p i =
-    subst (λ (z : Family). cs ≡ between (after_repair S b U) (aggregate_in z S (after_repair S b U))) e
-    (subst (λ (z : Entries). cs ≡ between (after_repair z b U) (aggregate_in f z (after_repair z b U))) r
-    (subst (λ (z : Entries). cs ≡ between (after_repair R b z) (aggregate_in f R (after_repair R b z))) t (subst (λ (z : Option Prefix). cs ≡ between (after_repair R z T) (aggregate_in f R (after_repair R z T))) p i)))
+pub mend_there : (f g : Family) (T U N M : Entries) (back : Bool) (m : Mend) → f ≡ g → T ≡ U → N ≡ M → IsMend f back T N m → IsMend g back U M m
+mend_there f g T U N M back m e t n i = subst (λ (z : Family). IsMend z back U M m) e (subst (λ (z : Entries). IsMend f back z M m) t (subst (λ (z : Entries). IsMend f back T z m) n i))
 
-made_by : (kept : Labels) (at : Option Prefix) (due : Bool) (m : Moved) → IsMoved kept at due m → after_changes (repair_as m ++ snapshot_as m) kept.entries ≡ Some (planned_table kept at due)
-made_by kept at due m i = both_led (repair_as m) (snapshot_as m) kept.entries (repaired_table kept at) (planned_table kept at due) i.repair i.snapshot i.old_order i.repaired_order i.planned_order
+-- the table that the changes make is the repaired one
+pub mended_is : (f : Family) (back : Bool) (T N : Entries) (m : Mend) → IsMend f back T N m → mended m T ≡ N
+mended_is f back T N m i = ap (some_or T) (ap (λ (cs : List Change). after_changes cs T) i.there ∙ made_placed T N i.old_order i.order)
 
-pub tells : (kept : Labels) (at : Option Prefix) (due : Bool) (m : Moved) → IsMoved kept at due m → Tells kept at due m
-tells kept at due m i = record { repair = i.repair; snapshot = i.snapshot; makes = made_by kept at due m i }
+pub nothing_repaired : (fewest : Bool) (kept : Labels) → repaired_table fewest kept None ≡ kept.entries
+nothing_repaired false kept = refl
+nothing_repaired true kept = refl
 
-pub planned : (kept : Labels) (at : Option Prefix) (due : Bool) (f : Option Former) (m : Moved) → IsMoved kept at due m → HasFormer kept f → former_place f ≡ at → IsPlanned kept (record { former = f; due = due; moved = m })
-planned kept at due f m i h a = record {
+-- the changes of a snapshot
+pub renewed_there : (f g : Family) (R S N M : Entries) (cs : List Change) → f ≡ g → R ≡ S → N ≡ M → cs ≡ between N (aggregate_in f R N) → cs ≡ between M (aggregate_in g S M)
+renewed_there f g R S N M cs e r n i = i ∙ (ap (λ z. between z (aggregate_in f R z)) n ∙ (ap (λ z. between M (aggregate_in f z M)) r ∙ ap (λ z. between M (aggregate_in z S M)) e))
+
+-- the table before the plan's route was set
+pub before_set : (fewest : Bool) (route : Route) (a b : Labels) (f : Option Former) → ForSome route (λ r. r.0.family ≡ a.family) → InPlace a.routes → IsAlikeFor fewest route a → b.family ≡ a.family → b.entries ≡ a.entries → IsSet route a.routes b f
+    → IsBeforeAt fewest (former_place f) b
+before_set fewest route a b f x r l e t s = subst (λ (at : Option Prefix). IsBeforeAt fewest at b) (sym s.place) (here fewest route x l s.routes)
+  where
+    here : (fewest : Bool) (route : Route) → ForSome route (λ r. r.0.family ≡ a.family) → IsAlikeFor fewest route a → b.routes ≡ with_planned route a.routes → IsBeforeAt fewest (place_in route) b
+    here false route x l w = tt
+    here true None x l w = tt
+    here true (Some q) x l w =
+        let p = prefix_as q.0 in
+        let R = with_route p q.1.0 a.routes in
+        let alike : Alike (width p.family) (of_family p.family a.routes) (of_family p.family a.entries) = subst (λ (g : Family). Alike (width g) (of_family g a.routes) (of_family g a.entries)) (sym (x q refl)) l in
+        let before = routed_before a.routes a.entries p q.1.0 (is_prefix q.0) r alike in
+        subst (λ (T : Entries). AlikeBefore (width b.family) p.bits (of_family b.family b.routes) (of_family b.family T)) (sym t)
+        (subst (λ (S : Entries). AlikeBefore (width b.family) p.bits (of_family b.family S) (of_family b.family a.entries)) (sym w)
+        (subst (λ (g : Family). AlikeBefore (width g) p.bits (of_family g R) (of_family g a.entries)) (x q refl ∙ sym e) before))
+
+made_by : (kept : Labels) (fewest : Bool) (at : Option Prefix) (due : Bool) (r : Repair) → IsMoved kept fewest at due r
+    → after_changes (repair_as r.moved ++ snapshot_as r.moved) kept.entries ≡ Some (planned_table fewest kept at due)
+made_by kept fewest at due r i =
+    both_led (repair_as r.moved) (snapshot_as r.moved) kept.entries (repaired_table fewest kept at) (planned_table fewest kept at due) i.repair i.snapshot i.old_order i.repaired_order i.planned_order
+
+pub tells : (kept : Labels) (fewest : Bool) (at : Option Prefix) (due : Bool) (r : Repair) → IsMoved kept fewest at due r → Tells kept fewest at due (moved_of r)
+tells kept fewest at due r i = record { repair = i.repair; snapshot = i.snapshot; makes = made_by kept fewest at due r i }
+
+pub planned : (kept : Labels) (fewest : Bool) (at : Option Prefix) (due : Bool) (r : Repair) → IsMoved kept fewest at due r → HasFormer kept r.former → IsPlanned kept r
+planned kept fewest at due r i h = record {
   repair_of = i.repair_of;
   snapshot_of = i.snapshot_of;
+  reach_of = i.reach_of;
   repair_room = i.repair_room;
   snapshot_room = i.snapshot_room;
-  makes = made_by kept at due m i ∙ ap (λ (x : Option Prefix). Some (planned_table kept x due)) (sym a);
+  repaired = repaired_table fewest kept at;
+  beside = i.beside;
+  makes = made_by kept fewest at due r i ∙ ap (λ b. Some (after_snapshot kept.family kept.routes b (repaired_table fewest kept at))) (sym i.is_due);
   former = h;
 }

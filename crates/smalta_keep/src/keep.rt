@@ -17,12 +17,12 @@ ghost use Rattle.orig_tree.specs.Views.{InPlace};
 ghost use Rattle.ortc.specs.Proved.{ProveLeast};
 ghost use Rattle.smalta_keep.specs.Views.{moved_of, repair_as, snapshot_as, undone_by, with_planned, place_in};
 ghost use Rattle.smalta_keep.specs.Plans.{IsPlanned, Tells};
-ghost use Rattle.smalta_keep.specs.Answers.{IsAlike, IsLeast, IsFewestWithin};
+ghost use Rattle.smalta_keep.specs.Answers.{IsAlike, IsAlikeFor, IsLeast, IsFewestWithin};
 
 use crate::entries::apply_all;
 use crate::idle::{trim_at, trim_left};
 use crate::marks::Marks;
-use crate::plan::plan_moves;
+use crate::plan::{Due, plan_moves};
 use crate::repair::{Moved, Repair};
 use crate::routes::{former_prefix, planned_prefix, put_back_planned, set};
 use cert_rows::RowSink;
@@ -144,7 +144,8 @@ impl Keep {
     }
 
     /// Plans a repair and a snapshot: gives the route's prefix this route, if there is one, or with `Hop::NONE` none, and tells
-    /// the changes of the repair at that prefix, and then those of the snapshot, if it is due. The table stays. It takes all
+    /// the changes of the repair at that prefix, and then those of the snapshot, if it is due. The repair stays within the prefix,
+    /// or is to have the fewest changes: then one of them may be at a prefix that holds it. The table stays. It takes all
     /// memory: the plan is to be committed or undone before anything else changes.
     ///
     /// # Errors
@@ -154,31 +155,24 @@ impl Keep {
         &mut self,
         route: Option<(Prefix, Hop)>,
         snapshot: bool,
+        fewest: bool,
     ) -> Result<Repair, AllocError>
-        requires { ForSome route (λ r. r.0.family ≡ self.old.family) }
+        requires family { ForSome route (λ r. r.0.family ≡ self.old.family) }
+        requires alike { IsAlikeFor fewest route self.old }
         ensures family { self.new.family ≡ self.old.family }
         ensures table { self.new.entries ≡ self.old.entries }
         ensures routes { OnOk result (self.new.routes ≡ with_planned route self.old.routes) }
         ensures planned { IfOk result (IsPlanned self.new) }
-        ensures moved { IfOk result (λ r. Tells self.new (place_in route) snapshot (moved_of r)) }
+        ensures moved { IfOk result (λ r. Tells self.new fewest (place_in route) snapshot (moved_of r)) }
         ensures undone { IfOk result (λ r. undone_by r self.new.routes ≡ self.old.routes) }
         ensures err { OnErr result (self.new.routes ≡ self.old.routes) }
     {
         // the routes stand in order
         let _family = self.tree.family();
         self.marks.mark_at(planned_prefix(route))?;
-        match plan_moves(
-            self.alloc,
-            &mut self.tree,
-            &self.marks.tree,
-            route,
-            snapshot,
-        ) {
-            Ok((former, moved)) => Ok(Repair {
-                former,
-                due: snapshot,
-                moved,
-            }),
+        let due = Due { fewest, snapshot };
+        match plan_moves(self.alloc, &mut self.tree, &mut self.marks, route, due) {
+            Ok(repair) => Ok(repair),
             Err(failed) => {
                 trim_at(&mut self.tree, planned_prefix(route));
                 Err(failed)
@@ -197,13 +191,14 @@ impl Keep {
     {
         let family = self.tree.family();
         let at = former_prefix(&repair.former);
+        let reach = repair.reach;
         let due = repair.due;
         let moved = repair.moved;
         apply_all(&mut self.tree, &moved.repair);
         apply_all(&mut self.tree, &moved.snapshot);
         trim_at(&mut self.tree, at);
         trim_left(&mut self.tree, &moved.snapshot, true);
-        self.marks.leave(self.alloc, family, due, at);
+        self.marks.leave(self.alloc, family, due, reach);
         moved
     }
 
@@ -238,7 +233,7 @@ impl Keep {
         ensures least { OnOk result (IsLeast self.new) }
         ensures err { OnErr result (self.new.entries ≡ self.old.entries) }
     {
-        let repair = self.plan(None, true)?;
+        let repair = self.plan(None, true, false)?;
         Ok(self.commit(repair).snapshot)
     }
 
@@ -264,7 +259,7 @@ impl Keep {
     {
         // routes and entries stand in order
         let _family = self.tree.family();
-        let repair = self.plan(Some((*prefix, now)), false)?;
+        let repair = self.plan(Some((*prefix, now)), false, false)?;
         Ok(self.commit(repair).repair)
     }
 

@@ -6,16 +6,21 @@
 //! the whole table least again. Both are told as changes before they are made: `plan` takes all memory and changes no entry,
 //! then `commit` makes the changes, or `undo` puts the route back.
 //!
+//! A plan may ask for the fewest changes instead: then the entries become those of the nearest table that answers as the routes
+//! (event_moves), of which one at most, above the prefix, isn't within it. Such a table is seldom least within the prefix.
+//!
 //! A repair costs the prefix's length, and the nodes within it with their sets of hops. Each prefix whose route changes is marked
 //! until the next snapshot, which goes over the marked prefixes and the way to them, and over the regions that come to inherit
 //! another hop (kept_pass). The first snapshot, and one that comes after more than 16,384 changes, goes over the whole tree.
 #![tactic(auto)]
 
+mod back;
 mod entries;
 mod idle;
 mod keep;
 mod marks;
 mod plan;
+mod reach;
 mod repair;
 mod routes;
 mod told;

@@ -4,19 +4,22 @@
 //! then, or is taken away. A node that is made for another change would end the putting back (orig_tree): before that the route is
 //! put back, and it is set again after it.
 
-ghost use Rattle.std.specs.Prelude.{◌≡◌, IfOk, OnOk, OnErr, map, true};
+ghost use Rattle.std.specs.Prelude.{◌≡◌, IfOk, OnOk, OnErr, map, true, option_map};
 ghost use Rattle.std.specs.Option.{ForSome};
 ghost use Rattle.least_model.specs.Both.{aggregate_in};
 ghost use Rattle.delta_model.specs.Between.{between};
+ghost use Rattle.fib_addr.specs.Views.{prefix_as};
 ghost use Rattle.fib_delta.specs.Views.{change_as};
 ghost use Rattle.smalta_keep.specs.Rooms.{AreOf, HaveRoom, KeepsEntries};
 ghost use Rattle.smalta_keep.specs.Routes.{HasFormer, former_place, undone_in};
-ghost use Rattle.smalta_keep.specs.Known.{KnownAt};
-ghost use Rattle.smalta_keep.specs.Plans.{IsMend, IsMoved, IsSet, IsStill, repaired_table};
+ghost use Rattle.smalta_keep.specs.Known.{KnownAt, AreMore};
+ghost use Rattle.smalta_keep.specs.Answers.{IsAlikeFor};
+ghost use Rattle.smalta_keep.specs.Plans.{IsBeforeAt, IsMend, IsMoved, IsSet, IsStill, mended, repaired_table};
 ghost use Rattle.smalta_keep.specs.Views.{place_in};
 
 use crate::entries::{apply_all, are_at, make_room};
-use crate::repair::Moved;
+use crate::marks::Marks;
+use crate::repair::{Moved, Repair};
 use crate::routes::{Former, former_prefix, put_back_planned, set_planned};
 use crate::told::{Mend, mend_at};
 use fib_addr::{Hop, Prefix};
@@ -24,6 +27,15 @@ use fib_delta::Change;
 use kept_pass::renew;
 use orig_tree::Tree;
 use std::alloc::{AllocError, Global};
+
+/// What a plan is to tell.
+#[derive(Clone, Copy)]
+pub struct Due {
+    /// Whether the repair is to have the fewest changes.
+    pub fewest: bool,
+    /// Whether a snapshot follows it.
+    pub snapshot: bool,
+}
 
 /// The changes of a repair at the prefix of the route that a plan set, and back, if these are asked for.
 ///
@@ -34,16 +46,18 @@ fn mend_set(
     alloc: Global,
     tree: &mut Tree,
     former: Option<Former>,
+    fewest: bool,
     back: bool,
 ) -> Result<Mend, AllocError>
-    requires { HasFormer tree.old former }
+    requires former { HasFormer tree.old former }
+    requires before { IsBeforeAt fewest (former_place former) tree.old }
     ensures keeps { KeepsEntries tree.old tree.new }
     ensures still { OnOk result (tree.new ≡ tree.old) }
     ensures mend { IfOk result (IsMend tree.old.family back tree.old.entries
-        (repaired_table tree.old (former_place former))) }
+        (repaired_table fewest tree.old (former_place former))) }
     ensures err { OnErr result (tree.new.routes ≡ undone_in former tree.old.routes) }
 {
-    match mend_at(alloc, tree, former_prefix(&former), back) {
+    match mend_at(alloc, tree, former_prefix(&former), fewest, back) {
         Ok(mend) => Ok(mend),
         Err(failed) => {
             put_back_planned(tree, &former);
@@ -93,16 +107,15 @@ fn snapshot_after(
     mend: &Mend,
 ) -> Result<Vec<Change>, AllocError>
     requires former { HasFormer tree.old former }
-    requires known { KnownAt (former_place former) tree.old marks.now }
-    requires mend { IsMend tree.old.family true tree.old.entries
-        (repaired_table tree.old (former_place former)) mend.now }
+    requires known { KnownAt (option_map prefix_as mend.now.reach) tree.old marks.now }
+    requires mend { IsMend tree.old.family true tree.old.entries (mended mend.now tree.old.entries)
+        mend.now }
     requires there { HaveRoom tree.old.nodes (map change_as mend.now.there.items) }
     requires back { HaveRoom tree.old.nodes (map change_as mend.now.back.items) }
     ensures keeps { KeepsEntries tree.old tree.new }
     ensures still { OnOk result (IsStill tree.old tree.new) }
-    ensures changes { IfOk result (λ v. map change_as v.items ≡ between (repaired_table tree.old
-        (former_place former)) (aggregate_in tree.old.family tree.old.routes
-        (repaired_table tree.old (former_place former)))) }
+    ensures changes { IfOk result (λ v. map change_as v.items ≡ between (mended mend.now tree.old.entries)
+        (aggregate_in tree.old.family tree.old.routes (mended mend.now tree.old.entries))) }
     ensures family { IfOk result (λ v. AreOf tree.old.family (map change_as v.items)) }
     ensures err { OnErr result (tree.new.routes ≡ undone_in former tree.old.routes) }
 {
@@ -119,7 +132,7 @@ fn snapshot_after(
 }
 
 /// Sets a plan's route, if it has one, and tells the changes of the repair at its prefix and of the snapshot after it, if one is
-/// due, with room for them. The entries stay.
+/// due, with room for them. The entries stay. What the repair changes is marked.
 ///
 /// # Errors
 ///
@@ -127,35 +140,48 @@ fn snapshot_after(
 pub fn plan_moves(
     alloc: Global,
     tree: &mut Tree,
-    marks: &Option<Tree>,
+    marks: &mut Marks,
     route: Option<(Prefix, Hop)>,
-    snapshot: bool,
-) -> Result<(Option<Former>, Moved), AllocError>
+    due: Due,
+) -> Result<Repair, AllocError>
     requires family { ForSome route (λ r. r.0.family ≡ tree.old.family) }
-    requires known { KnownAt (place_in route) tree.old marks.now }
+    requires known { KnownAt (place_in route) tree.old marks.old.tree }
+    requires alike { IsAlikeFor due.fewest route tree.old }
     ensures keeps { KeepsEntries tree.old tree.new }
-    ensures set { IfOk result (λ p. IsSet route tree.old.routes tree.new p.0) }
-    ensures moved { IfOk result (λ p. IsMoved tree.new (place_in route) snapshot p.1) }
+    ensures marks { AreMore marks.old.tree marks.new.tree }
+    ensures set { IfOk result (λ r. IsSet route tree.old.routes tree.new r.former) }
+    ensures moved { IfOk result (λ r. IsMoved tree.new due.fewest (place_in route) due.snapshot r) }
     ensures err { OnErr result (tree.new.routes ≡ tree.old.routes) }
 {
     // the routes stand in order
     let _family = tree.family();
     let former = set_planned(tree, route)?;
-    let mend = mend_set(alloc, tree, former, snapshot)?;
+    let mend = mend_set(alloc, tree, former, due.fewest, due.snapshot)?;
+    marks.keep(mend.reach);
     let former = with_room(tree, route, former, &mend.there)?;
-    if !snapshot {
+    if !due.snapshot {
         let moved = Moved {
             repair: mend.there,
             snapshot: Vec::new(alloc),
         };
-        return Ok((former, moved));
+        return Ok(Repair {
+            former,
+            reach: mend.reach,
+            due: due.snapshot,
+            moved,
+        });
     }
     let former = with_room(tree, route, former, &mend.back)?;
-    let changes = snapshot_after(alloc, tree, marks, former, &mend)?;
+    let changes = snapshot_after(alloc, tree, &marks.tree, former, &mend)?;
     let former = with_room(tree, route, former, &changes)?;
     let moved = Moved {
         repair: mend.there,
         snapshot: changes,
     };
-    Ok((former, moved))
+    Ok(Repair {
+        former,
+        reach: mend.reach,
+        due: due.snapshot,
+        moved,
+    })
 }

@@ -4,6 +4,7 @@ ghost use Rattle.std.specs.Prelude.{◌≡◌};
 ghost use Rattle.smalta_keep.specs.Views.{moved_of};
 
 use crate::routes::Former;
+use fib_addr::Prefix;
 use fib_delta::Change;
 
 /// The changes of a repair, and those of the snapshot after it; each in the order of prefixes.
@@ -19,6 +20,8 @@ pub struct Moved {
 #[derive(Debug, Drop)]
 pub struct Repair {
     pub(crate) former: Option<Former>,
+    /// The prefix that all changes of the repair are within, if there is one.
+    pub(crate) reach: Option<Prefix>,
     /// Whether a snapshot is due.
     pub(crate) due: bool,
     pub(crate) moved: Moved,

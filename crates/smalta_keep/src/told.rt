@@ -2,16 +2,22 @@
 
 ghost use Rattle.std.specs.Prelude.{◌≡◌, [], IfOk, cond, map, option_map};
 ghost use Rattle.std.specs.Option.{ForSome};
+ghost use Rattle.address_model.specs.Width.{width};
+ghost use Rattle.table_model.specs.Entries.{of_family};
 ghost use Rattle.least_model.specs.Both.{aggregate_in};
 ghost use Rattle.delta_model.specs.Between.{AreEntries, between};
-ghost use Rattle.kept_model.specs.Patched.{patch_of, after_repair};
+ghost use Rattle.kept_model.specs.Patched.{patch_of};
+ghost use Rattle.moves_cert.specs.Rows.{near_in};
+ghost use Rattle.event_moves.specs.Event.{AlikeBefore};
 ghost use Rattle.fib_addr.specs.Views.{prefix_as, entry_as};
 ghost use Rattle.fib_delta.specs.Views.{change_as};
 ghost use Rattle.orig_tree.specs.Views.{InPlace};
-ghost use Rattle.smalta_keep.specs.Plans.{IsMend};
-ghost use Rattle.smalta_keep.specs.Rooms.{AreOf};
+ghost use Rattle.smalta_keep.specs.Plans.{IsMend, IsBeforeAt, repaired_table};
 
-use fib_addr::{Entry, Hop, Prefix};
+use crate::back::taken_back_if;
+use crate::reach::reach_of;
+use event_moves::near_after;
+use fib_addr::{Entry, Prefix};
 use fib_delta::{Change, between};
 use orig_tree::Tree;
 use ortc::within;
@@ -24,6 +30,8 @@ pub struct Mend {
     pub there: Vec<Change>,
     /// Those that take them back, if they were asked for.
     pub back: Vec<Change>,
+    /// The prefix that all of them are within, if there is one.
+    pub reach: Option<Prefix>,
 }
 
 /// The changes between two tables, if they are asked for.
@@ -57,27 +65,54 @@ fn mend_within(alloc: Global, tree: &Tree, prefix: &Prefix, back: bool) -> Resul
     Ok(Mend {
         there: between(alloc, &old, &new)?,
         back: between_if(alloc, back, &new, &old)?,
+        reach: Some(*prefix),
     })
 }
 
-/// The changes of a repair within a prefix, if there is one, and back, if these are asked for.
+/// The shortest list of changes after the route at a prefix changed, and back.
+fn mend_near(alloc: Global, tree: &Tree, prefix: &Prefix, back: bool) -> Result<Mend, AllocError>
+    requires family { prefix.now.family ≡ tree.now.family }
+    requires before { AlikeBefore (width tree.now.family) (prefix_as prefix.now).bits
+        (of_family tree.now.family tree.now.routes) (of_family tree.now.family tree.now.entries) }
+    ensures { IfOk result (IsMend tree.now.family back tree.now.entries
+        (near_in tree.now.family tree.now.routes tree.now.entries)) }
+{
+    // the entries stand in order, and are of the family
+    let _family = tree.family();
+    let _root = tree.root();
+    let there = near_after(alloc, tree, prefix)?;
+    let back = taken_back_if(alloc, back, tree, &there)?;
+    let reach = Some(reach_of(prefix, &there));
+    Ok(Mend { there, back, reach })
+}
+
+/// The changes of a repair at a prefix, if there is one, and back, if these are asked for: within the prefix, or as few as can be.
 pub fn mend_at(
     alloc: Global,
     tree: &Tree,
     at: Option<Prefix>,
+    fewest: bool,
     back: bool,
 ) -> Result<Mend, AllocError>
-    requires { ForSome at (λ p. p.family ≡ tree.now.family) }
+    requires family { ForSome at (λ p. p.family ≡ tree.now.family) }
+    requires before { IsBeforeAt fewest (option_map prefix_as at) tree.now }
     ensures { IfOk result (IsMend tree.now.family back tree.now.entries
-        (after_repair tree.now.routes (option_map prefix_as at) tree.now.entries)) }
+        (repaired_table fewest tree.now (option_map prefix_as at))) }
 {
     // the entries stand in order
     let _family = tree.family();
     match at {
-        Some(prefix) => mend_within(alloc, tree, &prefix, back),
+        Some(prefix) => {
+            if fewest {
+                mend_near(alloc, tree, &prefix, back)
+            } else {
+                mend_within(alloc, tree, &prefix, back)
+            }
+        }
         None => Ok(Mend {
             there: Vec::new(alloc),
             back: Vec::new(alloc),
+            reach: None,
         }),
     }
 }

@@ -1,42 +1,60 @@
-use Rattle.std.proofs.Common.{List, Bool, Option, map, sym, ap, subst, ◌∙◌}
-use Rattle.address_model.specs.Address.{Prefix}
+use Rattle.std.proofs.Common.{List, Bool, map, refl, sym, ap, subst, ◌∙◌}
+use Rattle.std.specs.Prelude.{option_map}
 use Rattle.address_model.specs.declared.family.Family.{Family}
 use Rattle.delta_model.proofs.Alike.{none_between}
+use Rattle.fib_addr.specs.Views.{prefix_as}
 use Rattle.fib_delta.specs.declared.change.Change as code
 use Rattle.fib_delta.specs.Views.{change_as}
 use Rattle.orig_tree.specs.Views.{Labels}
 use Rattle.smalta_keep.specs.Rooms.{AreOf, HaveRoom}
 use Rattle.smalta_keep.specs.Routes.{former_place, undone_in}
-use Rattle.smalta_keep.specs.Known.{KnownAt}
-use Rattle.smalta_keep.specs.Plans.{IsMoved, repaired_table}
+use Rattle.smalta_keep.specs.Plans.{IsMend, IsMoved, mended, repaired_table}
 use Rattle.smalta_keep.specs.Views.{place_in}
+use Rattle.smalta_keep.specs.declared.repair.Repair.{Repair}
 use Rattle.smalta_keep.proofs.Making.{kept_room}
 use Rattle.smalta_keep.proofs.Tables.{renewed_placed}
-use Rattle.smalta_keep.proofs.Planned.{set_over, set_room, set_still, mend_there, renewed_there}
-use Rattle.smalta_keep.proofs.Knowing.{known_set}
+use Rattle.smalta_keep.proofs.Planned.{is_off, is_on, set_over, set_room, set_still, mend_there, mended_is, repaired_there, renewed_there, before_set}
+use Rattle.smalta_keep.proofs.Knowing.{known_at, known_planned, reach_family}
 use Rattle.smalta_keep.proofs.plan.plan_moves.Goals as goal
 
-pub returns-then-not-snapshot-clause-moved : goal.returns-then-not-snapshot-clause-moved
-returns-then-not-snapshot-clause-moved c =
+pub mend_set-requires-clause-before : goal.mend_set-requires-clause-before
+mend_set-requires-clause-before c =
+    let k0 = c.args.tree.now in
+    let e = c.set_planned.ensures.keeps in
+    before_set c.args.due.fewest c.args.route k0 c.set_planned.new.tree c.in_ok-former.former c.requires.family c.family-family.ensures.order.0 c.requires.alike e.family e.entries c.in_ok-former.ensures.set
+
+pub keep-requires : goal.keep-requires
+keep-requires c =
+    let k0 = c.args.tree.now in
+    reach_family c.in_ok-mend.mend.reach (place_in c.args.route) k0 c.args.marks.now.tree (λ p s. c.in_ok-mend.ensures.mend.of_reach p s ∙ c.set_planned.ensures.keeps.family) c.requires.known
+
+pub returns-then-not-due-clause-moved : goal.returns-then-not-due-clause-moved
+returns-then-not-due-clause-moved c =
     let route = c.args.route in
     let R = c.args.tree.now.routes in
     let at = place_in route in
+    let fewest = c.args.due.fewest in
+    let mend = c.in_ok-mend.mend in
     let k1 = c.set_planned.new.tree in
     let k2 = c.mend_set.new.tree in
     let k3 = c.with_room.new.tree in
     let f1 = c.in_ok-former.former in
     let s1 = c.in_ok-former.ensures.set in
     let s3 = set_over route (undone_in f1 k2.routes) R k3 c.in_ok-former-2.former (ap (λ (k : Labels). undone_in f1 k.routes) c.in_ok-mend.ensures.still ∙ s1.undone) c.in_ok-former-2.ensures.set in
-    let m =
-    mend_there k1.family k3.family k1.routes k3.routes k1.entries k3.entries (former_place f1) at c.args.snapshot c.in_ok-mend.mend (sym (c.with_room.ensures.keeps.family ∙ c.mend_set.ensures.keeps.family))
-    (s1.routes ∙ sym s3.routes) (sym (c.with_room.ensures.keeps.entries ∙ c.mend_set.ensures.keeps.entries)) s1.place c.in_ok-mend.ensures.mend
-    in
-    subst (λ (due : Bool). IsMoved k3 at due (record { repair = c.in_ok-mend.mend.there; snapshot = c.new.result })) (sym c.if-not-snapshot.true)
+    let family = c.with_room.ensures.keeps.family ∙ c.mend_set.ensures.keeps.family in
+    let entries = c.with_room.ensures.keeps.entries ∙ c.mend_set.ensures.keeps.entries in
+    let same = ap (repaired_table fewest k1) s1.place ∙ repaired_there fewest k1 k3 at family (s3.routes ∙ sym s1.routes) entries in
+    let m = mend_there k1.family k3.family k1.entries k3.entries (repaired_table fewest k1 (former_place f1)) (repaired_table fewest k3 at) c.args.due.snapshot mend (sym family) (sym entries) same c.in_ok-mend.ensures.mend in
+    let r : Repair = record { former = c.in_ok-former-2.former; reach = mend.reach; due = c.args.due.snapshot; moved = record { repair = mend.there; snapshot = c.new.result } } in
+    subst (λ (due : Bool). IsMoved k3 fewest at due (record { former = r.former; reach = r.reach; due = due; moved = r.moved })) (sym (is_off c.args.due.snapshot c.if-not-due.true))
     (record {
+      is_due = refl;
       repair = m.there;
-      snapshot = ap (map change_as) c.new.ensures.items ∙ sym (none_between (repaired_table k3 at));
+      snapshot = ap (map change_as) c.new.ensures.items ∙ sym (none_between (repaired_table fewest k3 at));
       repair_of = m.of_there;
       snapshot_of = subst (λ (cs : List code.Change). AreOf k3.family (map change_as cs)) (sym c.new.ensures.items) tt;
+      reach_of = m.of_reach;
+      beside = m.beside;
       repair_room = subst (λ (cs : List code.Change). HaveRoom k3.nodes (map change_as cs)) c.deref.ensures.value c.in_ok-former-2.ensures.room;
       snapshot_room = subst (λ (cs : List code.Change). HaveRoom k3.nodes (map change_as cs)) (sym c.new.ensures.items) tt;
       old_order = m.old_order;
@@ -57,9 +75,22 @@ snapshot_after-requires-clause-known c =
     let s1 = c.in_ok-former.ensures.set in
     let s3 = set_over route (undone_in f1 k2.routes) k0.routes k3 f2 (ap (λ (k : Labels). undone_in f1 k.routes) c.in_ok-mend.ensures.still ∙ s1.undone) c.in_ok-former-2.ensures.set in
     let s4 = set_room route k0.routes k3 k4 f2 f3 s3 c.in_ok-former-3.ensures.set in
-    subst (λ (at : Option Prefix). KnownAt at k4 c.args.marks.now) (sym s4.place)
-    (known_set route k0 k4 c.args.marks.now c.family-family.ensures.order.0 c.requires.known (c.with_room-2.ensures.keeps.family ∙ (c.with_room.ensures.keeps.family ∙ (c.mend_set.ensures.keeps.family ∙ c.set_planned.ensures.keeps.family))) s4.routes
+    let t = c.args.marks.now.tree in
+    known_at (option_map prefix_as c.in_ok-mend.mend.reach) k4 t c.keep.new.self.tree c.keep.ensures
+    (known_planned route k0 k4 t c.family-family.ensures.order.0 c.requires.known (c.with_room-2.ensures.keeps.family ∙ (c.with_room.ensures.keeps.family ∙ (c.mend_set.ensures.keeps.family ∙ c.set_planned.ensures.keeps.family))) s4.routes
     (c.with_room-2.ensures.keeps.entries ∙ (c.with_room.ensures.keeps.entries ∙ (c.mend_set.ensures.keeps.entries ∙ c.set_planned.ensures.keeps.entries))))
+
+pub snapshot_after-requires-clause-mend : goal.snapshot_after-requires-clause-mend
+snapshot_after-requires-clause-mend c =
+    let k1 = c.set_planned.new.tree in
+    let k4 = c.with_room-2.new.tree in
+    let mend = c.in_ok-mend.mend in
+    let N = repaired_table c.args.due.fewest k1 (former_place c.in_ok-former.former) in
+    let i = c.in_ok-mend.ensures.mend in
+    let family = c.with_room-2.ensures.keeps.family ∙ (c.with_room.ensures.keeps.family ∙ c.mend_set.ensures.keeps.family) in
+    let entries = c.with_room-2.ensures.keeps.entries ∙ (c.with_room.ensures.keeps.entries ∙ c.mend_set.ensures.keeps.entries) in
+    subst (λ (back : Bool). IsMend k4.family back k4.entries (mended mend k4.entries) mend) (is_on c.args.due.snapshot c.if-not-due.false)
+    (mend_there k1.family k4.family k1.entries k4.entries N (mended mend k4.entries) c.args.due.snapshot mend (sym family) (sym entries) (sym (mended_is k1.family c.args.due.snapshot k1.entries N mend i) ∙ ap (mended mend) (sym entries)) i)
 
 pub snapshot_after-requires-clause-there : goal.snapshot_after-requires-clause-there
 snapshot_after-requires-clause-there c =
@@ -71,6 +102,8 @@ returns-clause-moved c =
     let route = c.args.route in
     let R = c.args.tree.now.routes in
     let at = place_in route in
+    let fewest = c.args.due.fewest in
+    let mend = c.in_ok-mend.mend in
     let k1 = c.set_planned.new.tree in
     let k2 = c.mend_set.new.tree in
     let k3 = c.with_room.new.tree in
@@ -89,19 +122,26 @@ returns-clause-moved c =
     let b = c.with_room-2.ensures.keeps in
     let d = c.snapshot_after.ensures.keeps in
     let e = c.with_room-3.ensures.keeps in
-    let m =
-    mend_there k1.family k6.family k1.routes k6.routes k1.entries k6.entries (former_place f1) at c.args.snapshot c.in_ok-mend.mend (sym (e.family ∙ (d.family ∙ (b.family ∙ (a.family ∙ c.mend_set.ensures.keeps.family)))))
-    (s1.routes ∙ sym s6.routes) (sym (e.entries ∙ (d.entries ∙ (b.entries ∙ (a.entries ∙ c.mend_set.ensures.keeps.entries))))) s1.place c.in_ok-mend.ensures.mend
-    in
-    subst (λ (due : Bool). IsMoved k6 at due (record { repair = c.in_ok-mend.mend.there; snapshot = c.in_ok-changes.changes })) (sym c.if-not-snapshot.false)
+    let family = e.family ∙ (d.family ∙ (b.family ∙ (a.family ∙ c.mend_set.ensures.keeps.family))) in
+    let entries = e.entries ∙ (d.entries ∙ (b.entries ∙ (a.entries ∙ c.mend_set.ensures.keeps.entries))) in
+    let same = ap (repaired_table fewest k1) s1.place ∙ repaired_there fewest k1 k6 at family (s6.routes ∙ sym s1.routes) entries in
+    let i = c.in_ok-mend.ensures.mend in
+    let m = mend_there k1.family k6.family k1.entries k6.entries (repaired_table fewest k1 (former_place f1)) (repaired_table fewest k6 at) c.args.due.snapshot mend (sym family) (sym entries) same i in
+    let N = repaired_table fewest k6 at in
+    let made = ap (mended mend) (sym (e.entries ∙ d.entries)) ∙ mended_is k6.family c.args.due.snapshot k6.entries N mend m in
+    let r : Repair = record { former = c.in_ok-former-4.former; reach = mend.reach; due = c.args.due.snapshot; moved = record { repair = mend.there; snapshot = c.in_ok-changes.changes } } in
+    subst (λ (due : Bool). IsMoved k6 fewest at due (record { former = r.former; reach = r.reach; due = due; moved = r.moved })) (sym (is_on c.args.due.snapshot c.if-not-due.false))
     (record {
+      is_due = refl;
       repair = m.there;
-      snapshot = renewed_there k4.family k6.family k4.routes k6.routes k4.entries k6.entries (former_place f3) at (map change_as c.in_ok-changes.changes.items) (sym (e.family ∙ d.family)) (s4.routes ∙ sym s6.routes) (sym (e.entries ∙ d.entries)) s4.place c.in_ok-changes.ensures.changes;
+      snapshot = renewed_there k4.family k6.family k4.routes k6.routes (mended mend k4.entries) N (map change_as c.in_ok-changes.changes.items) (sym (e.family ∙ d.family)) (s4.routes ∙ sym s6.routes) made c.in_ok-changes.ensures.changes;
       repair_of = m.of_there;
       snapshot_of = subst (λ (f : Family). AreOf f (map change_as c.in_ok-changes.changes.items)) (sym (e.family ∙ d.family)) c.in_ok-changes.ensures.family;
-      repair_room = kept_room k3.nodes k6.nodes (map change_as c.in_ok-mend.mend.there.items) (λ p h. e.nodes p (d.nodes p (b.nodes p h))) (subst (λ (cs : List code.Change). HaveRoom k3.nodes (map change_as cs)) c.deref.ensures.value c.in_ok-former-2.ensures.room);
+      reach_of = m.of_reach;
+      beside = m.beside;
+      repair_room = kept_room k3.nodes k6.nodes (map change_as mend.there.items) (λ p h. e.nodes p (d.nodes p (b.nodes p h))) (subst (λ (cs : List code.Change). HaveRoom k3.nodes (map change_as cs)) c.deref.ensures.value c.in_ok-former-2.ensures.room);
       snapshot_room = subst (λ (cs : List code.Change). HaveRoom k6.nodes (map change_as cs)) c.deref-3.ensures.value c.in_ok-former-4.ensures.room;
       old_order = m.old_order;
       repaired_order = m.order;
-      planned_order = renewed_placed k6.family k6.routes (repaired_table k6 at);
+      planned_order = renewed_placed k6.family k6.routes N;
     })

@@ -1,33 +1,35 @@
 use Rattle.std.proofs.Common.{◌≡◌, ◌∙◌, List, map, refl, sym, ap, subst}
-use Rattle.std.specs.Prelude.{is_some}
+use Rattle.std.specs.Prelude.{is_some, option_map}
 use Rattle.address_model.specs.declared.family.Family.{Family}
 use Rattle.table_model.specs.Entries.{Entries}
 use Rattle.least_model.specs.Both.{aggregate_in}
 use Rattle.delta_model.specs.Between.{between}
+use Rattle.fib_addr.specs.Views.{prefix_as}
 use Rattle.fib_delta.specs.declared.change.Change as code
 use Rattle.fib_delta.specs.Views.{change_as}
 use Rattle.smalta_keep.specs.Rooms.{AreOf, HaveRoom}
-use Rattle.smalta_keep.specs.Routes.{former_place}
-use Rattle.smalta_keep.specs.Plans.{repaired_table}
+use Rattle.smalta_keep.specs.Known.{SameBeside}
+use Rattle.smalta_keep.specs.Plans.{mended}
 use Rattle.smalta_keep.proofs.Making.{kept_room}
 use Rattle.smalta_keep.proofs.Tables.{led, came}
-use Rattle.smalta_keep.proofs.Knowing.{known_after, beside_itself, beside_repair, former_is}
+use Rattle.smalta_keep.proofs.Knowing.{known_after, beside_itself}
 use Rattle.smalta_keep.proofs.plan.snapshot_after.Goals as goal
 
 pub apply_all-requires-clause-fit : goal.apply_all-requires-clause-fit
 apply_all-requires-clause-fit c =
     let k = c.args.tree.now in
     let m = c.requires.mend in
-    ap is_some (led c.deref.result.now k.entries k.entries (repaired_table k (former_place c.args.former)) (ap (map change_as) c.deref.ensures.value ∙ m.there) refl m.old_order m.order)
+    ap is_some (led c.deref.result.now k.entries k.entries (mended c.args.mend.now k.entries) (ap (map change_as) c.deref.ensures.value ∙ m.there) refl m.old_order m.order)
 
 pub renew-changes-requires : goal.renew-changes-requires
 renew-changes-requires c =
     let k = c.args.tree.now in
     let l = c.apply_all.new.tree in
-    let at = former_place c.args.former in
+    let at = option_map prefix_as c.args.mend.now.reach in
+    let N = mended c.args.mend.now k.entries in
     let m = c.requires.mend in
-    let here : l.entries ≡ repaired_table k at = came c.deref.result.now k.entries k.entries (repaired_table k at) l.entries (ap (map change_as) c.deref.ensures.value ∙ m.there) refl m.old_order m.order c.apply_all.ensures.entries in
-    known_after at k l c.args.marks.now c.apply_all.ensures.keeps.family (beside_itself at k.family k.routes l.routes c.apply_all.ensures.keeps.routes) (beside_repair k.routes k.entries l.entries at k.family (former_is c.args.former) m.old_order here) c.requires.known
+    let here : l.entries ≡ N = came c.deref.result.now k.entries k.entries N l.entries (ap (map change_as) c.deref.ensures.value ∙ m.there) refl m.old_order m.order c.apply_all.ensures.entries in
+    known_after at k l c.args.marks.now c.apply_all.ensures.keeps.family (beside_itself at k.family k.routes l.routes c.apply_all.ensures.keeps.routes) (subst (λ (T : Entries). SameBeside at k.family k.entries T) (sym here) m.beside) c.requires.known
 
 pub apply_all-requires-2-clause-room : goal.apply_all-requires-2-clause-room
 apply_all-requires-2-clause-room c =
@@ -38,7 +40,7 @@ pub apply_all-requires-2-clause-fit : goal.apply_all-requires-2-clause-fit
 apply_all-requires-2-clause-fit c =
     let k = c.args.tree.now in
     let l = c.apply_all.new.tree in
-    let T = repaired_table k (former_place c.args.former) in
+    let T = mended c.args.mend.now k.entries in
     let m = c.requires.mend in
     let here : l.entries ≡ T = came c.deref.result.now k.entries k.entries T l.entries (ap (map change_as) c.deref.ensures.value ∙ m.there) refl m.old_order m.order c.apply_all.ensures.entries in
     ap is_some (led c.deref-2.result.now l.entries T k.entries (ap (map change_as) c.deref-2.ensures.value ∙ m.back) here m.order m.old_order)
@@ -47,7 +49,7 @@ pub returns-in-Ok-clause-keeps : goal.returns-in-Ok-clause-keeps
 returns-in-Ok-clause-keeps c =
     let k = c.args.tree.now in
     let l = c.apply_all.new.tree in
-    let T = repaired_table k (former_place c.args.former) in
+    let T = mended c.args.mend.now k.entries in
     let m = c.requires.mend in
     let here : l.entries ≡ T = came c.deref.result.now k.entries k.entries T l.entries (ap (map change_as) c.deref.ensures.value ∙ m.there) refl m.old_order m.order c.apply_all.ensures.entries in
     record {
@@ -60,7 +62,7 @@ pub returns-in-Ok-clause-changes : goal.returns-in-Ok-clause-changes
 returns-in-Ok-clause-changes c =
     let k = c.args.tree.now in
     let l = c.apply_all.new.tree in
-    let T = repaired_table k (former_place c.args.former) in
+    let T = mended c.args.mend.now k.entries in
     let m = c.requires.mend in
     let here : l.entries ≡ T = came c.deref.result.now k.entries k.entries T l.entries (ap (map change_as) c.deref.ensures.value ∙ m.there) refl m.old_order m.order c.apply_all.ensures.entries in
     c.in-Ok.ensures.changes
@@ -73,7 +75,7 @@ pub returns-in-Err-clause-keeps : goal.returns-in-Err-clause-keeps
 returns-in-Err-clause-keeps c =
     let k = c.args.tree.now in
     let l = c.apply_all.new.tree in
-    let T = repaired_table k (former_place c.args.former) in
+    let T = mended c.args.mend.now k.entries in
     let m = c.requires.mend in
     let here : l.entries ≡ T = came c.deref.result.now k.entries k.entries T l.entries (ap (map change_as) c.deref.ensures.value ∙ m.there) refl m.old_order m.order c.apply_all.ensures.entries in
     record {

@@ -7,10 +7,12 @@ use Rattle.kept_model.specs.Patched.{entries_within, region_aggregate}
 use Rattle.kept_model.proofs.Repairs.{mended_entries}
 use Rattle.kept_model.proofs.Repairs as repairs
 use Rattle.fib_addr.specs.Views.{prefix_as, entry_as}
+use Rattle.fib_addr.specs.declared.prefix.Prefix as code_prefix
 use Rattle.fib_delta.specs.Views.{change_as}
 use Rattle.fib_delta.proofs.Held.{is_prefix}
 use Rattle.smalta_keep.specs.Rooms.{AreOf}
 use Rattle.smalta_keep.proofs.Tables.{within_placed, patched_placed, mended_is, between_of, if_of, within_family, mended_family}
+use Rattle.smalta_keep.proofs.Knowing.{beside_patch}
 use Rattle.smalta_keep.proofs.told.mend_within.Goals as goal
 
 pub between-requires-clause-old : goal.between-requires-clause-old
@@ -69,4 +71,6 @@ returns-clause-mend c =
       back = back ∙ ap (λ (cs : List Change). cond c.args.back cs []) (sym (repairs.back R T p is (placed_are T t) t.1));
       of_there = subst (λ (cs : List Change). AreOf f cs) (sym there) (between_of f (entries_within p T) (region_aggregate R p T) x y);
       of_back = subst (λ (cs : List Change). AreOf f cs) (sym back) (if_of f c.args.back (between (region_aggregate R p T) (entries_within p T)) (between_of f (region_aggregate R p T) (entries_within p T) y x));
+      of_reach = λ q e. let s : c.args.prefix.now ≡ q = cc in subst (λ (x : code_prefix.Prefix). x.family ≡ f) s c.requires;
+      beside = beside_patch R T p f is t;
     }

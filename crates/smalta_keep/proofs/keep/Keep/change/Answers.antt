@@ -14,7 +14,7 @@ returns-clause-alike c =
     let new = c.commit.new.self in
     let m = c.in_ok-repair.repair.moved in
     let e : new.entries ≡ patch_of new.routes p c.args.self.now.entries =
-    committed kept new.entries (Some p) false m c.in_ok-repair.ensures.moved c.commit.ensures.table
+    committed kept new.entries false (Some p) false m c.in_ok-repair.ensures.moved c.commit.ensures.table
     ∙ (ap (λ (T : Entries). patch_of kept.routes p T) c.plan.ensures.table ∙ ap (λ (R : Entries). patch_of R p c.args.self.now.entries) (sym c.commit.ensures.routes))
     in
     changed_alike p c.args.now.0 c.args.self.now new (is_prefix c.args.prefix.now) c.requires (c.commit.ensures.family ∙ c.plan.ensures.family) e
@@ -28,7 +28,7 @@ returns-clause-fewest c =
     let new = c.commit.new.self in
     let m = c.in_ok-repair.repair.moved in
     let e : new.entries ≡ patch_of new.routes p c.args.self.now.entries =
-    committed kept new.entries (Some p) false m c.in_ok-repair.ensures.moved c.commit.ensures.table
+    committed kept new.entries false (Some p) false m c.in_ok-repair.ensures.moved c.commit.ensures.table
     ∙ (ap (λ (T : Entries). patch_of kept.routes p T) c.plan.ensures.table ∙ ap (λ (R : Entries). patch_of R p c.args.self.now.entries) (sym c.commit.ensures.routes))
     in
     changed_fewest p c.args.now.0 c.args.self.now new (is_prefix c.args.prefix.now) c.requires (c.commit.ensures.family ∙ c.plan.ensures.family) e

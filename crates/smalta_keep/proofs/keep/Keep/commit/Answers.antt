@@ -1,4 +1,4 @@
-use Rattle.std.proofs.Common.{◌≡◌, List, Some, map, sym, ap, subst, ◌∙◌}
+use Rattle.std.proofs.Common.{◌≡◌, List, Some, None, map, sym, ap, subst, ◌∙◌}
 use Rattle.std.specs.Prelude.{IsSome, is_some, Option, option_map, ◌++◌}
 use Rattle.table_model.specs.Entries.{Entries}
 use Rattle.table_model.specs.Changes.{after_changes}
@@ -10,10 +10,10 @@ use Rattle.smalta_keep.specs.Views.{repair_as, snapshot_as}
 use Rattle.address_model.specs.declared.family.Family.{Family}
 use Rattle.fib_addr.specs.Views.{prefix_as}
 use Rattle.smalta_keep.specs.Known.{AreLeft}
-use Rattle.smalta_keep.specs.Plans.{IsPlanned, planned_table}
-use Rattle.smalta_keep.specs.Routes.{former_place}
+use Rattle.smalta_keep.specs.Plans.{IsPlanned}
+use Rattle.kept_model.specs.Patched.{after_snapshot}
 use Rattle.smalta_keep.proofs.Tables.{some_is}
-use Rattle.smalta_keep.proofs.Knowing.{known_made, former_left}
+use Rattle.smalta_keep.proofs.Knowing.{known_made, reach_family}
 use Rattle.smalta_keep.proofs.Making.{kept_room}
 use Rattle.smalta_keep.proofs.Planned.{first_run, second_run}
 use Rattle.smalta_keep.proofs.keep.Keep.commit.Goals as goal
@@ -59,7 +59,6 @@ invariant_of-self c =
     let k = c.self.inside.tree in
     let l = c.trim_left.new.tree in
     let N = c.apply_all.new.tree.entries in
-    let o = c.args.repair.former in
     let due = c.args.repair.due in
     let m = c.args.repair.moved in
     let q : IsPlanned k c.args.repair = subst (λ (j : Labels). IsPlanned j c.args.repair) (sym c.self.view_is) c.requires in
@@ -68,8 +67,13 @@ invariant_of-self c =
     second_run (repair_as m) (snapshot_as m) k.entries N (ap is_some q.makes) went
     ∙ (ap (λ (cs : List code.Change). after_changes (map change_as cs) N) (sym c.deref-2.ensures.value) ∙ (c.apply_all-2.ensures.entries ∙ ap Some (sym (c.trim_left.ensures.entries ∙ c.trim_at.ensures.entries))))
     in
-    known_made due o k l c.self.inside.marks.tree c.leave.new.self.tree c.family-family.ensures.order.1
-    (former_left due k.family o c.former_prefix-at.result c.self.inside.marks.tree c.leave.new.self.tree c.former_prefix-at.ensures
-    (subst (λ (f : Family). AreLeft due f (option_map prefix_as c.former_prefix-at.result) c.self.inside.marks.tree c.leave.new.self.tree) c.family-family.ensures.family c.leave.ensures))
+    known_made due (option_map prefix_as c.args.repair.reach) k l q.repaired c.self.inside.marks.tree c.leave.new.self.tree
+    (subst (λ (f : Family). AreLeft due f (option_map prefix_as c.args.repair.reach) c.self.inside.marks.tree c.leave.new.self.tree) c.family-family.ensures.family c.leave.ensures)
     c.self.invariant (c.trim_left.ensures.family ∙ (c.trim_at.ensures.family ∙ (c.apply_all-2.ensures.keeps.family ∙ c.apply_all.ensures.keeps.family)))
-    (c.trim_left.ensures.routes ∙ (c.trim_at.ensures.routes ∙ (c.apply_all-2.ensures.keeps.routes ∙ c.apply_all.ensures.keeps.routes))) (some_is l.entries (planned_table k (former_place o) due) (sym made ∙ q.makes))
+    (c.trim_left.ensures.routes ∙ (c.trim_at.ensures.routes ∙ (c.apply_all-2.ensures.keeps.routes ∙ c.apply_all.ensures.keeps.routes))) q.beside (some_is l.entries (after_snapshot k.family k.routes due q.repaired) (sym made ∙ q.makes))
+
+pub leave-requires : goal.leave-requires
+leave-requires c =
+    let k = c.self.inside.tree in
+    let q : IsPlanned k c.args.repair = subst (λ (j : Labels). IsPlanned j c.args.repair) (sym c.self.view_is) c.requires in
+    reach_family c.args.repair.reach None k c.self.inside.marks.tree q.reach_of c.self.invariant

@@ -1,0 +1,11 @@
+-- How far changes reach.
+use Rattle.std.specs.Prelude.{◌≡◌, List, true}
+use Rattle.std.specs.List.{AllByRecursion}
+use Rattle.address_model.specs.Address.{Prefix}
+use Rattle.address_model.specs.Regions.{is_within}
+use Rattle.table_model.specs.Changes.{Change}
+use Rattle.delta_model.specs.Between.{place_of}
+
+-- the changes are at prefixes within p
+abbrev pub AreWithin : Prefix → List Change → Type 0
+AreWithin p cs = AllByRecursion (λ c. is_within (place_of c) p ≡ true) cs
