@@ -110,6 +110,22 @@ first_is (x ∷ list) q (suc i) s l e =
 pub place_found : (list : List code.Peer) (q : code.Peer) (i : ℕ) → IsStrictlySortedBy code_peer_cmp list → list_any (same_peer (peer_as q)) (map peer_as list) ≡ true → i < length list → IsBinarySearchResult (λ y. code_peer_cmp y q) list (Ok i) → i ≡ peer_index (map peer_as list) (peer_as q)
 place_found list q i s there l h = sym (first_is list q i s l (λ d. h d)) ∙ sym (index_is (peer_as q) (map peer_as list) there)
 
+-- or a place that is tried has it
+pub place_tried : (list : List code.Peer) (q x : code.Peer) (i : ℕ) → IsStrictlySortedBy code_peer_cmp list → list_any (same_peer (peer_as q)) (map peer_as list) ≡ true → i < length list → x ≡ get_or list i x → is_eq (code_peer_cmp x q) ≡ true → i ≡ peer_index (map peer_as list) (peer_as q)
+place_tried list q x i s there l at e =
+    let here : (d : code.Peer) → code_peer_cmp (get_or list i d) q ≡ Equal = λ d. ap (λ y. code_peer_cmp y q) (by_default list i d l ∙ sym at) ∙ equal (code_peer_cmp x q) e in
+    sym (first_is list q i s l here) ∙ sym (index_is (peer_as q) (map peer_as list) there)
+  where
+    by_default : (ys : List code.Peer) (j : ℕ) (d : code.Peer) → j < length ys → get_or ys j d ≡ get_or ys j x
+    by_default [] j d m = absurd (omega (arith, m))
+    by_default (y ∷ ys) zero d m = refl
+    by_default (y ∷ ys) (suc j) d m = by_default ys j d (omega (arith, m))
+
+    equal : (o : Ordering) → is_eq o ≡ true → o ≡ Equal
+    equal Less t = absurd cc
+    equal Equal t = refl
+    equal Greater t = absurd cc
+
 -- one of the others
 pub in_others : (peers : List Peer) (f : Cand) (cs : List Cand) (i : ℕ) (x : Cand) → AreIn peers (f ∷ cs) → i < length cs → x ≡ get_or cs i x → list_any (same_peer (peer_as x.via.peer)) peers ≡ true
 in_others peers f cs i x h some at = ap (λ (y : Cand). list_any (same_peer (peer_as y.via.peer)) peers) at ∙ h (suc i) x (omega arith)

@@ -11,6 +11,9 @@ use fib_addr::{Addr, Family};
 use octet_put::{put_behind_length, put_sequence};
 use std::alloc::AllocError;
 
+/// A path below this is one sequence of less than 256 octets.
+pub const SHORT_PATH: u32 = 64;
+
 /// Puts so many sequences of 255, and one of the rest.
 fn put_path(asn: u32, path: u32, out: &mut Vec<u8>) -> Result<(), AllocError>
     ensures { OnOk result (out.new.items ≡ out.old.items ++ path_octets asn path) }
@@ -41,7 +44,19 @@ fn put_value(value: &[u8], out: &mut Vec<u8>) -> Result<(), AllocError>
     }
 }
 
-/// Puts AS_PATH, none of a path of length 0. There is `value` to put the value.
+/// Puts the AS_PATH of a path of 1 to 63: one sequence, whose length takes one octet.
+fn put_short_path(asn: u32, path: u8, out: &mut Vec<u8>) -> Result<(), AllocError>
+    requires some { 0 < path }
+    requires short { path < 64 }
+    ensures { OnOk result (out.new.items ≡ out.old.items ++ path_attribute asn path) }
+{
+    out.push(0x40)?;
+    out.push(2)?;
+    out.push(4 * path + 2)?;
+    put_sequence(asn, path, out)
+}
+
+/// Puts AS_PATH, none of a path of length 0. There is `value` to put the value of one that isn't short.
 pub fn put_as_path(
     asn: u32,
     path: u32,
@@ -53,6 +68,9 @@ pub fn put_as_path(
 {
     if path == 0 {
         return Ok(());
+    }
+    if path < SHORT_PATH {
+        return put_short_path(asn, path as u8, out);
     }
     value.clear();
     put_path(asn, path, value)?;

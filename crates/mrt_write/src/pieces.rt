@@ -30,6 +30,20 @@ fn index_of(list: &[Peer], peer: &Peer) -> u16
     place as u16
 }
 
+/// The place of a peer, which is searched if it isn't the next one after the last.
+fn index_near(list: &[Peer], peer: &Peer, last: u16) -> u16
+    requires there { list_any (same_peer (peer_as peer.now)) (map peer_as list.now) ≡ true }
+    requires sorted { IsStrictlySortedBy code_peer_cmp list.now }
+    requires few { length list.now ≤ 65535 }
+    ensures { result ≡ peer_index (map peer_as list.now) (peer_as peer.now) }
+{
+    let near = usize::from(last) + 1;
+    if near < list.len() && list[near].cmp(peer).is_eq() {
+        return near as u16;
+    }
+    index_of(list, peer)
+}
+
 /// Puts the records of candidates, of which these are the first and the others, behind an open record of none.
 pub fn put_pieces(
     alloc: Global,
@@ -56,22 +70,12 @@ pub fn put_pieces(
         count: 1,
         entries: Vec::new(alloc),
     };
-    put_entry(
-        index_of(peers, &first.via.peer),
-        ids,
-        first,
-        &mut scratch,
-        &mut open.entries,
-    )?;
+    let mut index = index_of(peers, &first.via.peer);
+    put_entry(index, ids, first, &mut scratch, &mut open.entries)?;
     for cand in others {
         entry.clear();
-        put_entry(
-            index_of(peers, &cand.via.peer),
-            ids,
-            cand,
-            &mut scratch,
-            &mut entry,
-        )?;
+        index = index_near(peers, &cand.via.peer, index);
+        put_entry(index, ids, cand, &mut scratch, &mut entry)?;
         open.take(ids, cand, &entry, &mut body, out)?;
     }
     put_rib(

@@ -55,7 +55,8 @@ pub fn put_bits(len: u8, address: &[u8], out: &mut Vec<u8>) -> Result<(), AllocE
 pub fn put_sequence(asn: u32, count: u8, out: &mut Vec<u8>) -> Result<(), AllocError>
     ensures { OnOk result (out.new.items ≡ out.old.items ++ as_path_octets asn count) }
 {
-    out.extend_from_slice(&[AS_SEQUENCE, count])?;
+    out.push(AS_SEQUENCE)?;
+    out.push(count)?;
     for _ in 0..count {
         put_u32(asn, out)?;
     }

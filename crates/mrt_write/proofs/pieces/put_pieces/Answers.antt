@@ -12,8 +12,8 @@ use Rattle.mrt_write.proofs.Indices.{in_others, short_others, next_other, no_oth
 use Rattle.mrt_write.proofs.Closing.{open_starts, open_ends}
 use Rattle.mrt_write.proofs.pieces.put_pieces.Goals as goal
 
-pub index_of-requires-in-loop-cand-clause-there : goal.index_of-requires-in-loop-cand-clause-there
-index_of-requires-in-loop-cand-clause-there c = in_others (map peer_as c.args.peers.now) c.args.first.now c.args.others.now c.loop-cand.cand-index c.cand-item.result c.requires.there c.loop-cand-test.true c.cand-item.is
+pub index_near-index-requires-clause-there : goal.index_near-index-requires-clause-there
+index_near-index-requires-clause-there c = in_others (map peer_as c.args.peers.now) c.args.first.now c.args.others.now c.loop-cand.cand-index c.cand-item.result c.requires.there c.loop-cand-test.true c.cand-item.is
 
 pub put_entry-requires-in-loop-cand : goal.put_entry-requires-in-loop-cand
 put_entry-requires-in-loop-cand c = short_others c.args.first.now c.args.others.now c.loop-cand.cand-index c.cand-item.result c.requires.short c.loop-cand-test.true c.cand-item.is
@@ -23,7 +23,7 @@ loop-cand-init c =
     let peers = map peer_as c.args.peers.now in
     let first = cand_as c.args.first.now in
     let o : Open = record { number = 0; prefix = c.args.first.now.prefix; count = 1; entries = c.put_entry.new.out } in
-    let entry = c.in_ok-put_entry.ensures peers (sym c.index_of.ensures) ∙ ap (λ xs. xs ++ entry_octets peers c.args.ids first) c.new.ensures.items in
+    let entry = c.in_ok-put_entry.ensures peers (sym c.index_of-index.ensures) ∙ ap (λ xs. xs ++ entry_octets peers c.args.ids first) c.new.ensures.items in
     record {
       few = omega (arith, ap length entry, length_entry peers c.args.ids first (c.requires.short 0 c.args.first.now (omega arith)));
       number = omega arith;
@@ -34,7 +34,7 @@ pub take-requires-clause-short : goal.take-requires-clause-short
 take-requires-clause-short c =
     let peers = map peer_as c.args.peers.now in
     let cand = cand_as c.cand-item.result in
-    let entry = part_is c.deref.result.now c.put_entry-in-loop-cand.new.out.items c.clear.new.self.items (entry_octets peers c.args.ids cand) c.deref.ensures.value (c.in_ok-put_entry-2.ensures peers (sym c.index_of-in-loop-cand.ensures)) c.clear.ensures.items in
+    let entry = part_is c.deref.result.now c.put_entry-in-loop-cand.new.out.items c.clear.new.self.items (entry_octets peers c.args.ids cand) c.deref.ensures.value (c.in_ok-put_entry-2.ensures peers (sym c.index_near-index.ensures)) c.clear.ensures.items in
     omega (arith, ap length entry, length_entry peers c.args.ids cand (short_others c.args.first.now c.args.others.now c.loop-cand.cand-index c.cand-item.result c.requires.short c.loop-cand-test.true c.cand-item.is))
 
 pub loop-cand-preserved : goal.loop-cand-preserved
@@ -43,7 +43,7 @@ loop-cand-preserved c =
     let cand = cand_as c.cand-item.result in
     let rest = map cand_as (drop (c.loop-cand.cand-index + 1) c.args.others.now) in
     let whole = c.args.out.now.items ++ piece_records peers c.args.ids 0 (pieces_of peers c.args.ids (map cand_as (c.args.first.now ∷ c.args.others.now))) in
-    let entry = part_is c.deref.result.now c.put_entry-in-loop-cand.new.out.items c.clear.new.self.items (entry_octets peers c.args.ids cand) c.deref.ensures.value (c.in_ok-put_entry-2.ensures peers (sym c.index_of-in-loop-cand.ensures)) c.clear.ensures.items in
+    let entry = part_is c.deref.result.now c.put_entry-in-loop-cand.new.out.items c.clear.new.self.items (entry_octets peers c.args.ids cand) c.deref.ensures.value (c.in_ok-put_entry-2.ensures peers (sym c.index_near-index.ensures)) c.clear.ensures.items in
     let before = subst (λ cs. OpenLeadsTo peers c.args.ids c.loop-cand.open c.loop-cand.out.items cs whole) (next_other c.args.others.now c.loop-cand.cand-index c.cand-item.result c.loop-cand-test.true c.cand-item.is) c.loop-cand.invariant.holds in
     record {
       few = c.in_ok-take.ensures.few;

@@ -1,10 +1,10 @@
-use Rattle.std.proofs.Common.{◌≡◌, ◌∙◌, arith}
+use Rattle.std.proofs.Common.{◌≡◌, ◌∷◌, ◌++◌, [], ap, ◌∙◌, append_assoc, arith}
 use Rattle.octet_put.proofs.Written.{number_put, sequence_is}
 use Rattle.octet_put.proofs.field.put_sequence.Goals as goal
 
 pub loop-init : goal.loop-init
 loop-init c = record {
-  put = (c.in_ok-extend_from_slice.ensures).items;
+  put = c.in_ok-push-2.ensures.items ∙ (ap (λ xs. xs ++ c.args.count ∷ []) c.in_ok-push.ensures.items ∙ append_assoc c.args.out.now.items (2 ∷ []) (c.args.count ∷ []));
   few = omega arith;
 }
 
