@@ -4,7 +4,7 @@ use Rattle.std.specs.declared.vec.Vec.{Vec}
 use Rattle.fib_addr.specs.Hops.{Hops}
 use Rattle.fib_addr.specs.Views.{addr_as, prefix_as, entry_as}
 use Rattle.fib_addr.specs.declared.entry.Entry.{Entry}
-use Rattle.printed_model.specs.Rows.{Count, Records, Skipped, Events, Routes, Entries, Nodes, Leaves, Treated, Announced, Vrp, PrintedRow, route_row, invalid_row, add_row, replace_row, remove_row, answer_row, visits_row, table_row, least_row, cert_leaf_row, cert_join_row, cert_bound_row, report_row}
+use Rattle.printed_model.specs.Rows.{Count, Records, Skipped, Events, Routes, Entries, Nodes, Leaves, Treated, Announced, Vrp, PrintedRow, route_row, invalid_row, add_row, replace_row, remove_row, moves_row, answer_row, visits_row, table_row, least_row, cert_leaf_row, cert_join_row, cert_bound_row, report_row}
 use Rattle.printed_model.specs.Reading.{AnnouncedTexts, VrpTexts}
 use Rattle.printed_model.specs.Texts.{BadLine}
 use Rattle.printed_model.specs.Used.{Used}
@@ -56,6 +56,7 @@ printed_row_as (printed.Invalid a v) = invalid_row (announced_as a) (printed_vrp
 printed_row_as (printed.Add n p hop) = add_row n (prefix_as p) (option_map addr_as hop)
 printed_row_as (printed.Replace n p hop) = replace_row n (prefix_as p) (option_map addr_as hop)
 printed_row_as (printed.Remove n p) = remove_row n (prefix_as p)
+printed_row_as (printed.Moves event n) = moves_row event n
 printed_row_as (printed.Answer a hop) = answer_row (addr_as a) (option_map addr_as hop)
 printed_row_as (printed.Visits a n) = visits_row (addr_as a) n
 printed_row_as (printed.Table p hop) = table_row (prefix_as p) (option_map addr_as hop)

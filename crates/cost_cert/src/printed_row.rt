@@ -4,6 +4,7 @@
 //!     invalid,PREFIX,PEERADDR,PEERAS,ORIGIN,VPREFIX,MAXLEN,AS
 //!     change,EVENT,+,PREFIX,HOP     with = for a replaced entry
 //!     change,EVENT,-,PREFIX
+//!     moves,EVENT,NUMBER
 //!     answer,ADDRESS,HOP
 //!     visits,ADDRESS,NUMBER
 //!     table,PREFIX,HOP
@@ -18,7 +19,7 @@
 ghost use Rattle.std.specs.Prelude.{option_map};
 ghost use Rattle.octet_fields.specs.Gives.{Gives};
 ghost use Rattle.fib_addr.specs.Views.{prefix_as, addr_as};
-ghost use Rattle.printed_model.specs.Reading.{answer_in, bound_in, cert_in, change_in, entry_in, invalid_in, join_in, line_in, named_in, part_in, report_in, route_in, row_in, signed_in, visits_in};
+ghost use Rattle.printed_model.specs.Reading.{answer_in, bound_in, cert_in, change_in, entry_in, invalid_in, join_in, line_in, moves_in, named_in, part_in, report_in, route_in, row_in, signed_in, visits_in};
 ghost use Rattle.cost_cert.specs.Printed.{printed_row_as};
 
 use crate::fields::{
@@ -63,6 +64,8 @@ pub enum PrintedRow {
     Replace(u64, Prefix, Option<Addr>),
     /// The event of this number removes an entry.
     Remove(u64, Prefix),
+    /// The event of this number needed so many changes.
+    Moves(u64, u64),
     /// The hop of an address.
     Answer(Addr, Option<Addr>),
     /// How many nodes the look-up of an address visits.
@@ -169,6 +172,17 @@ fn change_in(fields: Fields<'_>) -> Result<PrintedRow, u8>
     signed_in(event, sign, fields)
 }
 
+/// How many changes an event needed.
+#[tactic(auto, unfolding(printed_model::specs::Reading::moves_in))]
+fn moves_in(fields: Fields<'_>) -> Result<PrintedRow, u8>
+    ensures { Gives printed_row_as result (moves_in fields.entry) }
+{
+    let (event, number) = two_fields(fields)?;
+    let event = number_field(event)?;
+    let number = number_field(number)?;
+    Ok(PrintedRow::Moves(event, number))
+}
+
 /// A region that a certificate puts together.
 #[tactic(auto, unfolding(printed_model::specs::Reading::join_in))]
 fn join_in(fields: Fields<'_>) -> Result<PrintedRow, u8>
@@ -239,6 +253,8 @@ fn named_in(name: &[u8], fields: Fields<'_>) -> Result<PrintedRow, u8>
         invalid_in(fields)
     } else if is(name, b"change") {
         change_in(fields)
+    } else if is(name, b"moves") {
+        moves_in(fields)
     } else if is(name, b"answer") {
         answer_in(fields)
     } else if is(name, b"visits") {

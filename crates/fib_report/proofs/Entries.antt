@@ -4,10 +4,8 @@ use Rattle.std.proofs.lemmas.List.{take_more, map-append}
 use Rattle.address_model.specs.Address.{Prefix}
 use Rattle.fib_addr.specs.Views.{entry_as}
 use Rattle.fib_addr.specs.declared.entry.Entry.{Entry}
-use Rattle.printed_model.specs.Rows.{Announced, Vrp}
-use Rattle.fib_report.specs.Rows.{of_invalid, section_rows}
-use Rattle.fib_report.specs.Views.{invalid_as}
-use Rattle.fib_report.specs.declared.run.Invalid.{Invalid}
+use Rattle.printed_model.specs.Rows.{PrintedRow}
+use Rattle.fib_report.specs.Rows.{section_rows}
 use Rattle.fib_report.specs.Sections.{Writes, hops_in, writes_more}
 use Rattle.fib_report.specs.SectionRows.{rows_more}
 use Rattle.fib_report.specs.declared.run_text.RunText.{RunText}
@@ -28,14 +26,14 @@ entries_one s t u v es i e inside at first next =
     in
     subst (Writes t v) (sym (ap (section_rows s hops) grown ∙ rows_more s hops so_far one)) (writes_more t u v (section_rows s hops so_far) (section_rows s hops one) first then)
 
--- the row of one more Invalid announcement
-pub invalids_one : (t u v : RunText) (is : List Invalid) (n : ℕ) (i : Invalid) → n < length is → i ≡ get_or is n i
-    → Writes t u (map of_invalid (map invalid_as (take n is)))
-    → Writes u v (of_invalid (invalid_as i) ∷ [])
-    → Writes t v (map of_invalid (map invalid_as (take (n + 1) is)))
-invalids_one t u v is n i inside at first next =
-    let so_far : List (Announced × Vrp) = map invalid_as (take n is) in
-    let one : List (Announced × Vrp) = invalid_as (get_or is n i) ∷ [] in
-    let grown : map invalid_as (take (n + 1) is) ≡ so_far ++ one = ap (map invalid_as) (take_more is n i inside) ∙ map-append invalid_as (take n is) (get_or is n i ∷ []) in
-    subst (Writes t v) (sym (ap (map of_invalid) grown ∙ map-append of_invalid so_far one))
-    (writes_more t u v (map of_invalid so_far) (map of_invalid one) first (subst (λ x. Writes u v (of_invalid (invalid_as x) ∷ [])) at next))
+-- the row of one more item of a list, where each item has one
+pub items_one : {X Y : Type 0} (row : Y → PrintedRow) (seen : X → Y) (t u v : RunText) (xs : List X) (n : ℕ) (x : X) → n < length xs → x ≡ get_or xs n x
+    → Writes t u (map row (map seen (take n xs)))
+    → Writes u v (row (seen x) ∷ [])
+    → Writes t v (map row (map seen (take (n + 1) xs)))
+items_one {X = X} {Y = Y} row seen t u v xs n x inside at first next =
+    let so_far : List Y = map seen (take n xs) in
+    let one : List Y = seen (get_or xs n x) ∷ [] in
+    let grown : map seen (take (n + 1) xs) ≡ so_far ++ one = ap (map seen) (take_more xs n x inside) ∙ map-append seen (take n xs) (get_or xs n x ∷ []) in
+    subst (Writes t v) (sym (ap (map row) grown ∙ map-append row so_far one))
+    (writes_more t u v (map row so_far) (map row one) first (subst (λ y. Writes u v (row (seen y) ∷ [])) at next))

@@ -4,7 +4,7 @@ use Rattle.address_model.specs.Address.{Address, Prefix}
 use Rattle.table_model.specs.Changes.{Change, Add, Replace, Remove, additions}
 use Rattle.table_model.specs.Entries as table
 use Rattle.fib_addr.specs.Hops.{hop_at}
-use Rattle.printed_model.specs.Rows.{Records, Skipped, Events, Routes, Entries, Nodes, Leaves, Treated, Announced, Vrp, PrintedRow, invalid_row, add_row, replace_row, remove_row, answer_row, visits_row, table_row, report_row, text_of}
+use Rattle.printed_model.specs.Rows.{Records, Skipped, Events, Routes, Entries, Nodes, Leaves, Treated, Announced, Vrp, PrintedRow, invalid_row, add_row, replace_row, remove_row, moves_row, answer_row, visits_row, table_row, report_row, text_of}
 use Rattle.printed_model.specs.Numbered.{of_route, of_least, of_cert}
 use Rattle.fib_report.specs.Views.{Answer, Told}
 use Rattle.fib_report.specs.declared.run.Report.{Report}
@@ -23,6 +23,10 @@ change_row hops event (Remove p) = remove_row event p
 
 abbrev pub of_change : List Address → ℕ × Change → PrintedRow
 of_change hops c = change_row hops c.0 c.1
+
+-- how many changes an event needed
+abbrev pub of_moves : ℕ × ℕ → PrintedRow
+of_moves m = moves_row m.0 m.1
 
 -- the hop of an address, and then how many nodes its look-up visits
 abbrev pub of_answer : List Address → Answer → List PrintedRow
@@ -47,12 +51,13 @@ report_text r = text_of (report_rows r)
 
 -- ---- a run
 
--- all rows: the routes, the Invalid announcements, the changes, the answers, the table, the least table, its certificate and the report
+-- all rows: the routes, the Invalid announcements, the changes, how many each event needed, the answers, the table, the least table, its certificate and the report
 abbrev pub printed_rows : List Address → Told → List PrintedRow
 printed_rows hops run =
     flat_map (of_route hops) run.routes
     ++ map of_invalid run.invalid
     ++ map (of_change hops) run.changes
+    ++ map of_moves run.moves
     ++ flat_map (of_answer hops) run.answers
     ++ map (table_entry_row hops) run.table
     ++ map (of_least hops) run.least

@@ -147,6 +147,23 @@ fn put_remove<W: Write + Drop>(
     put_fields(out, &[b"change", event, b"-", prefix])
 }
 
+/// Writes how many changes the event of a number needed.
+fn put_moves<W: Write + Drop>(
+    out: &mut Writer<W>,
+    event: u64,
+    number: u64,
+) -> Result<(), AllocError>
+    requires { IsAtRow out.old }
+    ensures { OnOk result (AddsRows W.contents out.old out.new
+        (line (codes "moves" ∷ decimal event ∷ decimal number ∷ []))) }
+{
+    let mut event_digits = Buffer::new();
+    let mut digits = Buffer::new();
+    let event = event_digits.format(event).as_bytes();
+    let number = digits.format(number).as_bytes();
+    put_fields(out, &[b"moves", event, number])
+}
+
 /// Writes the hop of an address, or `none`.
 fn put_answer<W: Write + Drop>(
     out: &mut Writer<W>,
@@ -261,6 +278,7 @@ pub(crate) fn put_row<W: Write + Drop>(
         PrintedRow::Add(event, prefix, hop) => put_change(out, event, b"+", &prefix, hop),
         PrintedRow::Replace(event, prefix, hop) => put_change(out, event, b"=", &prefix, hop),
         PrintedRow::Remove(event, prefix) => put_remove(out, event, &prefix),
+        PrintedRow::Moves(event, number) => put_moves(out, event, number),
         PrintedRow::Answer(addr, hop) => put_answer(out, &addr, hop),
         PrintedRow::Visits(addr, number) => put_visits(out, &addr, number),
         PrintedRow::Table(prefix, hop) => put_entry(out, b"table", &prefix, hop),

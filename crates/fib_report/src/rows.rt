@@ -4,6 +4,7 @@
 //!     invalid,PREFIX,PEERADDR,PEERAS,ORIGIN,VPREFIX,MAXLEN,AS
 //!     change,EVENT,+,PREFIX,HOP    with = for a Replace
 //!     change,EVENT,-,PREFIX        for a Remove
+//!     moves,EVENT,COUNT            behind all changes, where the fewest are asked for
 //!     answer,ADDRESS,HOP
 //!     visits,ADDRESS,COUNT         behind the answer of each address
 //!     table,PREFIX,HOP
@@ -23,15 +24,15 @@ ghost use Rattle.fib_addr.specs.Views.{entry_as};
 ghost use Rattle.cost_cert.specs.Printed.{printed_row_as};
 ghost use Rattle.cert_rows.specs.Views.{row_as};
 ghost use Rattle.printed_model.specs.Rows.{IsRow, text_of, line};
-ghost use Rattle.fib_report.specs.Rows.{of_answer, of_change, of_invalid, report_rows, report_text, section_rows};
+ghost use Rattle.fib_report.specs.Rows.{of_answer, of_change, of_invalid, of_moves, report_rows, report_text, section_rows};
 ghost use Rattle.printed_model.specs.Numbered.{of_cert};
 ghost use Rattle.fib_delta.specs.Views.{change_as};
-ghost use Rattle.fib_report.specs.Views.{answer_as, invalid_as, run_as};
+ghost use Rattle.fib_report.specs.Views.{answer_as, invalid_as, moves_as, run_as};
 ghost use Rattle.csv.specs.Writing.{text_written};
 ghost use Rattle.fib_report.specs.Writing.{AddsRows, IsAtRow};
 
 use crate::printed_row::{put_fields, put_row};
-use crate::run::{Answer, Invalid, Report, Run};
+use crate::run::{Answer, Invalid, Moves, Report, Run};
 use crate::section::Section;
 use cost_cert::{Announced, Count, PrintedRow, PrintedVrp, Row};
 use csv::{QuoteStyle, Writer, WriterBuilder};
@@ -111,6 +112,13 @@ pub(crate) fn put_changes<W: Write + Drop>(
         put_row(out, change_row(*event, change, hops))?;
     }
     Ok(())
+}
+
+/// The row of how many changes an event needed.
+pub(crate) fn moves_row(moves: &Moves) -> PrintedRow
+    ensures { printed_row_as result ≡ of_moves (moves_as moves.now) }
+{
+    PrintedRow::Moves(moves.event, moves.count)
 }
 
 /// Writes the hop of an address, and then how many nodes its look-up visits.

@@ -47,6 +47,15 @@ pub struct Invalid {
     pub maxlen: u8,
 }
 
+/// How many changes an event needed.
+#[derive(Clone, Copy, Debug, PartialEq, Eq)]
+pub struct Moves {
+    /// The event's number.
+    pub event: u64,
+    /// How many changes.
+    pub count: u64,
+}
+
 /// An address that was asked for.
 #[derive(Clone, Copy, Debug, PartialEq, Eq)]
 pub struct Answer {
@@ -58,8 +67,8 @@ pub struct Answer {
     pub visits: u8,
 }
 
-/// What a run tells: the routes that it ended with, the announcements that are Invalid, the changes with their events, the answers, the
-/// table, the least table with its certificate, and the counts.
+/// What a run tells: the routes that it ended with, the announcements that are Invalid, the changes with their events, how many each
+/// event needed, the answers, the table, the least table with its certificate, and the counts.
 #[derive(Debug, Drop)]
 pub struct Run {
     /// The routes after the last event, in the order of prefixes.
@@ -68,6 +77,8 @@ pub struct Run {
     pub invalid: Vec<Invalid>,
     /// The changes to the table, each with its event's number.
     pub changes: Vec<(u64, Change)>,
+    /// How many changes each event needed that changed a chosen hop; none in a run that doesn't ask for the fewest.
+    pub moves: Vec<Moves>,
     /// The addresses asked for, with their answers.
     pub answers: Vec<Answer>,
     /// The table at the end.

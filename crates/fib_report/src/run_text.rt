@@ -8,14 +8,14 @@ ghost use Rattle.fib_addr.specs.Views.{entry_as};
 ghost use Rattle.fib_delta.specs.Views.{change_as};
 ghost use Rattle.cert_rows.specs.Views.{row_as};
 ghost use Rattle.printed_model.specs.Numbered.{of_cert};
-ghost use Rattle.fib_report.specs.Rows.{of_answer, of_change, of_invalid, report_rows, section_rows};
-ghost use Rattle.fib_report.specs.Views.{answer_as, invalid_as};
+ghost use Rattle.fib_report.specs.Rows.{of_answer, of_change, of_invalid, of_moves, report_rows, section_rows};
+ghost use Rattle.fib_report.specs.Views.{answer_as, invalid_as, moves_as};
 
 use crate::printed_row::put_row;
 use crate::rows::{
-    cert_row, entry_row, invalid_row, put_answers, put_cert, put_changes, put_report, row_writer,
+    cert_row, entry_row, invalid_row, moves_row, put_answers, put_cert, put_changes, put_report, row_writer,
 };
-use crate::run::{Answer, Invalid, Report};
+use crate::run::{Answer, Invalid, Moves, Report};
 use crate::section::Section;
 use cert_rows::{Row, RowSink};
 use csv::Writer;
@@ -97,6 +97,26 @@ impl<'a> RunText<'a> {
             (map (λ c. (c.0, change_as c.1)) changes.now))) }
     {
         put_changes(&mut self.out, changes, self.hops)?;
+        Ok(())
+    }
+
+    /// Writes the row of how many changes an event needed.
+    fn moves_of(&mut self, moves: &Moves) -> Result<(), AllocError>
+        requires { IsReady self.old }
+        ensures { OnOk result (Writes self.old self.new (of_moves (moves_as moves.now) ∷ [])) }
+    {
+        put_row(&mut self.out, moves_row(moves))
+    }
+
+    /// Writes how many changes each event of a list needed.
+    pub fn moves(&mut self, moves: &[Moves]) -> Result<(), AllocError>
+        requires { IsReady self.old }
+        ensures { OnOk result (Writes self.old self.new
+            (map of_moves (map moves_as moves.now))) }
+    {
+        for event in moves {
+            self.moves_of(event)?;
+        }
         Ok(())
     }
 

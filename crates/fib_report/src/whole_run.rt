@@ -22,6 +22,7 @@ fn text_of_run(alloc: Global, run: &Run, hops: &HopTable) -> Result<Vec<u8>, All
     text.entries(Section::Routes, &run.routes)?;
     text.invalids(&run.invalid)?;
     text.changes(&run.changes)?;
+    text.moves(&run.moves)?;
     text.answers(&run.answers)?;
     text.entries(Section::Table, &run.table)?;
     text.entries(Section::Least, &run.least)?;
@@ -30,7 +31,7 @@ fn text_of_run(alloc: Global, run: &Run, hops: &HopTable) -> Result<Vec<u8>, All
     text.finish()
 }
 
-/// Appends the rows of a run to a text: first the routes, then the Invalid announcements, the changes, the answers, the table, the least
+/// Appends the rows of a run to a text: first the routes, then the Invalid announcements, the changes, how many each event needed, the answers, the table, the least
 /// table, its certificate and the report. Where the hop table does not hold a hop's number, an answer and a leaf say `none`, a change and a table `drop`,
 /// and a route has no row. An `Err` changes nothing and means that memory ran out, as does each failure of csv's writer, which
 /// writes to memory here. Each row that was written is one that a checker reads as it is.

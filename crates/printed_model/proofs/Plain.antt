@@ -15,7 +15,7 @@ use Rattle.fib_addr.specs.Groups.{groups_of}
 use Rattle.fib_addr.specs.Text.{bits_text, address_text, first_address, prefix_text}
 use Rattle.fib_addr.proofs.TextLaws.{octet_lt}
 use Rattle.fib_addr.proofs.GroupLaws.{is_mark, none_of_both, none_in_text}
-use Rattle.printed_model.specs.Rows.{Count, Records, Skipped, Events, Routes, Entries, Nodes, Leaves, Treated, PrintedRow, route_row, invalid_row, add_row, replace_row, remove_row, answer_row, visits_row, table_row, least_row, cert_leaf_row, cert_join_row, cert_bound_row, report_row, IsNumber, IsOrigin, IsRow, fields_of, count_name, family_name, hop_text, origin_text}
+use Rattle.printed_model.specs.Rows.{Count, Records, Skipped, Events, Routes, Entries, Nodes, Leaves, Treated, PrintedRow, route_row, invalid_row, add_row, replace_row, remove_row, moves_row, answer_row, visits_row, table_row, least_row, cert_leaf_row, cert_join_row, cert_bound_row, report_row, IsNumber, IsOrigin, IsRow, fields_of, count_name, family_name, hop_text, origin_text}
 
 -- the mark doesn't stand in the text
 abbrev pub Lacks : ℕ → List ℕ → Type 0
@@ -113,6 +113,7 @@ fields_plain (invalid_row a v) h = (
 fields_plain (add_row event p hop) h = ((refl, refl, refl), (plain_number event h.0, ((refl, refl, refl), (plain_prefix p h.1, (plain_hop (codes "drop") hop (refl, refl, refl), tt)))))
 fields_plain (replace_row event p hop) h = ((refl, refl, refl), (plain_number event h.0, ((refl, refl, refl), (plain_prefix p h.1, (plain_hop (codes "drop") hop (refl, refl, refl), tt)))))
 fields_plain (remove_row event p) h = ((refl, refl, refl), (plain_number event h.0, ((refl, refl, refl), (plain_prefix p h.1, tt))))
+fields_plain (moves_row event n) h = ((refl, refl, refl), (plain_number event h.0, (plain_number n h.1, tt)))
 fields_plain (answer_row a hop) h = ((refl, refl, refl), (plain_address a, (plain_hop (codes "none") hop (refl, refl, refl), tt)))
 fields_plain (visits_row a n) h = ((refl, refl, refl), (plain_address a, (plain_number n h.1, tt)))
 fields_plain (table_row p hop) h = ((refl, refl, refl), (plain_prefix p h.0, (plain_hop (codes "drop") hop (refl, refl, refl), tt)))

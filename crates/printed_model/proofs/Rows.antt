@@ -3,8 +3,8 @@ use Rattle.std.proofs.Common.{◌≡◌, ℕ, List, [], ◌∷◌, Option, Resul
 use Rattle.octet_fields.specs.Field.{◌>>=◌}
 use Rattle.address_model.specs.Address.{Address, Prefix, IsPrefix}
 use Rattle.fib_addr.specs.Text.{address_text, prefix_text}
-use Rattle.printed_model.specs.Rows.{Announced, Vrp, PrintedRow, route_row, invalid_row, add_row, replace_row, remove_row, answer_row, visits_row, table_row, least_row, cert_leaf_row, cert_join_row, cert_bound_row, report_row, IsRow, fields_of, count_name, family_name, hop_text, origin_text}
-use Rattle.printed_model.specs.Reading.{address_field, prefix_field, number_field, hop_field, origin_field, count_field, family_field, announced_fields, vrp_fields, announced_in, printed_vrp_in, invalid_in, entry_in, route_in, answer_in, visits_in, signed_in, change_in, join_in, bound_in, part_in, cert_in, report_in, named_in, row_in}
+use Rattle.printed_model.specs.Rows.{Announced, Vrp, PrintedRow, route_row, invalid_row, add_row, replace_row, remove_row, moves_row, answer_row, visits_row, table_row, least_row, cert_leaf_row, cert_join_row, cert_bound_row, report_row, IsRow, fields_of, count_name, family_name, hop_text, origin_text}
+use Rattle.printed_model.specs.Reading.{address_field, prefix_field, number_field, hop_field, origin_field, count_field, family_field, announced_fields, vrp_fields, announced_in, printed_vrp_in, invalid_in, entry_in, route_in, answer_in, visits_in, signed_in, change_in, moves_in, join_in, bound_in, part_in, cert_in, report_in, named_in, row_in}
 use Rattle.printed_model.proofs.Fields.{address_again, prefix_again, number_again, none_again, drop_again, origin_again, count_again, family_again}
 
 -- two fields, one read after the other
@@ -34,7 +34,7 @@ vrp_again a v h =
     ∙ both (number_field (decimal v.maxlen)) (number_field (decimal v.asn)) (λ m n. record { prefix = v.prefix; maxlen = m; asn = n }) v.maxlen v.asn (number_again v.maxlen h.5) (number_again v.asn h.6)
 
 pub row_again : (row : PrintedRow) → IsRow row → row_in (fields_of row) ≡ Ok row
-unfolding row_in named_in route_in invalid_in announced_fields vrp_fields answer_in visits_in signed_in change_in join_in bound_in part_in cert_in report_in
+unfolding row_in named_in route_in invalid_in announced_fields vrp_fields answer_in visits_in signed_in change_in moves_in join_in bound_in part_in cert_in report_in
 row_again (route_row p a) h = both (prefix_field (prefix_text p)) (address_field (address_text a)) route_row p a (prefix_again p h.0) (address_again a h.1)
 row_again (invalid_row a v) h =
     both (announced_in (record { prefix = prefix_text a.prefix; peer = address_text a.peer; peer_as = decimal a.peer_as; origin = origin_text a.origin }))
@@ -46,6 +46,7 @@ row_again (replace_row event p hop) h =
     ap (λ (r : Result ℕ ℕ). r >>= λ n. entry_in (codes "drop") (prefix_text p ∷ hop_text (codes "drop") hop ∷ []) >>= λ e. Ok (replace_row n e.0 e.1)) (number_again event h.0)
     ∙ ap (λ r. r >>= λ e. Ok (replace_row event e.0 e.1)) (entry_again (codes "drop") (hop_text (codes "drop") hop) p hop h.1 (drop_again hop h.2))
 row_again (remove_row event p) h = both (number_field (decimal event)) (prefix_field (prefix_text p)) remove_row event p (number_again event h.0) (prefix_again p h.1)
+row_again (moves_row event n) h = both (number_field (decimal event)) (number_field (decimal n)) moves_row event n (number_again event h.0) (number_again n h.1)
 row_again (answer_row a hop) h = both (address_field (address_text a)) (hop_field (codes "none") (hop_text (codes "none") hop)) answer_row a hop (address_again a h.0) (none_again hop h.1)
 row_again (visits_row a n) h = both (address_field (address_text a)) (number_field (decimal n)) visits_row a n (address_again a h.0) (number_again n h.1)
 row_again (table_row p hop) h = ap (λ r. r >>= λ e. Ok (table_row e.0 e.1)) (entry_again (codes "drop") (hop_text (codes "drop") hop) p hop h.0 (drop_again hop h.1))

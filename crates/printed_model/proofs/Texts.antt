@@ -13,7 +13,7 @@ use Rattle.bstr.specs.Text.{without_terminator, no_cr}
 use Rattle.address_model.specs.Address.{Address, same_address}
 use Rattle.fib_addr.specs.Hops.{with_hop, most_hops}
 use Rattle.fib_addr.proofs.GroupLaws.{is_mark, none_of_both}
-use Rattle.printed_model.specs.Rows.{PrintedRow, route_row, invalid_row, add_row, replace_row, remove_row, answer_row, visits_row, table_row, least_row, cert_leaf_row, cert_join_row, cert_bound_row, report_row, IsRow, fields_of, text_of}
+use Rattle.printed_model.specs.Rows.{PrintedRow, route_row, invalid_row, add_row, replace_row, remove_row, moves_row, answer_row, visits_row, table_row, least_row, cert_leaf_row, cert_join_row, cert_bound_row, report_row, IsRow, fields_of, text_of}
 use Rattle.printed_model.specs.Reading.{is_comma, row_in, line_in}
 use Rattle.printed_model.specs.Texts.{in_front, lines_of, line_texts, numbered_hop, hops_in, with_row, rows_after, rows_by, rows_in}
 use Rattle.printed_model.proofs.Rows.{row_again}
@@ -69,6 +69,7 @@ begins (invalid_row a v) = record { first = _; rest = _; field = _; fields = _; 
 begins (add_row event p hop) = record { first = _; rest = _; field = _; fields = _; line = refl; split = refl }
 begins (replace_row event p hop) = record { first = _; rest = _; field = _; fields = _; line = refl; split = refl }
 begins (remove_row event p) = record { first = _; rest = _; field = _; fields = _; line = refl; split = refl }
+begins (moves_row event n) = record { first = _; rest = _; field = _; fields = _; line = refl; split = refl }
 begins (answer_row a hop) = record { first = _; rest = _; field = _; fields = _; line = refl; split = refl }
 begins (visits_row a n) = record { first = _; rest = _; field = _; fields = _; line = refl; split = refl }
 begins (table_row p hop) = record { first = _; rest = _; field = _; fields = _; line = refl; split = refl }

@@ -6,7 +6,7 @@ use Rattle.address_model.specs.Address.{Address, Prefix}
 use Rattle.address_model.specs.declared.family.Family.{Family}
 use Rattle.address_model.specs.declared.family.Family.TheVariants.{V4, V6}
 use Rattle.fib_addr.specs.Text.{address_in, prefix_in, number_below}
-use Rattle.printed_model.specs.Rows.{Count, Records, Skipped, Events, Routes, Entries, Nodes, Leaves, Treated, Announced, Vrp, PrintedRow, route_row, invalid_row, add_row, replace_row, remove_row, answer_row, visits_row, table_row, least_row, cert_leaf_row, cert_join_row, cert_bound_row, report_row}
+use Rattle.printed_model.specs.Rows.{Count, Records, Skipped, Events, Routes, Entries, Nodes, Leaves, Treated, Announced, Vrp, PrintedRow, route_row, invalid_row, add_row, replace_row, remove_row, moves_row, answer_row, visits_row, table_row, least_row, cert_leaf_row, cert_join_row, cert_bound_row, report_row}
 
 -- ---- why
 
@@ -196,6 +196,14 @@ change_in fields = do
   sign ← next_field first.1
   signed_in event sign.0 sign.1
 
+-- NUMBER,NUMBER
+unfoldable pub moves_in : List (List ℕ) → Result PrintedRow ℕ
+moves_in fields = do
+  f ← two_fields fields
+  event ← number_field f.0
+  n ← number_field f.1
+  Ok (moves_row event n)
+
 -- PREFIX,NUMBER
 unfoldable pub join_in : List (List ℕ) → Result PrintedRow ℕ
 join_in fields = do
@@ -239,6 +247,7 @@ named_in name fields =
     if bytes_eq name (codes "route") then route_in fields
     else if bytes_eq name (codes "invalid") then invalid_in fields
     else if bytes_eq name (codes "change") then change_in fields
+    else if bytes_eq name (codes "moves") then moves_in fields
     else if bytes_eq name (codes "answer") then answer_in fields
     else if bytes_eq name (codes "visits") then visits_in fields
     else if bytes_eq name (codes "table") then (entry_in (codes "drop") fields >>= λ e. Ok (table_row e.0 e.1))

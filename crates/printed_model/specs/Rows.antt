@@ -32,7 +32,7 @@ pub record Vrp : Type 0 where
   pub asn : ℕ
 
 -- A printed row: a chosen route; an announcement that is Invalid (RFC 6811, 2), with a VRP that covers it; what the event of a number adds
--- to the table, replaces in it or removes from it; the hop of an address, and how many nodes its look-up visits; an entry of the kept
+-- to the table, replaces in it or removes from it, and how many changes that event needed; the hop of an address, and how many nodes its look-up visits; an entry of the kept
 -- table, and of a least one; what a certificate says of a region with one hop, of one put together from its halves, and of a whole
 -- family; and a count. A hop is an address, or none.
 pub data PrintedRow : Type 0 where
@@ -41,6 +41,7 @@ pub data PrintedRow : Type 0 where
   add_row : ℕ → Prefix → Option Address → PrintedRow
   replace_row : ℕ → Prefix → Option Address → PrintedRow
   remove_row : ℕ → Prefix → PrintedRow
+  moves_row : ℕ → ℕ → PrintedRow
   answer_row : Address → Option Address → PrintedRow
   visits_row : Address → ℕ → PrintedRow
   table_row : Prefix → Option Address → PrintedRow
@@ -81,6 +82,7 @@ fields_of (invalid_row a v) = codes "invalid" ∷ prefix_text a.prefix ∷ addre
 fields_of (add_row event p hop) = codes "change" ∷ decimal event ∷ codes "+" ∷ prefix_text p ∷ hop_text (codes "drop") hop ∷ []
 fields_of (replace_row event p hop) = codes "change" ∷ decimal event ∷ codes "=" ∷ prefix_text p ∷ hop_text (codes "drop") hop ∷ []
 fields_of (remove_row event p) = codes "change" ∷ decimal event ∷ codes "-" ∷ prefix_text p ∷ []
+fields_of (moves_row event n) = codes "moves" ∷ decimal event ∷ decimal n ∷ []
 fields_of (answer_row a hop) = codes "answer" ∷ address_text a ∷ hop_text (codes "none") hop ∷ []
 fields_of (visits_row a n) = codes "visits" ∷ address_text a ∷ decimal n ∷ []
 fields_of (table_row p hop) = codes "table" ∷ prefix_text p ∷ hop_text (codes "drop") hop ∷ []
@@ -119,6 +121,7 @@ IsRow (invalid_row a v) = IsPrefix a.prefix × IsAddress a.peer × IsNumber a.pe
 IsRow (add_row event p hop) = IsNumber event × IsPrefix p × IsHop hop
 IsRow (replace_row event p hop) = IsNumber event × IsPrefix p × IsHop hop
 IsRow (remove_row event p) = IsNumber event × IsPrefix p
+IsRow (moves_row event n) = IsNumber event × IsNumber n
 IsRow (answer_row a hop) = IsAddress a × IsHop hop
 IsRow (visits_row a n) = IsAddress a × IsNumber n
 IsRow (table_row p hop) = IsPrefix p × IsHop hop

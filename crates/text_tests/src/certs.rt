@@ -5,7 +5,7 @@ use fib_addr::{Addr, Entry, Family, Hop, MOST_TEXT, Prefix, addr_text};
 use std::test::Fail;
 
 /// Texts, and the first line of each that is no row, with its why.
-const TEXTS: [(&str, Option<(u64, u8)>); 61] = [
+const TEXTS: [(&str, Option<(u64, u8)>); 67] = [
     ("foo\n", Some((1, 2))),
     ("route,10.0.0.0/8\n", Some((1, 3))),
     ("route,10.0.0.0/33,192.0.2.1\n", Some((1, 4))),
@@ -44,6 +44,12 @@ const TEXTS: [(&str, Option<(u64, u8)>); 61] = [
     ("cert,leaf,x,y", Some((1, 4))),
     ("least,::/0,none", Some((1, 1))),
     ("cert,leaf,::/0,drop", Some((1, 1))),
+    ("moves", Some((1, 3))),
+    ("moves,1", Some((1, 3))),
+    ("moves,1,2,3", Some((1, 3))),
+    ("moves,x,02", Some((1, 5))),
+    ("moves,1,02", Some((1, 5))),
+    ("moves,1,0\nmoves,18446744073709551615,2", None),
     ("invalid", Some((1, 3))),
     ("invalid,x,y,z,none,x,y", Some((1, 3))),
     ("invalid,x,y,z,none,x,y,z,", Some((1, 3))),

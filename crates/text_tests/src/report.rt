@@ -3,7 +3,7 @@
 use cert_rows::Row;
 use fib_addr::{Addr, Entry, Family, Hop, HopTable, Prefix};
 use fib_delta::Change;
-use fib_report::{Answer, Invalid, Report, Run, RunText, report_text, write_run};
+use fib_report::{Answer, Invalid, Moves, Report, Run, RunText, report_text, write_run};
 use std::test::Fail;
 
 #[test]
@@ -18,6 +18,16 @@ fn one_route(rt: HostRuntime) -> Result<(), Fail> {
         routes: vec![in rt.alloc(); Entry { prefix: ten, hop }]?,
         invalid: Vec::new(rt.alloc()),
         changes: vec![in rt.alloc(); (0, Change::Add(ten, hop))]?,
+        moves: vec![in rt.alloc();
+            Moves {
+                event: 1,
+                count: 5
+            },
+            Moves {
+                event: u64::MAX,
+                count: 0
+            },
+        ]?,
         answers: vec![in rt.alloc();
             Answer {
                 addr: Addr::v4(0x0a01_0203),
@@ -55,6 +65,8 @@ fn one_route(rt: HostRuntime) -> Result<(), Fail> {
     let want = "\
 route,10.0.0.0/8,192.0.2.1
 change,0,+,10.0.0.0/8,192.0.2.1
+moves,1,5
+moves,18446744073709551615,0
 answer,10.1.2.3,192.0.2.1
 visits,10.1.2.3,2
 answer,11.0.0.1,none
