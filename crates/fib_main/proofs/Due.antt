@@ -19,6 +19,7 @@ use Rattle.fib_main.specs.Ends.{OneRose, ReadsBy, ReadsNames, after, feeds_behin
 use Rattle.fib_engine.specs.Held.{Held, routes_in}
 use Rattle.fib_main.specs.declared.report.Fed.{Fed}
 use Rattle.fib_main.specs.Views.{changes_as}
+use Rattle.fib_report.specs.Views.{moves_as}
 use Rattle.fib_main.specs.Standing.{EndsShort, StateStands, StateHas, IsFed, IsOfLoad, refusal_of}
 use Rattle.fib_main.specs.Owned.{StopsAt}
 use Rattle.fib_main.specs.declared.outcome.Which.TheVariants as which
@@ -234,16 +235,19 @@ run_read content named asks vrps before mid last now (Err o) i j m l r =
 
 -- ---- where the inputs begin
 
-pub stands_new : (limits : Limits) (state : State) → state.engine ≡ record { every = limits.every; sizes = limits.sizes; candidates = []; hops = []; table = []; loaded = false; events = 0 } → state.steady ≡ limits.steady → state.added.items ≡ [] → state.changes.items ≡ [] → StateStands Dump limits [] [] state
+pub stands_new : (limits : Limits) (state : State) → state.engine ≡ record { every = limits.every; fewest = limits.fewest; sizes = limits.sizes; candidates = []; hops = []; table = []; loaded = false; events = 0; moves = None } → state.fewest ≡ limits.fewest → state.steady ≡ limits.steady → state.added.items ≡ [] → state.changes.items ≡ [] → state.moves.items ≡ [] → StateStands Dump limits [] [] state
 unfolding stop_at
-stands_new limits state e t a n = record {
-  engine = rw e (record { candidates = refl; hops = refl; proper = tt; table = refl; loaded = refl; events = refl });
+stands_new limits state e f t a n m = record {
+  engine = rw e (record { candidates = refl; hops = refl; proper = tt; table = refl; loaded = refl; events = refl; moves = refl });
   every_is = ap (λ (h : Held). h.every) e;
+  fewest_is = ap (λ (h : Held). h.fewest) e;
+  counted_is = f;
   steady_is = t;
   sizes_are = ap (λ (h : Held). h.sizes) e;
   few = rw e (omega arith);
   fits = refl;
   changes = ap (λ es. at_event 0 (additions (map entry_as es)) ++ changes_as state.changes.items) a ∙ ap changes_as n;
+  moves = ap (map moves_as) m;
 }
 
 pub fed_all : (limits : Limits) (load updates : Feed) (fed : Fed) (before state : State) → StateHas Dump limits [] load fed.load before → StateHas Updates limits load.elems updates fed.updates state → IsFed limits load updates fed state

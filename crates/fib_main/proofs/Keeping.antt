@@ -24,39 +24,19 @@ use Rattle.route_model.proofs.Keyed.{all_filter, lookup-filter, same_entries, so
 use Rattle.route_model.proofs.Places.{prefix_key}
 use Rattle.feed_model.specs.Feed.{at_event, changes_in, entries_of, hops_after}
 use Rattle.feed_model.proofs.Tables.{at_prefix}
-use Rattle.kept_feed.specs.Kept.{AreNumberedAlong, changed_at, is_due, is_other, kept_at_load, kept_by, kept_from, repaired_by, snapshot_if}
-use Rattle.steady_feed.specs.Told.{event_told, events_told, load_told}
-use Rattle.steady_feed.proofs.Told.{events_stay, events_step, load_told_stays, run_sum}
-use Rattle.kept_feed.proofs.Alike.{kept_alike, loaded_alike, snapshot_least}
-use Rattle.kept_feed.proofs.Sums.{by_placed, renewed_placed, snapshot_placed}
-use Rattle.kept_feed.proofs.Stays.{kept_stays, load_stays}
+use Rattle.kept_feed.specs.Kept.{AreNumberedAlong, changed_at, is_due, is_other, kept_at_load, kept_by, repaired_by, snapshot_if}
+use Rattle.steady_feed.specs.Told.{load_told}
+use Rattle.steady_feed.proofs.Told.{load_told_stays}
+use Rattle.fewest_feed.specs.Moved.{moved_by, table_by, table_from}
+use Rattle.fewest_feed.specs.Reported.{moves_from, moves_of, told_from, told_of}
+use Rattle.fewest_feed.proofs.Moved.{from_alike, from_placed, renewed_least}
+use Rattle.fewest_feed.proofs.Reported.{moves_from_stay, moves_step, run_sum, table_from_stays, told_from_stays, told_more, told_step}
+use Rattle.kept_feed.proofs.Alike.{loaded_alike, snapshot_least}
+use Rattle.kept_feed.proofs.Sums.{snapshot_placed}
+use Rattle.kept_feed.proofs.Stays.{load_stays}
 use Rattle.kept_feed.proofs.Steps.{numbered_along, numbered_later}
-use Rattle.fib_main.specs.Due.{changes_of, kept_of}
+use Rattle.fib_main.specs.Due.{changes_of, kept_of, moves_of as run_moves}
 use Rattle.fib_main.specs.Keeps.{changes_to, entries_besides, has_snapshot}
-
--- ---- one list of elementary events after another
-
-pub kept_append : (every : ℕ) (hops : List Address) (n : ℕ) (held : Candidates) (T : Entries) (xs ys : List Elem)
-    → kept_from every hops n held T (xs ++ ys) ≡ kept_from every hops (n + length xs) (after_elems held xs) (kept_from every hops n held T xs) ys
-unfolding kept_from
-kept_append every hops n held T [] ys = ap (λ m. kept_from every hops m held T ys) (omega arith)
-kept_append every hops n held T (x ∷ xs) ys =
-    let m : n + 1 + length xs ≡ n + suc (length xs) = omega arith in
-    kept_append every hops (n + 1) (after_elem held x) (kept_by every hops n held T x) xs ys
-    ∙ ap (λ m. kept_from every hops m (after_elems (after_elem held x) xs) (kept_from every hops (n + 1) (after_elem held x) (kept_by every hops n held T x) xs) ys) m
-
-pub changes_append : (steady : Bool) (every : ℕ) (hops : List Address) (n : ℕ) (held : Candidates) (T : Entries) (xs ys : List Elem)
-    → events_told steady every hops n held T (xs ++ ys) ≡ events_told steady every hops n held T xs ++ events_told steady every hops (n + length xs) (after_elems held xs) (kept_from every hops n held T xs) ys
-unfolding kept_from events_told
-changes_append steady every hops n held T [] ys = ap (λ m. events_told steady every hops m held T ys) (omega arith)
-changes_append steady every hops n held T (x ∷ xs) ys =
-    let m : n + 1 + length xs ≡ n + suc (length xs) = omega arith in
-    let first = at_event n (event_told steady every hops n held T x) in
-    let M = kept_by every hops n held T x in
-    ap (λ cs. first ++ cs)
-    (changes_append steady every hops (n + 1) (after_elem held x) M xs ys
-    ∙ ap (λ m. events_told steady every hops (n + 1) (after_elem held x) M xs ++ events_told steady every hops m (after_elems (after_elem held x) xs) (kept_from every hops (n + 1) (after_elem held x) M xs) ys) m)
-    ∙ sym (append_assoc first (events_told steady every hops (n + 1) (after_elem held x) M xs) (events_told steady every hops (n + suc (length xs)) (after_elems (after_elem held x) xs) (kept_from every hops (n + 1) (after_elem held x) M xs) ys))
 
 -- ---- the numbers of events
 
@@ -76,25 +56,25 @@ event_is P n [] f = tt
 event_is P n (c ∷ cs) f = (f c, event_is P n cs f)
 
 -- from here on
-numbers_from : (steady : Bool) (every : ℕ) (hops : List Address) (n : ℕ) (held : Candidates) (T : Entries) (elems : List Elem) → AllByRecursion (λ (c : ℕ × Change). n ≤ c.0) (events_told steady every hops n held T elems)
-unfolding events_told
-numbers_from steady every hops n held T [] = tt
-numbers_from steady every hops n held T (x ∷ elems) =
-    let M = kept_by every hops n held T x in
-    all_both (λ (c : ℕ × Change). n ≤ c.0) (at_event n (event_told steady every hops n held T x)) (events_told steady every hops (n + 1) (after_elem held x) M elems)
-    (event_is (λ (c : ℕ × Change). n ≤ c.0) n (event_told steady every hops n held T x) (λ c. omega arith))
-    (all_weaker (λ (c : ℕ × Change). n + 1 ≤ c.0) (λ (c : ℕ × Change). n ≤ c.0) (events_told steady every hops (n + 1) (after_elem held x) M elems) (λ c le. omega (arith, le)) (numbers_from steady every hops (n + 1) (after_elem held x) M elems))
+numbers_from : (fewest steady : Bool) (every : ℕ) (hops : List Address) (n : ℕ) (held : Candidates) (T : Entries) (elems : List Elem) → AllByRecursion (λ (c : ℕ × Change). n ≤ c.0) (told_from fewest steady every hops n held T elems)
+unfolding told_from
+numbers_from fewest steady every hops n held T [] = tt
+numbers_from fewest steady every hops n held T (x ∷ elems) =
+    let M = table_by fewest every hops n held T x in
+    all_both (λ (c : ℕ × Change). n ≤ c.0) (at_event n (told_of fewest steady every hops n held T x)) (told_from fewest steady every hops (n + 1) (after_elem held x) M elems)
+    (event_is (λ (c : ℕ × Change). n ≤ c.0) n (told_of fewest steady every hops n held T x) (λ c. omega arith))
+    (all_weaker (λ (c : ℕ × Change). n + 1 ≤ c.0) (λ (c : ℕ × Change). n ≤ c.0) (told_from fewest steady every hops (n + 1) (after_elem held x) M elems) (λ c le. omega (arith, le)) (numbers_from fewest steady every hops (n + 1) (after_elem held x) M elems))
 
 -- up to here
-numbers_to : (steady : Bool) (every : ℕ) (hops : List Address) (n m : ℕ) (held : Candidates) (T : Entries) (elems : List Elem) → n + length elems ≤ m + 1 → AllByRecursion (λ (c : ℕ × Change). c.0 ≤ m) (events_told steady every hops n held T elems)
-unfolding events_told
-numbers_to steady every hops n m held T [] le = tt
-numbers_to steady every hops n m held T (x ∷ elems) le =
-    let M = kept_by every hops n held T x in
+numbers_to : (fewest steady : Bool) (every : ℕ) (hops : List Address) (n m : ℕ) (held : Candidates) (T : Entries) (elems : List Elem) → n + length elems ≤ m + 1 → AllByRecursion (λ (c : ℕ × Change). c.0 ≤ m) (told_from fewest steady every hops n held T elems)
+unfolding told_from
+numbers_to fewest steady every hops n m held T [] le = tt
+numbers_to fewest steady every hops n m held T (x ∷ elems) le =
+    let M = table_by fewest every hops n held T x in
     let here : n ≤ m = omega arith in
-    all_both (λ (c : ℕ × Change). c.0 ≤ m) (at_event n (event_told steady every hops n held T x)) (events_told steady every hops (n + 1) (after_elem held x) M elems)
-    (event_is (λ (c : ℕ × Change). c.0 ≤ m) n (event_told steady every hops n held T x) (λ c. here))
-    (numbers_to steady every hops (n + 1) m (after_elem held x) M elems (omega arith))
+    all_both (λ (c : ℕ × Change). c.0 ≤ m) (at_event n (told_of fewest steady every hops n held T x)) (told_from fewest steady every hops (n + 1) (after_elem held x) M elems)
+    (event_is (λ (c : ℕ × Change). c.0 ≤ m) n (told_of fewest steady every hops n held T x) (λ c. here))
+    (numbers_to fewest steady every hops (n + 1) m (after_elem held x) M elems (omega arith))
 
 -- each is at most those after it
 abbrev Rises : Numbered → Type 0
@@ -123,15 +103,15 @@ event_rises : (n : ℕ) (cs : List Change) → Rises (at_event n cs)
 event_rises n [] = tt
 event_rises n (c ∷ cs) = (event_is (λ (d : ℕ × Change). n ≤ d.0) n cs (λ d. omega arith), event_rises n cs)
 
-rises_from : (steady : Bool) (every : ℕ) (hops : List Address) (n : ℕ) (held : Candidates) (T : Entries) (elems : List Elem) → Rises (events_told steady every hops n held T elems)
-unfolding events_told
-rises_from steady every hops n held T [] = tt
-rises_from steady every hops n held T (x ∷ elems) =
-    let M = kept_by every hops n held T x in
-    let later = events_told steady every hops (n + 1) (after_elem held x) M elems in
-    rises_both n (at_event n (event_told steady every hops n held T x)) later (event_rises n (event_told steady every hops n held T x)) (rises_from steady every hops (n + 1) (after_elem held x) M elems)
-    (event_is (λ (c : ℕ × Change). c.0 ≤ n) n (event_told steady every hops n held T x) (λ c. omega arith))
-    (all_weaker (λ (c : ℕ × Change). n + 1 ≤ c.0) (λ (c : ℕ × Change). n ≤ c.0) later (λ c le. omega (arith, le)) (numbers_from steady every hops (n + 1) (after_elem held x) M elems))
+rises_from : (fewest steady : Bool) (every : ℕ) (hops : List Address) (n : ℕ) (held : Candidates) (T : Entries) (elems : List Elem) → Rises (told_from fewest steady every hops n held T elems)
+unfolding told_from
+rises_from fewest steady every hops n held T [] = tt
+rises_from fewest steady every hops n held T (x ∷ elems) =
+    let M = table_by fewest every hops n held T x in
+    let later = told_from fewest steady every hops (n + 1) (after_elem held x) M elems in
+    rises_both n (at_event n (told_of fewest steady every hops n held T x)) later (event_rises n (told_of fewest steady every hops n held T x)) (rises_from fewest steady every hops (n + 1) (after_elem held x) M elems)
+    (event_is (λ (c : ℕ × Change). c.0 ≤ n) n (told_of fewest steady every hops n held T x) (λ c. omega arith))
+    (all_weaker (λ (c : ℕ × Change). n + 1 ≤ c.0) (λ (c : ℕ × Change). n ≤ c.0) later (λ c le. omega (arith, le)) (numbers_from fewest steady every hops (n + 1) (after_elem held x) M elems))
 
 abbrev is_to : ℕ → ℕ × Change → Bool
 is_to m c = nat_le c.0 m
@@ -155,83 +135,71 @@ filter_both m (x ∷ xs) ys = by_test (is_to m x) (filter_both m xs ys)
 -- ---- the table after the events so far
 
 -- the kept table
-abbrev pub table_after : ℕ → List Address → Candidates → List Elem → Entries
-table_after every hops held done = kept_from every hops 1 held (kept_at_load hops held) done
+abbrev pub table_after : Bool → ℕ → List Address → Candidates → List Elem → Entries
+table_after fewest every hops held done = table_from fewest every hops 1 held (kept_at_load hops held) done
 
-module _ (steady : Bool) (every : ℕ) (hops : List Address) (held : Candidates) where
+module _ (fewest steady : Bool) (every : ℕ) (hops : List Address) (held : Candidates) where
   abbrev pub all_changes : List Elem → List (ℕ × Change)
-  all_changes elems = load_told steady hops held ++ events_told steady every hops 1 held (kept_at_load hops held) elems
+  all_changes elems = load_told steady hops held ++ told_from fewest steady every hops 1 held (kept_at_load hops held) elems
 
   changes_are : (done rest : List Elem) → filter (is_to (length done)) (all_changes (done ++ rest)) ≡ all_changes done
   changes_are done rest =
       let m = length done in
       let T = kept_at_load hops held in
-      let front = events_told steady every hops 1 held T done in
-      let back = events_told steady every hops (1 + m) (after_elems held done) (table_after every hops held done) rest in
-      let later : filter (is_to m) back ≡ [] =
-      dropped_all m back (all_weaker (λ (c : ℕ × Change). 1 + m ≤ c.0) (λ (c : ℕ × Change). m + 1 ≤ c.0) back (λ c le. omega (arith, le)) (numbers_from steady every hops (1 + m) (after_elems held done) (table_after every hops held done) rest))
-      in
-      ap (λ cs. filter (is_to m) (load_told steady hops held ++ cs)) (changes_append steady every hops 1 held T done rest)
+      let front = told_from fewest steady every hops 1 held T done in
+      let back = told_from fewest steady every hops (m + 1) (after_elems held done) (table_after fewest every hops held done) rest in
+      let later : filter (is_to m) back ≡ [] = dropped_all m back (numbers_from fewest steady every hops (m + 1) (after_elems held done) (table_after fewest every hops held done) rest) in
+      ap (λ cs. filter (is_to m) (load_told steady hops held ++ cs)) (told_more fewest steady every hops held T done rest)
       ∙ (filter_both m (load_told steady hops held) (front ++ back)
-      ∙ (ap (λ cs. filter (is_to m) (load_told steady hops held) ++ cs) (filter_both m front back ∙ (ap (λ cs. filter (is_to m) front ++ cs) later ∙ (append-nil (filter (is_to m) front) ∙ kept_all m front (numbers_to steady every hops 1 m held T done (omega arith)))))
+      ∙ (ap (λ cs. filter (is_to m) (load_told steady hops held) ++ cs) (filter_both m front back ∙ (ap (λ cs. filter (is_to m) front ++ cs) later ∙ (append-nil (filter (is_to m) front) ∙ kept_all m front (numbers_to fewest steady every hops 1 m held T done (omega arith)))))
       ∙ ap (λ cs. cs ++ front) (kept_all m (load_told steady hops held) (event_is (λ (c : ℕ × Change). c.0 ≤ m) 0 _ (λ c. omega arith)))))
 
   same_some : (T U : Entries) → Some T ≡ Some U → T ≡ U
   same_some T U e = cc
 
   -- what the changes so far add up to is the kept table
-  pub sum_is : (done rest : List Elem) → AllByRecursion IsElem done → sum_of (changes_to (length done) (all_changes (done ++ rest))) ≡ Some (table_after every hops held done)
-  sum_is done rest p = ap (λ cs. sum_of (changes_in cs)) (changes_are done rest) ∙ run_sum steady every hops held done p
+  pub sum_is : (done rest : List Elem) → AllByRecursion IsElem done → sum_of (changes_to (length done) (all_changes (done ++ rest))) ≡ Some (table_after fewest every hops held done)
+  sum_is done rest p = ap (λ cs. sum_of (changes_in cs)) (changes_are done rest) ∙ run_sum fewest steady every hops held done p
 
-  pub table_is : (done rest : List Elem) (T : Entries) → AllByRecursion IsElem done → sum_of (changes_to (length done) (all_changes (done ++ rest))) ≡ Some T → T ≡ table_after every hops held done
-  table_is done rest T p e = same_some T (table_after every hops held done) (sym e ∙ sum_is done rest p)
+  pub table_is : (done rest : List Elem) (T : Entries) → AllByRecursion IsElem done → sum_of (changes_to (length done) (all_changes (done ++ rest))) ≡ Some T → T ≡ table_after fewest every hops held done
+  table_is done rest T p e = same_some T (table_after fewest every hops held done) (sym e ∙ sum_is done rest p)
 
   pub in_order : (elems : List Elem) → IsNonDecreasingBy (λ (c : ℕ × Change). c.0) (all_changes elems)
   in_order elems =
-      let later = events_told steady every hops 1 held (kept_at_load hops held) elems in
+      let later = told_from fewest steady every hops 1 held (kept_at_load hops held) elems in
       let rises : Rises (all_changes elems) =
-      rises_both 0 (load_told steady hops held) later (event_rises 0 _) (rises_from steady every hops 1 held (kept_at_load hops held) elems)
+      rises_both 0 (load_told steady hops held) later (event_rises 0 _) (rises_from fewest steady every hops 1 held (kept_at_load hops held) elems)
       (event_is (λ (c : ℕ × Change). c.0 ≤ 0) 0 _ (λ c. omega arith))
-      (all_weaker (λ (c : ℕ × Change). 1 ≤ c.0) (λ (c : ℕ × Change). 0 ≤ c.0) later (λ c le. omega arith) (numbers_from steady every hops 1 held (kept_at_load hops held) elems))
+      (all_weaker (λ (c : ℕ × Change). 1 ≤ c.0) (λ (c : ℕ × Change). 0 ≤ c.0) later (λ c le. omega arith) (numbers_from fewest steady every hops 1 held (kept_at_load hops held) elems))
       in
       λ i j d le lt. rises_at (all_changes elems) i j d rises le lt
 
   pub none_past : (elems : List Elem) → AllByRecursion (λ (c : ℕ × Change). c.0 ≤ length elems) (all_changes elems)
   none_past elems =
-      all_both (λ (c : ℕ × Change). c.0 ≤ length elems) (load_told steady hops held) (events_told steady every hops 1 held (kept_at_load hops held) elems)
+      all_both (λ (c : ℕ × Change). c.0 ≤ length elems) (load_told steady hops held) (told_from fewest steady every hops 1 held (kept_at_load hops held) elems)
       (event_is (λ (c : ℕ × Change). c.0 ≤ length elems) 0 _ (λ c. omega arith))
-      (numbers_to steady every hops 1 (length elems) held (kept_at_load hops held) elems (omega arith))
+      (numbers_to fewest steady every hops 1 (length elems) held (kept_at_load hops held) elems (omega arith))
 
 -- every kept table is in order
-pub kept_placed : (every : ℕ) (hops : List Address) (n : ℕ) (held : Candidates) (T : Entries) (elems : List Elem) → AllByRecursion IsElem elems → Placed T → Placed (kept_from every hops n held T elems)
-unfolding kept_from
-kept_placed every hops n held T [] p t = t
-kept_placed every hops n held T (x ∷ elems) p t =
-    kept_placed every hops (n + 1) (after_elem held x) (kept_by every hops n held T x) elems p.1 (renewed_placed (is_due every n) (entries_of hops (after_elem held x)) (repaired_by hops held T x) (by_placed hops held T x p.0 t))
-
 pub loaded_placed : (hops : List Address) (held : Candidates) → Placed (kept_at_load hops held)
 loaded_placed hops held = snapshot_placed (entries_of hops held) []
 
 -- ---- after a snapshot
 
-renewed_least : (b : Bool) (R T : Entries) → b ≡ true → LeastInBoth R (snapshot_if b R T)
-renewed_least true R T e = snapshot_least R T
-renewed_least false R T e = absurd cc
+least_last : (fewest : Bool) (every : ℕ) (hops : List Address) (n : ℕ) (held : Candidates) (T : Entries) (x : Elem) (elems : List Elem) → is_due every (n + length elems) ≡ true → LeastInBoth (entries_of hops (after_elems (after_elem held x) elems)) (table_from fewest every hops n held T (x ∷ elems))
+unfolding table_from
+least_last fewest every hops n held T x [] e = renewed_least (is_due every n) (entries_of hops (after_elem held x)) (moved_by fewest hops held T x) (ap (is_due every) (omega arith) ∙ e)
+least_last fewest every hops n held T x (y ∷ elems) e = least_last fewest every hops (n + 1) (after_elem held x) (table_by fewest every hops n held T x) y elems (ap (is_due every) (omega arith) ∙ e)
 
-least_last : (every : ℕ) (hops : List Address) (n : ℕ) (held : Candidates) (T : Entries) (x : Elem) (elems : List Elem) → is_due every (n + length elems) ≡ true → LeastInBoth (entries_of hops (after_elems (after_elem held x) elems)) (kept_from every hops n held T (x ∷ elems))
-unfolding kept_from
-least_last every hops n held T x [] e = renewed_least (is_due every n) (entries_of hops (after_elem held x)) (repaired_by hops held T x) (ap (is_due every) (omega arith) ∙ e)
-least_last every hops n held T x (y ∷ elems) e = least_last every hops (n + 1) (after_elem held x) (kept_by every hops n held T x) y elems (ap (is_due every) (omega arith) ∙ e)
-
-pub least_after : (every : ℕ) (hops : List Address) (held : Candidates) (done : List Elem) → has_snapshot every (length done) ≡ true → LeastInBoth (entries_of hops (after_elems held done)) (table_after every hops held done)
-unfolding kept_from
-least_after every hops held [] e = snapshot_least (entries_of hops held) []
-least_after every hops held (x ∷ done) e = least_last every hops 1 held (kept_at_load hops held) x done (ap (is_due every) (omega arith) ∙ e)
+pub least_after : (fewest : Bool) (every : ℕ) (hops : List Address) (held : Candidates) (done : List Elem) → has_snapshot every (length done) ≡ true → LeastInBoth (entries_of hops (after_elems held done)) (table_after fewest every hops held done)
+unfolding table_from
+least_after fewest every hops held [] e = snapshot_least (entries_of hops held) []
+least_after fewest every hops held (x ∷ done) e = least_last fewest every hops 1 held (kept_at_load hops held) x done (ap (is_due every) (omega arith) ∙ e)
 
 -- ---- after a repair
 
-pub alike_after : (every : ℕ) (hops : List Address) (held : Candidates) (done : List Elem) → AreCandidates held → AllByRecursion IsElem done → AlikeInBoth (table_after every hops held done) (entries_of hops (after_elems held done))
-alike_after every hops held done a p = λ b is. sym (kept_alike every hops 1 held (kept_at_load hops held) done a p (loaded_placed hops held) (loaded_alike hops held) b is)
+pub alike_after : (fewest : Bool) (every : ℕ) (hops : List Address) (held : Candidates) (done : List Elem) → AreCandidates held → AllByRecursion IsElem done → AlikeInBoth (table_after fewest every hops held done) (entries_of hops (after_elems held done))
+alike_after fewest every hops held done a p = λ b is. sym (from_alike fewest every hops 1 held (kept_at_load hops held) done a p (loaded_placed hops held) (loaded_alike hops held) b is)
 
 -- a repair, and a snapshot after it if there is one
 by_fewest : (b : Bool) (R T L : Entries) (q : Prefix) → IsPrefix q → Placed T → AreEntries L → Alike (width q.family) (of_family q.family R) (of_family q.family L) → SameOutside q.bits (of_family q.family L) (of_family q.family T)
@@ -292,38 +260,76 @@ outside_by every hops n held T elem e t none =
 
 -- ---- one elementary event more
 
+-- the hops of all routes have numbers along the way
+along : (before elems : List Elem) → AreNumberedAlong (hops_after [] (before ++ elems)) (after_elems [] before) elems
+along before elems = subst (λ es. AreNumberedAlong (hops_after [] (before ++ es)) (after_elems [] before) elems) (append-nil elems) (numbered_along before elems [])
+
 -- the changes stay what they are as more hops get numbers
-changes_stay : (steady : Bool) (every : ℕ) (before elems more : List Elem) → changes_of steady every (hops_after (hops_after [] (before ++ elems)) more) before elems ≡ changes_of steady every (hops_after [] (before ++ elems)) before elems
-changes_stay steady every before elems more =
+changes_stay : (fewest steady : Bool) (every : ℕ) (before elems more : List Elem) → changes_of fewest steady every (hops_after (hops_after [] (before ++ elems)) more) before elems ≡ changes_of fewest steady every (hops_after [] (before ++ elems)) before elems
+changes_stay fewest steady every before elems more =
     let hops = hops_after [] (before ++ elems) in
     let held = after_elems [] before in
-    let along : AreNumberedAlong hops held elems = subst (λ es. AreNumberedAlong (hops_after [] (before ++ es)) held elems) (append-nil elems) (numbered_along before elems []) in
-    let load = load_stays hops more held (numbered_later before elems) in
-    ap (λ cs. cs ++ events_told steady every (hops_after hops more) 1 held (kept_at_load (hops_after hops more) held) elems) (load_told_stays steady hops more held (numbered_later before elems))
-    ∙ (ap (λ T. load_told steady hops held ++ events_told steady every (hops_after hops more) 1 held T elems) load
-    ∙ ap (λ cs. load_told steady hops held ++ cs) (events_stay steady every hops more 1 held (kept_at_load hops held) elems along))
+    ap (λ cs. cs ++ told_from fewest steady every (hops_after hops more) 1 held (kept_at_load (hops_after hops more) held) elems) (load_told_stays steady hops more held (numbered_later before elems))
+    ∙ (ap (λ T. load_told steady hops held ++ told_from fewest steady every (hops_after hops more) 1 held T elems) (load_stays hops more held (numbered_later before elems))
+    ∙ ap (λ cs. load_told steady hops held ++ cs) (told_from_stays fewest steady every hops more 1 held (kept_at_load hops held) elems (along before elems)))
 
 -- the table does
-table_stays : (every : ℕ) (before elems more : List Elem) → kept_of every (hops_after (hops_after [] (before ++ elems)) more) before elems ≡ kept_of every (hops_after [] (before ++ elems)) before elems
-table_stays every before elems more =
+table_stays : (fewest : Bool) (every : ℕ) (before elems more : List Elem) → kept_of fewest every (hops_after (hops_after [] (before ++ elems)) more) before elems ≡ kept_of fewest every (hops_after [] (before ++ elems)) before elems
+table_stays fewest every before elems more =
     let hops = hops_after [] (before ++ elems) in
     let held = after_elems [] before in
-    let along : AreNumberedAlong hops held elems = subst (λ es. AreNumberedAlong (hops_after [] (before ++ es)) held elems) (append-nil elems) (numbered_along before elems []) in
-    ap (λ T. kept_from every (hops_after hops more) 1 held T elems) (load_stays hops more held (numbered_later before elems))
-    ∙ kept_stays every hops more 1 held (kept_at_load hops held) elems along
+    ap (λ T. table_from fewest every (hops_after hops more) 1 held T elems) (load_stays hops more held (numbered_later before elems))
+    ∙ table_from_stays fewest false every hops more 1 held (kept_at_load hops held) elems (along before elems)
 
-pub changes_grow : (steady : Bool) (every : ℕ) (before done : List Elem) (elem : Elem) (hops : List Address) (held : Candidates) (T : Entries) (n : ℕ) → hops ≡ hops_after [] (before ++ done) → held ≡ after_elems (after_elems [] before) done → T ≡ kept_of every hops before done → n ≡ length done
-    → changes_of steady every hops before done ++ at_event (n + 1) (event_told steady every (hops_after hops (elem ∷ [])) (n + 1) held T elem) ≡ changes_of steady every (hops_after hops (elem ∷ [])) before (done ++ elem ∷ [])
-changes_grow steady every before done elem hops held T n h c t e =
-    let now = hops_after hops (elem ∷ []) in
-    let first = after_elems [] before in
-    let table : T ≡ kept_of every now before done = t ∙ (ap (λ hs. kept_of every hs before done) h ∙ (sym (table_stays every before done (elem ∷ [])) ∙ ap (λ hs. kept_of every (hops_after hs (elem ∷ [])) before done) (sym h))) in
-    let changes : changes_of steady every hops before done ≡ changes_of steady every now before done = ap (λ hs. changes_of steady every hs before done) h ∙ (sym (changes_stay steady every before done (elem ∷ [])) ∙ ap (λ hs. changes_of steady every (hops_after hs (elem ∷ [])) before done) (sym h)) in
-    let last : at_event (n + 1) (event_told steady every now (n + 1) held T elem) ≡ at_event (length done + 1) (event_told steady every now (length done + 1) (after_elems first done) (kept_of every now before done) elem) =
-    ap (λ m. at_event (m + 1) (event_told steady every now (m + 1) held T elem)) e
-    ∙ (ap (λ h. at_event (length done + 1) (event_told steady every now (length done + 1) h T elem)) c ∙ ap (λ K. at_event (length done + 1) (event_told steady every now (length done + 1) (after_elems first done) K elem)) table)
-    in
-    ap (λ cs. cs ++ at_event (n + 1) (event_told steady every now (n + 1) held T elem)) changes
-    ∙ (ap (λ cs. changes_of steady every now before done ++ cs) last
-    ∙ (append_assoc (load_told steady now first) (events_told steady every now 1 first (kept_at_load now first) done) (at_event (length done + 1) (event_told steady every now (length done + 1) (after_elems first done) (kept_of every now before done) elem))
-    ∙ ap (λ cs. load_told steady now first ++ cs) (sym (events_step steady every now elem first (kept_at_load now first) done))))
+-- so does how many changes each event needs
+moves_stay : (fewest : Bool) (every : ℕ) (before elems more : List Elem) → run_moves fewest every (hops_after (hops_after [] (before ++ elems)) more) before elems ≡ run_moves fewest every (hops_after [] (before ++ elems)) before elems
+moves_stay false every before elems more = refl
+moves_stay true every before elems more =
+    let hops = hops_after [] (before ++ elems) in
+    let held = after_elems [] before in
+    ap (λ T. moves_from true every (hops_after hops more) 1 held T elems) (load_stays hops more held (numbered_later before elems))
+    ∙ moves_from_stay true false every hops more 1 held (kept_at_load hops held) elems (along before elems)
+
+-- what an event adds to it, where it is told
+abbrev pub moves_if : Bool → List (ℕ × ℕ) → List (ℕ × ℕ)
+moves_if false moves = []
+moves_if true moves = moves
+
+module _ (fewest : Bool) (every : ℕ) (before done : List Elem) (elem : Elem) (hops : List Address) (held : Candidates) (T : Entries) (n : ℕ)
+    (h : hops ≡ hops_after [] (before ++ done)) (c : held ≡ after_elems (after_elems [] before) done) (t : T ≡ kept_of fewest every hops before done) (e : n ≡ length done) where
+  abbrev now : List Address
+  now = hops_after hops (elem ∷ [])
+
+  abbrev first : Candidates
+  first = after_elems [] before
+
+  table_now : T ≡ kept_of fewest every now before done
+  table_now = t ∙ (ap (λ hs. kept_of fewest every hs before done) h ∙ (sym (table_stays fewest every before done (elem ∷ [])) ∙ ap (λ hs. kept_of fewest every (hops_after hs (elem ∷ [])) before done) (sym h)))
+
+  pub changes_grow : (steady : Bool) → changes_of fewest steady every hops before done ++ at_event (n + 1) (told_of fewest steady every now (n + 1) held T elem) ≡ changes_of fewest steady every now before (done ++ elem ∷ [])
+  changes_grow steady =
+      let changes : changes_of fewest steady every hops before done ≡ changes_of fewest steady every now before done =
+      ap (λ hs. changes_of fewest steady every hs before done) h ∙ (sym (changes_stay fewest steady every before done (elem ∷ [])) ∙ ap (λ hs. changes_of fewest steady every (hops_after hs (elem ∷ [])) before done) (sym h))
+      in
+      let last : at_event (n + 1) (told_of fewest steady every now (n + 1) held T elem) ≡ at_event (length done + 1) (told_of fewest steady every now (length done + 1) (after_elems first done) (kept_of fewest every now before done) elem) =
+      ap (λ m. at_event (m + 1) (told_of fewest steady every now (m + 1) held T elem)) e
+      ∙ (ap (λ k. at_event (length done + 1) (told_of fewest steady every now (length done + 1) k T elem)) c ∙ ap (λ K. at_event (length done + 1) (told_of fewest steady every now (length done + 1) (after_elems first done) K elem)) table_now)
+      in
+      ap (λ cs. cs ++ at_event (n + 1) (told_of fewest steady every now (n + 1) held T elem)) changes
+      ∙ (ap (λ cs. changes_of fewest steady every now before done ++ cs) last
+      ∙ (append_assoc (load_told steady now first) (told_from fewest steady every now 1 first (kept_at_load now first) done) (at_event (length done + 1) (told_of fewest steady every now (length done + 1) (after_elems first done) (kept_of fewest every now before done) elem))
+      ∙ ap (λ cs. load_told steady now first ++ cs) (sym (told_step fewest steady every now first (kept_at_load now first) done elem))))
+
+  pub moves_grow : run_moves fewest every hops before done ++ moves_if fewest (moves_of fewest now (n + 1) held T elem) ≡ run_moves fewest every now before (done ++ elem ∷ [])
+  moves_grow =
+      let moves : run_moves fewest every hops before done ≡ run_moves fewest every now before done =
+      ap (λ hs. run_moves fewest every hs before done) h ∙ (sym (moves_stay fewest every before done (elem ∷ [])) ∙ ap (λ hs. run_moves fewest every (hops_after hs (elem ∷ [])) before done) (sym h))
+      in
+      let last : moves_of fewest now (n + 1) held T elem ≡ moves_of fewest now (length done + 1) (after_elems first done) (kept_of fewest every now before done) elem =
+      ap (λ m. moves_of fewest now (m + 1) held T elem) e ∙ (ap (λ k. moves_of fewest now (length done + 1) k T elem) c ∙ ap (λ K. moves_of fewest now (length done + 1) (after_elems first done) K elem) table_now)
+      in
+      ap (λ ms. ms ++ moves_if fewest (moves_of fewest now (n + 1) held T elem)) moves ∙ (ap (λ ms. run_moves fewest every now before done ++ moves_if fewest ms) last ∙ steps fewest)
+    where
+      steps : (b : Bool) → run_moves b every now before done ++ moves_if b (moves_of b now (length done + 1) (after_elems first done) (kept_of b every now before done) elem) ≡ run_moves b every now before (done ++ elem ∷ [])
+      steps false = refl
+      steps true = sym (moves_step true false every now first (kept_at_load now first) done elem)

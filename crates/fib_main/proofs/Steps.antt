@@ -1,5 +1,5 @@
 -- One elementary event after another.
-use Rattle.std.proofs.Common.{◌≡◌, Bool, ℕ, suc, ◌+◌, ◌<◌, ◌≤◌, List, [], ◌∷◌, ◌++◌, Some, None, Ok, Err, length, map, take, drop, refl, sym, ap, ◌∙◌, arith, subst, append_assoc, append-nil, length-append}
+use Rattle.std.proofs.Common.{◌≡◌, Bool, true, false, Option, ℕ, suc, ◌+◌, ◌<◌, ◌≤◌, List, [], ◌∷◌, ◌++◌, Some, None, Ok, Err, length, map, take, drop, refl, sym, ap, ◌∙◌, arith, subst, append_assoc, append-nil, length-append}
 use Rattle.std.specs.Prelude.{option_map, get_or, IsErrOf}
 use Rattle.std.proofs.Math.Seq.{drop-cons, take-append_seam}
 use Rattle.std.proofs.lemmas.List.{take_all, take_more, take-append-drop, map-append}
@@ -7,7 +7,7 @@ use Rattle.fib_main.specs.declared.state.FeedError.{FeedError}
 use Rattle.fib_main.specs.declared.state.FeedError.TheVariants.{Malformed, HopsFull, TrieFull as FeedFull, NoMemory, Fault, TooLarge}
 use Rattle.std.proofs.lemmas.List.{map_push}
 use Rattle.std.proofs.lemmas.List.Sums.{fold-append}
-use Rattle.address_model.specs.Address.{Address}
+use Rattle.address_model.specs.Address.{Address, Prefix}
 use Rattle.std.specs.List.Sorted.{IsStrictlySortedBy}
 use Rattle.std.specs.Map.{keys_of}
 use Rattle.address_model.specs.Order.{prefix_cmp}
@@ -21,24 +21,27 @@ use Rattle.delta_model.proofs.Merged.{first_new}
 use Rattle.feed_model.specs.Feed.{hops_after, entries_of, at_event}
 use Rattle.feed_model.proofs.Numbers.{hops_more}
 use Rattle.kept_feed.specs.Kept.{kept_at_load}
-use Rattle.steady_feed.specs.Told.{event_told, events_told, steady_if}
+use Rattle.steady_feed.specs.Told.{steady_if}
+use Rattle.fewest_feed.specs.Reported.{counted_at, first_changes, moves_from, moves_of, told_from, told_of as event_told}
+use Rattle.kept_feed.specs.Kept.{changed_at}
 use Rattle.kept_feed.proofs.Sums.{snapshot_placed}
 use Rattle.fib_addr.specs.Views.{entry_as}
 use Rattle.fib_addr.specs.Hops.{most_hops}
 use Rattle.fib_main.specs.declared.outcome.MrtInput.{MrtInput}
 use Rattle.fib_main.specs.declared.outcome.MrtInput.TheVariants.{Dump, Updates}
 use Rattle.fib_main.specs.declared.state.State.{State}
-use Rattle.fib_main.specs.Views.{changes_as, told_changes}
+use Rattle.fib_main.specs.Views.{changes_as, moves_told, told_changes, told_moves}
+use Rattle.fib_report.specs.Views.{moves_as}
 use Rattle.fib_engine.specs.Held.{routes_in}
-use Rattle.fib_engine.specs.Stands.{EndsLoad, IsLoading, IsShortFor, IsTooMany, Loads, Stands, Takes, routes_after}
+use Rattle.fib_engine.specs.Stands.{EndsLoad, IsLoading, IsShortFor, IsTooMany, Loads, Stands, Takes, moves_after, routes_after}
 use Rattle.route_tries.specs.Sizes.{shortage, shortage_as}
 use Rattle.route_tries.specs.declared.sizes.TrieFull.{TrieFull}
 use Rattle.fib_main.specs.Refusals.{Limits, ManyHops, Refusal, Short, routes_by, stop_at, too_much}
 use Rattle.fib_main.proofs.Refusing.{dump_fits, is_short, many_hops, stop_behind, stop_in_front, stop_none, stop_one, updates_fit}
 use Rattle.fib_engine.specs.declared.error.EngineError.{EngineError}
 use Rattle.fib_engine.specs.declared.error.EngineError.TheVariants as engine
-use Rattle.fib_main.specs.Due.{changes_of, kept_of}
-use Rattle.fib_main.proofs.Keeping.{changes_grow}
+use Rattle.fib_main.specs.Due.{changes_of, kept_of, moves_of as run_moves}
+use Rattle.fib_main.proofs.Keeping.{changes_grow, moves_grow, moves_if}
 use Rattle.fib_main.specs.Standing.{EndsShort, IsOfLoad, refusal_at, StateStands, IsStopped, StateTakes, StateTakesAll, next_elems}
 
 -- ---- what the engine has is what came before and since
@@ -120,16 +123,19 @@ few_push : (elem : Elem) (old new : State) → (IsTooMany elem old.engine → �
 few_push elem old new n h = rw h (few_after old.engine.hops elem n)
 
 -- an elementary event of the load
-pub loads_one : (event : ℕ) (elem : Elem) (old new : State) → Loads elem old.engine new.engine → ((load : List Elem) → IsLoading load old.engine → IsLoading (load ++ elem ∷ []) new.engine) → (IsTooMany elem old.engine → ⊥) → new.steady ≡ old.steady → told_changes new ≡ told_changes old
+pub loads_one : (event : ℕ) (elem : Elem) (old new : State) → Loads elem old.engine new.engine → ((load : List Elem) → IsLoading load old.engine → IsLoading (load ++ elem ∷ []) new.engine) → (IsTooMany elem old.engine → ⊥) → new.fewest ≡ old.fewest → new.steady ≡ old.steady → told_changes new ≡ told_changes old → told_moves new ≡ told_moves old
     → StateTakes {T = Unit {0}} Dump event (elem ∷ []) old (Ok tt) new
-loads_one event elem old new l loading n y same = λ limits before done counted s. record {
+loads_one event elem old new l loading n f y same none = λ limits before done counted s. record {
   engine = subst (λ es. IsLoading es new.engine) (sym (elems_push before done elem)) (loading (before ++ done) s.engine);
   every_is = l.every ∙ s.every_is;
+  fewest_is = l.fewest ∙ s.fewest_is;
+  counted_is = f ∙ s.counted_is;
   steady_is = y ∙ s.steady_is;
   sizes_are = l.sizes ∙ s.sizes_are;
   few = few_push elem old new n l.hops;
   fits = fits_push Dump limits before done elem old s (dump_fits limits.sizes ((before ++ done) ++ elem ∷ []) (few_next Dump limits before done elem old s n));
   changes = same ∙ s.changes;
+  moves = none ∙ s.moves;
 }
 
 -- tries of the routes after an elementary event that was taken have room
@@ -144,31 +150,64 @@ all_changed n now before e = ap (λ k. take k (now ++ drop (length now) before))
 
 -- what is told of an elementary event that a state takes
 abbrev pub told_of : Elem → State → List Change
-told_of elem old = event_told old.steady old.engine.every (hops_after old.engine.hops (elem ∷ [])) (old.engine.events + 1) old.engine.candidates old.engine.table elem
+told_of elem old = event_told old.engine.fewest old.steady old.engine.every (hops_after old.engine.hops (elem ∷ [])) (old.engine.events + 1) old.engine.candidates old.engine.table elem
 
 -- an elementary event of updates
 pub takes_one : (event : ℕ) (elem : Elem) (old new : State) (changes : List Change) → Takes elem old.engine new.engine → ((load elems : List Elem) → Stands load elems old.engine → Stands load (elems ++ elem ∷ []) new.engine) → (IsTooMany elem old.engine → ⊥)
-    → shortage new.engine.sizes (routes_in new.engine) ≡ None → new.steady ≡ old.steady → changes ≡ told_of elem old → told_changes new ≡ told_changes old ++ at_event event changes → StateTakes {T = Unit {0}} Updates event (elem ∷ []) old (Ok tt) new
-takes_one event elem old new changes t stands n room y c grown = λ limits before done counted s. record {
+    → shortage new.engine.sizes (routes_in new.engine) ≡ None → new.fewest ≡ old.fewest → new.steady ≡ old.steady → changes ≡ told_of elem old → told_changes new ≡ told_changes old ++ at_event event changes → told_moves new ≡ told_moves old ++ moves_told old.fewest event new.engine.moves → StateTakes {T = Unit {0}} Updates event (elem ∷ []) old (Ok tt) new
+takes_one event elem old new changes t stands n room f y c grown moved = λ limits before done counted s. record {
   engine = stands before done s.engine;
   every_is = t.every ∙ s.every_is;
+  fewest_is = t.fewest ∙ s.fewest_is;
+  counted_is = f ∙ s.counted_is;
   steady_is = y ∙ s.steady_is;
   sizes_are = t.sizes ∙ s.sizes_are;
   few = few_push elem old new n t.hops;
   fits = fits_push Updates limits before done elem old s (updates_fit limits.sizes ((before ++ done) ++ elem ∷ []) (few_next Updates limits before done elem old s n) (room_next limits before done elem old new s t room));
   changes = all limits before done counted s;
+  moves = all_moves limits before done counted s;
 } where
-  all : (limits : Limits) (before done : List Elem) → event ≡ length (done ++ elem ∷ []) → StateStands Updates limits before done old → told_changes new ≡ changes_of limits.steady limits.every new.engine.hops before (done ++ elem ∷ [])
+  counted_on : (limits : Limits) (before done : List Elem) → event ≡ length (done ++ elem ∷ []) → StateStands Updates limits before done old → event ≡ old.engine.events + 1
+  counted_on limits before done counted s = omega (arith, counted, s.engine.events, length-append done (elem ∷ []))
+
+  table_on : (limits : Limits) (before done : List Elem) → StateStands Updates limits before done old → old.engine.table ≡ kept_of limits.fewest limits.every old.engine.hops before done
+  table_on limits before done s = s.engine.table ∙ (ap (λ b. kept_of b old.engine.every old.engine.hops before done) s.fewest_is ∙ ap (λ k. kept_of limits.fewest k old.engine.hops before done) s.every_is)
+
+  all : (limits : Limits) (before done : List Elem) → event ≡ length (done ++ elem ∷ []) → StateStands Updates limits before done old → told_changes new ≡ changes_of limits.fewest limits.steady limits.every new.engine.hops before (done ++ elem ∷ [])
   all limits before done counted s =
-      let n : event ≡ old.engine.events + 1 = omega (arith, counted, s.engine.events, length-append done (elem ∷ [])) in
-      let told : Bool → ℕ → List Change = λ b k. event_told b k (hops_after old.engine.hops (elem ∷ [])) (old.engine.events + 1) old.engine.candidates old.engine.table elem in
-      let by : changes ≡ told limits.steady limits.every = c ∙ (ap (λ b. told b old.engine.every) s.steady_is ∙ ap (told limits.steady) s.every_is) in
-      let table : old.engine.table ≡ kept_of limits.every old.engine.hops before done = s.engine.table ∙ ap (λ k. kept_of k old.engine.hops before done) s.every_is in
+      let told : Bool → Bool → ℕ → List Change = λ f b k. event_told f b k (hops_after old.engine.hops (elem ∷ [])) (old.engine.events + 1) old.engine.candidates old.engine.table elem in
+      let by : changes ≡ told limits.fewest limits.steady limits.every = c ∙ (ap (λ g. told g old.steady old.engine.every) s.fewest_is ∙ (ap (λ b. told limits.fewest b old.engine.every) s.steady_is ∙ ap (told limits.fewest limits.steady) s.every_is)) in
+      let first = changes_of limits.fewest limits.steady limits.every old.engine.hops before done in
       grown
       ∙ (ap (λ cs. cs ++ at_event event changes) s.changes
-      ∙ (ap (λ cs. changes_of limits.steady limits.every old.engine.hops before done ++ at_event event cs) by
-      ∙ (ap (λ m. changes_of limits.steady limits.every old.engine.hops before done ++ at_event m (told limits.steady limits.every)) n
-      ∙ (changes_grow limits.steady limits.every before done elem old.engine.hops old.engine.candidates old.engine.table old.engine.events s.engine.hops s.engine.candidates table s.engine.events ∙ ap (λ hs. changes_of limits.steady limits.every hs before (done ++ elem ∷ [])) (sym t.hops)))))
+      ∙ (ap (λ cs. first ++ at_event event cs) by
+      ∙ (ap (λ m. first ++ at_event m (told limits.fewest limits.steady limits.every)) (counted_on limits before done counted s)
+      ∙ (changes_grow limits.fewest limits.every before done elem old.engine.hops old.engine.candidates old.engine.table old.engine.events s.engine.hops s.engine.candidates (table_on limits before done s) s.engine.events limits.steady
+      ∙ ap (λ hs. changes_of limits.fewest limits.steady limits.every hs before (done ++ elem ∷ [])) (sym t.hops)))))
+
+  -- the row of the event, if it has one
+  row_is : (b : Bool) → b ≡ old.engine.fewest → (at : Option Prefix) (n : ℕ) (cs : List Change) → moves_told b n (option_map (λ p. length cs) at) ≡ moves_if b (counted_at at n cs)
+  row_is false e None n cs = refl
+  row_is false e (Some p) n cs = refl
+  row_is true e None n cs = refl
+  row_is true e (Some p) n cs = refl
+
+  all_moves : (limits : Limits) (before done : List Elem) → event ≡ length (done ++ elem ∷ []) → StateStands Updates limits before done old → told_moves new ≡ run_moves limits.fewest limits.every new.engine.hops before (done ++ elem ∷ [])
+  all_moves limits before done counted s =
+      let now = hops_after old.engine.hops (elem ∷ []) in
+      let at = changed_at old.engine.candidates elem in
+      let step : Bool → List Change = λ b. first_changes b now old.engine.candidates old.engine.table elem in
+      let row : moves_told old.fewest event new.engine.moves ≡ moves_if limits.fewest (moves_of limits.fewest now (old.engine.events + 1) old.engine.candidates old.engine.table elem) =
+      ap (moves_told old.fewest event) t.moves
+      ∙ (ap (λ b. moves_told b event (moves_after elem old.engine)) s.counted_is
+      ∙ (ap (λ b. moves_told limits.fewest event (option_map (λ p. length (step b)) at)) s.fewest_is
+      ∙ (row_is limits.fewest (sym s.fewest_is) at event (step limits.fewest) ∙ ap (λ m. moves_if limits.fewest (counted_at at m (step limits.fewest))) (counted_on limits before done counted s))))
+      in
+      moved
+      ∙ (ap (λ ms. ms ++ moves_told old.fewest event new.engine.moves) s.moves
+      ∙ (ap (λ ms. run_moves limits.fewest limits.every old.engine.hops before done ++ ms) row
+      ∙ (moves_grow limits.fewest limits.every before done elem old.engine.hops old.engine.candidates old.engine.table old.engine.events s.engine.hops s.engine.candidates (table_on limits before done s) s.engine.events
+      ∙ ap (λ hs. run_moves limits.fewest limits.every hs before (done ++ elem ∷ [])) (sym t.hops))))
 
 -- ---- the end of the load
 
@@ -182,20 +221,27 @@ unfolding between IsStrictlySortedBy
 between_none [] s = refl
 between_none (e ∷ T) s = first_new e [] T tt s.0 ∙ ap (λ cs. Add e.0 e.1 ∷ cs) (between_none T s.1)
 
-pub load_ended : (limits : Limits) (load : List Elem) (old new : State) → EndsLoad old.engine new.engine → ((load : List Elem) → IsLoading load old.engine → Stands load [] new.engine) → new.steady ≡ old.steady
-    → (IsStrictlySortedBy prefix_cmp (keys_of new.engine.table) → additions (map entry_as new.added.items) ≡ steady_if new.steady (additions new.engine.table)) → new.changes.items ≡ old.changes.items
+pub load_ended : (limits : Limits) (load : List Elem) (old new : State) → EndsLoad old.engine new.engine → ((load : List Elem) → IsLoading load old.engine → Stands load [] new.engine) → new.fewest ≡ old.fewest → new.steady ≡ old.steady
+    → (IsStrictlySortedBy prefix_cmp (keys_of new.engine.table) → additions (map entry_as new.added.items) ≡ steady_if new.steady (additions new.engine.table)) → new.changes.items ≡ old.changes.items → new.moves.items ≡ old.moves.items
     → StateStands Dump limits [] load old → StateStands Updates limits load [] new
-unfolding stop_at events_told
-load_ended limits load old new e stands y there same s = record {
+unfolding stop_at told_from moves_from
+load_ended limits load old new e stands f y there same kept s = record {
   engine = stands load s.engine;
   every_is = e.every ∙ s.every_is;
+  fewest_is = e.fewest ∙ s.fewest_is;
+  counted_is = f ∙ s.counted_is;
   steady_is = steady;
   sizes_are = e.sizes ∙ s.sizes_are;
   few = rw e.hops s.few;
   fits = refl;
   changes = ap (λ cs. at_event 0 cs ++ changes_as new.changes.items) (there sorted ∙ (ap (λ b. steady_if b (additions new.engine.table)) steady ∙ ap (λ L. steady_if limits.steady (additions L)) table))
       ∙ (ap (λ cs. at_event 0 (steady_if limits.steady (additions T)) ++ cs) none ∙ ap (λ cs. at_event 0 (steady_if limits.steady cs) ++ []) (sym (between_none T placed)));
+  moves = ap (map moves_as) kept ∙ (s.moves ∙ no_moves limits.fewest);
 } where
+  no_moves : (b : Bool) → [] ≡ run_moves b limits.every new.engine.hops load []
+  no_moves false = refl
+  no_moves true = refl
+
   T : Entries
   T = kept_at_load new.engine.hops (after_elems [] load)
 

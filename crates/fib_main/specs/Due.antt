@@ -10,8 +10,8 @@ use Rattle.route_model.specs.Events.{Elem, Event}
 use Rattle.route_model.specs.Choice.{Candidates, Offer, Place, after_elems, elems_after}
 use Rattle.reading_model.specs.Input.{Progress, Stopped, input}
 use Rattle.feed_model.specs.Feed.{hops_after, entries_of}
-use Rattle.kept_feed.specs.Kept.{kept_at_load, kept_from}
-use Rattle.steady_feed.specs.Told.{run_told}
+use Rattle.fewest_feed.specs.Moved.{table_of_run}
+use Rattle.fewest_feed.specs.Reported.{moves_of_run, told_of_run}
 use Rattle.poptrie_build.specs.Tries.{visits_of}
 use Rattle.route_tries.specs.Sizes.{Sizes, needs_of, shortage}
 use Rattle.route_tries.specs.declared.needs.FamilyNeeds.{FamilyNeeds}
@@ -180,20 +180,26 @@ counts load updates routes kept needs = record {
   treated = load.treated + updates.treated;
 }
 
--- the kept table after the last event, with these numbers of hops and a snapshot after each so many elementary events of the updates; 0 is never
-abbrev pub kept_of : ℕ → List Address → List Elem → List Elem → Entries
-kept_of every hops load updates = kept_from every hops 1 (after_elems [] load) (kept_at_load hops (after_elems [] load)) updates
+-- the kept table after the last event, with these numbers of hops, the fewest changes at each event if they are asked for, and a snapshot after each so many elementary events of the updates; 0 is never
+abbrev pub kept_of : Bool → ℕ → List Address → List Elem → List Elem → Entries
+kept_of fewest every hops load updates = table_of_run fewest every hops (after_elems [] load) updates
 
 -- its changes as they are told, in steady order or in that of prefixes: those of the load, event 0, and those of each elementary event of the updates
-abbrev pub changes_of : Bool → ℕ → List Address → List Elem → List Elem → List (ℕ × Change)
-changes_of steady every hops load updates = run_told steady every hops (after_elems [] load) updates
+abbrev pub changes_of : Bool → Bool → ℕ → List Address → List Elem → List Elem → List (ℕ × Change)
+changes_of fewest steady every hops load updates = told_of_run fewest steady every hops (after_elems [] load) updates
 
--- of these routes, and of a kept table and its changes, with so many direct bits: the routes, the announcements that are Invalid, the changes, each address with its answer, the table, the aggregate of the routes with the kept table as the old one, the certificate that it is least, and the counts
-abbrev pub run_of : ℕ → Entries → Entries → List (ℕ × Change) → List Address → Feed → Feed → Told
-run_of s routes kept changes asks load updates = record {
+-- the number of each elementary event of the updates that changes a chosen hop, with that of the changes it needs before a snapshot; told where the fewest changes are asked for
+abbrev pub moves_of : Bool → ℕ → List Address → List Elem → List Elem → List (ℕ × ℕ)
+moves_of false every hops load updates = []
+moves_of true every hops load updates = moves_of_run true every hops (after_elems [] load) updates
+
+-- of these routes, and of a kept table, its changes and how many each event needs, with so many direct bits: the routes, the announcements that are Invalid, the changes, how many each event needs, each address with its answer, the table, the aggregate of the routes with the kept table as the old one, the certificate that it is least, and the counts
+abbrev pub run_of : ℕ → Entries → Entries → List (ℕ × Change) → List (ℕ × ℕ) → List Address → Feed → Feed → Told
+run_of s routes kept changes moves asks load updates = record {
   routes = routes;
   invalid = load.invalid ++ updates.invalid;
   changes = changes;
+  moves = moves;
   answers = answers_to s routes asks;
   table = kept;
   least = aggregate_in_both routes kept;
@@ -201,7 +207,7 @@ run_of s routes kept changes asks load updates = record {
   report = counts load updates routes kept (needs_of s routes);
 }
 
--- what is to be printed: the rows, and the hops that their numbers stand for; and what they come from: the elementary events of the load and of the updates, how many of these each snapshot follows, whether changes are told in steady order, and how large tries are
+-- what is to be printed: the rows, and the hops that their numbers stand for; and what they come from: the elementary events of the load and of the updates, how many of these each snapshot follows, whether each event makes the fewest changes, whether changes are told in steady order, and how large tries are
 pub record Printed : Type 0 where
   pub told : Told
   pub hops : List Address
@@ -212,7 +218,7 @@ pub record Printed : Type 0 where
 -- the numbers are those after all elementary events
 abbrev pub printed_by : List Address → Limits → Feed → Feed → List Address → Printed
 printed_by hops limits load updates asks = record {
-  told = run_of limits.sizes.direct (entries_of hops (after_elems [] (load.elems ++ updates.elems))) (kept_of limits.every hops load.elems updates.elems) (changes_of limits.steady limits.every hops load.elems updates.elems) asks load updates;
+  told = run_of limits.sizes.direct (entries_of hops (after_elems [] (load.elems ++ updates.elems))) (kept_of limits.fewest limits.every hops load.elems updates.elems) (changes_of limits.fewest limits.steady limits.every hops load.elems updates.elems) (moves_of limits.fewest limits.every hops load.elems updates.elems) asks load updates;
   hops = hops;
   limits = limits;
   load = load.elems;
@@ -222,12 +228,12 @@ printed_by hops limits load updates asks = record {
 abbrev pub printed : Limits → Feed → Feed → List Address → Printed
 printed limits load updates asks = printed_by (hops_after [] (load.elems ++ updates.elems)) limits load updates asks
 
--- as many events to a snapshot, changes in such an order, and tries as large, as are asked for
+-- as many events to a snapshot, as few changes, changes in such an order, and tries as large, as are asked for
 abbrev pub sizes_of : Named → Sizes
 sizes_of named = record { direct = named.direct; nodes = named.nodes; leaves = named.leaves }
 
 abbrev pub limits_of : Named → Limits
-limits_of named = record { every = named.every; steady = named.steady; sizes = sizes_of named }
+limits_of named = record { every = named.every; fewest = named.fewest; steady = named.steady; sizes = sizes_of named }
 
 -- what the dump and the updates that are named bring: the tries of the dump's routes need room before the updates are read
 unfoldable pub feeds_at : (List ℕ → Option (List ℕ)) → List Vrp → Named → Result (Feed × Feed) Stop
@@ -275,7 +281,7 @@ made_content routes seed name =
 
 -- what the main job is asked to do with them
 abbrev pub made_named : Named
-made_named = record { dump = codes "dump"; updates = Some (codes "updates"); asks = None; vrps = None; every = 1000; steady = false; direct = 16; nodes = 20; leaves = 22 }
+made_named = record { dump = codes "dump"; updates = Some (codes "updates"); asks = None; vrps = None; every = 1000; fewest = false; steady = false; direct = 16; nodes = 20; leaves = 22 }
 
 -- what it comes to
 unfoldable pub made_at : ℕ → ℕ → Result Printed Stop

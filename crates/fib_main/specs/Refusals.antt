@@ -9,9 +9,10 @@ use Rattle.route_tries.specs.Sizes.{Sizes, Shortage, shortage}
 use Rattle.fib_main.specs.declared.outcome.MrtInput.{MrtInput}
 use Rattle.fib_main.specs.declared.outcome.MrtInput.TheVariants.{Dump, Updates}
 
--- how many elementary events of the updates a snapshot follows, whether changes are told in steady order, and how large tries are
+-- how many elementary events of the updates a snapshot follows, whether each event makes the fewest changes, whether changes are told in steady order, and how large tries are
 pub record Limits : Type 0 where
   pub every : ℕ
+  pub fewest : Bool
   pub steady : Bool
   pub sizes : Sizes
 

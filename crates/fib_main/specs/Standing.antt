@@ -26,10 +26,10 @@ use Rattle.fib_io.specs.declared.pieces.ReadError.TheVariants as pieces
 use Rattle.fib_main.specs.declared.report.Fed.{Fed}
 use Rattle.mrt_read.specs.declared.reader.EventsError.{EventsError}
 use Rattle.mrt_read.specs.declared.reader.EventsError.TheVariants as read
-use Rattle.fib_main.specs.Views.{told_changes}
+use Rattle.fib_main.specs.Views.{told_changes, told_moves}
 use Rattle.fib_main.specs.Stops.{Stop, IsDueIfTold, FailsDue, event_in, input_of}
 use Rattle.fib_main.specs.Refusals.{Limits, ManyHops, Refusal, Short, routes_by, stop_at, too_much}
-use Rattle.fib_main.specs.Due.{Feed, changes_of, feeds_at, limits_of}
+use Rattle.fib_main.specs.Due.{Feed, changes_of, feeds_at, limits_of, moves_of}
 use Rattle.made_model.specs.Files.{dump_octets, updates_octets}
 use Rattle.fib_io.specs.Held.{held_under}
 use Rattle.fib_io.specs.declared.memory_inputs.SureInputs.{SureInputs}
@@ -49,17 +49,25 @@ IsReady Updates count e = (e.loaded ≡ true) × (e.events ≡ count)
 -- the changes so far: none until the load ended, and then those of the load and of these elementary events of updates
 abbrev pub changes_so_far : MrtInput → Limits → List Address → List Elem → List Elem → List (ℕ × Change)
 changes_so_far Dump limits hops before elems = []
-changes_so_far Updates limits hops before elems = changes_of limits.steady limits.every hops before elems
+changes_so_far Updates limits hops before elems = changes_of limits.fewest limits.steady limits.every hops before elems
 
--- The state after these elementary events of an input, which came after earlier ones, within these limits. Its hops are few enough, and its changes are those so far.
+-- how many changes each of the events so far needed, where that is told
+abbrev pub moves_so_far : MrtInput → Limits → List Address → List Elem → List Elem → List (ℕ × ℕ)
+moves_so_far Dump limits hops before elems = []
+moves_so_far Updates limits hops before elems = moves_of limits.fewest limits.every hops before elems
+
+-- The state after these elementary events of an input, which came after earlier ones, within these limits. Its hops are few enough, and its changes are those so far, as is the number of those that each event needed.
 pub record StateStands (which : MrtInput) (limits : Limits) (before elems : List Elem) (state : State) : Type 0 where
   pub engine : EngineHas which before elems state.engine
   pub every_is : state.engine.every ≡ limits.every
+  pub fewest_is : state.engine.fewest ≡ limits.fewest
+  pub counted_is : state.fewest ≡ limits.fewest
   pub steady_is : state.steady ≡ limits.steady
   pub sizes_are : state.engine.sizes ≡ limits.sizes
   pub few : length state.engine.hops ≤ most_hops
   pub fits : stop_at (too_much which limits.sizes) before elems ≡ None
   pub changes : told_changes state ≡ changes_so_far which limits state.engine.hops before elems
+  pub moves : told_moves state ≡ moves_so_far which limits state.engine.hops before elems
 
 -- the first of these elementary events after which something is too much has this number
 abbrev pub IsStopped : MrtInput → Limits → List Elem → List Elem → ℕ → Refusal → Type 0

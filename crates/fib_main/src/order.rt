@@ -16,18 +16,18 @@ use fib_delta::Change;
 use fib_prefix::Entry;
 use steady_order::{put_entries_in_steady_order, put_event_in_steady_order};
 
-/// Puts an event's changes in the order in which they are told: the first so many, which are those of its repair, and then the
+/// Puts an event's changes in the order in which they are told: the first so many, which are those of its first step, and then the
 /// others, which are those of the snapshot that follows it, each in itself. Both stand in the order of prefixes.
-pub fn order_event(changes: &mut [Change], repaired: usize, steady: bool)
-    requires { repaired ≤ length changes.old }
+pub fn order_event(changes: &mut [Change], first: usize, steady: bool)
+    requires { first ≤ length changes.old }
     ensures same { length changes.new ≡ length changes.old }
     ensures told { (T U V : Entries) → map change_as changes.old ≡ between T U ++ between U V →
-        length (between T U) ≡ repaired →
+        length (between T U) ≡ first →
         map change_as changes.new
         ≡ steady_if steady (between T U) ++ steady_if steady (between U V) }
 {
     if steady {
-        put_event_in_steady_order(changes, repaired);
+        put_event_in_steady_order(changes, first);
     }
 }
 

@@ -1,4 +1,4 @@
-//! What is told of a run: its routes, the announcements that are Invalid, the changes of the kept table, the answers, the table,
+//! What is told of a run: its routes, the announcements that are Invalid, the changes of the kept table, how many each event needed, the answers, the table,
 //! the least table, its certificate and the counts.
 //!
 //! The printed table is the kept one, which is the least table's old table too. The text is made section by section, from what
@@ -12,9 +12,9 @@ ghost use Rattle.table_model.specs.Changes.{additions};
 ghost use Rattle.feed_model.specs.Feed.{at_event};
 ghost use Rattle.fib_addr.specs.Views.{addr_as, entry_as};
 ghost use Rattle.fib_main.specs.Due.{answers_to, Feed, printed, printed_text};
-ghost use Rattle.fib_report.specs.Rows.{of_answer, of_change, of_invalid, report_text, table_entry_row};
+ghost use Rattle.fib_report.specs.Rows.{of_answer, of_change, of_invalid, of_moves, report_text, table_entry_row};
 ghost use Rattle.printed_model.specs.Numbered.{of_least, of_route};
-ghost use Rattle.fib_report.specs.Views.{answer_as, invalid_as};
+ghost use Rattle.fib_report.specs.Views.{answer_as, invalid_as, moves_as};
 ghost use Rattle.fib_report.specs.Sections.{IsReady, Writes, hops_in};
 ghost use Rattle.route_tries.specs.Sizes.{AreFew};
 ghost use Rattle.route_tries.specs.Tries.{AreTriesOf};
@@ -29,7 +29,7 @@ use crate::state::State;
 use fib_delta::Change;
 use fib_engine::{FamilyNeeds, Settled, Tries};
 use fib_prefix::{Addr, Entry};
-use fib_report::{Answer, Report, RunText, Section, report_text};
+use fib_report::{Answer, Moves, Report, RunText, Section, report_text};
 use std::alloc::{AllocError, Global};
 use std::marker::Brand;
 use std::sync::ledger::{Blank, Ledger};
@@ -136,6 +136,14 @@ fn write_changes(
     Ok(())
 }
 
+/// Writes how many changes each event needed, where that is told. The list is let go then.
+fn write_moves(moves: Vec<Moves>, text: &mut RunText<'_>) -> Result<(), AllocError>
+    requires { IsReady text.old }
+    ensures { OnOk result (Writes text.old text.new (map of_moves (map moves_as moves.items))) }
+{
+    text.moves(&moves)
+}
+
 /// Writes each address with its answer.
 fn write_answers(
     alloc: Global,
@@ -192,6 +200,7 @@ pub fn write_text(
         engine,
         added,
         changes,
+        moves,
         ..
     } = state;
     // from here on no candidate is held
@@ -201,6 +210,7 @@ pub fn write_text(
     let (mut text, routes) = write_routes(&settled, text)?;
     write_invalid(fed, &mut text)?;
     write_changes(added, changes, &mut text)?;
+    write_moves(moves, &mut text)?;
     write_answers(alloc, &settled, asks, &mut text)?;
     let (text, entries) = write_table(&settled, text)?;
     let mut text = write_least(&settled, text)?;

@@ -268,6 +268,7 @@ fn limits_of(command: &RunWords<'_>) -> Limits
 {
     Limits {
         every: command.every,
+        fewest: command.fewest,
         sizes: Sizes {
             direct: command.direct,
             nodes: command.nodes,
@@ -350,6 +351,7 @@ const MADE: RunWords<'static> = RunWords {
     asks: None,
     vrps: None,
     every: 1000,
+    fewest: false,
     steady: false,
     direct: 16,
     nodes: 20,

@@ -10,7 +10,8 @@ ghost use Rattle.fib_main.specs.Counts.{CountsFit, CountsOn};
 ghost use Rattle.fib_main.specs.Passes.{IsNumbered};
 ghost use Rattle.fib_main.specs.Refusals.{Limits as ends};
 ghost use Rattle.fib_main.specs.Standing.{EndsShort, IsOfLoad, IsReady, of_input, of_read, refusal_at, StateStands, StateTakes, StateTakesAll};
-ghost use Rattle.fib_main.specs.Views.{changes_as, limits_as};
+ghost use Rattle.fib_report.specs.Views.{moves_as};
+ghost use Rattle.fib_main.specs.Views.{changes_as, limits_as, moves_told};
 ghost use Rattle.fib_main.specs.declared.state.FeedError.TheVariants.{Malformed as IsMalformed, NoMemory as IsNoMemory};
 
 use crate::order::{order_event, order_load};
@@ -19,6 +20,7 @@ use fib_delta::Change;
 use fib_engine::{Engine, EngineError, Limits, TrieFull};
 use fib_io::ReadError;
 use fib_prefix::{Elem, Entry, Event};
+use fib_report::Moves;
 use mrt_read::{EventsError, Malformed};
 use std::alloc::{AllocError, AllocFailed, Global};
 use std::slice;
@@ -106,7 +108,11 @@ pub struct State {
     pub added: Vec<Entry>,
     /// The changes of the kept table that updates make, each with its event's number.
     pub changes: Vec<(u64, Change)>,
-    /// Whether both are told in steady order.
+    /// How many changes each event of updates needed that changed a chosen hop, if the fewest are asked for.
+    pub moves: Vec<Moves>,
+    /// Whether each event makes the fewest changes.
+    pub fewest: bool,
+    /// Whether the changes of the load and of updates are told in steady order.
     pub steady: bool,
 }
 
@@ -126,6 +132,23 @@ fn push_changes(
     Ok(())
 }
 
+/// Adds how many changes the event of this number needed, if it changed a chosen hop and that is told.
+fn push_moves(
+    all: &mut Vec<Moves>,
+    event: u64,
+    moves: Option<u64>,
+    fewest: bool,
+) -> Result<(), AllocError>
+    ensures { OnOk result (map moves_as all.new.items
+        ≡ map moves_as all.old.items ++ moves_told fewest event moves) }
+{
+    match moves {
+        Some(count) if fewest => all.push(Moves { event, count })?,
+        _ => {}
+    }
+    Ok(())
+}
+
 impl State {
     /// Nothing was brought; snapshots and tries are within these limits, and changes are told in steady order or in that of
     /// prefixes.
@@ -138,6 +161,8 @@ impl State {
             engine: Engine::new(alloc, limits),
             added: Vec::new(alloc),
             changes: Vec::new(alloc),
+            moves: Vec::new(alloc),
+            fewest: limits.fewest,
             steady,
         }
     }
@@ -195,8 +220,10 @@ fn step(state: &mut State, which: MrtInput, event: u64, elem: &Elem) -> Result<(
         },
         MrtInput::Updates => match state.engine.apply(elem) {
             Ok(mut told) => {
-                order_event(&mut told.changes, told.repaired, state.steady);
+                order_event(&mut told.changes, told.first, state.steady);
                 push_changes(&mut state.changes, event, &told.changes)?;
+                let moves = state.engine.last_moves();
+                push_moves(&mut state.moves, event, moves, state.fewest)?;
                 Ok(())
             }
             Err(error) => Err(refusal_at(event, error)),

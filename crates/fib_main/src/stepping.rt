@@ -90,6 +90,7 @@ fn load_of<I: Inputs>(
         alloc,
         Limits {
             every: 0,
+            fewest: false,
             sizes: sizes_of(command),
         },
         false,

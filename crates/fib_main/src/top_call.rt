@@ -6,7 +6,7 @@ ghost use Rattle.fib_save.specs.Restores.{Restores};
 ghost use Rattle.fib_main.specs.Views.{wrong_as};
 ghost use Rattle.fib_main.specs.Ends.{Completes, EndsBy, Meets, OneRose, ReadsFrom, TellsOf, text_due, Writes, WritesBy};
 ghost use Rattle.fib_main.specs.Judged.{Judges};
-ghost use Rattle.fib_main.specs.Keeps.{Follows, KeepsTables, MissesNone, RenewsLeast, RepairsFewest, RepairsWithin};
+ghost use Rattle.fib_main.specs.Keeps.{Follows, KeepsTables, MissesNone, MovesFewest, RenewsLeast, RepairsFewest, RepairsWithin};
 ghost use Rattle.fib_io.specs.Reads.{Makes};
 ghost use Rattle.fib_main.specs.Owned.{IsOf};
 ghost use Rattle.fib_main.specs.Passes.{ReadsAt};
@@ -147,7 +147,7 @@ fn run_and_tell<I: Inputs, O: Sink, E: Sink>(
 /// table with its tree and its changes, and the whole text. A check keeps the printed text until it is read, its routes, least
 /// table and certificate, and then the runs of both tables. A run in steps keeps its script, the events of the updates and what
 /// they do, each family's routes with two sets of arenas, and its rows and their text.
-#[tactic(auto, using(crate::proofs::Completing::completes, crate::proofs::Running::sums_up, crate::proofs::Running::forwards, crate::proofs::Running::answers, crate::proofs::Running::least, crate::proofs::Running::follows, crate::proofs::Running::steadied, crate::proofs::Running::renewed, crate::proofs::Running::fewest, crate::proofs::Running::kept, crate::proofs::Running::outside, crate::proofs::Running::aggregated, crate::proofs::Running::sorted, crate::proofs::Running::certified, crate::proofs::Running::addressed, crate::proofs::Replies::decides, crate::proofs::Replies::yes_proves, crate::proofs::Replies::compares, crate::proofs::Judges::judges))]
+#[tactic(auto, using(crate::proofs::Completing::completes, crate::proofs::Running::sums_up, crate::proofs::Running::forwards, crate::proofs::Running::answers, crate::proofs::Running::least, crate::proofs::Running::follows, crate::proofs::Running::steadied, crate::proofs::Running::renewed, crate::proofs::Running::fewest, crate::proofs::Running::kept, crate::proofs::Running::outside, crate::proofs::Running::moved, crate::proofs::Running::aggregated, crate::proofs::Running::sorted, crate::proofs::Running::certified, crate::proofs::Running::addressed, crate::proofs::Replies::decides, crate::proofs::Replies::yes_proves, crate::proofs::Replies::compares, crate::proofs::Judges::judges))]
 pub fn run_fib<I: Inputs, O: Sink, E: Sink>(
     alloc: Global,
     words: &[String],
@@ -218,14 +218,19 @@ pub fn run_fib<I: Inputs, O: Sink, E: Sink>(
     ensures least { IfDue (due_by words.now (I.content inputs.old)) HasLeast }
 
     // On the way: the changes stand in the order of their events, and up to each event add up to a table. It sends every address
-    // where the routes send it then, and after the load and after each snapshot it is a least table. After any other event it
-    // has the entries that it had before, but for those within the prefix of which the event changes the chosen hop, and no
-    // table that differs from the one before only there has fewer entries.
+    // where the routes send it then, and after the load and after each snapshot it is a least table. Unless the fewest changes are
+    // asked for, after any other event it has the entries that it had before, but for those within the prefix of which the event
+    // changes the chosen hop, and no table that differs from the one before only there has fewer entries.
     ensures kept { IfRan (due_by words.now (I.content inputs.old)) KeepsTables }
     ensures follows { IfRan (due_by words.now (I.content inputs.old)) Follows }
     ensures renewed { IfRan (due_by words.now (I.content inputs.old)) RenewsLeast }
     ensures fewest { IfRan (due_by words.now (I.content inputs.old)) RepairsFewest }
     ensures outside { IfRan (due_by words.now (I.content inputs.old)) RepairsWithin }
+
+    // Where the fewest changes are asked for: each event that changes a chosen hop has a row that tells how many changes it needs
+    // before its snapshot. They lead to a table that sends every address where the routes send it then, and no table that does so
+    // differs from the one before at fewer prefixes. Else there are no such rows.
+    ensures moves { IfRan (due_by words.now (I.content inputs.old)) MovesFewest }
 
     // Where changes are told in steady order: a router that makes them one by one sends each address where the routes before the
     // event at hand send it or where those after it do, whatever front of the changes it has made, and never back.

@@ -135,7 +135,7 @@ same_is m same names e f g = entered m same (codes "same") e f ∙ ap (option_ma
 abbrev found : ArgMatches → List ℕ → Option Text
 found m name = first_value (found_of m) name
 
-pub names_are : (m : ArgMatches) → named_with (found m (codes "dump")) (found m (codes "updates")) (found m (codes "ask")) (found m (codes "vrps")) (found m (codes "every")) (found m (codes "steady")) (sizes_by (rows_of (found_of m))) ≡ named_by (rows_of (found_of m))
+pub names_are : (m : ArgMatches) → named_with (found m (codes "dump")) (found m (codes "updates")) (found m (codes "ask")) (found m (codes "vrps")) (found m (codes "every")) (found m (codes "fewest")) (found m (codes "steady")) (sizes_by (rows_of (found_of m))) ≡ named_by (rows_of (found_of m))
 names_are m =
     rw (
       first_value-rows (found_of m) (codes "dump"),
@@ -143,6 +143,7 @@ names_are m =
       first_value-rows (found_of m) (codes "ask"),
       first_value-rows (found_of m) (codes "vrps"),
       first_value-rows (found_of m) (codes "every"),
+      first_value-rows (found_of m) (codes "fewest"),
       first_value-rows (found_of m) (codes "steady"),
     ) refl
 
@@ -189,10 +190,10 @@ pub no_sizes : (m : ArgMatches) (dump : Text) (k : Option Text) (every : ℕ) �
     → None ≡ sizes_by (rows_of (found_of m)) → None ≡ named_by (rows_of (found_of m))
 no_sizes m dump k every d is e f = rw (← names_are m, ← d, ← is, ← e, ← f) refl
 
-pub all_names : (m : ArgMatches) (dump : Text) (u a v k t : Option Text) (every : ℕ) (steady : Bool) (sizes : NamedSizes) → Is (Some dump) m (codes "dump") → Is k m (codes "every") → Some every ≡ number_or 0 (2 ^ 32) k
-    → Some sizes ≡ sizes_by (rows_of (found_of m)) → Is u m (codes "updates") → Is a m (codes "ask") → Is v m (codes "vrps") → Is t m (codes "steady") → steady ≡ is_on t
-    → Some (record { dump = dump; updates = u; asks = a; vrps = v; every = every; steady = steady; direct = sizes.direct; nodes = sizes.nodes; leaves = sizes.leaves }) ≡ named_by (rows_of (found_of m))
-all_names m dump u a v k t every steady sizes d is e f is_u is_a is_v is_t on = rw (on, ← names_are m, ← d, ← is, ← e, ← f, ← is_u, ← is_a, ← is_v, ← is_t) refl
+pub all_names : (m : ArgMatches) (dump : Text) (u a v k w t : Option Text) (every : ℕ) (fewest steady : Bool) (sizes : NamedSizes) → Is (Some dump) m (codes "dump") → Is k m (codes "every") → Some every ≡ number_or 0 (2 ^ 32) k
+    → Some sizes ≡ sizes_by (rows_of (found_of m)) → Is u m (codes "updates") → Is a m (codes "ask") → Is v m (codes "vrps") → Is w m (codes "fewest") → fewest ≡ is_on w → Is t m (codes "steady") → steady ≡ is_on t
+    → Some (record { dump = dump; updates = u; asks = a; vrps = v; every = every; fewest = fewest; steady = steady; direct = sizes.direct; nodes = sizes.nodes; leaves = sizes.leaves }) ≡ named_by (rows_of (found_of m))
+all_names m dump u a v k w t every fewest steady sizes d is e f is_u is_a is_v is_w least is_t on = rw (least, on, ← names_are m, ← d, ← is, ← e, ← f, ← is_u, ← is_a, ← is_v, ← is_w, ← is_t) refl
 
 -- the same of a run in steps
 

@@ -43,9 +43,9 @@ flag_rule id = record (new_rule id) { long = Some id; action = Some SetTrue }
 abbrev pub sized_app : App → App
 sized_app app = with_rule (with_rule (with_rule app (option_rule (codes "direct"))) (option_rule (codes "nodes"))) (option_rule (codes "leaves"))
 
--- `run DUMP [--updates F] [--ask F] [--vrps F] [--every K] [--steady] [--direct S] [--nodes N] [--leaves N]`
+-- `run DUMP [--updates F] [--ask F] [--vrps F] [--every K] [--fewest] [--steady] [--direct S] [--nodes N] [--leaves N]`
 abbrev pub run_app : App
-run_app = sized_app (with_rule (with_rule (with_rule (with_rule (with_rule (with_rule (new_app (codes "run")) (word_rule (codes "dump"))) (option_rule (codes "updates"))) (option_rule (codes "ask"))) (option_rule (codes "vrps"))) (option_rule (codes "every"))) (flag_rule (codes "steady")))
+run_app = sized_app (with_rule (with_rule (with_rule (with_rule (with_rule (with_rule (with_rule (new_app (codes "run")) (word_rule (codes "dump"))) (option_rule (codes "updates"))) (option_rule (codes "ask"))) (option_rule (codes "vrps"))) (option_rule (codes "every"))) (flag_rule (codes "fewest"))) (flag_rule (codes "steady")))
 
 -- `check PRINTED`
 abbrev pub check_app : App
@@ -81,14 +81,15 @@ fib_app = with_subcommand (with_subcommand (with_subcommand (with_subcommand (wi
 
 -- ---- what the words name
 
--- The inputs of a run; how many elementary events of the updates a snapshot follows, where 0 is never; whether changes are told in
--- steady order; and of each family's trie the direct bits and the orders of its arenas of nodes and of leaves.
+-- The inputs of a run; how many elementary events of the updates a snapshot follows, where 0 is never; whether each event makes the
+-- fewest changes; whether changes are told in steady order; and of each family's trie the direct bits and the orders of its arenas of nodes and of leaves.
 pub record Named : Type 0 where
   pub dump : Text
   pub updates : Option Text
   pub asks : Option Text
   pub vrps : Option Text
   pub every : ℕ
+  pub fewest : Bool
   pub steady : Bool
   pub direct : ℕ
   pub nodes : ℕ
@@ -160,15 +161,15 @@ is_on None = false
 is_on (Some word) = bytes_eq word (codes "true")
 
 -- a run with these names and sizes, if it names a dump and its snapshots are a number from 0 to 2^32 - 1
-abbrev pub named_with : Option Text → Option Text → Option Text → Option Text → Option Text → Option Text → Option NamedSizes → Option Named
-named_with dump updates asks vrps every steady sizes = do
+abbrev pub named_with : Option Text → Option Text → Option Text → Option Text → Option Text → Option Text → Option Text → Option NamedSizes → Option Named
+named_with dump updates asks vrps every fewest steady sizes = do
   d ← dump
   k ← number_or 0 (2 ^ 32) every
   z ← sizes
-  Some (record { dump = d; updates = updates; asks = asks; vrps = vrps; every = k; steady = is_on steady; direct = z.direct; nodes = z.nodes; leaves = z.leaves })
+  Some (record { dump = d; updates = updates; asks = asks; vrps = vrps; every = k; fewest = is_on fewest; steady = is_on steady; direct = z.direct; nodes = z.nodes; leaves = z.leaves })
 
 abbrev pub named_by : List Row → Option Named
-named_by rows = named_with (first_of (codes "dump") rows) (first_of (codes "updates") rows) (first_of (codes "ask") rows) (first_of (codes "vrps") rows) (first_of (codes "every") rows) (first_of (codes "steady") rows) (sizes_by rows)
+named_by rows = named_with (first_of (codes "dump") rows) (first_of (codes "updates") rows) (first_of (codes "ask") rows) (first_of (codes "vrps") rows) (first_of (codes "every") rows) (first_of (codes "fewest") rows) (first_of (codes "steady") rows) (sizes_by rows)
 
 -- a run in steps with these names and sizes, if it names a dump, updates and a script
 abbrev pub steps_with : Option Text → Option Text → Option Text → Option NamedSizes → Option NamedSteps
@@ -250,7 +251,7 @@ command_of words = if takes words then option_and_then asked_in (subcommand_of f
 
 -- what is named, without where it lies in memory
 abbrev pub named_as : RunWords → Named
-named_as run = record { dump = run.dump.now; updates = option_map (λ name. name.now) run.updates; asks = option_map (λ name. name.now) run.asks; vrps = option_map (λ name. name.now) run.vrps; every = run.every; steady = run.steady; direct = run.direct; nodes = run.nodes; leaves = run.leaves }
+named_as run = record { dump = run.dump.now; updates = option_map (λ name. name.now) run.updates; asks = option_map (λ name. name.now) run.asks; vrps = option_map (λ name. name.now) run.vrps; every = run.every; fewest = run.fewest; steady = run.steady; direct = run.direct; nodes = run.nodes; leaves = run.leaves }
 
 abbrev pub sizes_as : SizesWords → NamedSizes
 sizes_as sizes = record { direct = sizes.direct; nodes = sizes.nodes; leaves = sizes.leaves }

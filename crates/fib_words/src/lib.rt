@@ -32,6 +32,8 @@ pub struct RunWords<'a> {
     pub vrps: Option<&'a str>,
     /// How many elementary events of the updates a snapshot follows; 0 is never.
     pub every: u32,
+    /// Whether an event that changes a chosen hop makes the fewest changes, instead of a repair at its prefix.
+    pub fewest: bool,
     /// Whether the changes of an event are told in steady order: no packet goes astray while a router makes them one by one.
     pub steady: bool,
     /// The direct bits of a trie: 18 at most.
@@ -234,7 +236,7 @@ fn with_sizes<'a>(alloc: Global, command: Command<'a>) -> Result<Command<'a>, Al
     with_option(alloc, command, "leaves")
 }
 
-/// `run DUMP [--updates F] [--ask F] [--vrps F] [--every K] [--steady] [--direct S] [--nodes N] [--leaves N]`.
+/// `run DUMP [--updates F] [--ask F] [--vrps F] [--every K] [--fewest] [--steady] [--direct S] [--nodes N] [--leaves N]`.
 fn run_command<'a>(alloc: Global) -> Result<Command<'a>, AllocError>
     ensures { IfOk result (λ c. HasApp c run_app) }
 {
@@ -243,6 +245,7 @@ fn run_command<'a>(alloc: Global) -> Result<Command<'a>, AllocError>
     let command = with_option(alloc, command, "ask")?;
     let command = with_option(alloc, command, "vrps")?;
     let command = with_option(alloc, command, "every")?;
+    let command = with_flag(alloc, command, "fewest")?;
     let command = with_flag(alloc, command, "steady")?;
     with_sizes(alloc, command)
 }
@@ -383,6 +386,7 @@ fn run_words<'a>(matches: &ArgMatches<'a>) -> Option<RunWords<'a>>
         asks: matches.get_str("ask"),
         vrps: matches.get_str("vrps"),
         every,
+        fewest: is_on(matches.get_str("fewest")),
         steady: is_on(matches.get_str("steady")),
         direct: sizes.direct,
         nodes: sizes.nodes,

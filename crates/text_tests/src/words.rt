@@ -15,6 +15,8 @@ enum Asked<'a> {
     Run(&'a str, Option<&'a str>, Option<&'a str>, u32, [u8; 3]),
     /// The names of the dump and of the list of VRPs, in a run that names one.
     Judged(&'a str, &'a str),
+    /// The name of the dump, in a run whose events make the fewest changes, and whether they are told in steady order.
+    Fewest(&'a str, bool),
     /// The name of the dump, in a run whose changes are told in steady order.
     Steadily(&'a str),
     Check(&'a str),
@@ -90,6 +92,11 @@ const COMMANDS: &[Case<'static>] = &[
     (&["fib", "run", "D", "--every", "+1"], Asked::Nothing),
     (&["fib", "run", "D", "--every", ""], Asked::Nothing),
     (&["fib", "run", "D", "--every"], Asked::Nothing),
+    (&["fib", "run", "D", "--fewest"], Asked::Fewest("D", false)),
+    (&["fib", "run", "--steady", "--fewest", "D"], Asked::Fewest("D", true)),
+    (&["fib", "run", "D", "--fewest=1"], Asked::Nothing),
+    (&["fib", "run", "D", "--fewest", "--fewest"], Asked::Nothing),
+    (&["fib", "save", "D", "--fewest"], Asked::Nothing),
     (&["fib", "run", "D", "--steady"], Asked::Steadily("D")),
     (&["fib", "run", "--steady", "D"], Asked::Steadily("D")),
     (&["fib", "run", "D", "--steady=true"], Asked::Nothing),
@@ -292,6 +299,7 @@ fn ask_for(alloc: Global, texts: &[&str], due: Asked<'_>) -> Result<bool, Fail> 
             let sizes = [run.direct, run.nodes, run.leaves];
             match run.vrps {
                 Some(vrps) => Asked::Judged(run.dump, vrps),
+                None if run.fewest => Asked::Fewest(run.dump, run.steady),
                 None if run.steady => Asked::Steadily(run.dump),
                 None => Asked::Run(run.dump, run.updates, run.asks, run.every, sizes),
             }

@@ -19,4 +19,4 @@ returns-in_err-sizes-clause-same c =
 
 pub returns-clause-same : goal.returns-clause-same
 returns-clause-same c =
-    all_names _ _ _ _ _ _ _ _ _ _ c.in_ok-dump.ensures c.get_str-2.ensures c.in_ok-every.ensures c.in_ok-sizes.ensures.same c.get_str-3.ensures c.get_str-4.ensures c.get_str-5.ensures c.get_str-6.ensures c.is_on.ensures
+    all_names _ _ _ _ _ _ _ _ _ _ _ _ c.in_ok-dump.ensures c.get_str-2.ensures c.in_ok-every.ensures c.in_ok-sizes.ensures.same c.get_str-3.ensures c.get_str-4.ensures c.get_str-5.ensures c.get_str-6.ensures c.is_on.ensures c.get_str-7.ensures c.is_on-2.ensures

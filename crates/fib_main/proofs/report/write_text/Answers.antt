@@ -7,7 +7,7 @@ use Rattle.fib_report.specs.Views.{Told}
 use Rattle.fib_report.proofs.Sections.{all_written, text_written}
 use Rattle.fib_main.specs.Due.{printed, printed_text}
 use Rattle.fib_main.specs.Proves.{ChecksYes}
-use Rattle.fib_main.specs.Views.{told_changes}
+use Rattle.fib_main.specs.Views.{told_changes, told_moves}
 use Rattle.fib_main.proofs.Printing.{checks_yes}
 use Rattle.fib_main.proofs.Telling.{noted_in, told_by, told_is, text_is}
 use Rattle.fib_main.proofs.report.write_text.Goals as goal
@@ -17,10 +17,10 @@ returns-clause-text c = λ limits load updates f.
     let s = c.settle-settled.result.0 in
     let hops = c.settle-settled.result.1.list in
     let asks = map addr_as c.args.asks.now in
-    let run : Told = told_by (noted_in c.args.fed.now) s.sizes.direct s.routes s.table (told_changes c.args.state) asks c.totals.result in
+    let run : Told = told_by (noted_in c.args.fed.now) s.sizes.direct s.routes s.table (told_changes c.args.state) (told_moves c.args.state) asks c.totals.result in
     let is = told_is limits load updates c.args.fed.now c.args.state asks s.sizes.direct s.routes s.table c.totals.result _ _ _ (ap (λ z. z.direct) c.settle-settled.ensures.sizes) c.settle-settled.ensures.routes c.settle-settled.ensures.table c.totals.ensures c.needs-needs.ensures.needs c.in_ok-text.ensures.count c.in_ok-text-2.ensures.count f in
-    let all : text_in c.report.new.self ≡ run_text hops run = text_written hops run c.new-text.result c.in_ok-text.text c.write_invalid.new.text c.write_changes.new.text c.write_answers.new.text c.in_ok-text-2.text c.in_ok-text-3.text c.certify.new.out c.report.new.self c.new-text.ensures.hops
-    c.in_ok-text.ensures.writes c.in_ok-write_invalid.ensures c.in_ok-write_changes.ensures c.in_ok-write_answers.ensures c.in_ok-text-2.ensures.writes c.in_ok-text-3.ensures c.in_ok-certify.ensures.takes c.in_ok-report.ensures c.new-text.ensures.empty
+    let all : text_in c.report.new.self ≡ run_text hops run = text_written hops run c.new-text.result c.in_ok-text.text c.write_invalid.new.text c.write_changes.new.text c.write_moves.new.text c.write_answers.new.text c.in_ok-text-2.text c.in_ok-text-3.text c.certify.new.out c.report.new.self c.new-text.ensures.hops
+    c.in_ok-text.ensures.writes c.in_ok-write_invalid.ensures c.in_ok-write_changes.ensures c.in_ok-write_moves.ensures c.in_ok-write_answers.ensures c.in_ok-text-2.ensures.writes c.in_ok-text-3.ensures c.in_ok-certify.ensures.takes c.in_ok-report.ensures c.new-text.ensures.empty
     in
     IfOk-weaker c.finish.result (λ text. text.items ≡ text_in c.report.new.self) (λ text. text.items ≡ printed_text (printed limits load updates asks)) (λ text e. text_is limits load updates c.args.fed.now c.args.state asks hops run text.items f is c.settle-settled.ensures.hops (e ∙ all)) c.finish.ensures
 
@@ -29,9 +29,9 @@ returns-clause-yes c = λ limits load updates f.
     let s = c.settle-settled.result.0 in
     let hops = c.settle-settled.result.1.list in
     let asks = map addr_as c.args.asks.now in
-    let run : Told = told_by (noted_in c.args.fed.now) s.sizes.direct s.routes s.table (told_changes c.args.state) asks c.totals.result in
+    let run : Told = told_by (noted_in c.args.fed.now) s.sizes.direct s.routes s.table (told_changes c.args.state) (told_moves c.args.state) asks c.totals.result in
     let is = told_is limits load updates c.args.fed.now c.args.state asks s.sizes.direct s.routes s.table c.totals.result _ _ _ (ap (λ z. z.direct) c.settle-settled.ensures.sizes) c.settle-settled.ensures.routes c.settle-settled.ensures.table c.totals.ensures c.needs-needs.ensures.needs c.in_ok-text.ensures.count c.in_ok-text-2.ensures.count f in
-    let rows = all_written hops run c.new-text.result c.in_ok-text.text c.write_invalid.new.text c.write_changes.new.text c.write_answers.new.text c.in_ok-text-2.text c.in_ok-text-3.text c.certify.new.out c.report.new.self c.new-text.ensures.hops
-    c.in_ok-text.ensures.writes c.in_ok-write_invalid.ensures c.in_ok-write_changes.ensures c.in_ok-write_answers.ensures c.in_ok-text-2.ensures.writes c.in_ok-text-3.ensures c.in_ok-certify.ensures.takes c.in_ok-report.ensures
+    let rows = all_written hops run c.new-text.result c.in_ok-text.text c.write_invalid.new.text c.write_changes.new.text c.write_moves.new.text c.write_answers.new.text c.in_ok-text-2.text c.in_ok-text-3.text c.certify.new.out c.report.new.self c.new-text.ensures.hops
+    c.in_ok-text.ensures.writes c.in_ok-write_invalid.ensures c.in_ok-write_changes.ensures c.in_ok-write_moves.ensures c.in_ok-write_answers.ensures c.in_ok-text-2.ensures.writes c.in_ok-text-3.ensures c.in_ok-certify.ensures.takes c.in_ok-report.ensures
     in
     IfOk-weaker c.finish.result (λ text. text.items ≡ printed_text (printed limits load updates asks)) (λ text. ChecksYes text.items) (λ text e. checks_yes limits load updates c.args.fed.now c.args.state asks hops run text.items f is c.settle-settled.ensures.hops rows.proper e) (returns-clause-text c limits load updates f)

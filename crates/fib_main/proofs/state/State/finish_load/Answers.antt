@@ -18,7 +18,7 @@ returns-clause-stands c = λ limits load s.
     let there : IsStrictlySortedBy prefix_cmp (keys_of c.finish_load.new.self.table) → additions (map entry_as (take c.in-Ok.added.len (new ++ drop (length new) c.in-Ok.added.items))) ≡ steady_if c.args.self.now.steady (additions c.finish_load.new.self.table) =
     λ sorted. ap (λ es. additions (map entry_as es)) whole ∙ (c.order_load.ensures.told (subst (λ (L : Entries). IsStrictlySortedBy prefix_cmp (keys_of L)) (sym is) sorted) ∙ ap (λ (L : Entries). steady_if c.args.self.now.steady (additions L)) is)
     in
-    load_ended limits load c.args.self.now _ told.ends told.stands refl there refl s
+    load_ended limits load c.args.self.now _ told.ends told.stands refl refl there refl refl s
 
 pub returns-in-Err-clause-short : goal.returns-in-Err-clause-short
 returns-in-Err-clause-short c = λ limits load s. ends_short limits load c.args.self.now c.in-Err.error c.refusal_at.result c.refusal_at.ensures c.in-Err.ensures.hops c.in-Err.ensures.short s
