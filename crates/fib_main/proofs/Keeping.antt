@@ -40,23 +40,23 @@ use Rattle.fib_main.specs.Keeps.{changes_to, entries_besides, has_snapshot}
 
 -- ---- the numbers of events
 
-abbrev Numbered : Type 0
+abbrev pub Numbered : Type 0
 Numbered = List (ℕ × Change)
 
 all_both : (P : ℕ × Change → Type 0) (xs ys : Numbered) → AllByRecursion P xs → AllByRecursion P ys → AllByRecursion P (xs ++ ys)
 all_both P [] ys a b = b
 all_both P (x ∷ xs) ys a b = (a.0, all_both P xs ys a.1 b)
 
-all_weaker : (P Q : ℕ × Change → Type 0) (xs : Numbered) → ((c : ℕ × Change) → P c → Q c) → AllByRecursion P xs → AllByRecursion Q xs
+pub all_weaker : (P Q : ℕ × Change → Type 0) (xs : Numbered) → ((c : ℕ × Change) → P c → Q c) → AllByRecursion P xs → AllByRecursion Q xs
 all_weaker P Q [] f a = tt
 all_weaker P Q (x ∷ xs) f a = (f x a.0, all_weaker P Q xs f a.1)
 
-event_is : (P : ℕ × Change → Type 0) (n : ℕ) (cs : List Change) → ((c : Change) → P (n, c)) → AllByRecursion P (at_event n cs)
+pub event_is : (P : ℕ × Change → Type 0) (n : ℕ) (cs : List Change) → ((c : Change) → P (n, c)) → AllByRecursion P (at_event n cs)
 event_is P n [] f = tt
 event_is P n (c ∷ cs) f = (f c, event_is P n cs f)
 
 -- from here on
-numbers_from : (fewest steady : Bool) (every : ℕ) (hops : List Address) (n : ℕ) (held : Candidates) (T : Entries) (elems : List Elem) → AllByRecursion (λ (c : ℕ × Change). n ≤ c.0) (told_from fewest steady every hops n held T elems)
+pub numbers_from : (fewest steady : Bool) (every : ℕ) (hops : List Address) (n : ℕ) (held : Candidates) (T : Entries) (elems : List Elem) → AllByRecursion (λ (c : ℕ × Change). n ≤ c.0) (told_from fewest steady every hops n held T elems)
 unfolding told_from
 numbers_from fewest steady every hops n held T [] = tt
 numbers_from fewest steady every hops n held T (x ∷ elems) =
@@ -66,7 +66,7 @@ numbers_from fewest steady every hops n held T (x ∷ elems) =
     (all_weaker (λ (c : ℕ × Change). n + 1 ≤ c.0) (λ (c : ℕ × Change). n ≤ c.0) (told_from fewest steady every hops (n + 1) (after_elem held x) M elems) (λ c le. omega (arith, le)) (numbers_from fewest steady every hops (n + 1) (after_elem held x) M elems))
 
 -- up to here
-numbers_to : (fewest steady : Bool) (every : ℕ) (hops : List Address) (n m : ℕ) (held : Candidates) (T : Entries) (elems : List Elem) → n + length elems ≤ m + 1 → AllByRecursion (λ (c : ℕ × Change). c.0 ≤ m) (told_from fewest steady every hops n held T elems)
+pub numbers_to : (fewest steady : Bool) (every : ℕ) (hops : List Address) (n m : ℕ) (held : Candidates) (T : Entries) (elems : List Elem) → n + length elems ≤ m + 1 → AllByRecursion (λ (c : ℕ × Change). c.0 ≤ m) (told_from fewest steady every hops n held T elems)
 unfolding told_from
 numbers_to fewest steady every hops n m held T [] le = tt
 numbers_to fewest steady every hops n m held T (x ∷ elems) le =
@@ -142,7 +142,7 @@ module _ (fewest steady : Bool) (every : ℕ) (hops : List Address) (held : Cand
   abbrev pub all_changes : List Elem → List (ℕ × Change)
   all_changes elems = load_told steady hops held ++ told_from fewest steady every hops 1 held (kept_at_load hops held) elems
 
-  changes_are : (done rest : List Elem) → filter (is_to (length done)) (all_changes (done ++ rest)) ≡ all_changes done
+  pub changes_are : (done rest : List Elem) → filter (is_to (length done)) (all_changes (done ++ rest)) ≡ all_changes done
   changes_are done rest =
       let m = length done in
       let T = kept_at_load hops held in

@@ -11,6 +11,7 @@ pub mod FewElems
 pub mod FewEvents
 pub mod Fitting
 pub mod Keeping
+pub mod Moving
 pub mod Passes
 pub mod Printing
 pub mod Refusing

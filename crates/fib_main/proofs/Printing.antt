@@ -23,7 +23,7 @@ use Rattle.printed_model.specs.Used.{printed_in, used_of}
 use Rattle.printed_model.proofs.Few.{printed_read}
 use Rattle.printed_model.proofs.Renamed.{printed_proves}
 use Rattle.fib_report.specs.Views.{Answer, Told}
-use Rattle.fib_report.specs.Rows.{change_row, of_answer, of_change, of_invalid, table_entry_row, printed_rows, report_rows}
+use Rattle.fib_report.specs.Rows.{change_row, of_answer, of_change, of_invalid, of_moves, table_entry_row, printed_rows, report_rows}
 use Rattle.fib_words.specs.Commands.{Named, Asked, Run}
 use Rattle.fib_main.specs.declared.report.Fed.{Fed}
 use Rattle.fib_main.specs.declared.state.State.{State}
@@ -37,13 +37,14 @@ use Rattle.fib_main.proofs.Certifying.{certified_least}
 -- ---- the rows
 
 -- rows of routes, others, those of the least table and of its certificate, and others at the end
-parted : {A : Type 0} (r i c a t l e p : List A) → r ++ i ++ c ++ a ++ t ++ l ++ e ++ p ≡ r ++ ((i ++ c ++ a ++ t) ++ (l ++ (e ++ p)))
-parted r i c a t l e p =
-    append_assoc (r ++ i ++ c ++ a ++ t ++ l) e p
-    ∙ (append_assoc (r ++ i ++ c ++ a ++ t) l (e ++ p)
-    ∙ (ap (λ xs. xs ++ a ++ t ++ (l ++ (e ++ p))) (append_assoc r i c)
-    ∙ (ap (λ xs. xs ++ t ++ (l ++ (e ++ p))) (append_assoc r (i ++ c) a)
-    ∙ (ap (λ xs. xs ++ (l ++ (e ++ p))) (append_assoc r (i ++ c ++ a) t) ∙ append_assoc r (i ++ c ++ a ++ t) (l ++ (e ++ p))))))
+parted : {A : Type 0} (r i c m a t l e p : List A) → r ++ i ++ c ++ m ++ a ++ t ++ l ++ e ++ p ≡ r ++ ((i ++ c ++ m ++ a ++ t) ++ (l ++ (e ++ p)))
+parted r i c m a t l e p =
+    append_assoc (r ++ i ++ c ++ m ++ a ++ t ++ l) e p
+    ∙ (append_assoc (r ++ i ++ c ++ m ++ a ++ t) l (e ++ p)
+    ∙ (ap (λ xs. xs ++ m ++ a ++ t ++ (l ++ (e ++ p))) (append_assoc r i c)
+    ∙ (ap (λ xs. xs ++ a ++ t ++ (l ++ (e ++ p))) (append_assoc r (i ++ c) m)
+    ∙ (ap (λ xs. xs ++ t ++ (l ++ (e ++ p))) (append_assoc r (i ++ c ++ m) a)
+    ∙ (ap (λ xs. xs ++ (l ++ (e ++ p))) (append_assoc r (i ++ c ++ m ++ a) t) ∙ append_assoc r (i ++ c ++ m ++ a ++ t) (l ++ (e ++ p)))))))
 
 all_other : {X : Type 0} (f : X → PrintedRow) → ((x : X) → IsOther (f x)) → (xs : List X) → AllByRecursion IsOther (map f xs)
 all_other f o [] = tt
@@ -62,13 +63,14 @@ answers_other : (hops : List Address) (answers : List Answer) → AllByRecursion
 answers_other hops [] = tt
 answers_other hops (a ∷ answers) = (tt, (tt, answers_other hops answers))
 
-between_other : (hops : List Address) (told : Told) → AllByRecursion IsOther (map of_invalid told.invalid ++ map (of_change hops) told.changes ++ flat_map (of_answer hops) told.answers ++ map (table_entry_row hops) told.table)
+between_other : (hops : List Address) (told : Told) → AllByRecursion IsOther (map of_invalid told.invalid ++ map (of_change hops) told.changes ++ map of_moves told.moves ++ flat_map (of_answer hops) told.answers ++ map (table_entry_row hops) told.table)
 between_other hops told =
     let I : List PrintedRow = map of_invalid told.invalid in
     let C : List PrintedRow = map (of_change hops) told.changes in
+    let N : List PrintedRow = map of_moves told.moves in
     let A : List PrintedRow = flat_map (of_answer hops) told.answers in
-    both_other (I ++ C ++ A) (map (table_entry_row hops) told.table)
-    (both_other (I ++ C) A (both_other I C (all_other of_invalid (λ x. tt) told.invalid) (all_other (of_change hops) (λ c. change_other hops c.0 c.1) told.changes)) (answers_other hops told.answers))
+    both_other (I ++ C ++ N ++ A) (map (table_entry_row hops) told.table)
+    (both_other (I ++ C ++ N) A (both_other (I ++ C) N (both_other I C (all_other of_invalid (λ x. tt) told.invalid) (all_other (of_change hops) (λ c. change_other hops c.0 c.1) told.changes)) (all_other of_moves (λ m. tt) told.moves)) (answers_other hops told.answers))
     (all_other (table_entry_row hops) (λ e. tt) told.table)
 
 -- ---- the text
@@ -85,10 +87,10 @@ checks_yes limits load updates fed state asks numbered run text f r n proper e =
     let held : Candidates = after_elems [] elems in
     let told : Told = (printed limits load updates asks).told in
     let R : Entries = entries_of hops held in
-    let K : Entries = kept_of limits.every hops load.elems updates.elems in
+    let K : Entries = kept_of limits.fewest limits.every hops load.elems updates.elems in
     let T : Entries = aggregate_in_both R K in
     let C : List CertRow = certificate_of R in
-    let between : List PrintedRow = map of_invalid told.invalid ++ map (of_change hops) told.changes ++ flat_map (of_answer hops) told.answers ++ map (table_entry_row hops) told.table in
+    let between : List PrintedRow = map of_invalid told.invalid ++ map (of_change hops) told.changes ++ map of_moves told.moves ++ flat_map (of_answer hops) told.answers ++ map (table_entry_row hops) told.table in
     let after : List PrintedRow = report_rows told.report in
     let s = f.has.stands in
     let few : length hops ≤ most_hops = subst (λ h. length h ≤ most_hops) s.engine.hops s.few in
@@ -96,7 +98,7 @@ checks_yes limits load updates fed state asks numbered run text f r n proper e =
     let cert : IsCertificate R T C = certified_least R K (entries_sorted hops held (candidates_stay [] elems none_yet proper_all)) in
     let others = between_other hops told in
     let same : printed_rows hops told ≡ rows_with hops R T C between after =
-    parted (flat_map (of_route hops) R) (map of_invalid told.invalid) (map (of_change hops) told.changes) (flat_map (of_answer hops) told.answers) (map (table_entry_row hops) told.table) (map (of_least hops) T) (map (of_cert hops) C) after
+    parted (flat_map (of_route hops) R) (map of_invalid told.invalid) (map (of_change hops) told.changes) (map of_moves told.moves) (flat_map (of_answer hops) told.answers) (map (table_entry_row hops) told.table) (map (of_least hops) T) (map (of_cert hops) C) after
     in
     let all : AllByRecursion IsRow (rows_with hops R T C between after) =
     subst (AllByRecursion IsRow) same (subst (λ h. AllByRecursion IsRow (printed_rows h told)) (n ∙ s.engine.hops) (subst (λ x. AllByRecursion IsRow (printed_rows numbered x)) r proper))

@@ -25,11 +25,12 @@ use Rattle.delta_model.proofs.Held.{Placed}
 use Rattle.feed_model.specs.Feed.{hops_after, entries_of}
 use Rattle.feed_model.proofs.Tables.{entries_sorted}
 use Rattle.kept_feed.specs.Kept.{changed_at, kept_at_load, kept_by}
-use Rattle.kept_feed.proofs.Steps.{kept_step}
-use Rattle.steady_feed.specs.Told.{run_told}
 use Rattle.steady_feed.specs.Meanwhile.{AnswerMeanwhile}
-use Rattle.steady_feed.proofs.Told.{run_sum}
-use Rattle.steady_feed.proofs.Events.{meanwhile}
+use Rattle.fewest_feed.specs.Moved.{table_by}
+use Rattle.fewest_feed.specs.Reported.{moves_of_run, told_of_run}
+use Rattle.fewest_feed.proofs.Meanwhile.{meanwhile}
+use Rattle.fewest_feed.proofs.Moved.{from_placed}
+use Rattle.fewest_feed.proofs.Reported.{run_sum, table_step}
 use Rattle.fib_same.specs.Due.{same_at}
 use Rattle.fib_words.specs.Commands.{Named, Asked, Run, Check, Make, Steps, Same, Save, command_of}
 use Rattle.fib_main.proofs.Replies.{same_ran, save_ran, saved_only}
@@ -45,13 +46,14 @@ use Rattle.fib_main.specs.Stops.{Stop, bad_record, records_due, told_content, un
 use Rattle.fib_main.specs.Refusals.{Limits, Refusal, routes_by, stop_at, too_much}
 use Rattle.route_tries.specs.Sizes.{Shortage, Sizes, shortage}
 use Rattle.step_run.specs.Stepping.{Stepping}
-use Rattle.fib_main.specs.Due.{Feed, Printed, stepped, stepping_at, printed, asks_at, feed_at, feeds_at, limits_of, load_at, made, made_at, sizes_of, feed_of, feed_in, elems_in, read_part, changes_of, kept_of, told_at, run_at, used_at, vrps_at, output_at, ran, checked, due, usage, answers_to, saved_at}
+use Rattle.fib_main.specs.Due.{Feed, Printed, stepped, stepping_at, printed, asks_at, feed_at, feeds_at, limits_of, load_at, made, made_at, sizes_of, feed_of, feed_in, elems_in, read_part, changes_of, kept_of, moves_of, told_at, run_at, used_at, vrps_at, output_at, ran, checked, due, usage, answers_to, saved_at}
 use Rattle.fib_main.specs.Proves.{IfRan}
 use Rattle.fib_main.specs.Runs.{IfDue, SumsUp, Forwards, Answers, HasLeast, HasAggregate, Certified, InPrefixOrder, IsInOrder, HasHops}
-use Rattle.fib_main.specs.Keeps.{Follows, HasTable, KeepsTables, MissesNone, RenewsLeast, routes_before, routes_then, RepairsFewest, RepairsWithin, changes_to, entries_besides}
+use Rattle.fib_main.specs.Keeps.{Follows, HasTable, HasRow, KeepsTables, MissesNone, MovesFewest, RenewsLeast, routes_before, routes_then, RepairsFewest, RepairsWithin, changes_to, entries_besides}
 use Rattle.fib_main.proofs.Addressed.{has_hops}
 use Rattle.fib_main.proofs.Certifying.{certified_least, least_in_both}
-use Rattle.fib_main.proofs.Keeping.{alike_after, fewest_by, in_order, kept_placed, least_after, loaded_placed, none_due, none_past, outside_by, sum_is, table_is}
+use Rattle.fib_main.proofs.Moving.{has_row, rows_say}
+use Rattle.fib_main.proofs.Keeping.{alike_after, fewest_by, in_order, least_after, loaded_placed, none_due, none_past, outside_by, sum_is, table_is}
 
 -- ---- what an input brings is of prefixes and peers that there are
 
@@ -186,12 +188,12 @@ held_all : (load updates : Feed) → after_elems [] (load.elems ++ updates.elems
 held_all load updates = fold-append after_elem [] load.elems updates.elems
 
 pub sums_up : (words : Words) (content : Content) → IfDue (due words content) SumsUp
-sums_up = each_due (λ p. SumsUp p.told) (λ limits load updates asks p q. run_sum limits.steady limits.every (hops_after [] (load.elems ++ updates.elems)) (after_elems [] load.elems) updates.elems q)
+sums_up = each_due (λ p. SumsUp p.told) (λ limits load updates asks p q. run_sum limits.fewest limits.steady limits.every (hops_after [] (load.elems ++ updates.elems)) (after_elems [] load.elems) updates.elems q)
 
 pub forwards : (words : Words) (content : Content) → IfDue (due words content) Forwards
 forwards = each_due (λ p. Forwards p.told) (λ limits load updates asks p q.
     let hops : List Address = hops_after [] (load.elems ++ updates.elems) in
-    subst (λ held. AlikeInBoth (kept_of limits.every hops load.elems updates.elems) (entries_of hops held)) (sym (held_all load updates)) (alike_after limits.every hops (after_elems [] load.elems) updates.elems (held_first load p) q))
+    subst (λ held. AlikeInBoth (kept_of limits.fewest limits.every hops load.elems updates.elems) (entries_of hops held)) (sym (held_all load updates)) (alike_after limits.fewest limits.every hops (after_elems [] load.elems) updates.elems (held_first load p) q))
 
 all_answer : (s : ℕ) (routes : Entries) (asks : List Address) → AllByRecursion (λ (a : Answer). (a.hop ≡ match_in routes a.addr) × (a.visits ≡ visits_of s routes a.addr)) (answers_to s routes asks)
 all_answer s routes [] = tt
@@ -204,14 +206,14 @@ answers = each_due Answers (λ limits load updates asks p q. all_answer limits.s
 abbrev routes_of_both : Feed → Feed → Entries
 routes_of_both load updates = entries_of (hops_after [] (load.elems ++ updates.elems)) (after_elems [] (load.elems ++ updates.elems))
 
-abbrev kept_of_both : ℕ → Feed → Feed → Entries
-kept_of_both every load updates = kept_of every (hops_after [] (load.elems ++ updates.elems)) load.elems updates.elems
+abbrev kept_of_both : Bool → ℕ → Feed → Feed → Entries
+kept_of_both fewest every load updates = kept_of fewest every (hops_after [] (load.elems ++ updates.elems)) load.elems updates.elems
 
 pub least : (words : Words) (content : Content) → IfDue (due words content) HasLeast
-least = each_due (λ p. HasLeast p.told) (λ limits load updates asks p q. least_in_both (routes_of_both load updates) (kept_of_both limits.every load updates))
+least = each_due (λ p. HasLeast p.told) (λ limits load updates asks p q. least_in_both (routes_of_both load updates) (kept_of_both limits.fewest limits.every load updates))
 
 pub aggregated : (words : Words) (content : Content) → IfDue (due words content) HasAggregate
-aggregated = each_due (λ p. HasAggregate p.told) (λ limits load updates asks p q. aggregates_are (routes_of_both load updates) (kept_of_both limits.every load updates))
+aggregated = each_due (λ p. HasAggregate p.told) (λ limits load updates asks p q. aggregates_are (routes_of_both load updates) (kept_of_both limits.fewest limits.every load updates))
 
 routes_in_order : (load updates : Feed) → AllByRecursion IsElem load.elems → AllByRecursion IsElem updates.elems → InPrefixOrder (routes_of_both load updates)
 routes_in_order load updates p q =
@@ -223,12 +225,12 @@ sorted = each_due (λ p. IsInOrder p.told) (λ limits load updates asks p q.
     let held : Candidates = after_elems [] load.elems in
     record {
       routes = routes_in_order load updates p q;
-      table = (kept_placed limits.every hops 1 held (kept_at_load hops held) updates.elems q (loaded_placed hops held)).1;
-      least = aggregates_sorted (routes_of_both load updates) (kept_of_both limits.every load updates);
+      table = (from_placed limits.fewest limits.every hops 1 held (kept_at_load hops held) updates.elems q (loaded_placed hops held)).1;
+      least = aggregates_sorted (routes_of_both load updates) (kept_of_both limits.fewest limits.every load updates);
     })
 
 pub certified : (words : Words) (content : Content) → IfDue (due words content) Certified
-certified = each_due (λ p. Certified p.told) (λ limits load updates asks p q. certified_least (routes_of_both load updates) (kept_of_both limits.every load updates) (routes_in_order load updates p q))
+certified = each_due (λ p. Certified p.told) (λ limits load updates asks p q. certified_least (routes_of_both load updates) (kept_of_both limits.fewest limits.every load updates) (routes_in_order load updates p q))
 
 pub addressed : (words : Words) (content : Content) → IfRan (due words content) HasHops
 addressed = each_due HasHops (λ limits load updates asks p q. has_hops limits load updates asks)
@@ -245,11 +247,11 @@ one_of (y ∷ xs) x ys a = one_of xs x ys a.1
 
 -- the table that the changes so far add up to
 table_at : (limits : Limits) (load updates : Feed) (asks : List Address) (done rest : List Elem) (T : Entries) → AllByRecursion IsElem updates.elems → updates.elems ≡ done ++ rest → HasTable (printed limits load updates asks) (length done) T
-    → T ≡ kept_of limits.every (hops_after [] (load.elems ++ updates.elems)) load.elems done
+    → T ≡ kept_of limits.fewest limits.every (hops_after [] (load.elems ++ updates.elems)) load.elems done
 table_at limits load updates asks done rest T q e h =
     let hops : List Address = hops_after [] (load.elems ++ updates.elems) in
     let held : Candidates = after_elems [] load.elems in
-    table_is limits.steady limits.every hops held done rest T (front_of done rest (subst (AllByRecursion IsElem) e q)) (subst (λ es. sum_of (changes_to (length done) (changes_of limits.steady limits.every hops load.elems es)) ≡ Some T) e h)
+    table_is limits.fewest limits.steady limits.every hops held done rest T (front_of done rest (subst (AllByRecursion IsElem) e q)) (subst (λ es. sum_of (changes_to (length done) (changes_of limits.fewest limits.steady limits.every hops load.elems es)) ≡ Some T) e h)
 
 proper_front : (updates : Feed) (done rest : List Elem) → AllByRecursion IsElem updates.elems → updates.elems ≡ done ++ rest → AllByRecursion IsElem done
 proper_front updates done rest q e = front_of done rest (subst (AllByRecursion IsElem) e q)
@@ -258,19 +260,19 @@ pub kept : (words : Words) (content : Content) → IfRan (due words content) Kee
 kept = each_due KeepsTables (λ limits load updates asks p q.
     let hops : List Address = hops_after [] (load.elems ++ updates.elems) in
     let held : Candidates = after_elems [] load.elems in
-    let changes : List Elem → List (ℕ × Change) = λ elems. changes_of limits.steady limits.every hops load.elems elems in
+    let changes : List Elem → List (ℕ × Change) = λ elems. changes_of limits.fewest limits.steady limits.every hops load.elems elems in
     record {
-      in_order = in_order limits.steady limits.every hops held updates.elems;
-      none_past = none_past limits.steady limits.every hops held updates.elems;
+      in_order = in_order limits.fewest limits.steady limits.every hops held updates.elems;
+      none_past = none_past limits.fewest limits.steady limits.every hops held updates.elems;
       tables = λ n le.
           let done = take n updates.elems in
           let rest = drop n updates.elems in
           let all_of : done ++ rest ≡ updates.elems = take-append-drop n updates.elems in
-          let T = kept_of limits.every hops load.elems done in (
+          let T = kept_of limits.fewest limits.every hops load.elems done in (
             T,
             subst (λ elems. sum_of (changes_to n (changes elems)) ≡ Some T) all_of
                 (subst (λ m. sum_of (changes_to m (changes (done ++ rest))) ≡ Some T) (length-take-le n updates.elems le)
-                (sum_is limits.steady limits.every hops held done rest (proper_front updates done rest q (sym all_of)))),
+                (sum_is limits.fewest limits.steady limits.every hops held done rest (proper_front updates done rest q (sym all_of)))),
           );
     })
 
@@ -278,55 +280,71 @@ pub follows : (words : Words) (content : Content) → IfRan (due words content) 
 follows = each_due Follows (λ limits load updates asks p q done rest T e h.
     let hops : List Address = hops_after [] (load.elems ++ updates.elems) in
     let held : Candidates = after_elems [] load.elems in
-    subst (λ L. AlikeInBoth L (entries_of hops (after_elems held done))) (sym (table_at limits load updates asks done rest T q e h)) (alike_after limits.every hops held done (held_first load p) (proper_front updates done rest q e)))
+    subst (λ L. AlikeInBoth L (entries_of hops (after_elems held done))) (sym (table_at limits load updates asks done rest T q e h)) (alike_after limits.fewest limits.every hops held done (held_first load p) (proper_front updates done rest q e)))
 
 pub steadied : (words : Words) (content : Content) → IfRan (due words content) MissesNone
 steadied = each_due MissesNone (λ limits load updates asks p q on.
     let hops : List Address = hops_after [] (load.elems ++ updates.elems) in
     let held : Candidates = after_elems [] load.elems in
     let one : Printed = printed limits load updates asks in
-    subst (λ b. AnswerMeanwhile (run_told b limits.every hops held updates.elems) (routes_before one) (routes_then one)) (sym on) (meanwhile limits.every hops held updates.elems (held_first load p) q))
+    subst (λ b. AnswerMeanwhile (told_of_run limits.fewest b limits.every hops held updates.elems) (routes_before one) (routes_then one)) (sym on) (meanwhile limits.fewest limits.every hops held updates.elems (held_first load p) q))
 
 pub renewed : (words : Words) (content : Content) → IfRan (due words content) RenewsLeast
 renewed = each_due RenewsLeast (λ limits load updates asks p q done rest T e snapshot h.
     let hops : List Address = hops_after [] (load.elems ++ updates.elems) in
     let held : Candidates = after_elems [] load.elems in
-    subst (λ L. LeastInBoth (entries_of hops (after_elems held done)) L) (sym (table_at limits load updates asks done rest T q e h)) (least_after limits.every hops held done snapshot))
+    subst (λ L. LeastInBoth (entries_of hops (after_elems held done)) L) (sym (table_at limits load updates asks done rest T q e h)) (least_after limits.fewest limits.every hops held done snapshot))
 
 -- the table after one event more is what the event makes of the one before, which is in order
 module _ (limits : Limits) (load updates : Feed) (asks : List Address) (done rest : List Elem) (elem : Elem) (T U : Entries) (q : AllByRecursion IsElem updates.elems) (e : updates.elems ≡ done ++ elem ∷ rest) (h : HasTable (printed limits load updates asks) (length done) T) where
-  before_is : T ≡ kept_of limits.every (hops_after [] (load.elems ++ updates.elems)) load.elems done
+  before_is : T ≡ kept_of limits.fewest limits.every (hops_after [] (load.elems ++ updates.elems)) load.elems done
   before_is = table_at limits load updates asks done (elem ∷ rest) T q e h
 
-  step_is : HasTable (printed limits load updates asks) (length done + 1) U → U ≡ kept_by limits.every (hops_after [] (load.elems ++ updates.elems)) (length done + 1) (after_elems (after_elems [] load.elems) done) T elem
+  step_is : HasTable (printed limits load updates asks) (length done + 1) U → U ≡ table_by limits.fewest limits.every (hops_after [] (load.elems ++ updates.elems)) (length done + 1) (after_elems (after_elems [] load.elems) done) T elem
   step_is k =
       let hops : List Address = hops_after [] (load.elems ++ updates.elems) in
       let held : Candidates = after_elems [] load.elems in
       let all_one : updates.elems ≡ (done ++ elem ∷ []) ++ rest = e ∙ sym (append_assoc done (elem ∷ []) rest) in
       let counted : length done + 1 ≡ length (done ++ elem ∷ []) = sym (length-append done (elem ∷ [])) in
-      let after : U ≡ kept_of limits.every hops load.elems (done ++ elem ∷ []) = table_at limits load updates asks (done ++ elem ∷ []) rest U q all_one (subst (λ n. sum_of (changes_to n (changes_of limits.steady limits.every hops load.elems updates.elems)) ≡ Some U) counted k) in
-      after ∙ (kept_step limits.every hops elem held (kept_at_load hops held) done ∙ ap (λ K. kept_by limits.every hops (length done + 1) (after_elems held done) K elem) (sym before_is))
+      let after : U ≡ kept_of limits.fewest limits.every hops load.elems (done ++ elem ∷ []) = table_at limits load updates asks (done ++ elem ∷ []) rest U q all_one (subst (λ n. sum_of (changes_to n (changes_of limits.fewest limits.steady limits.every hops load.elems updates.elems)) ≡ Some U) counted k) in
+      after ∙ (table_step limits.fewest false limits.every hops held (kept_at_load hops held) done elem ∙ ap (λ K. table_by limits.fewest limits.every hops (length done + 1) (after_elems held done) K elem) (sym before_is))
 
   before_placed : Placed T
   before_placed =
       let hops : List Address = hops_after [] (load.elems ++ updates.elems) in
       let held : Candidates = after_elems [] load.elems in
-      subst Placed (sym before_is) (kept_placed limits.every hops 1 held (kept_at_load hops held) done (proper_front updates done (elem ∷ rest) q e) (loaded_placed hops held))
+      subst Placed (sym before_is) (from_placed limits.fewest limits.every hops 1 held (kept_at_load hops held) done (proper_front updates done (elem ∷ rest) q e) (loaded_placed hops held))
 
   elem_is : IsElem elem
   elem_is = one_of done elem rest (subst (AllByRecursion IsElem) e q)
 
+  -- a repair, where the fewest changes aren't asked for
+  repair_is : limits.fewest ≡ false → HasTable (printed limits load updates asks) (length done + 1) U → U ≡ kept_by limits.every (hops_after [] (load.elems ++ updates.elems)) (length done + 1) (after_elems (after_elems [] load.elems) done) T elem
+  repair_is off k = step_is k ∙ ap (λ b. table_by b limits.every (hops_after [] (load.elems ++ updates.elems)) (length done + 1) (after_elems (after_elems [] load.elems) done) T elem) off
+
 pub fewest : (words : Words) (content : Content) → IfRan (due words content) RepairsFewest
-fewest = each_due RepairsFewest (λ limits load updates asks p q done rest elem at T U L e changed h k d.
+fewest = each_due RepairsFewest (λ limits load updates asks p q off done rest elem at T U L e changed h k d.
     let hops : List Address = hops_after [] (load.elems ++ updates.elems) in
     let held : Candidates = after_elems [] load.elems in
     let alike : Alike (width at.family) (of_family at.family (entries_of hops (after_elem (after_elems held done) elem))) (of_family at.family L) = subst (λ c. Alike (width at.family) (of_family at.family (entries_of hops c)) (of_family at.family L)) (fold-append after_elem held done (elem ∷ [])) d.alike in
-    subst (λ K. length (of_family at.family K) ≤ length (of_family at.family L)) (sym (step_is limits load updates asks done rest elem T U q e h k))
+    subst (λ K. length (of_family at.family K) ≤ length (of_family at.family L)) (sym (repair_is limits load updates asks done rest elem T U q e h off k))
     (fewest_by limits.every hops (length done + 1) (after_elems held done) T L elem at (elem_is limits load updates asks done rest elem T U q e h) (before_placed limits load updates asks done rest elem T U q e h) changed d.entries alike d.outside))
 
 pub outside : (words : Words) (content : Content) → IfRan (due words content) RepairsWithin
-outside = each_due RepairsWithin (λ limits load updates asks p q done rest elem T U e none h k.
+outside = each_due RepairsWithin (λ limits load updates asks p q off done rest elem T U e none h k.
     let hops : List Address = hops_after [] (load.elems ++ updates.elems) in
     let held : Candidates = after_elems (after_elems [] load.elems) done in
-    subst (λ K. entries_besides (changed_at held elem) K ≡ entries_besides (changed_at held elem) T) (sym (step_is limits load updates asks done rest elem T U q e h k))
+    subst (λ K. entries_besides (changed_at held elem) K ≡ entries_besides (changed_at held elem) T) (sym (repair_is limits load updates asks done rest elem T U q e h off k))
     (outside_by limits.every hops (length done + 1) held T elem (elem_is limits load updates asks done rest elem T U q e h) (before_placed limits load updates asks done rest elem T U q e h) (none_due limits.every (length done) none)))
+
+pub moved : (words : Words) (content : Content) → IfRan (due words content) MovesFewest
+moved = each_due MovesFewest (λ limits load updates asks p q.
+    let hops : List Address = hops_after [] (load.elems ++ updates.elems) in
+    let held : Candidates = after_elems [] load.elems in
+    let one : Printed = printed limits load updates asks in record {
+      none = λ off. ap (λ b. moves_of b limits.every hops load.elems updates.elems) off;
+      rows = λ on. rows_say one limits.steady (ap (λ b. changes_of b limits.steady limits.every hops load.elems updates.elems) on) (held_first load p) q (ap (λ b. moves_of b limits.every hops load.elems updates.elems) on);
+      each = λ on done rest elem at e c.
+          subst (HasRow (length done + 1)) (sym (ap (λ b. moves_of b limits.every hops load.elems updates.elems) on))
+          (subst (λ elems. HasRow (length done + 1) (moves_of_run true limits.every hops held elems)) (sym e) (has_row limits.every hops held done rest elem at c));
+    })
