@@ -13,14 +13,14 @@ use Rattle.address_model.specs.Address.{Address, Prefix, same_address, same_fami
 use Rattle.address_model.specs.Regions.{half_at, is_within}
 use Rattle.address_model.specs.declared.family.Family.{Family}
 use Rattle.address_model.specs.declared.family.Family.TheVariants.{V4, V6}
-use Rattle.table_model.specs.Table.{Table, lpm, cut, half, inherit, root, here}
+use Rattle.table_model.specs.Table.{Table, lpm, cut, half, half_of, inherit, root, root_of, here}
 use Rattle.address_model.specs.Address.{same_prefix}
 use Rattle.address_model.specs.Order.{prefix_cmp}
 use Rattle.table_model.specs.Entries.{Entries, in_order, of_family, of_table, with_entry}
 use Rattle.table_model.specs.Changes.{Change, Replace}
 use Rattle.least_model.specs.Least.{aggregate, candidates}
 use Rattle.least_model.specs.Regions.{above, lift, join}
-use Rattle.least_model.specs.Sets.{is_in, common, or_else, side, set_of, smallest, pick, own, agg, answers}
+use Rattle.least_model.specs.Sets.{is_in, common, joint, or_else, side, set_of, smallest, pick, own, agg, answers}
 use Rattle.least_model.specs.Both.{aggregate_in, aggregate_in_both}
 use Rattle.least_model.proofs.Laws.{lpm_candidate}
 use Rattle.cert_model.specs.Rows.{CertRow, same_hop, one_answer, leaf_or, region_rows, family_rows, certificate_of}
@@ -28,8 +28,12 @@ use Rattle.route_model.specs.Events.{Elem}
 use Rattle.route_model.specs.Choice.{Candidates, after_elem, after_elems, routes_of}
 use Rattle.delta_model.specs.Between.{between, change_at, changes_at, hop_at}
 use Rattle.kept_model.specs.Patched.{after_repair, entries_outside, patch_of, region_aggregate}
-use Rattle.kept_feed.specs.Kept.{changed_at, is_due, kept_at_load, kept_by, kept_from, repaired_by, snapshot_if, snapshot_of}
-use Rattle.steady_feed.specs.Told.{event_told, events_told, load_told, steady_if}
+use Rattle.kept_feed.specs.Kept.{changed_at, is_due, kept_at_load, snapshot_if, snapshot_of}
+use Rattle.steady_feed.specs.Told.{load_told, steady_if}
+use Rattle.moves_model.specs.Sets.{Allowed, any, these, allowed_by_both, inner_set, is_allowed, least_allowed, near_of, new_entry, set_over}
+use Rattle.moves_cert.specs.Rows.{near_in}
+use Rattle.fewest_feed.specs.Moved.{after_move, entries_not_of, moved_by, table_by, table_from, with_nearest}
+use Rattle.fewest_feed.specs.Reported.{told_from, told_of}
 use Rattle.steady_feed.proofs.Told.{all_told}
 use Rattle.feed_model.specs.Feed.{at_event, entries_of, hops_after, number_in}
 use Rattle.feed_model.proofs.Numbers.{hops_distinct, entries_have}
@@ -253,17 +257,110 @@ renewed_at_most : (n : ℕ) (b : Bool) (R T : Entries) → EntriesAtMost n R →
 renewed_at_most n false R T l t = t
 renewed_at_most n true R T l t = snapshot_at_most n R T l
 
-module _ (every : ℕ) (hops : List Address) where
-  repaired_has : (held : Candidates) (T : Entries) (elem : Elem) → EntriesAtMost (length hops) T → EntriesAtMost (length hops) (repaired_by hops held T elem)
-  repaired_has held T elem t = repaired_at_most (length hops) (entries_of hops (after_elem held elem)) T (changed_at held elem) (routes_at_most hops (after_elem held elem)) t
+-- ---- the nearest table
 
-  by_has : (n : ℕ) (held : Candidates) (T : Entries) (elem : Elem) → EntriesAtMost (length hops) T → EntriesAtMost (length hops) (kept_by every hops n held T elem)
-  by_has n held T elem t = renewed_at_most (length hops) (is_due every n) (entries_of hops (after_elem held elem)) (repaired_by hops held T elem) (routes_at_most hops (after_elem held elem)) (repaired_has held T elem t)
+joint_at_most : (n : ℕ) (S T : List ℕ) → AtMost n S → AtMost n T → AtMost n (joint S T)
+joint_at_most n S T a b = else_at_most n (common S T) (S ++ T) (common_at_most n S T a) (both (λ h. h ≤ n) S T a b)
 
-  table_has : (n : ℕ) (held : Candidates) (T : Entries) (elems : List Elem) → EntriesAtMost (length hops) T → EntriesAtMost (length hops) (kept_from every hops n held T elems)
-  unfolding kept_from
+abbrev AllowedAtMost : ℕ → Allowed → Type 0
+AllowedAtMost n any = Unit {0}
+AllowedAtMost n (these S) = AtMost n S
+
+both_allowed : (n : ℕ) (S T : Allowed) → AllowedAtMost n S → AllowedAtMost n T → AllowedAtMost n (allowed_by_both S T)
+both_allowed n any T a b = b
+both_allowed n (these S) any a b = a
+both_allowed n (these S) (these T) a b = joint_at_most n S T a b
+
+over_allowed : (n : ℕ) (o : Option ℕ) (S : Allowed) → AllowedAtMost n S → AllowedAtMost n (set_over o S)
+over_allowed n None S a = a
+over_allowed n (Some t) S a = tt
+
+inner_allowed : (n d : ℕ) (f : List Bool → ℕ) (T : Table) → ((a : List Bool) → f a ≤ n) → AllowedAtMost n (inner_set d f T)
+unfolding inner_set
+inner_allowed n zero f T l = (l [], tt)
+inner_allowed n (suc d) f T l =
+    let low = inner_allowed n d (side false f) (half false T) (λ a. l (false ∷ a)) in
+    let high = inner_allowed n d (side true f) (half true T) (λ a. l (true ∷ a)) in
+    both_allowed n (set_over (root (half false T)) (inner_set d (side false f) (half false T))) (set_over (root (half true T)) (inner_set d (side true f) (half true T))) (over_allowed n (root (half false T)) (inner_set d (side false f) (half false T)) low) (over_allowed n (root (half true T)) (inner_set d (side true f) (half true T)) high)
+
+least_at_most_allowed : (n : ℕ) (S : Allowed) → AllowedAtMost n S → least_allowed S ≤ n
+least_at_most_allowed n any a = omega arith
+least_at_most_allowed n (these S) a = smallest_at_most n S a
+
+new_at_most : (n : ℕ) (S : Allowed) (o : Option ℕ) (h : ℕ) → AllowedAtMost n S → TableAtMost n (here o) → TableAtMost n (here (new_entry S o h))
+new_at_most n S None h a t = by_test (is_allowed h S)
+  where
+    by_test : (b : Bool) → TableAtMost n (here (cond b None (Some (least_allowed S))))
+    by_test true = tt
+    by_test false = (least_at_most_allowed n S a, tt)
+new_at_most n S (Some g) h a t = by_tests (is_allowed g S) (is_allowed h S)
+  where
+    by_tests : (b c : Bool) → TableAtMost n (here (cond b (Some g) (cond c None (Some (least_allowed S)))))
+    by_tests true c = t
+    by_tests false true = tt
+    by_tests false false = (least_at_most_allowed n S a, tt)
+
+root_at_most : (n : ℕ) (T : Table) → TableAtMost n T → TableAtMost n (here (root T))
+root_at_most n [] t = tt
+root_at_most n (e ∷ T) t = by_prefix e.prefix
+  where
+    by_prefix : (p : List Bool) → TableAtMost n (here (root_of p e.hop (root T)))
+    by_prefix [] = (t.0, tt)
+    by_prefix (b ∷ p) = root_at_most n T t.1
+
+half_at_most : (n : ℕ) (b : Bool) (T : Table) → TableAtMost n T → TableAtMost n (half b T)
+half_at_most n b [] t = tt
+half_at_most n b (e ∷ T) t = by_prefix b e.prefix (half_at_most n b T t.1)
+  where
+    by_prefix : (b : Bool) (p : List Bool) → TableAtMost n (half b T) → TableAtMost n (half_of b p e.hop (half b T))
+    by_prefix true [] more = more
+    by_prefix true (true ∷ p) more = (t.0, more)
+    by_prefix true (false ∷ p) more = more
+    by_prefix false [] more = more
+    by_prefix false (true ∷ p) more = more
+    by_prefix false (false ∷ p) more = (t.0, more)
+
+near_at_most : (n d : ℕ) (f : List Bool → ℕ) (T : Table) (h : ℕ) → ((a : List Bool) → f a ≤ n) → TableAtMost n T → TableAtMost n (near_of d f T h)
+unfolding near_of
+near_at_most n zero f T h l t = join_at_most n (new_entry (inner_set zero f T) (root T) h) [] [] (new_at_most n (inner_set zero f T) (root T) h (inner_allowed n zero f T l) (root_at_most n T t)) tt tt
+near_at_most n (suc d) f T h l t =
+    let o : Option ℕ = new_entry (inner_set (suc d) f T) (root T) h in
+    join_at_most n o (near_of d (side false f) (half false T) (inherit o h)) (near_of d (side true f) (half true T) (inherit o h)) (new_at_most n (inner_set (suc d) f T) (root T) h (inner_allowed n (suc d) f T l) (root_at_most n T t))
+    (near_at_most n d (side false f) (half false T) (inherit o h) (λ a. l (false ∷ a)) (half_at_most n false T t)) (near_at_most n d (side true f) (half true T) (inherit o h) (λ a. l (true ∷ a)) (half_at_most n true T t))
+
+family_at_most : (n : ℕ) (f : Family) (R : Entries) → EntriesAtMost n R → TableAtMost n (of_family f R)
+family_at_most n f [] a = tt
+family_at_most n f (e ∷ R) a = by_test (same_family f e.0.family) (family_at_most n f R a.1)
+  where
+    by_test : (t : Bool) → TableAtMost n (of_family f R) → TableAtMost n (cond t (record { prefix = e.0.bits; hop = e.1 } ∷ of_family f R) (of_family f R))
+    by_test true more = (a.0, more)
+    by_test false more = more
+
+nearest_at_most : (n : ℕ) (f : Family) (R T : Entries) → EntriesAtMost n R → EntriesAtMost n T → EntriesAtMost n (with_nearest f R T)
+unfolding with_nearest
+nearest_at_most n f R T l t =
+    let others = entries_not_of f T in
+    folded_at_most n (others ++ near_in f R T) [] (both (λ (e : Prefix × ℕ). e.1 ≤ n) others (near_in f R T) (kept_at_most n (λ e. not (same_family f e.0.family)) T t) (of_table_at_most n f (near_of (width f) (answers (of_family f R) []) (of_family f T) 0)
+    (near_at_most n (width f) (answers (of_family f R) []) (of_family f T) 0 (λ a. lpm_at_most n f R a l) (family_at_most n f T t)))) tt
+
+move_at_most : (n : ℕ) (fewest : Bool) (R T : Entries) (at : Option Prefix) → EntriesAtMost n R → EntriesAtMost n T → EntriesAtMost n (after_move fewest R at T)
+move_at_most n false R T at l t = repaired_at_most n R T at l t
+move_at_most n true R T None l t = t
+move_at_most n true R T (Some p) l t = nearest_at_most n p.family R T l t
+
+-- ---- along the elementary events
+
+module _ (fewest : Bool) (every : ℕ) (hops : List Address) where
+  moved_has : (held : Candidates) (T : Entries) (elem : Elem) → EntriesAtMost (length hops) T → EntriesAtMost (length hops) (moved_by fewest hops held T elem)
+  moved_has held T elem t = move_at_most (length hops) fewest (entries_of hops (after_elem held elem)) T (changed_at held elem) (routes_at_most hops (after_elem held elem)) t
+
+  by_has : (n : ℕ) (held : Candidates) (T : Entries) (elem : Elem) → EntriesAtMost (length hops) T → EntriesAtMost (length hops) (table_by fewest every hops n held T elem)
+  by_has n held T elem t = renewed_at_most (length hops) (is_due every n) (entries_of hops (after_elem held elem)) (moved_by fewest hops held T elem) (routes_at_most hops (after_elem held elem)) (moved_has held T elem t)
+
+  table_has : (n : ℕ) (held : Candidates) (T : Entries) (elems : List Elem) → EntriesAtMost (length hops) T → EntriesAtMost (length hops) (table_from fewest every hops n held T elems)
+  unfolding table_from
   table_has n held T [] t = t
-  table_has n held T (elem ∷ elems) t = table_has (n + 1) (after_elem held elem) (kept_by every hops n held T elem) elems (by_has n held T elem t)
+  table_has n held T (elem ∷ elems) t = table_has (n + 1) (after_elem held elem) (table_by fewest every hops n held T elem) elems (by_has n held T elem t)
 
 loaded_has : (hops : List Address) (held : Candidates) → EntriesAtMost (length hops) (kept_at_load hops held)
 loaded_has hops held = snapshot_at_most (length hops) (entries_of hops held) [] (routes_at_most hops held)
@@ -316,27 +413,28 @@ to_event hops n (c ∷ cs) a = (a.0, to_event hops n cs a.1)
 told_have : (hops : List Address) (n : ℕ) (steady : Bool) (cs : List Change) → ChangesHave hops (at_event n cs) → ChangesHave hops (at_event n (steady_if steady cs))
 told_have hops n steady cs a = to_event hops n (steady_if steady cs) (all_told (ChangeHasHop hops) steady cs (of_event hops n cs a))
 
-event_has : (steady : Bool) (every : ℕ) (hops : List Address) (n : ℕ) (held : Candidates) (T : Entries) (elem : Elem) → EntriesAtMost (length hops) T → ChangesHave hops (at_event n (event_told steady every hops n held T elem))
-event_has steady every hops n held T elem t =
-    let N = repaired_by hops held T elem in
-    let M = kept_by every hops n held T elem in
+event_has : (fewest steady : Bool) (every : ℕ) (hops : List Address) (n : ℕ) (held : Candidates) (T : Entries) (elem : Elem) → EntriesAtMost (length hops) T → ChangesHave hops (at_event n (told_of fewest steady every hops n held T elem))
+event_has fewest steady every hops n held T elem t =
+    let N = moved_by fewest hops held T elem in
+    let M = table_by fewest every hops n held T elem in
     subst (ChangesHave hops) (sym (at_both n (steady_if steady (between T N)) (steady_if steady (between N M))))
-    (both (λ (c : ℕ × Change). ChangeHasHop hops c.1) (at_event n (steady_if steady (between T N))) (at_event n (steady_if steady (between N M))) (told_have hops n steady (between T N) (between_have hops n T N (repaired_has every hops held T elem t)))
-    (told_have hops n steady (between N M) (between_have hops n N M (by_has every hops n held T elem t))))
+    (both (λ (c : ℕ × Change). ChangeHasHop hops c.1) (at_event n (steady_if steady (between T N))) (at_event n (steady_if steady (between N M))) (told_have hops n steady (between T N) (between_have hops n T N (moved_has fewest every hops held T elem t)))
+    (told_have hops n steady (between N M) (between_have hops n N M (by_has fewest every hops n held T elem t))))
 
-events_have : (steady : Bool) (every : ℕ) (hops : List Address) (n : ℕ) (held : Candidates) (T : Entries) (elems : List Elem) → EntriesAtMost (length hops) T → ChangesHave hops (events_told steady every hops n held T elems)
-unfolding events_told
-events_have steady every hops n held T [] t = tt
-events_have steady every hops n held T (elem ∷ elems) t =
-    let M = kept_by every hops n held T elem in
-    both (λ (c : ℕ × Change). ChangeHasHop hops c.1) (at_event n (event_told steady every hops n held T elem)) (events_told steady every hops (n + 1) (after_elem held elem) M elems) (event_has steady every hops n held T elem t)
-    (events_have steady every hops (n + 1) (after_elem held elem) M elems (by_has every hops n held T elem t))
+events_have : (fewest steady : Bool) (every : ℕ) (hops : List Address) (n : ℕ) (held : Candidates) (T : Entries) (elems : List Elem) → EntriesAtMost (length hops) T → ChangesHave hops (told_from fewest steady every hops n held T elems)
+unfolding told_from
+events_have fewest steady every hops n held T [] t = tt
+events_have fewest steady every hops n held T (elem ∷ elems) t =
+    let M = table_by fewest every hops n held T elem in
+    both (λ (c : ℕ × Change). ChangeHasHop hops c.1) (at_event n (told_of fewest steady every hops n held T elem)) (told_from fewest steady every hops (n + 1) (after_elem held elem) M elems) (event_has fewest steady every hops n held T elem t)
+    (events_have fewest steady every hops (n + 1) (after_elem held elem) M elems (by_has fewest every hops n held T elem t))
 
 -- ---- all that is told
 
 pub has_hops : (limits : Limits) (load updates : Feed) (asks : List Address) → HasHops (printed limits load updates asks)
 has_hops limits load updates asks =
     let every : ℕ = limits.every in
+    let fewest : Bool = limits.fewest in
     let steady : Bool = limits.steady in
     let elems : List Elem = load.elems ++ updates.elems in
     let hops : List Address = hops_after [] elems in
@@ -348,9 +446,9 @@ has_hops limits load updates asks =
     record {
       distinct = hops_distinct elems;
       routes = entries_have elems;
-      changes = both (λ (c : ℕ × Change). ChangeHasHop hops c.1) (load_told steady hops held) (events_told steady every hops 1 held T updates.elems) (told_have hops 0 steady (between [] T) (between_have hops 0 [] T first)) (events_have steady every hops 1 held T updates.elems first);
+      changes = both (λ (c : ℕ × Change). ChangeHasHop hops c.1) (load_told steady hops held) (told_from fewest steady every hops 1 held T updates.elems) (told_have hops 0 steady (between [] T) (between_have hops 0 [] T first)) (events_have fewest steady every hops 1 held T updates.elems first);
       answers = answers_at_most (length hops) limits.sizes.direct R asks few;
-      table = table_has every hops 1 held T updates.elems first;
-      least = least_at_most (length hops) R (kept_of every hops load.elems updates.elems) few;
+      table = table_has fewest every hops 1 held T updates.elems first;
+      least = least_at_most (length hops) R (kept_of fewest every hops load.elems updates.elems) few;
       cert = cert_have hops R few;
     }

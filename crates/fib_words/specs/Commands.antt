@@ -43,9 +43,13 @@ flag_rule id = record (new_rule id) { long = Some id; action = Some SetTrue }
 abbrev pub sized_app : App → App
 sized_app app = with_rule (with_rule (with_rule app (option_rule (codes "direct"))) (option_rule (codes "nodes"))) (option_rule (codes "leaves"))
 
+-- the command with what decides the changes of a kept table: `[--every K] [--fewest] [--steady]`
+abbrev pub changing_app : App → App
+changing_app app = with_rule (with_rule (with_rule app (option_rule (codes "every"))) (flag_rule (codes "fewest"))) (flag_rule (codes "steady"))
+
 -- `run DUMP [--updates F] [--ask F] [--vrps F] [--every K] [--fewest] [--steady] [--direct S] [--nodes N] [--leaves N]`
 abbrev pub run_app : App
-run_app = sized_app (with_rule (with_rule (with_rule (with_rule (with_rule (with_rule (with_rule (new_app (codes "run")) (word_rule (codes "dump"))) (option_rule (codes "updates"))) (option_rule (codes "ask"))) (option_rule (codes "vrps"))) (option_rule (codes "every"))) (flag_rule (codes "fewest"))) (flag_rule (codes "steady")))
+run_app = sized_app (changing_app (with_rule (with_rule (with_rule (with_rule (new_app (codes "run")) (word_rule (codes "dump"))) (option_rule (codes "updates"))) (option_rule (codes "ask"))) (option_rule (codes "vrps"))))
 
 -- `check PRINTED`
 abbrev pub check_app : App

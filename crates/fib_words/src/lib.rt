@@ -9,7 +9,7 @@ ghost use Rattle.std.specs.Option.{option_and_then};
 ghost use Rattle.std.specs.String.{string_bytes};
 ghost use Rattle.clap.specs.Words.{app_of, found_of, rows_of, subcommand_name_of, subcommand_rows_of, with_rule, with_subcommand};
 ghost use Rattle.clap.specs.Values.{kind_of};
-ghost use Rattle.fib_words.specs.Commands.{AreSizes, asked_as, asked_in, bare_app, check_app, command_of, due_option_rule, fib_app, flag_rule, from_one, HasApp, IsCommand, IsLocal, IsWithin, is_on, kind_or, made_by, make_app, named_as, named_by, number_or, option_rule, run_app, same_app, same_as, same_by, save_app, save_as, save_by, several_rule, sized_app, sizes_as, sizes_by, steps_app, steps_as, steps_by, word_rule};
+ghost use Rattle.fib_words.specs.Commands.{AreSizes, asked_as, asked_in, bare_app, changing_app, check_app, command_of, due_option_rule, fib_app, flag_rule, from_one, HasApp, IsCommand, IsLocal, IsWithin, is_on, kind_or, made_by, make_app, named_as, named_by, number_or, option_rule, run_app, same_app, same_as, same_by, save_app, save_as, save_by, several_rule, sized_app, sizes_as, sizes_by, steps_app, steps_as, steps_by, word_rule};
 ghost use Rattle.fib_addr.specs.Text.{number_below};
 ghost use Rattle.fib_words.specs.declared.WordsError.TheVariants.{NoMemory};
 
@@ -236,6 +236,16 @@ fn with_sizes<'a>(alloc: Global, command: Command<'a>) -> Result<Command<'a>, Al
     with_option(alloc, command, "leaves")
 }
 
+/// The command with what decides the changes of a kept table: `[--every K] [--fewest] [--steady]`.
+fn with_changes<'a>(alloc: Global, command: Command<'a>) -> Result<Command<'a>, AllocError>
+    requires { IsLocal command }
+    ensures { IfOk result (λ c. HasApp c (changing_app (app_of command.entry))) }
+{
+    let command = with_option(alloc, command, "every")?;
+    let command = with_flag(alloc, command, "fewest")?;
+    with_flag(alloc, command, "steady")
+}
+
 /// `run DUMP [--updates F] [--ask F] [--vrps F] [--every K] [--fewest] [--steady] [--direct S] [--nodes N] [--leaves N]`.
 fn run_command<'a>(alloc: Global) -> Result<Command<'a>, AllocError>
     ensures { IfOk result (λ c. HasApp c run_app) }
@@ -244,9 +254,7 @@ fn run_command<'a>(alloc: Global) -> Result<Command<'a>, AllocError>
     let command = with_option(alloc, command, "updates")?;
     let command = with_option(alloc, command, "ask")?;
     let command = with_option(alloc, command, "vrps")?;
-    let command = with_option(alloc, command, "every")?;
-    let command = with_flag(alloc, command, "fewest")?;
-    let command = with_flag(alloc, command, "steady")?;
+    let command = with_changes(alloc, command)?;
     with_sizes(alloc, command)
 }
 
