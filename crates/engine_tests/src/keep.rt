@@ -9,12 +9,13 @@ use smalta_keep::Keep;
 use std::alloc::{AllocError, Global};
 
 /// An IPv4 prefix's bits and length.
-type Net = (u32, u8);
+pub type Net = (u32, u8);
 
 /// A change of a table.
 #[derive(Clone, Copy)]
-enum Move {
+pub enum Move {
     Add(Net, u16),
+    Replace(Net, u16),
     Remove(Net),
 }
 
@@ -32,11 +33,11 @@ enum Call {
     Least(&'static [(Net, u16)]),
 }
 
-const WHOLE: Net = (0, 0);
+pub const WHOLE: Net = (0, 0);
 
-const LOWER: Net = (0, 1);
+pub const LOWER: Net = (0, 1);
 
-const UPPER: Net = (0x8000_0000, 1);
+pub const UPPER: Net = (0x8000_0000, 1);
 
 /// Calls on a kept table that has no routes and no entries at first.
 const CASES: [(&str, &[Call]); 3] = [
@@ -77,17 +78,18 @@ const CASES: [(&str, &[Call]); 3] = [
     ),
 ];
 
-fn prefix(net: Net) -> Prefix
+pub fn prefix(net: Net) -> Prefix
     ensures { result.family ≡ V4 }
 {
     Prefix::new(&Addr::v4(net.0), net.1.min(32))
 }
 
 /// Whether the changes are these.
-fn are_moves(changes: &[Change], due: &[Move]) -> bool {
+pub fn are_moves(changes: &[Change], due: &[Move]) -> bool {
     changes.len() == due.len()
         && changes.iter().zip(due).all(|(change, due)| match *due {
             Move::Add(net, hop) => *change == Change::Add(prefix(net), Hop(hop)),
+            Move::Replace(net, hop) => *change == Change::Replace(prefix(net), Hop(hop)),
             Move::Remove(net) => *change == Change::Remove(prefix(net)),
         })
 }

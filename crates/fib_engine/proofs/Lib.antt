@@ -1,4 +1,5 @@
 pub mod Holding
+pub mod Moving
 pub mod Numbering
 pub mod Taking
 pub mod Needing

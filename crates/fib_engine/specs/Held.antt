@@ -1,11 +1,13 @@
 -- What is seen of an engine.
-use Rattle.std.specs.Prelude.{◌≡◌, ◌≤◌, ℕ, List, [], length, Bool, false, cond, None}
+use Rattle.std.specs.Prelude.{◌≡◌, ◌≤◌, ℕ, List, [], length, Bool, false, cond, Option, None}
 use Rattle.std.specs.List.{AllByRecursion}
 use Rattle.std.specs.Map.{keys_of}
+use Rattle.address_model.specs.Width.{width}
 use Rattle.address_model.specs.Address.{Address}
 use Rattle.address_model.specs.declared.family.Family.{Family}
 use Rattle.address_model.specs.declared.family.Family.TheVariants.{V4, V6}
-use Rattle.table_model.specs.Entries.{Entries}
+use Rattle.table_model.specs.Table.{Alike}
+use Rattle.table_model.specs.Entries.{Entries, of_family}
 use Rattle.route_model.specs.Events.{Elem}
 use Rattle.route_model.specs.Choice.{Candidates, IsElem, after_elems}
 use Rattle.feed_model.specs.Feed.{entries_of, hops_after}
@@ -15,16 +17,19 @@ use Rattle.route_tries.specs.Sizes.{Sizes, needs_of, shortage}
 use Rattle.route_tries.specs.declared.needs.FamilyNeeds.{FamilyNeeds}
 use Rattle.fib_engine.specs.Tables.{Both, only}
 
--- How often a snapshot comes, how large tries are, the candidates of all peers, the hops with numbers, the kept table of both families, whether the
--- load ended, and how many elementary events were taken since.
+-- How often a snapshot comes, whether an event is to make the fewest changes, how large tries are, the candidates of all peers, the hops with
+-- numbers, the kept table of both families, whether the load ended, how many elementary events were taken since, and how many changes the first
+-- step of the last of these made, if it changed a chosen hop.
 pub record Held : Type 0 where
   pub every : ℕ
+  pub fewest : Bool
   pub sizes : Sizes
   pub candidates : Candidates
   pub hops : List Address
   pub table : Entries
   pub loaded : Bool
   pub events : ℕ
+  pub moves : Option ℕ
 
 -- the routes: each prefix that has a candidate, with the number of the hop of its chosen one
 abbrev pub routes_in : Held → Entries
@@ -37,12 +42,14 @@ if_loaded loaded E = cond loaded E []
 abbrev pub routes_told : Held → Entries
 routes_told e = if_loaded e.loaded (routes_in e)
 
--- A family's kept table is of the family and in order, and has the routes of the family; before the load ended it is empty.
+-- A family's kept table is of the family and in order, has the routes of the family, and sends every address where they send it; before the
+-- load ended it is empty.
 pub record IsKept (f : Family) (loaded : Bool) (E : Entries) (kept : Labels) : Type 0 where
   pub family : kept.family ≡ f
   pub order : InPlace kept.entries
   pub of_family : AllByRecursion (λ p. p.family ≡ f) (keys_of kept.entries)
   pub routes : kept.routes ≡ only f (if_loaded loaded E)
+  pub alike : Alike (width f) (of_family f kept.routes) (of_family f kept.entries)
   pub empty : loaded ≡ false → kept.entries ≡ []
 
 -- the needs are those of tries of the routes, and arenas of these sizes have room for them

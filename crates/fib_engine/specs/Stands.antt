@@ -1,12 +1,13 @@
 -- What an engine holds after elementary events: those of the load, and those since.
-use Rattle.std.specs.Prelude.{◌≡◌, ◌+◌, ◌<◌, List, [], ◌∷◌, ◌++◌, length, true, false, Some, None}
+use Rattle.std.specs.Prelude.{◌≡◌, ℕ, ◌+◌, ◌<◌, List, [], ◌∷◌, ◌++◌, length, true, false, Option, Some, None, option_map}
 use Rattle.std.specs.List.{AllByRecursion}
 use Rattle.table_model.specs.Changes.{Change}
 use Rattle.route_model.specs.Events.{Elem}
 use Rattle.route_model.specs.Choice.{IsElem, after_elem, after_elems}
 use Rattle.feed_model.specs.Feed.{entries_of, hops_after}
-use Rattle.delta_model.specs.Between.{between}
-use Rattle.kept_feed.specs.Kept.{changes_by, kept_at_load, kept_by, kept_from, repaired_by}
+use Rattle.kept_feed.specs.Kept.{changed_at, kept_at_load}
+use Rattle.fewest_feed.specs.Moved.{table_by, table_from}
+use Rattle.fewest_feed.specs.Reported.{first_changes, told_of}
 use Rattle.fib_addr.specs.Hops.{most_hops}
 use Rattle.route_tries.specs.Sizes.{shortage, shortage_as}
 use Rattle.route_tries.specs.declared.sizes.TrieFull.{TrieFull}
@@ -21,6 +22,7 @@ pub record IsLoading (load : List Elem) (e : Held) : Type 0 where
   pub table : e.table ≡ []
   pub loaded : e.loaded ≡ false
   pub events : e.events ≡ 0
+  pub moves : e.moves ≡ None
 
 -- The load had these elementary events, and those came since: the candidates, the hops and the kept table are theirs, and tries
 -- of the routes have room.
@@ -28,7 +30,7 @@ pub record Stands (load elems : List Elem) (e : Held) : Type 0 where
   pub candidates : e.candidates ≡ after_elems (after_elems [] load) elems
   pub hops : e.hops ≡ hops_after [] (load ++ elems)
   pub proper : AllByRecursion IsElem load × AllByRecursion IsElem elems
-  pub table : e.table ≡ kept_from e.every e.hops 1 (after_elems [] load) (kept_at_load e.hops (after_elems [] load)) elems
+  pub table : e.table ≡ table_from e.fewest e.every e.hops 1 (after_elems [] load) (kept_at_load e.hops (after_elems [] load)) elems
   pub loaded : e.loaded ≡ true
   pub events : e.events ≡ length elems
   pub fits : shortage e.sizes (routes_in e) ≡ None
@@ -40,38 +42,49 @@ pub record Loads (elem : Elem) (old new : Held) : Type 0 where
   pub candidates : new.candidates ≡ after_elem old.candidates elem
   pub hops : new.hops ≡ hops_after old.hops (elem ∷ [])
   pub every : new.every ≡ old.every
+  pub fewest : new.fewest ≡ old.fewest
   pub sizes : new.sizes ≡ old.sizes
   pub table : new.table ≡ old.table
   pub loaded : new.loaded ≡ old.loaded
   pub events : new.events ≡ old.events
+  pub moves : new.moves ≡ old.moves
 
 -- The load ended: the kept table is the least one for the routes with nothing old.
 pub record EndsLoad (old new : Held) : Type 0 where
   pub candidates : new.candidates ≡ old.candidates
   pub hops : new.hops ≡ old.hops
   pub every : new.every ≡ old.every
+  pub fewest : new.fewest ≡ old.fewest
   pub sizes : new.sizes ≡ old.sizes
   pub table : new.table ≡ kept_at_load old.hops old.candidates
   pub loaded : new.loaded ≡ true
   pub events : new.events ≡ old.events
+  pub moves : new.moves ≡ old.moves
 
--- An elementary event after the load was taken: candidates, hops and kept table are those after it, and it was counted.
+-- the changes of one after the load: those of its first step, and then those of the snapshot, if one is due
+abbrev pub changes_of : Elem → Held → List Change
+changes_of elem old = told_of old.fewest false old.every (hops_after old.hops (elem ∷ [])) (old.events + 1) old.candidates old.table elem
+
+-- those of its first step alone: the repair's, or with the fewest changes asked for those to the nearest table
+abbrev pub first_of : Elem → Held → List Change
+first_of elem old = first_changes old.fewest (hops_after old.hops (elem ∷ [])) old.candidates old.table elem
+
+-- how many these are, if it changes the chosen hop at some prefix
+abbrev pub moves_after : Elem → Held → Option ℕ
+moves_after elem old = option_map (λ p. length (first_of elem old)) (changed_at old.candidates elem)
+
+-- An elementary event after the load was taken: candidates, hops and kept table are those after it, it was counted, and so were the changes of
+-- its first step.
 pub record Takes (elem : Elem) (old new : Held) : Type 0 where
   pub candidates : new.candidates ≡ after_elem old.candidates elem
   pub hops : new.hops ≡ hops_after old.hops (elem ∷ [])
   pub every : new.every ≡ old.every
+  pub fewest : new.fewest ≡ old.fewest
   pub sizes : new.sizes ≡ old.sizes
-  pub table : new.table ≡ kept_by old.every new.hops (old.events + 1) old.candidates old.table elem
+  pub table : new.table ≡ table_by old.fewest old.every new.hops (old.events + 1) old.candidates old.table elem
   pub loaded : new.loaded ≡ old.loaded
   pub events : new.events ≡ old.events + 1
-
--- its changes: those of the repair, and then those of the snapshot, if one is due
-abbrev pub changes_of : Elem → Held → List Change
-changes_of elem old = changes_by old.every (hops_after old.hops (elem ∷ [])) (old.events + 1) old.candidates old.table elem
-
--- those of the repair alone
-abbrev pub repair_of : Elem → Held → List Change
-repair_of elem old = between old.table (repaired_by (hops_after old.hops (elem ∷ [])) old.candidates old.table elem)
+  pub moves : new.moves ≡ moves_after elem old
 
 -- the elementary event brings one different hop too many
 abbrev pub IsTooMany : Elem → Held → Type 0

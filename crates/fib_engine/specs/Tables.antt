@@ -1,5 +1,5 @@
 -- The kept tables of both families.
-use Rattle.std.specs.Prelude.{◌≡◌, ℕ, List, [], ◌++◌, cond, Option, Some, None}
+use Rattle.std.specs.Prelude.{◌≡◌, ℕ, List, [], ◌++◌, Bool, cond, Option, Some, None}
 use Rattle.std.specs.List.{filter}
 use Rattle.address_model.specs.Address.{same_family}
 use Rattle.address_model.specs.declared.family.Family.{Family}
@@ -13,12 +13,12 @@ use Rattle.smalta_keep.specs.declared.repair.Moved.{Moved}
 use Rattle.smalta_keep.specs.declared.repair.Repair.{Repair}
 use Rattle.smalta_keep.specs.Views.{moved_of, place_in, repair_as, snapshot_as, undone_by, with_planned}
 use Rattle.smalta_keep.specs.Plans.{IsPlanned, Tells}
+use Rattle.smalta_keep.specs.Answers.{IsAlike}
 use Rattle.poptrie_build.specs.declared.counts.Needs.{Needs}
 use Rattle.route_tries.specs.Sizes.{needs_of_both}
 use Rattle.route_tries.specs.Parts.{IsNeedAfter}
 use Rattle.route_tries.specs.declared.needs.FamilyNeeds.{FamilyNeeds}
 use Rattle.fib_engine.specs.declared.tables.Plan.{Plan}
-use Rattle.std.specs.Prelude.{Bool, false}
 
 -- what is seen of both
 pub record Both : Type 0 where
@@ -32,6 +32,10 @@ labels_of V6 both = both.v6
 -- they are those of IPv4 and of IPv6
 abbrev pub AreBoth : Both → Type 0
 AreBoth both = (both.v4.family ≡ V4) × (both.v6.family ≡ V6)
+
+-- each sends every address where its routes send it
+abbrev pub AreAlike : Both → Type 0
+AreAlike both = IsAlike both.v4 × IsAlike both.v6
 
 -- both tables, IPv4 first
 abbrev pub table_of : Both → Entries
@@ -71,12 +75,12 @@ abbrev pub route_in : Family → Route → Route
 route_in f None = None
 route_in f (Some r) = cond (same_family r.0.family f) (Some r) None
 
--- the changes of both repairs, and all changes of both: those of the repairs, then those of the snapshots
-abbrev pub both_repairs : Moved → Moved → List Change
-both_repairs v4 v6 = repair_as v4 ++ repair_as v6
+-- the changes of both first steps, and all changes of both: those of the first steps, then those of the snapshots
+abbrev pub both_firsts : Moved → Moved → List Change
+both_firsts v4 v6 = repair_as v4 ++ repair_as v6
 
 abbrev pub gathered : Moved → Moved → List Change
-gathered v4 v6 = both_repairs v4 v6 ++ (snapshot_as v4 ++ snapshot_as v6)
+gathered v4 v6 = both_firsts v4 v6 ++ (snapshot_as v4 ++ snapshot_as v6)
 
 -- the table of the route's family has the route
 pub record ArePut (route : Route) (old new : Both) : Type 0 where
@@ -93,10 +97,10 @@ pub record ArePlanned (both : Both) (plan : Plan) : Type 0 where
   pub v4 : IsPlanned both.v4 plan.v4
   pub v6 : IsPlanned both.v6 plan.v6
 
--- what both plans tell
-pub record AreTold (both : Both) (route : Route) (due : Bool) (v4 v6 : Repair) : Type 0 where
-  pub v4_tells : Tells both.v4 false (place_in (route_in V4 route)) due (moved_of v4)
-  pub v6_tells : Tells both.v6 false (place_in (route_in V6 route)) due (moved_of v6)
+-- what both plans tell, each repaired at the route's prefix or by the fewest changes
+pub record AreTold (both : Both) (fewest : Bool) (route : Route) (due : Bool) (v4 v6 : Repair) : Type 0 where
+  pub v4_tells : Tells both.v4 fewest (place_in (route_in V4 route)) due (moved_of v4)
+  pub v6_tells : Tells both.v6 fewest (place_in (route_in V6 route)) due (moved_of v6)
 
 -- the changes of a family's plan, made
 abbrev pub MadeBy : Repair → Labels → Labels → Type 0

@@ -1,13 +1,14 @@
 //! The engine.
 
-ghost use Rattle.std.specs.Prelude.{◌≡◌, ◌≤◌, ◌<◌, ◌+◌, ◌^◌, ◌↔◌, [], ◌∷◌, ◌++◌, ℕ, List, length, map, not, option_map, true, false, None, IfOk, IfSome, IsSome, OnOk, OnErr, IsErr, IsErrOf};
-ghost use Rattle.address_model.specs.Address.{Address};
+ghost use Rattle.std.specs.Prelude.{◌≡◌, ◌≤◌, ◌<◌, ◌+◌, ◌^◌, ◌↔◌, [], ◌∷◌, ◌++◌, ℕ, List, length, map, not, option_map, true, false, Some, None, IfOk, IfSome, IsSome, OnOk, OnErr, IsErr, IsErrOf};
+ghost use Rattle.address_model.specs.Address.{Address, Prefix as model_prefix};
 ghost use Rattle.least_model.specs.Both.{aggregate_in_both};
 ghost use Rattle.cert_model.specs.Rows.{certificate_of};
 ghost use Rattle.route_model.specs.Events.{Elem as model_elem};
 ghost use Rattle.route_model.specs.Choice.{elems_of};
 ghost use Rattle.feed_model.specs.Feed.{hops_after, number_in};
-ghost use Rattle.kept_feed.specs.Kept.{is_due as due_at, is_other};
+ghost use Rattle.kept_feed.specs.Kept.{changed_at, is_due as due_at, is_other};
+ghost use Rattle.moves_cert.specs.Shortest.{AreShortest};
 ghost use Rattle.fib_addr.specs.Hops.{most_hops, number_of};
 ghost use Rattle.fib_addr.specs.Views.{addr_as, entry_as, route_as};
 ghost use Rattle.fib_prefix.specs.Views.{elem_as, event_as};
@@ -20,7 +21,7 @@ ghost use Rattle.fib_engine.specs.Held.{routes_in, routes_told};
 ghost use Rattle.fib_engine.specs.Numbers.{HasNumber, IsNewNumber, IsOwnNumber, IsRouteOf, numbered};
 ghost use Rattle.fib_engine.specs.Tables.{AreOfRoutes};
 ghost use Rattle.fib_engine.specs.Turns.{AreTurnsOf};
-ghost use Rattle.fib_engine.specs.Stands.{EndsLoad, IsLoading, IsShortFor, IsTooMany, Loads, Stands, Takes, changes_of, repair_of, routes_after};
+ghost use Rattle.fib_engine.specs.Stands.{EndsLoad, IsLoading, IsShortFor, IsTooMany, Loads, Stands, Takes, changes_of, first_of, routes_after};
 
 use crate::error::EngineError;
 use crate::fitting::plan_fitting;
@@ -34,11 +35,13 @@ use route_tries::{FamilyNeeds, Sizes, Tries, TriesError};
 use std::alloc::{AllocError, Global};
 use std::marker::Model;
 
-/// How often a snapshot comes, and how large tries are.
+/// How often a snapshot comes, whether events make the fewest changes, and how large tries are.
 #[derive(Clone, Copy, Debug, PartialEq, Eq)]
 pub struct Limits {
     /// A snapshot of both families follows each so many elementary events after the load; with 0 none does.
     pub every: u32,
+    /// Whether an event that changes a chosen hop gives the table the fewest changes, instead of repairing it at its prefix.
+    pub fewest: bool,
     /// The sizes of both families' tries.
     pub sizes: Sizes,
 }
@@ -54,6 +57,8 @@ pub struct Engine {
     tables: Tables,
     needs: FamilyNeeds,
     events: u64,
+    // how many changes the first step of the last event made, if that changed a chosen hop
+    moves: Option<u64>,
     limits: Limits,
     is_loaded: bool,
 }
@@ -66,7 +71,7 @@ impl Model for Engine {
 
     ghost Value = { Held };
 
-    ghost view = { λ e. record { every = e.limits.every; sizes = sizes_as e.limits.sizes; candidates = e.candidates.candidates; hops = e.hops.list; table = table_of e.tables; loaded = e.is_loaded; events = e.events } };
+    ghost view = { λ e. record { every = e.limits.every; fewest = e.limits.fewest; sizes = sizes_as e.limits.sizes; candidates = e.candidates.candidates; hops = e.hops.list; table = table_of e.tables; loaded = e.is_loaded; events = e.events; moves = e.moves } };
 
     ghost invariant = { λ e. IsSound e.candidates.candidates e.hops.list e.is_loaded e.tables
         × AreKeptNeeds (sizes_as e.limits.sizes)
@@ -162,6 +167,16 @@ pub(crate) fn changed_route(
     Some((choice.prefix, hop))
 }
 
+/// How many changes an event's first step made, if the event changed a route.
+fn moves_made(route: Option<(Prefix, Hop)>, changes: &EventChanges) -> Option<u64>
+    ensures { result ≡ option_map (λ r. changes.now.first) route }
+{
+    match route {
+        Some(_) => Some(changes.first as u64),
+        None => None,
+    }
+}
+
 /// Routes as entries, with the numbers of their hops.
 fn number_routes(
     alloc: Global,
@@ -193,12 +208,14 @@ impl Engine {
     pub fn new(alloc: Global, limits: Limits) -> Engine
         ensures { result ≡ record {
           every = limits.every;
+          fewest = limits.fewest;
           sizes = sizes_as limits.sizes;
           candidates = [];
           hops = [];
           table = [];
           loaded = false;
           events = 0;
+          moves = None;
         } }
     {
         Engine {
@@ -208,6 +225,7 @@ impl Engine {
             tables: Tables::new(alloc),
             needs: FamilyNeeds::none(),
             events: 0,
+            moves: None,
             limits,
             is_loaded: false,
         }
@@ -261,9 +279,10 @@ impl Engine {
         Ok(())
     }
 
-    /// Takes an elementary event after the load, counts it, and gives its changes: those of the repair at its prefix, where it
-    /// changes the chosen hop, then those of a snapshot of both families, where one is due; and how many are the repair's. Its hop gets a number, chosen or
-    /// not. What tries need is counted anew at its prefix alone, where it changes the chosen hop.
+    /// Takes an elementary event after the load, counts it, and gives its changes: where it changes the chosen hop, first those
+    /// of the repair at its prefix, or with `fewest` those to the nearest table, which are the fewest that any table of the routes
+    /// needs; then those of a snapshot of both families, where one is due; and how many are the first step's. Its hop gets a
+    /// number, chosen or not. What tries need is counted anew at its prefix alone, where it changes the chosen hop.
     ///
     /// # Errors
     ///
@@ -275,8 +294,12 @@ impl Engine {
         ensures takes { OnOk result (Takes (elem_as elem.now) self.old self.new) }
         ensures changes { IfOk result (λ e. map change_as e.changes.items
             ≡ changes_of (elem_as elem.now) self.old) }
-        ensures repaired { IfOk result (λ e. e.repaired
-            ≡ length (repair_of (elem_as elem.now) self.old)) }
+        ensures first { IfOk result (λ e. e.first
+            ≡ length (first_of (elem_as elem.now) self.old)) }
+        ensures shortest { OnOk result (self.old.fewest ≡ true → (p : model_prefix)
+            → changed_at self.old.candidates (elem_as elem.now) ≡ Some p
+            → AreShortest p.family (routes_after (elem_as elem.now) self.old) self.old.table
+            (first_of (elem_as elem.now) self.old)) }
         ensures stands { OnOk result ((load elems : List model_elem) → Stands load elems self.old
             → Stands load (elems ++ elem_as elem.now ∷ []) self.new) }
         ensures full { IsErrOf result EngineError.HopsFull ↔ IsTooMany (elem_as elem.now) self.old }
@@ -291,14 +314,32 @@ impl Engine {
         let event = self.events + 1;
         let route = changed_route(&self.hops, own, pick.choice());
         let due = is_due(self.limits.every, event);
-        let sizes = &self.limits.sizes;
-        let fitting = plan_fitting(&mut self.tables, self.alloc, route, due, self.needs, sizes)?;
+        let limits = &self.limits;
+        let fitting = plan_fitting(
+            &mut self.tables,
+            self.alloc,
+            route,
+            due,
+            limits.fewest,
+            self.needs,
+            &limits.sizes,
+        )?;
         // from here on nothing takes memory
         self.candidates.commit(pick);
         number_hop(&mut self.hops, own, elem);
         self.events = event;
         self.needs = fitting.needs;
-        Ok(self.tables.commit(fitting.plan))
+        let changes = self.tables.commit(fitting.plan);
+        self.moves = moves_made(route, &changes);
+        Ok(changes)
+    }
+
+    /// How many changes the last event after the load needed before its snapshot; `None` exactly where it changed no chosen hop, or
+    /// there was no event yet.
+    pub fn last_moves(&self) -> Option<u64>
+        ensures { result ≡ self.now.moves }
+    {
+        self.moves
     }
 
     /// The routes: each prefix for which a peer offers one, with the number of the chosen one's hop, in the order of prefixes.

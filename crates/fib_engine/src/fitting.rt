@@ -6,7 +6,7 @@ ghost use Rattle.smalta_keep.specs.Views.{moved_of};
 ghost use Rattle.orig_tree.specs.Views.{InPlace};
 ghost use Rattle.route_tries.specs.Sizes.{AreFew, first_short, shortage_as, sizes_as};
 ghost use Rattle.route_tries.specs.declared.sizes.TrieFull.{TrieFull};
-ghost use Rattle.fib_engine.specs.Tables.{AreBoth, AreTold, ArePlanned, ArePut, IsReplaced, KeepRoutes, KeepTables, both_repairs, gathered, needs_in, needs_put};
+ghost use Rattle.fib_engine.specs.Tables.{AreAlike, AreBoth, AreTold, ArePlanned, ArePut, IsReplaced, KeepRoutes, KeepTables, both_firsts, gathered, needs_in, needs_put};
 
 use crate::error::EngineError;
 use crate::tables::{Plan, Tables};
@@ -43,21 +43,24 @@ fn plan_route(
     alloc: Global,
     route: (Prefix, Hop),
     snapshot: bool,
+    fewest: bool,
     needs: FamilyNeeds,
     sizes: &Sizes,
 ) -> Result<FittingPlan, EngineError>
     requires both { AreBoth tables.old }
+    requires alike { AreAlike tables.old }
     requires order { InPlace tables.old.v4.routes × InPlace tables.old.v6.routes }
     requires needs { needs ≡ needs_in sizes.now.direct tables.old }
     requires few { AreFew needs }
     ensures tables { KeepTables tables.old tables.new }
     ensures put { OnOk result (ArePut (Some route) tables.old tables.new) }
     ensures planned { IfOk result (λ p. ArePlanned tables.new p.plan) }
-    ensures told { IfOk result (λ p. AreTold tables.new (Some route) snapshot p.plan.v4 p.plan.v6) }
+    ensures told { IfOk result (λ p. AreTold tables.new fewest (Some route) snapshot p.plan.v4
+        p.plan.v6) }
     ensures changes { IfOk result (λ p. map change_as p.plan.changes.changes.items
         ≡ gathered (moved_of p.plan.v4) (moved_of p.plan.v6)) }
-    ensures repaired { IfOk result (λ p. p.plan.changes.repaired
-        ≡ length (both_repairs (moved_of p.plan.v4) (moved_of p.plan.v6))) }
+    ensures first { IfOk result (λ p. p.plan.changes.first
+        ≡ length (both_firsts (moved_of p.plan.v4) (moved_of p.plan.v6))) }
     ensures needs { IfOk result (λ p. p.needs ≡ needs_put sizes.now.direct (Some route) tables.old) }
     ensures fits { OnOk result (first_short (sizes_as sizes.now)
         (needs_put sizes.now.direct (Some route) tables.old) ≡ None) }
@@ -69,7 +72,7 @@ fn plan_route(
 {
     let prefix = route.0;
     let before = need_at(tables.tree(prefix.family), sizes.direct, &prefix);
-    let plan = tables.plan(alloc, Some(route), snapshot)?;
+    let plan = tables.plan(alloc, Some(route), snapshot, fewest)?;
     let after = need_at(tables.tree(prefix.family), sizes.direct, &prefix);
     let needs = replace_need(needs, prefix.family, before, after);
     match needs.fit(sizes) {
@@ -91,21 +94,23 @@ pub fn plan_fitting(
     alloc: Global,
     route: Option<(Prefix, Hop)>,
     snapshot: bool,
+    fewest: bool,
     needs: FamilyNeeds,
     sizes: &Sizes,
 ) -> Result<FittingPlan, EngineError>
     requires both { AreBoth tables.old }
+    requires alike { AreAlike tables.old }
     requires order { InPlace tables.old.v4.routes × InPlace tables.old.v6.routes }
     requires needs { needs ≡ needs_in sizes.now.direct tables.old }
     requires fits { first_short (sizes_as sizes.now) (needs_in sizes.now.direct tables.old) ≡ None }
     ensures tables { KeepTables tables.old tables.new }
     ensures put { OnOk result (ArePut route tables.old tables.new) }
     ensures planned { IfOk result (λ p. ArePlanned tables.new p.plan) }
-    ensures told { IfOk result (λ p. AreTold tables.new route snapshot p.plan.v4 p.plan.v6) }
+    ensures told { IfOk result (λ p. AreTold tables.new fewest route snapshot p.plan.v4 p.plan.v6) }
     ensures changes { IfOk result (λ p. map change_as p.plan.changes.changes.items
         ≡ gathered (moved_of p.plan.v4) (moved_of p.plan.v6)) }
-    ensures repaired { IfOk result (λ p. p.plan.changes.repaired
-        ≡ length (both_repairs (moved_of p.plan.v4) (moved_of p.plan.v6))) }
+    ensures first { IfOk result (λ p. p.plan.changes.first
+        ≡ length (both_firsts (moved_of p.plan.v4) (moved_of p.plan.v6))) }
     ensures needs { IfOk result (λ p. p.needs ≡ needs_put sizes.now.direct route tables.old) }
     ensures fits { OnOk result (first_short (sizes_as sizes.now)
         (needs_put sizes.now.direct route tables.old) ≡ None) }
@@ -116,9 +121,9 @@ pub fn plan_fitting(
     ensures err { OnErr result (KeepRoutes tables.old tables.new) }
 {
     match route {
-        Some(route) => plan_route(tables, alloc, route, snapshot, needs, sizes),
+        Some(route) => plan_route(tables, alloc, route, snapshot, fewest, needs, sizes),
         None => {
-            let plan = tables.plan(alloc, None, snapshot)?;
+            let plan = tables.plan(alloc, None, snapshot, fewest)?;
             Ok(FittingPlan { plan, needs })
         }
     }

@@ -2,8 +2,9 @@
 //!
 //! An `Engine` takes elementary events. Those of a load go to the candidates alone; at its end the kept tables are made, least
 //! ones for the chosen routes. From then on each event that changes a chosen hop is followed by a repair at its prefix, and
-//! now and then by a snapshot of both families. What takes memory comes first: an event that is refused leaves the engine as it
-//! was.
+//! now and then by a snapshot of both families. Where the fewest changes are asked for there is no repair: the table of the
+//! prefix's family becomes the nearest one that answers as the routes. What takes memory comes first: an event that is refused
+//! leaves the engine as it was.
 //!
 //! Lookups go to tries of the routes, which are built when they are asked for. What tries would need is kept as numbers from the
 //! load's end on, so that an event after which an arena would be too small is refused at once.

@@ -10,7 +10,7 @@ ghost use Rattle.fib_delta.specs.Views.{change_as};
 ghost use Rattle.cert_rows.specs.Views.{row_as};
 ghost use Rattle.smalta_keep.specs.Views.{moved_of};
 ghost use Rattle.route_tries.specs.Sizes.{told_needs};
-ghost use Rattle.fib_engine.specs.Tables.{AreBoth, AreTold, ArePlanned, ArePut, AreUndone, Given, both_repairs, gathered, needs_in, route_in, labels_of, table_of, both_routes, KeepRoutes, KeepTables, MadeBy};
+ghost use Rattle.fib_engine.specs.Tables.{AreAlike, AreBoth, AreTold, ArePlanned, ArePut, AreUndone, Given, both_firsts, gathered, needs_in, route_in, labels_of, table_of, both_routes, KeepRoutes, KeepTables, MadeBy};
 
 use cert_rows::RowSink;
 use entry_rows::EntrySink;
@@ -41,10 +41,10 @@ impl Model for Tables {
 /// The changes of an elementary event.
 #[derive(Drop)]
 pub struct EventChanges {
-    /// Those of the repair, then those of the snapshot; both in the order of prefixes.
+    /// Those of the first step, a repair or those to the nearest table, then those of the snapshot; both in the order of prefixes.
     pub changes: Vec<Change>,
-    /// How many of them are the repair's.
-    pub repaired: usize,
+    /// How many of them are the first step's.
+    pub first: usize,
 }
 
 /// What is planned of both tables, and all changes that it will make.
@@ -65,18 +65,18 @@ fn route_of(route: Option<(Prefix, Hop)>, family: Family) -> Option<(Prefix, Hop
     }
 }
 
-/// The changes of both repairs, then those of both snapshots; IPv4 first.
+/// The changes of both first steps, then those of both snapshots; IPv4 first.
 fn gather(alloc: Global, v4: &Moved, v6: &Moved) -> Result<EventChanges, AllocError>
     ensures changes { IfOk result (λ e. map change_as e.changes.items ≡ gathered v4.now v6.now) }
-    ensures repaired { IfOk result (λ e. e.repaired ≡ length (both_repairs v4.now v6.now)) }
+    ensures first { IfOk result (λ e. e.first ≡ length (both_firsts v4.now v6.now)) }
 {
     let mut changes = Vec::new(alloc);
     changes.extend_from_slice(&v4.repair)?;
     changes.extend_from_slice(&v6.repair)?;
-    let repaired = changes.len();
+    let first = changes.len();
     changes.extend_from_slice(&v4.snapshot)?;
     changes.extend_from_slice(&v6.snapshot)?;
-    Ok(EventChanges { changes, repaired })
+    Ok(EventChanges { changes, first })
 }
 
 impl Tables {
@@ -128,8 +128,9 @@ impl Tables {
         Ok((Tables { v4, v6 }, entries))
     }
 
-    /// Plans the repair where a route changes, if one does, and a snapshot of both, if it is due: the table of the route's
-    /// family has the route then, and all memory is taken. The plan is to be committed before anything else changes.
+    /// Plans the repair where a route changes, if one does, or the fewest changes that its family's table needs then, and a
+    /// snapshot of both, if it is due: the table of the route's family has the route then, and all memory is taken. The plan is
+    /// to be committed before anything else changes.
     ///
     /// # Errors
     ///
@@ -139,21 +140,23 @@ impl Tables {
         alloc: Global,
         route: Option<(Prefix, Hop)>,
         snapshot: bool,
+        fewest: bool,
     ) -> Result<Plan, AllocError>
-        requires { AreBoth self.old }
+        requires both { AreBoth self.old }
+        requires alike { AreAlike self.old }
         ensures tables { KeepTables self.old self.new }
         ensures put { OnOk result (ArePut route self.old self.new) }
         ensures planned { IfOk result (ArePlanned self.new) }
-        ensures told { IfOk result (λ p. AreTold self.new route snapshot p.v4 p.v6) }
+        ensures told { IfOk result (λ p. AreTold self.new fewest route snapshot p.v4 p.v6) }
         ensures undone { IfOk result (λ p. AreUndone p self.new self.old) }
         ensures changes { IfOk result (λ p. map change_as p.changes.changes.items
             ≡ gathered (moved_of p.v4) (moved_of p.v6)) }
-        ensures repaired { IfOk result (λ p. p.changes.repaired
-            ≡ length (both_repairs (moved_of p.v4) (moved_of p.v6))) }
+        ensures first { IfOk result (λ p. p.changes.first
+            ≡ length (both_firsts (moved_of p.v4) (moved_of p.v6))) }
         ensures err { OnErr result (KeepRoutes self.old self.new) }
     {
-        let v4 = self.v4.plan(route_of(route, Family::V4), snapshot, false)?;
-        let v6 = match self.v6.plan(route_of(route, Family::V6), snapshot, false) {
+        let v4 = self.v4.plan(route_of(route, Family::V4), snapshot, fewest)?;
+        let v6 = match self.v6.plan(route_of(route, Family::V6), snapshot, fewest) {
             Ok(v6) => v6,
             Err(failed) => {
                 self.v4.undo(v4);

@@ -90,6 +90,7 @@ pub fn load<I: Inputs>(alloc: Global, inputs: &mut I, name: &str) -> anyhow::Res
         alloc,
         Limits {
             every: 0,
+            fewest: false,
             sizes: SIZES,
         },
     );

@@ -6,6 +6,7 @@ use Rattle.std.proofs.lemmas.Result.{err_from_is_err_and}
 use Rattle.address_model.specs.declared.family.Family.TheVariants.{V4, V6}
 use Rattle.table_model.specs.Entries.{Entries}
 use Rattle.feed_model.specs.Feed.{entries_of, hops_after}
+use Rattle.orig_tree.specs.Views.{InPlace}
 use Rattle.smalta_keep.specs.Views.{with_planned}
 use Rattle.route_tries.specs.Sizes.{first_short, needs_of, shortage, shortage_as, sizes_as}
 use Rattle.fib_engine.specs.declared.error.EngineError.TheVariants.{TrieFull}
@@ -13,14 +14,14 @@ use Rattle.fib_engine.proofs.Erring.{err_is}
 use Rattle.fib_engine.proofs.Needing.{needs_known}
 use Rattle.fib_prefix.specs.Views.{elem_as}
 use Rattle.fib_delta.specs.Views.{change_as}
-use Rattle.kept_feed.specs.Kept.{kept_by}
+use Rattle.fewest_feed.specs.Moved.{table_by}
 use Rattle.route_choice.specs.Held.{IsChoice, pick_elem}
 use Rattle.route_choice.specs.declared.choice.Choice.{Choice}
 use Rattle.fib_engine.specs.Held.{AreKeptNeeds, Held, IsSound, if_loaded}
-use Rattle.fib_engine.specs.Stands.{Takes, changes_of, repair_of, routes_after}
+use Rattle.fib_engine.specs.Stands.{Takes, changes_of, first_of, routes_after}
 use Rattle.fib_engine.specs.Tables.{needs_put, route_in, table_of}
 use Rattle.fib_engine.specs.declared.tables.EventChanges.{EventChanges}
-use Rattle.fib_engine.proofs.Taking.{applied, is_elem, kept_placed, not_over, stands_more, turned_routes}
+use Rattle.fib_engine.proofs.Taking.{applied, are_alike, is_elem, kept_placed, not_over, shortest_first, stands_more, table_placed, turned_routes}
 use Rattle.fib_engine.proofs.engine.Engine.apply.Goals as goal
 
 pub plan_fitting-requires-clause-order : goal.plan_fitting-requires-clause-order
@@ -28,6 +29,11 @@ plan_fitting-requires-clause-order c =
     let t = c.self.inside in
     let loaded : t.is_loaded ≡ true = ap (λ (e : Held). e.loaded) c.self.view_is ∙ c.requires.loaded in
     kept_placed t.candidates.candidates t.hops.list t.tables (subst (λ (b : Bool). IsSound t.candidates.candidates t.hops.list b t.tables) loaded c.self.invariant.0)
+
+pub plan_fitting-requires-clause-alike : goal.plan_fitting-requires-clause-alike
+plan_fitting-requires-clause-alike c =
+    let t = c.self.inside in
+    are_alike t.candidates.candidates t.hops.list t.is_loaded t.tables c.self.invariant.0
 
 pub plan_fitting-requires-clause-needs : goal.plan_fitting-requires-clause-needs
 plan_fitting-requires-clause-needs c =
@@ -91,7 +97,7 @@ invariant_of-self-2 c =
     in
     let told = c.in_ok-fitting.ensures in
     let T =
-    applied t.limits.every (t.events + 1) C H c.room.new.self.list elem t.tables c.plan_fitting.new.tables c.commit-2.new.self choice c.in_ok-own.own c.changed_route-route.result c.in_ok-fitting.fitting.plan.v4 c.in_ok-fitting.fitting.plan.v6 c.is_due-due.result s (is_elem c.args.elem.now) c.room.ensures.list
+    applied t.limits.fewest t.limits.every (t.events + 1) C H c.room.new.self.list elem t.tables c.plan_fitting.new.tables c.commit-2.new.self choice c.in_ok-own.own c.changed_route-route.result c.in_ok-fitting.fitting.plan.v4 c.in_ok-fitting.fitting.plan.v6 c.is_due-due.result s (is_elem c.args.elem.now) c.room.ensures.list
     (not_over (length (hops_after H (elem ∷ []))) c.in_ok-own.ensures.full.1) c.in_ok-own.ensures.number ch c.changed_route-route.ensures c.plan_fitting.ensures.tables told.put told.told c.commit-2.ensures.routes c.commit-2.ensures.v4 c.commit-2.ensures.v6 c.is_due-due.ensures
     in
     let held : c.commit.new.self.candidates ≡ after_elem C elem = c.commit.ensures.candidates ∙ (ap (λ (X : Candidates). after_elem X (pick_elem pick)) c.plan.ensures.candidates ∙ ap (λ (e : Elem). after_elem C e) c.in_ok-pick.ensures.elem) in
@@ -121,22 +127,24 @@ returns-clause-takes c =
     in
     let told = c.in_ok-fitting.ensures in
     let T =
-    applied t.limits.every (t.events + 1) C H c.room.new.self.list elem t.tables c.plan_fitting.new.tables c.commit-2.new.self choice c.in_ok-own.own c.changed_route-route.result c.in_ok-fitting.fitting.plan.v4 c.in_ok-fitting.fitting.plan.v6 c.is_due-due.result s (is_elem c.args.elem.now) c.room.ensures.list
+    applied t.limits.fewest t.limits.every (t.events + 1) C H c.room.new.self.list elem t.tables c.plan_fitting.new.tables c.commit-2.new.self choice c.in_ok-own.own c.changed_route-route.result c.in_ok-fitting.fitting.plan.v4 c.in_ok-fitting.fitting.plan.v6 c.is_due-due.result s (is_elem c.args.elem.now) c.room.ensures.list
     (not_over (length (hops_after H (elem ∷ []))) c.in_ok-own.ensures.full.1) c.in_ok-own.ensures.number ch c.changed_route-route.ensures c.plan_fitting.ensures.tables told.put told.told c.commit-2.ensures.routes c.commit-2.ensures.v4 c.commit-2.ensures.v6 c.is_due-due.ensures
     in
     let held : c.commit.new.self.candidates ≡ after_elem C elem = c.commit.ensures.candidates ∙ (ap (λ (X : Candidates). after_elem X (pick_elem pick)) c.plan.ensures.candidates ∙ ap (λ (e : Elem). after_elem C e) c.in_ok-pick.ensures.elem) in
     let hops : c.number_hop.new.hops.list ≡ hops_after H (elem ∷ []) = c.number_hop.ensures ∙ ap (λ (hs : List Address). hops_after hs (elem ∷ [])) c.room.ensures.list in
-    let new : Held = record { every = t.limits.every; sizes = z; candidates = c.commit.new.self.candidates; hops = c.number_hop.new.hops.list; table = table_of c.commit-2.new.self; loaded = t.is_loaded; events = t.events + 1 } in
-    let old : Held = record { every = t.limits.every; sizes = z; candidates = C; hops = H; table = table_of t.tables; loaded = t.is_loaded; events = t.events } in
+    let new : Held = record { every = t.limits.every; fewest = t.limits.fewest; sizes = z; candidates = c.commit.new.self.candidates; hops = c.number_hop.new.hops.list; table = table_of c.commit-2.new.self; loaded = t.is_loaded; events = t.events + 1; moves = c.moves_made.result } in
+    let old : Held = record { every = t.limits.every; fewest = t.limits.fewest; sizes = z; candidates = C; hops = H; table = table_of t.tables; loaded = t.is_loaded; events = t.events; moves = t.moves } in
     let first : Takes elem old new =
     record {
       candidates = held;
       hops = hops;
       every = refl;
+      fewest = refl;
       sizes = refl;
-      table = T.table ∙ ap (λ (hs : List Address). kept_by t.limits.every hs (t.events + 1) C (table_of t.tables) elem) (sym hops);
+      table = T.table ∙ ap (λ (hs : List Address). table_by t.limits.fewest t.limits.every hs (t.events + 1) C (table_of t.tables) elem) (sym hops);
       loaded = refl;
       events = refl;
+      moves = c.moves_made.ensures ∙ T.moves c.commit-2.result.first (ap (λ (e : EventChanges). e.first) c.commit-2.ensures.changes ∙ told.first);
     }
     in
     let takes : Takes elem c.args.self.now new = subst (λ (o : Held). Takes elem o new) c.self.view_is first in
@@ -160,13 +168,13 @@ returns-clause-changes c =
     in
     let told = c.in_ok-fitting.ensures in
     let T =
-    applied t.limits.every (t.events + 1) C H c.room.new.self.list elem t.tables c.plan_fitting.new.tables c.commit-2.new.self choice c.in_ok-own.own c.changed_route-route.result c.in_ok-fitting.fitting.plan.v4 c.in_ok-fitting.fitting.plan.v6 c.is_due-due.result s (is_elem c.args.elem.now) c.room.ensures.list
+    applied t.limits.fewest t.limits.every (t.events + 1) C H c.room.new.self.list elem t.tables c.plan_fitting.new.tables c.commit-2.new.self choice c.in_ok-own.own c.changed_route-route.result c.in_ok-fitting.fitting.plan.v4 c.in_ok-fitting.fitting.plan.v6 c.is_due-due.result s (is_elem c.args.elem.now) c.room.ensures.list
     (not_over (length (hops_after H (elem ∷ []))) c.in_ok-own.ensures.full.1) c.in_ok-own.ensures.number ch c.changed_route-route.ensures c.plan_fitting.ensures.tables told.put told.told c.commit-2.ensures.routes c.commit-2.ensures.v4 c.commit-2.ensures.v6 c.is_due-due.ensures
     in
     ap (λ (e : EventChanges). map change_as e.changes.items) c.commit-2.ensures.changes ∙ (told.changes ∙ (T.changes ∙ ap (λ (o : Held). changes_of elem o) c.self.view_is))
 
-pub returns-clause-repaired : goal.returns-clause-repaired
-returns-clause-repaired c =
+pub returns-clause-first : goal.returns-clause-first
+returns-clause-first c =
     let t = c.self.inside in
     let C = t.candidates.candidates in
     let H = t.hops.list in
@@ -183,10 +191,15 @@ returns-clause-repaired c =
     in
     let told = c.in_ok-fitting.ensures in
     let T =
-    applied t.limits.every (t.events + 1) C H c.room.new.self.list elem t.tables c.plan_fitting.new.tables c.commit-2.new.self choice c.in_ok-own.own c.changed_route-route.result c.in_ok-fitting.fitting.plan.v4 c.in_ok-fitting.fitting.plan.v6 c.is_due-due.result s (is_elem c.args.elem.now) c.room.ensures.list
+    applied t.limits.fewest t.limits.every (t.events + 1) C H c.room.new.self.list elem t.tables c.plan_fitting.new.tables c.commit-2.new.self choice c.in_ok-own.own c.changed_route-route.result c.in_ok-fitting.fitting.plan.v4 c.in_ok-fitting.fitting.plan.v6 c.is_due-due.result s (is_elem c.args.elem.now) c.room.ensures.list
     (not_over (length (hops_after H (elem ∷ []))) c.in_ok-own.ensures.full.1) c.in_ok-own.ensures.number ch c.changed_route-route.ensures c.plan_fitting.ensures.tables told.put told.told c.commit-2.ensures.routes c.commit-2.ensures.v4 c.commit-2.ensures.v6 c.is_due-due.ensures
     in
-    ap (λ (e : EventChanges). e.repaired) c.commit-2.ensures.changes ∙ (told.repaired ∙ (ap length T.repair ∙ ap (λ (o : Held). length (repair_of elem o)) c.self.view_is))
+    ap (λ (e : EventChanges). e.first) c.commit-2.ensures.changes ∙ (told.first ∙ (ap length T.first ∙ ap (λ (o : Held). length (first_of elem o)) c.self.view_is))
+
+pub returns-clause-shortest : goal.returns-clause-shortest
+returns-clause-shortest c =
+    let t = c.self.inside in
+    shortest_first (elem_as c.args.elem.now) c.args.self.now (subst (λ (e : Held). InPlace e.table) c.self.view_is (table_placed t.candidates.candidates t.hops.list t.is_loaded t.tables c.self.invariant.0))
 
 pub returns-clause-fits : goal.returns-clause-fits
 returns-clause-fits c =
@@ -240,24 +253,26 @@ returns-clause-stands c = λ load elems st.
     in
     let told = c.in_ok-fitting.ensures in
     let T =
-    applied t.limits.every (t.events + 1) C H c.room.new.self.list elem t.tables c.plan_fitting.new.tables c.commit-2.new.self choice c.in_ok-own.own c.changed_route-route.result c.in_ok-fitting.fitting.plan.v4 c.in_ok-fitting.fitting.plan.v6 c.is_due-due.result s (is_elem c.args.elem.now) c.room.ensures.list
+    applied t.limits.fewest t.limits.every (t.events + 1) C H c.room.new.self.list elem t.tables c.plan_fitting.new.tables c.commit-2.new.self choice c.in_ok-own.own c.changed_route-route.result c.in_ok-fitting.fitting.plan.v4 c.in_ok-fitting.fitting.plan.v6 c.is_due-due.result s (is_elem c.args.elem.now) c.room.ensures.list
     (not_over (length (hops_after H (elem ∷ []))) c.in_ok-own.ensures.full.1) c.in_ok-own.ensures.number ch c.changed_route-route.ensures c.plan_fitting.ensures.tables told.put told.told c.commit-2.ensures.routes c.commit-2.ensures.v4 c.commit-2.ensures.v6 c.is_due-due.ensures
     in
     let held : c.commit.new.self.candidates ≡ after_elem C elem = c.commit.ensures.candidates ∙ (ap (λ (X : Candidates). after_elem X (pick_elem pick)) c.plan.ensures.candidates ∙ ap (λ (e : Elem). after_elem C e) c.in_ok-pick.ensures.elem) in
     let hops : c.number_hop.new.hops.list ≡ hops_after H (elem ∷ []) = c.number_hop.ensures ∙ ap (λ (hs : List Address). hops_after hs (elem ∷ [])) c.room.ensures.list in
     let routes : entries_of c.number_hop.new.hops.list c.commit.new.self.candidates ≡ N = ap (λ (hs : List Address). entries_of hs c.commit.new.self.candidates) hops ∙ ap (entries_of (hops_after H (elem ∷ []))) held in
     let fit : shortage z N ≡ None = ap (first_short z) (sym put) ∙ c.in_ok-fitting.ensures.fits in
-    let new : Held = record { every = t.limits.every; sizes = z; candidates = c.commit.new.self.candidates; hops = c.number_hop.new.hops.list; table = table_of c.commit-2.new.self; loaded = t.is_loaded; events = t.events + 1 } in
-    let old : Held = record { every = t.limits.every; sizes = z; candidates = C; hops = H; table = table_of t.tables; loaded = t.is_loaded; events = t.events } in
+    let new : Held = record { every = t.limits.every; fewest = t.limits.fewest; sizes = z; candidates = c.commit.new.self.candidates; hops = c.number_hop.new.hops.list; table = table_of c.commit-2.new.self; loaded = t.is_loaded; events = t.events + 1; moves = c.moves_made.result } in
+    let old : Held = record { every = t.limits.every; fewest = t.limits.fewest; sizes = z; candidates = C; hops = H; table = table_of t.tables; loaded = t.is_loaded; events = t.events; moves = t.moves } in
     let first : Takes elem old new =
     record {
       candidates = held;
       hops = hops;
       every = refl;
+      fewest = refl;
       sizes = refl;
-      table = T.table ∙ ap (λ (hs : List Address). kept_by t.limits.every hs (t.events + 1) C (table_of t.tables) elem) (sym hops);
+      table = T.table ∙ ap (λ (hs : List Address). table_by t.limits.fewest t.limits.every hs (t.events + 1) C (table_of t.tables) elem) (sym hops);
       loaded = refl;
       events = refl;
+      moves = c.moves_made.ensures ∙ T.moves c.commit-2.result.first (ap (λ (e : EventChanges). e.first) c.commit-2.ensures.changes ∙ told.first);
     }
     in
     let takes : Takes elem c.args.self.now new = subst (λ (o : Held). Takes elem o new) c.self.view_is first in

@@ -53,10 +53,12 @@ returns-clause-ends c =
       candidates = ap (λ (e : Held). e.candidates) c.self.view_is;
       hops = ap (λ (e : Held). e.hops) c.self.view_is;
       every = ap (λ (e : Held). e.every) c.self.view_is;
+      fewest = ap (λ (e : Held). e.fewest) c.self.view_is;
       sizes = ap (λ (e : Held). e.sizes) c.self.view_is;
       table = there ∙ ap (λ (e : Held). kept_at_load e.hops e.candidates) c.self.view_is;
       loaded = refl;
       events = ap (λ (e : Held). e.events) c.self.view_is;
+      moves = ap (λ (e : Held). e.moves) c.self.view_is;
     }
 
 pub returns-clause-stands : goal.returns-clause-stands
@@ -68,5 +70,5 @@ returns-clause-stands c = λ load st.
     let E = entries_of t.hops.list t.candidates.candidates in
     let is : c.needs-needs.result ≡ told_needs (needs_of z.direct E) = c.needs-needs.ensures ∙ ap told_needs (needs_known z.direct c.in_ok-tables.tables.v4.routes c.in_ok-tables.tables.v6.routes E a.v4 a.v6) in
     let there = table_end t.candidates.candidates t.hops.list t.tables c.in_ok-tables.tables c.in_ok-tables-2.tables s a c.in_ok-tables-2.ensures.routes c.in_ok-tables-2.ensures.v4 c.in_ok-tables-2.ensures.v6 in
-    let new : Held = record { every = t.limits.every; sizes = sizes_as t.limits.sizes; candidates = t.candidates.candidates; hops = t.hops.list; table = table_of c.in_ok-tables-2.tables; loaded = true; events = t.events } in
+    let new : Held = record { every = t.limits.every; fewest = t.limits.fewest; sizes = sizes_as t.limits.sizes; candidates = t.candidates.candidates; hops = t.hops.list; table = table_of c.in_ok-tables-2.tables; loaded = true; events = t.events; moves = t.moves } in
     stands_end load c.args.self.now new (ap (λ (e : Held). e.candidates) c.self.view_is) (ap (λ (e : Held). e.hops) c.self.view_is) (there ∙ ap (λ (e : Held). kept_at_load e.hops e.candidates) c.self.view_is) refl (ap (λ (e : Held). e.events) c.self.view_is) (counted z t.limits.sizes.few_nodes t.limits.sizes.few_leaves E c.needs-needs.result is c.in_ok-fit.ensures.ok).fit st

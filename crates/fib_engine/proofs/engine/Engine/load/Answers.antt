@@ -26,7 +26,7 @@ pub returns-clause-loading : goal.returns-clause-loading
 returns-clause-loading c = λ load s.
     let t = c.self.inside in
     let elem = elem_as c.args.elem.now in
-    let new : Held = record { every = t.limits.every; sizes = sizes_as t.limits.sizes; candidates = c.load.new.self.candidates; hops = c.number_hop.new.hops.list; table = table_of t.tables; loaded = t.is_loaded; events = t.events } in
+    let new : Held = record { every = t.limits.every; fewest = t.limits.fewest; sizes = sizes_as t.limits.sizes; candidates = c.load.new.self.candidates; hops = c.number_hop.new.hops.list; table = table_of t.tables; loaded = t.is_loaded; events = t.events; moves = t.moves } in
     loading_more load elem c.args.self.now new (is_elem c.args.elem.now) (c.in_ok-load.ensures.candidates ∙ ap (λ (e : Held). after_elem e.candidates elem) c.self.view_is)
     (c.number_hop.ensures ∙ (ap (λ (hs : List Address). hops_after hs (elem ∷ [])) c.room.ensures.list ∙ ap (λ (e : Held). hops_after e.hops (elem ∷ [])) c.self.view_is))
-    (ap (λ (e : Held). e.table) c.self.view_is) (ap (λ (e : Held). e.loaded) c.self.view_is) (ap (λ (e : Held). e.events) c.self.view_is) s
+    (ap (λ (e : Held). e.table) c.self.view_is) (ap (λ (e : Held). e.loaded) c.self.view_is) (ap (λ (e : Held). e.events) c.self.view_is) (ap (λ (e : Held). e.moves) c.self.view_is) s
