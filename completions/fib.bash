@@ -13,10 +13,10 @@ _fib() {
         words="run check same save make steps"
     elif [ "$before" = --rows ]; then
         words="route table least"
-    elif [[ $word == -* && ($before != --* || $before == --steady) ]]; then
+    elif [[ $word == -* && ($before != --* || $before == --fewest || $before == --steady) ]]; then
         # An option may be given once.
         local option options=
-        [[ ${COMP_WORDS[1]} == run ]] && options="--updates --ask --vrps --every --steady --direct --nodes --leaves"
+        [[ ${COMP_WORDS[1]} == run ]] && options="--updates --ask --vrps --every --fewest --steady --direct --nodes --leaves"
         [[ ${COMP_WORDS[1]} == same ]] && options="--rows"
         [[ ${COMP_WORDS[1]} == save ]] && options="--updates"
         [[ ${COMP_WORDS[1]} == make ]] && options="--seed"
