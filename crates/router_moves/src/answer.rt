@@ -1,5 +1,8 @@
 //! The shortest lists of changes of both families.
 
+ghost use Rattle.std.specs.Prelude.{◌≡◌, length};
+ghost use Rattle.router_moves.specs.Views.{moves_as};
+
 use fib_addr::HopTable;
 use fib_moves::Near;
 
@@ -12,4 +15,13 @@ pub struct RouterMoves {
     pub v6: Near,
     /// The hops that the numbers in both stand for.
     pub hops: HopTable,
+}
+
+impl RouterMoves {
+    /// How many changes there are in both families.
+    pub fn count(&self) -> u64
+        ensures { result ≡ length (moves_as self.now).changes }
+    {
+        self.v4.changes.len() as u64 + self.v6.changes.len() as u64
+    }
 }

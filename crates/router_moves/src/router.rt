@@ -42,9 +42,9 @@ pub fn moves_to_routes<I: Inputs>(
         (ReadsOf (numbered 1 (router.now ∷ printed.now ∷ [])) result) }
 {
     let mut hops = HopTable::new(alloc);
-    let old = read_text(alloc, inputs, router, 1, Kind::Least, &mut hops)?;
+    let table = read_text(alloc, inputs, router, 1, Kind::Least, &mut hops)?;
     let routes = read_text(alloc, inputs, printed, 2, Kind::Route, &mut hops)?;
-    let v4 = family_moves(alloc, Family::V4, &old, &routes)?;
-    let v6 = family_moves(alloc, Family::V6, &old, &routes)?;
+    let v4 = family_moves(alloc, Family::V4, &table, &routes)?;
+    let v6 = family_moves(alloc, Family::V6, &table, &routes)?;
     Ok(RouterMoves { v4, v6, hops })
 }
