@@ -69,9 +69,15 @@ fn entries_of(
     }
 }
 
-/// The entries that the text of this name and number says, with hops numbered behind those of the texts before it.
+/// The entries that the text of this name and number says in its rows of this kind, with hops numbered behind those of the texts
+/// before it. The text is read to its end and then judged; its octets are let go before the call returns. It costs n log n in them.
+///
+/// # Errors
+///
+/// The text is too large, or has a line that is no row or whose hop is the 65,535th of all texts, or has a prefix twice in its rows of
+/// this kind. A failed read, or no memory.
 #[tactic(auto, unfolding(crate::specs::Due::text_at))]
-pub(crate) fn read_text<I: Inputs>(
+pub fn read_text<I: Inputs>(
     alloc: Global,
     inputs: &mut I,
     name: &str,

@@ -1,8 +1,10 @@
-//! What shortest lists of changes and their checker offer, tested.
+//! What shortest lists of changes, their checker, and what a router must change offer, tested.
 #![tactic(auto)]
 
 #[cfg(test)]
 mod common;
+#[cfg(test)]
+mod router;
 #[cfg(test)]
 mod shortest;
 #[cfg(test)]

@@ -1,0 +1,45 @@
+-- What a router must change to forward as routes do, over both families: R are the routes, and T is the router's table.
+use Rattle.std.specs.Prelude.{◌≡◌, ℕ, ◌+◌, ◌≤◌, List, ◌++◌, Some, length}
+use Rattle.std.specs.List.{filter}
+use Rattle.address_model.specs.Address.{same_family}
+use Rattle.address_model.specs.declared.family.Family.{Family}
+use Rattle.address_model.specs.declared.family.Family.TheVariants.{V4, V6}
+use Rattle.table_model.specs.Entries.{AlikeInBoth, Entries, in_order, of_family}
+use Rattle.table_model.specs.Changes.{Change, after_changes}
+use Rattle.delta_model.specs.Between.{between}
+use Rattle.cert_model.specs.Rows.{CertRow}
+use Rattle.moves_model.specs.Dist.{distance}
+use Rattle.moves_cert.specs.Rows.{near_in, near_rows}
+
+-- the entries that are of the family, in the order of prefixes
+abbrev pub table_of : Family → Entries → Entries
+table_of f L = in_order (filter (λ e. same_family f e.0.family) L)
+
+-- what makes of the router's table of the family the nearest one that answers as the routes
+abbrev pub changes_in : Family → Entries → Entries → List Change
+changes_in f R T = between (table_of f T) (near_in f (table_of f R) (table_of f T))
+
+-- the rows that prove that no fewer changes would do
+abbrev pub rows_in : Family → Entries → Entries → List CertRow
+rows_in f R T = near_rows f (table_of f R) (table_of f T)
+
+-- those of both families, IPv4's first
+abbrev pub changes_in_both : Entries → Entries → List Change
+changes_in_both R T = changes_in V4 R T ++ changes_in V6 R T
+
+abbrev pub rows_in_both : Entries → Entries → List CertRow
+rows_in_both R T = rows_in V4 R T ++ rows_in V6 R T
+
+-- ---- shortest over both families
+
+-- at how many prefixes of either family two tables differ
+abbrev pub distance_in_both : Entries → Entries → ℕ
+distance_in_both T U = distance (of_family V4 T) (of_family V4 U) + distance (of_family V6 T) (of_family V6 U)
+
+-- The changes are possible one after another, and make of T a table that answers as R in both families. No table that does differs
+-- from T at fewer prefixes than there are changes, whatever its prefixes and its hops.
+pub record AreShortestInBoth (R T : Entries) (changes : List Change) : Type 0 where
+  pub after : Entries
+  pub makes : after_changes changes T ≡ Some after
+  pub alike : AlikeInBoth R after
+  pub fewest : (U : Entries) → AlikeInBoth R U → length changes ≤ distance_in_both T U

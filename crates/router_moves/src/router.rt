@@ -1,0 +1,50 @@
+//! A router's table against printed routes.
+
+ghost use Rattle.std.specs.Prelude.{◌≡◌, [], ◌∷◌, IfOk};
+ghost use Rattle.fib_io.specs.Reads.{Makes};
+ghost use Rattle.fib_same.specs.Gives.{GivesDue, ReadsNames};
+ghost use Rattle.fib_same.specs.Passes.{ReadsOf, numbered};
+ghost use Rattle.router_moves.specs.Due.{asked_at, moves_at, names_at};
+ghost use Rattle.router_moves.specs.Views.{EndsShortest, moves_as};
+
+use crate::answer::RouterMoves;
+use crate::family::family_moves;
+use cost_cert::Kind;
+use fib_addr::{Family, HopTable};
+use fib_io::Inputs;
+use fib_same::{SameError, read_text};
+use std::alloc::Global;
+
+/// The shortest list of changes that makes a router forward as printed routes do: its table is that of the `least` rows in the text of
+/// the one name, and the routes are the `route` rows in the other. An entry that drops answers as no entry does, yet a change may add,
+/// replace or remove one.
+///
+/// The router's text is read to its end and judged before the other is read. It costs n log n in the octets of both texts.
+///
+/// # Errors
+///
+/// A text that is too large, or has a line that is no row or whose hop is the 65,535th of both texts, or has a prefix twice in its rows
+/// of that kind: the first text that has, and in this order; the router's is text 1, the other text 2. A failed read, or no memory.
+pub fn moves_to_routes<I: Inputs>(
+    alloc: Global,
+    inputs: &mut I,
+    router: &str,
+    printed: &str,
+) -> Result<RouterMoves, SameError>
+    ensures due { GivesDue moves_as result
+        (moves_at (I.content inputs.old) router.now printed.now) }
+    ensures shortest { IfOk result (EndsShortest
+        (asked_at (I.content inputs.old) router.now printed.now)) }
+    ensures same { I.content inputs.new ≡ I.content inputs.old }
+    ensures cause { ReadsNames (names_at (I.content inputs.old) router.now printed.now)
+        (I.faults inputs.old) (I.faults inputs.new) result }
+    ensures reads { Makes (I.reads inputs.old) (I.reads inputs.new)
+        (ReadsOf (numbered 1 (router.now ∷ printed.now ∷ [])) result) }
+{
+    let mut hops = HopTable::new(alloc);
+    let table = read_text(alloc, inputs, router, 1, Kind::Least, &mut hops)?;
+    let routes = read_text(alloc, inputs, printed, 2, Kind::Route, &mut hops)?;
+    let v4 = family_moves(alloc, Family::V4, &table, &routes)?;
+    let v6 = family_moves(alloc, Family::V6, &table, &routes)?;
+    Ok(RouterMoves { v4, v6, hops })
+}
