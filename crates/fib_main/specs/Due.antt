@@ -26,11 +26,13 @@ use Rattle.saved_model.specs.Saved.{long_one, most_peers, peers_with_candidates,
 use Rattle.fib_save.specs.Brings.{after_events}
 use Rattle.fib_same.specs.Due.{Compared, TextDifference, answer_of, same_at}
 use Rattle.fib_same.specs.Due as same
+use Rattle.router_moves.specs.Due.{asked_at as router_at, moves_of as router_moves_of}
+use Rattle.router_moves.specs.Due as router
 use Rattle.printed_model.specs.Used.{Used, printed_in}
 use Rattle.printed_model.specs.Rows.{Announced, Vrp}
 use Rattle.fib_rov.specs.Lines.{vrps_in}
 use Rattle.fib_rov.specs.Rov.{invalid_in, left_of}
-use Rattle.fib_words.specs.Commands.{Named, NamedSame, NamedSave, NamedSteps, Asked, Run, Check, Make, Steps, Same, Save, command_of}
+use Rattle.fib_words.specs.Commands.{Named, NamedMoves, NamedSame, NamedSave, NamedSteps, Asked, Run, Check, Make, Steps, Same, Save, Moves, command_of}
 use Rattle.fib_main.specs.declared.outcome.Outcome.TheVariants.{BadLine, PeersFull, TooLarge, Usage}
 use Rattle.fib_main.specs.declared.outcome.MrtInput.{MrtInput}
 use Rattle.fib_main.specs.declared.outcome.MrtInput.TheVariants.{Dump, Updates}
@@ -38,6 +40,7 @@ use Rattle.fib_main.specs.declared.outcome.Which.{Which}
 use Rattle.fib_main.specs.declared.outcome.Which.TheVariants as all
 use Rattle.fib_main.specs.Stops.{Stop, Refused, LongPath, Untold, told_content, sized, lined, lined_past, listed, rowed, scripted, records_due, unless_stopped, with_room}
 use Rattle.fib_main.specs.Refusals.{Limits, routes_by, stop_at, too_much}
+use Rattle.fib_main.specs.RouterRows.{router_text}
 use Rattle.fib_io.specs.Pieces.{octets_read}
 use Rattle.whole_input.specs.Cuts.{is_small}
 use Rattle.fib_main.specs.Asks.{asks_in, ended_asks_in}
@@ -287,7 +290,7 @@ made_named = record { dump = codes "dump"; updates = Some (codes "updates"); ask
 unfoldable pub made_at : ℕ → ℕ → Result Printed Stop
 made_at routes seed = told_at (made_content routes seed) [] made_named []
 
--- What is to be printed: the rows of a run, the verdict on what a printed text has, the counts alone of a run on inputs that are made, what comparing texts comes to, a prefix that stands twice in one of them, or the checkpoint of what was said.
+-- What is to be printed: the rows of a run, the verdict on what a printed text has, the counts alone of a run on inputs that are made, what comparing texts comes to, a prefix that stands twice in one of them, the checkpoint of what was said, or what a router must change to forward as routes do.
 pub data Output : Type 0 where
   Ran : Printed → Output
   Checked : Used → Output
@@ -295,6 +298,7 @@ pub data Output : Type 0 where
   Alike : Compared → Output
   Repeats : Prefix → Output
   Saved : List Event → Output
+  Moved : router.Asked → Output
 
 abbrev pub ran : Result Printed Stop → Result Output Stop
 ran printed = printed >>= λ p. Ok (Ran p)
@@ -311,17 +315,28 @@ stepped stepping = stepping >>= λ s. Err Untold
 
 -- ---- texts that are compared
 
--- What comparing texts comes to. A text that can't be read is refused, and one in which a prefix stands twice has the verdict of a check on it.
+-- What is to be printed of what texts hold. A text that can't be read is refused, and one in which a prefix stands twice has the verdict of a check on it.
+abbrev pub of_texts : {X : Type 0} → (X → Output) → Result X same.Stop → Result Output Stop
+of_texts output (Ok x) = Ok (output x)
+of_texts output (Err same.Untold) = Err Untold
+of_texts output (Err (same.Refused (same.TooLarge n))) = Err (Refused (TooLarge (all.Text n)))
+of_texts output (Err (same.Refused (same.BadLine n line why))) = Err (Refused (BadLine (all.Text n) line why))
+of_texts output (Err (same.Refused (same.Twice n p))) = Ok (Repeats p)
+
+-- what comparing texts comes to
 abbrev pub compared : Result Compared same.Stop → Result Output Stop
-compared (Ok texts) = Ok (Alike texts)
-compared (Err same.Untold) = Err Untold
-compared (Err (same.Refused (same.TooLarge n))) = Err (Refused (TooLarge (all.Text n)))
-compared (Err (same.Refused (same.BadLine n line why))) = Err (Refused (BadLine (all.Text n) line why))
-compared (Err (same.Refused (same.Twice n p))) = Ok (Repeats p)
+compared texts = of_texts Alike texts
 
 -- the texts of these names, with their rows of this kind
 abbrev pub compared_at : (List ℕ → Option (List ℕ)) → NamedSame → Result Output Stop
 compared_at content named = compared (same_at content named.rows named.first named.rest)
+
+-- what a router must change whose table is the one text's, to forward as the routes of the other
+abbrev pub moved : Result router.Asked same.Stop → Result Output Stop
+moved texts = of_texts Moved texts
+
+abbrev pub moved_at : (List ℕ → Option (List ℕ)) → NamedMoves → Result Output Stop
+moved_at content named = moved (router_at content named.router named.printed)
 
 -- ---- a checkpoint
 
@@ -354,7 +369,7 @@ saved_at content named = said_at content named >>= saved_of
 
 -- ---- of all commands
 
--- of a run, of a check, of a run on made inputs, of a run in steps, of texts, or of a checkpoint
+-- of a run, of a check, of a run on made inputs, of a run in steps, of texts, of a checkpoint, or of a router's table
 unfoldable pub output_at : (List ℕ → Option (List ℕ)) → Asked → Result Output Stop
 output_at content (Run named) = ran (run_at content named)
 output_at content (Check name) = checked (used_at content name)
@@ -362,6 +377,7 @@ output_at content (Make routes seed) = made (made_at routes seed)
 output_at content (Steps named) = stepped (stepping_at content named)
 output_at content (Same named) = compared_at content named
 output_at content (Save named) = saved_at content named
+output_at content (Moves named) = moved_at content named
 
 -- What is to be printed, or the first refusal: of the words, and then of the inputs that they name.
 unfoldable pub due : List (List ℕ) → (List ℕ → Option (List ℕ)) → Result Output Stop
@@ -382,6 +398,7 @@ wrong_in (Made p) = None
 wrong_in (Alike texts) = option_map Differs (answer_of texts)
 wrong_in (Repeats p) = Some (Refuted (Twice p))
 wrong_in (Saved said) = None
+wrong_in (Moved t) = None
 
 -- `alike`, or `differ,TEXT,ADDRESS,FIRST,OTHER`: where a text differs from the first, and the address's hops from both
 abbrev pub answer_text : Option TextDifference → List ℕ
@@ -396,6 +413,7 @@ output_text (Made p) = report_text p.told.report
 output_text (Alike texts) = answer_text (answer_of texts)
 output_text (Repeats p) = verdict_text [] (Some (Twice p))
 output_text (Saved said) = saved (after_events [] said)
+output_text (Moved t) = router_text (router_moves_of t)
 
 -- a text, and what is wrong where it says so
 pub record Reply : Type 0 where

@@ -8,6 +8,7 @@ use Rattle.fib_addr.specs.Text.{prefix_text}
 use Rattle.fib_addr.specs.Views.{prefix_as}
 use Rattle.fib_addr.specs.declared.prefix.Prefix as code_prefix
 use Rattle.fib_same.specs.Gives.{names_at}
+use Rattle.router_moves.specs.Due.{names_at as router_names}
 use Rattle.fib_same.specs.Views.{difference_as}
 use Rattle.fib_same.specs.declared.compare.Difference as code_difference
 use Rattle.cert_check.specs.declared.refusal.No as code
@@ -19,7 +20,7 @@ use Rattle.fib_main.specs.declared.outcome.Outcome.TheVariants.{Done, CheckNo, D
 use Rattle.fib_main.specs.declared.outcome.MrtInput.TheVariants as mrt
 use Rattle.fib_main.specs.Stepping.{events_of}
 use Rattle.fib_main.specs.Stops.{Stop, Untold, Refused, LongPath}
-use Rattle.fib_words.specs.Commands.{Named, NamedSave, NamedSteps, Asked, Run, Check, Make, Steps, Same, Save, command_of}
+use Rattle.fib_words.specs.Commands.{Named, NamedSave, NamedSteps, Asked, Run, Check, Make, Steps, Same, Save, Moves, command_of}
 use Rattle.fib_main.specs.Due.{Output, Wrong, Refuted, Differs, asks_at, load_at, output_text, script_at, sizes_of, steps_sizes, vrps_at, wrong_in}
 
 -- the outcome at the end: Done, what a check finds wrong, or where texts differ
@@ -103,6 +104,7 @@ reads_asked content (Some (Make routes seed)) = []
 reads_asked content (Some (Steps named)) = reads_steps content named
 reads_asked content (Some (Same named)) = names_at content named.rows named.first named.rest
 reads_asked content (Some (Save named)) = reads_saved content named
+reads_asked content (Some (Moves named)) = router_names content named.router named.printed
 
 unfoldable pub reads : List (List ℕ) → (List ℕ → Option (List ℕ)) → List (List ℕ)
 reads words content = reads_asked content (command_of words)

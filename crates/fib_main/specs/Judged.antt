@@ -5,7 +5,7 @@ use Rattle.route_model.specs.Choice.{after_elems, elems_after}
 use Rattle.feed_model.specs.Feed.{entries_of}
 use Rattle.printed_model.specs.Rows.{Vrp}
 use Rattle.fib_rov.specs.Rov.{invalid_in, left_of}
-use Rattle.fib_words.specs.Commands.{Asked, Run, Check, Make, Steps, Same, Save}
+use Rattle.fib_words.specs.Commands.{Asked, Run, Check, Make, Steps, Same, Save, Moves}
 use Rattle.fib_main.specs.declared.outcome.MrtInput.TheVariants.{Dump}
 use Rattle.fib_main.specs.Stepping.{events_of}
 use Rattle.fib_main.specs.Due.{Printed, later_at, run_at, vrps_at}
@@ -23,4 +23,5 @@ Judges content (Some (Check name)) = Unit {0}
 Judges content (Some (Make routes seed)) = Unit {0}
 Judges content (Some (Steps named)) = Unit {0}
 Judges content (Some (Same named)) = Unit {0}
+Judges content (Some (Moves named)) = Unit {0}
 Judges content (Some (Save named)) = Unit {0}

@@ -4,6 +4,7 @@ pub mod Refusals
 pub mod Stops
 pub mod Checks
 pub mod Counts
+pub mod RouterRows
 pub mod Due
 pub mod Views
 pub mod Standing

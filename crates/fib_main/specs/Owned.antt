@@ -1,6 +1,6 @@
 -- Which outcomes a command can have, whether or not its inputs tell what they hold.
 use Rattle.std.specs.Prelude.{◌≡◌, ℕ, Option, Some, None, IfSome, IsSome, Result, Ok, Err}
-use Rattle.fib_words.specs.Commands.{Asked, Run, Check, Make, Steps, Same, Save}
+use Rattle.fib_words.specs.Commands.{Asked, Run, Check, Make, Steps, Same, Save, Moves}
 use Rattle.fib_main.specs.declared.outcome.Which.{Which}
 use Rattle.fib_main.specs.declared.outcome.Which.TheVariants.{Asks, Vrps, Dump, Updates, Printed, Script, Text}
 use Rattle.fib_main.specs.declared.outcome.Outcome.{Outcome}
@@ -53,6 +53,13 @@ HasInput (Save named) Updates = IsSome named.updates
 HasInput (Save named) Printed = ⊥
 HasInput (Save named) Script = ⊥
 HasInput (Save named) (Text n) = ⊥
+HasInput (Moves named) Asks = ⊥
+HasInput (Moves named) Vrps = ⊥
+HasInput (Moves named) Dump = ⊥
+HasInput (Moves named) Updates = ⊥
+HasInput (Moves named) Printed = ⊥
+HasInput (Moves named) Script = ⊥
+HasInput (Moves named) (Text n) = Unit {0}
 
 -- the input is one of lines
 abbrev pub HasLines : Which → Type 0
@@ -107,6 +114,7 @@ JudgesText (Make routes seed) = ⊥
 JudgesText (Steps named) = ⊥
 JudgesText (Same named) = Unit {0}
 JudgesText (Save named) = ⊥
+JudgesText (Moves named) = Unit {0}
 
 -- a comparison of texts
 abbrev pub IsSame : Asked → Type 0
@@ -116,6 +124,7 @@ IsSame (Make routes seed) = ⊥
 IsSame (Steps named) = ⊥
 IsSame (Same named) = Unit {0}
 IsSame (Save named) = ⊥
+IsSame (Moves named) = ⊥
 
 -- a checkpoint
 abbrev pub IsSave : Asked → Type 0
@@ -125,8 +134,9 @@ IsSave (Make routes seed) = ⊥
 IsSave (Steps named) = ⊥
 IsSave (Same named) = ⊥
 IsSave (Save named) = Unit {0}
+IsSave (Moves named) = ⊥
 
--- The outcome is one of these words. Words that are no command have Usage alone, and no command has it; a check and a comparison alone say no, a comparison alone that texts differ, and a checkpoint alone that there are too many peers or that a path is too long; a refusal names an input that the command names or makes. Memory may run out with any.
+-- The outcome is one of these words. Words that are no command have Usage alone, and no command has it; a check, a comparison and a router's changes alone say no, a comparison alone that texts differ, and a checkpoint alone that there are too many peers or that a path is too long; a refusal names an input that the command names or makes. Memory may run out with any.
 abbrev pub IsOf : Option Asked → Outcome → Type 0
 IsOf None Usage = Unit {0}
 IsOf None NoMemory = Unit {0}
@@ -155,6 +165,7 @@ Owns (Some (Make routes seed)) reply = reply.wrong ≡ None
 Owns (Some (Steps named)) reply = reply.wrong ≡ None
 Owns (Some (Same named)) reply = Unit {0}
 Owns (Some (Save named)) reply = reply.wrong ≡ None
+Owns (Some (Moves named)) reply = IfSome reply.wrong IsNo
 
 -- a call was stopped at this input
 abbrev pub StoppedAt : {X : Type 0} → Which → Result X Outcome → Type 0

@@ -1,7 +1,7 @@
 -- Which reads are made of the inputs that words name.
 use Rattle.std.specs.Prelude.{◌≡◌, ◌≤◌, ◌+◌, ℕ, zero, suc, List, [], ◌∷◌, ◌++◌, map, Option, Some, None, option_to_list, Result, Ok, Err, ◌⊎◌}
 use Rattle.fib_io.specs.Reads.{Anywhere, AtEnd, AtFault, PassEnd, PassInTime, PastMost, Read}
-use Rattle.fib_words.specs.Commands.{Asked, Check, Make, Named, NamedSame, NamedSave, NamedSteps, Run, Same, Save, Steps}
+use Rattle.fib_words.specs.Commands.{Asked, Check, Make, Moves, Named, NamedMoves, NamedSame, NamedSave, NamedSteps, Run, Same, Save, Steps}
 use Rattle.fib_main.specs.declared.asks.AskError.{AskError}
 use Rattle.fib_main.specs.declared.asks.AskError.TheVariants as ask
 use Rattle.fib_main.specs.declared.outcome.MrtInput.{MrtInput}
@@ -48,6 +48,10 @@ steps_inputs named = (Script, named.script) ∷ load_inputs named
 abbrev pub texts_from : ℕ → List (List ℕ) → List Input
 texts_from n [] = []
 texts_from n (name ∷ names) = (Text n, name) ∷ texts_from (n + 1) names
+
+-- the router's text, which is text 1, and the printed one
+abbrev pub moves_inputs : NamedMoves → List Input
+moves_inputs named = texts_from 1 (named.router ∷ named.printed ∷ [])
 
 -- those that are compared: the first is text 1
 abbrev pub same_inputs : NamedSame → List Input
@@ -143,7 +147,7 @@ ReadsTo content Goes inputs o reads = StopsReading content Goes inputs o reads
 abbrev pub ReadToOne : Content → List Input → List Read → Type 0
 ReadToOne content inputs reads = (which : Which) × ReadUpTo content TextMayGoOn inputs which AtEnd reads
 
--- The reads of texts that are compared: a text in which a prefix stands twice is the last one that is read.
+-- The reads of texts that are compared, or of which one is a router's: a text in which a prefix stands twice is the last one that is read.
 abbrev pub ReadsTexts : Content → List Input → Outcome → List Read → Type 0
 ReadsTexts content inputs (CheckNo x) reads = ReadToOne content inputs reads
 ReadsTexts content inputs WriteFault reads = AllRead content TextMayGoOn inputs reads ⊎ ReadToOne content inputs reads
@@ -158,6 +162,7 @@ ReadsAt content (Some (Make routes seed)) o reads = reads ≡ []
 ReadsAt content (Some (Steps named)) o reads = ReadsTo content (StepsMayGoOn named) (steps_inputs named) o reads
 ReadsAt content (Some (Same named)) o reads = ReadsTexts content (same_inputs named) o reads
 ReadsAt content (Some (Save named)) o reads = ReadsTo content SaveMayGoOn (save_inputs named) o reads
+ReadsAt content (Some (Moves named)) o reads = ReadsTexts content (moves_inputs named) o reads
 
 -- the reads of texts that are compared, by what was found wrong
 abbrev pub ReadsFound : Content → List Input → Option Wrong → List Read → Type 0
@@ -184,6 +189,7 @@ ReadsAsked content (Some (Make routes seed)) r reads = reads ≡ []
 ReadsAsked content (Some (Steps named)) r reads = ReadsOf content (StepsMayGoOn named) (steps_inputs named) r reads
 ReadsAsked content (Some (Same named)) r reads = ReadsCompared content (same_inputs named) r reads
 ReadsAsked content (Some (Save named)) r reads = ReadsSaved content (save_inputs named) r reads
+ReadsAsked content (Some (Moves named)) r reads = ReadsCompared content (moves_inputs named) r reads
 
 -- ---- the parts
 

@@ -10,12 +10,18 @@ use Rattle.texts_model.specs.Texts.{ComesTo, EveryTwo, least_difference}
 use Rattle.saved_model.specs.Saved.{saved}
 use Rattle.fib_same.specs.Due.{Compared, answer_of}
 use Rattle.fib_save.specs.Brings.{after_events}
+use Rattle.address_model.specs.declared.family.Family.TheVariants.{V4, V6}
+use Rattle.table_model.specs.Entries.{in_order}
+use Rattle.moves_cert.specs.Shortest.{AreProvedShortest}
+use Rattle.router_model.specs.Both.{AreShortestInBoth, changes_in, rows_in, table_of}
+use Rattle.router_moves.specs.Due.{moves_of as router_moves_of}
+use Rattle.router_moves.specs.Due as router
 use Rattle.fib_save.specs.Restores.{Restores}
-use Rattle.fib_words.specs.Commands.{Asked, Run, Check, Make, Steps, Same, Save}
+use Rattle.fib_words.specs.Commands.{Asked, Run, Check, Make, Steps, Same, Save, Moves}
 use Rattle.fib_main.specs.Stops.{Stop}
 use Rattle.fib_main.specs.Checks.{verdict_of}
 use Rattle.fib_main.specs.Owned.{IsSave}
-use Rattle.fib_main.specs.Due.{Output, Ran, Checked, Made, Alike, Repeats, Saved, Printed, printed_text}
+use Rattle.fib_main.specs.Due.{Output, Ran, Checked, Made, Alike, Repeats, Saved, Moved, Printed, printed_text}
 
 -- nothing is wrong exactly where the rows are a certificate that the least table is least for the routes
 abbrev pub Decides : Used → Type 0
@@ -33,6 +39,7 @@ IfChecked (Ok (Made p)) P = Unit {0}
 IfChecked (Ok (Alike texts)) P = Unit {0}
 IfChecked (Ok (Repeats p)) P = Unit {0}
 IfChecked (Ok (Saved said)) P = Unit {0}
+IfChecked (Ok (Moved t)) P = Unit {0}
 IfChecked (Err stop) P = Unit {0}
 
 -- The text, if it isn't too large for an input, is one that a check says yes to: each of its lines is a printed row, the rows have a certificate that proves their least table least for their routes, and so nothing is wrong with them.
@@ -54,6 +61,7 @@ IfRan (Ok (Made p)) P = Unit {0}
 IfRan (Ok (Alike texts)) P = Unit {0}
 IfRan (Ok (Repeats p)) P = Unit {0}
 IfRan (Ok (Saved said)) P = Unit {0}
+IfRan (Ok (Moved t)) P = Unit {0}
 IfRan (Err stop) P = Unit {0}
 
 -- the words are those of a run
@@ -64,6 +72,7 @@ IsRun (Some (Make routes seed)) = ⊥
 IsRun (Some (Steps named)) = ⊥
 IsRun (Some (Same named)) = ⊥
 IsRun (Some (Save named)) = ⊥
+IsRun (Some (Moves named)) = ⊥
 IsRun None = ⊥
 
 -- a text that a check says yes to was added, where out tells it
@@ -84,12 +93,32 @@ IfCompared (Ok (Checked used)) P = Unit {0}
 IfCompared (Ok (Made p)) P = Unit {0}
 IfCompared (Ok (Repeats p)) P = Unit {0}
 IfCompared (Ok (Saved said)) P = Unit {0}
+IfCompared (Ok (Moved t)) P = Unit {0}
 IfCompared (Err stop) P = Unit {0}
 
 -- The answer is what comparing the tables comes to: none differs from the first, or the least address at which one does and the first that does there. Where none differs, every two tables send every address to the same hop.
 pub record Compares (texts : Compared) : Type 0 where
   pub found : ComesTo texts.first texts.others (least_difference texts.first texts.others)
   pub alike : answer_of texts ≡ None → EveryTwo AlikeInBoth (texts.first ∷ texts.others)
+
+-- ---- what a router must change
+
+-- this holds of a router's table and routes, where it is due what the router must change
+abbrev pub IfMoved : Result Output Stop → (router.Asked → Type 0) → Type 0
+IfMoved (Ok (Moved t)) P = P t
+IfMoved (Ok (Ran p)) P = Unit {0}
+IfMoved (Ok (Checked used)) P = Unit {0}
+IfMoved (Ok (Made p)) P = Unit {0}
+IfMoved (Ok (Alike texts)) P = Unit {0}
+IfMoved (Ok (Repeats p)) P = Unit {0}
+IfMoved (Ok (Saved said)) P = Unit {0}
+IfMoved (Err stop) P = Unit {0}
+
+-- The changes are possible one after another, and make the router's table one that sends every address where the routes send it; no table that does differs from the router's at fewer prefixes, whatever its prefixes and hops. In each family the rows prove it, to whoever trusts the rules of rows alone.
+pub record Reroutes (t : router.Asked) : Type 0 where
+  pub shortest : AreShortestInBoth (in_order t.routes) (in_order t.table) (router_moves_of t).changes
+  pub v4 : AreProvedShortest V4 (table_of V4 t.routes) (table_of V4 t.table) (changes_in V4 t.routes t.table) (rows_in V4 t.routes t.table)
+  pub v6 : AreProvedShortest V6 (table_of V6 t.routes) (table_of V6 t.table) (changes_in V6 t.routes t.table) (rows_in V6 t.routes t.table)
 
 -- ---- checkpoints
 
@@ -101,6 +130,7 @@ IfSaved (Ok (Checked used)) P = Unit {0}
 IfSaved (Ok (Made p)) P = Unit {0}
 IfSaved (Ok (Alike texts)) P = Unit {0}
 IfSaved (Ok (Repeats p)) P = Unit {0}
+IfSaved (Ok (Moved t)) P = Unit {0}
 IfSaved (Err stop) P = Unit {0}
 
 -- the words are those of a checkpoint

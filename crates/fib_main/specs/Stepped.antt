@@ -5,7 +5,7 @@ use Rattle.address_model.specs.declared.family.Family.{Family}
 use Rattle.address_model.specs.declared.family.Family.TheVariants.{V4, V6}
 use Rattle.step_model.specs.Machine.{ComesTo, IsHopsFull, IsTrieFull}
 use Rattle.step_run.specs.Stepping.{Stepping, IsTextOf}
-use Rattle.fib_words.specs.Commands.{Asked, Run, Check, Make, Steps, Same, Save}
+use Rattle.fib_words.specs.Commands.{Asked, Run, Check, Make, Steps, Same, Save, Moves}
 use Rattle.fib_main.specs.declared.reply.Reply as code_reply
 use Rattle.fib_main.specs.declared.outcome.Outcome.{Outcome}
 use Rattle.fib_main.specs.declared.outcome.Outcome.TheVariants.{Done, WriteFault, NoMemory, ReadFault, HopsFull, TrieFull}
@@ -46,6 +46,7 @@ FitsSteps content (Some (Run named)) old new outcome = Unit {0}
 FitsSteps content (Some (Check name)) old new outcome = Unit {0}
 FitsSteps content (Some (Make routes seed)) old new outcome = Unit {0}
 FitsSteps content (Some (Same named)) old new outcome = Unit {0}
+FitsSteps content (Some (Moves named)) old new outcome = Unit {0}
 FitsSteps content (Some (Save named)) old new outcome = Unit {0}
 FitsSteps content (Some (Steps named)) old new outcome = IfStepping (stepping_at content named) (λ s. EndsRun s old new outcome)
 
@@ -65,5 +66,6 @@ GivesSteps content (Some (Run named)) result = Unit {0}
 GivesSteps content (Some (Check name)) result = Unit {0}
 GivesSteps content (Some (Make routes seed)) result = Unit {0}
 GivesSteps content (Some (Same named)) result = Unit {0}
+GivesSteps content (Some (Moves named)) result = Unit {0}
 GivesSteps content (Some (Save named)) result = Unit {0}
 GivesSteps content (Some (Steps named)) result = IfStepping (stepping_at content named) (λ s. GivesReply s result)

@@ -7,12 +7,13 @@ use Rattle.fib_same.specs.Due.{Compared}
 use Rattle.std.specs.declared.vec.Vec.{Vec}
 use Rattle.address_model.specs.Address.{Address}
 use Rattle.printed_model.specs.Used.{Used}
-use Rattle.fib_words.specs.Commands.{Asked, Named, NamedSteps, Run, Check, Make, Steps, Same, Save}
+use Rattle.fib_words.specs.Commands.{Asked, Named, NamedSteps, Run, Check, Make, Steps, Same, Save, Moves}
 use Rattle.fib_main.specs.declared.reply.Reply as code_reply
 use Rattle.fib_main.specs.declared.outcome.Which.TheVariants.{Asks, Dump, Printed, Script, Text, Updates, Vrps}
 use Rattle.fib_main.specs.declared.outcome.Outcome.{Outcome}
 use Rattle.fib_main.specs.Stops.{Stop, Untold, GivesDue, IsDueIfTold}
-use Rattle.fib_main.specs.Due.{Output, Alike, Checked, Repeats, asks_at, saved_of, made, made_at, ran, stepped, told_at, with_reply, with_text, with_world, vrps_at, world_at}
+use Rattle.router_moves.specs.Due as router
+use Rattle.fib_main.specs.Due.{Output, Alike, Checked, Moved, Repeats, asks_at, saved_of, made, made_at, ran, stepped, told_at, with_reply, with_text, with_world, vrps_at, world_at}
 use Rattle.fib_main.specs.Ends.{Meets, Writes, text_due}
 use Rattle.fib_main.specs.Owned.{StopsAt, StoppedAt}
 use Rattle.fib_main.specs.Views.{reply_as}
@@ -33,13 +34,14 @@ FitsStepping d old new outcome = FitsUntold (stepped d) old new outcome × IfSte
 abbrev pub CanHave : (List ℕ → Option (List ℕ)) → Named → List Address → List Vrp → Type 0
 CanHave content named asks vrps = IsDueIfTold (asks_at content named.asks) (Ok asks) × IsDueIfTold (vrps_at content named.vrps) (Ok vrps)
 
--- Whatever the asks and the list of VRPs hold: one of them is refused, or all is as due of some asks and some list that the run can have, with the dump and the updates. Whatever a printed text holds: it is refused, or all is as due of some rows. Whatever a script holds: it is refused, or all is as due of some steps. Whatever texts hold: one is refused, or all is as due of some tables, or of a prefix that stands twice. Whatever inputs of records hold: one is refused, or all is as due of what was said in some.
+-- Whatever the asks and the list of VRPs hold: one of them is refused, or all is as due of some asks and some list that the run can have, with the dump and the updates. Whatever a printed text holds: it is refused, or all is as due of some rows. Whatever a script holds: it is refused, or all is as due of some steps. Whatever texts hold: one is refused, or all is as due of some tables, or of a prefix that stands twice. Whatever inputs of records hold: one is refused, or all is as due of what was said in some. Whatever the texts of a router and of its routes hold: one is refused, or all is as due of some table and some routes, or of a prefix that stands twice.
 abbrev pub FitsSome : (List ℕ → Option (List ℕ)) → Option Asked → Option (List ℕ) → Option (List ℕ) → Outcome → Type 0
 FitsSome content None old new outcome = Unit {0}
 FitsSome content (Some (Run named)) old new outcome = (StopsAt Asks outcome ⊎ StopsAt Vrps outcome) ⊎ ((asks : List Address) × (vrps : List Vrp) × CanHave content named asks vrps × FitsUntold (ran (told_at content vrps named asks)) old new outcome)
 FitsSome content (Some (Check name)) old new outcome = StopsAt Printed outcome ⊎ ((used : Used) × FitsUntold (Ok (Checked used)) old new outcome)
 FitsSome content (Some (Make routes seed)) old new outcome = FitsUntold (made (made_at routes seed)) old new outcome
 FitsSome content (Some (Same named)) old new outcome = ((n : ℕ) × StopsAt (Text n) outcome) ⊎ (((texts : Compared) × FitsUntold (Ok (Alike texts)) old new outcome) ⊎ ((p : Prefix) × FitsUntold (Ok (Repeats p)) old new outcome))
+FitsSome content (Some (Moves named)) old new outcome = ((n : ℕ) × StopsAt (Text n) outcome) ⊎ (((t : router.Asked) × FitsUntold (Ok (Moved t)) old new outcome) ⊎ ((p : Prefix) × FitsUntold (Ok (Repeats p)) old new outcome))
 FitsSome content (Some (Save named)) old new outcome = (StopsAt Dump outcome ⊎ StopsAt Updates outcome) ⊎ ((said : List Event) × FitsUntold (saved_of said) old new outcome)
 FitsSome content (Some (Steps named)) old new outcome = StopsAt Script outcome ⊎ ((script : List Step) × FitsStepping (with_world script (world_at content named)) old new outcome)
 
@@ -65,6 +67,10 @@ StepsOfSome content named result = StoppedAt Script result ⊎ ((script : List S
 abbrev pub GivesStepping : Result Stepping Stop → Result code_reply.Reply Outcome → Type 0
 GivesStepping d result = GivesDue reply_as result (with_reply (stepped d)) × IfStepping d (λ s. GivesReply s result)
 
+-- the same of the reply to a router's table and routes
+abbrev pub MovedOfSome : Result code_reply.Reply Outcome → Type 0
+MovedOfSome result = ((n : ℕ) × StoppedAt (Text n) result) ⊎ (((t : router.Asked) × GivesDue reply_as result (with_reply (Ok (Moved t)))) ⊎ ((p : Prefix) × GivesDue reply_as result (with_reply (Ok (Repeats p)))))
+
 -- the same of the reply to texts that are compared
 abbrev pub ComparedOfSome : Result code_reply.Reply Outcome → Type 0
 ComparedOfSome result = ((n : ℕ) × StoppedAt (Text n) result) ⊎ (((texts : Compared) × GivesDue reply_as result (with_reply (Ok (Alike texts)))) ⊎ ((p : Prefix) × GivesDue reply_as result (with_reply (Ok (Repeats p)))))
@@ -80,5 +86,6 @@ GivesSome content (Some (Run named)) result = (StoppedAt Asks result ⊎ Stopped
 GivesSome content (Some (Check name)) result = ReplyOfSome result
 GivesSome content (Some (Make routes seed)) result = GivesDue reply_as result (with_reply (made (made_at routes seed)))
 GivesSome content (Some (Same named)) result = ComparedOfSome result
+GivesSome content (Some (Moves named)) result = MovedOfSome result
 GivesSome content (Some (Save named)) result = SavedOfSome result
 GivesSome content (Some (Steps named)) result = StoppedAt Script result ⊎ ((script : List Step) × GivesStepping (with_world script (world_at content named)) result)

@@ -11,6 +11,7 @@
 mod asks;
 mod check;
 mod feed;
+mod moves;
 mod order;
 mod outcome;
 mod reply;

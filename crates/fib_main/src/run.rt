@@ -28,6 +28,7 @@ use crate::feed::{Counts, feed};
 use crate::outcome::{MrtInput, Outcome, Which};
 use crate::reply::Reply;
 use crate::report::{Fed, write_counts, write_text};
+use crate::moves::moves_for;
 use crate::same::same_for;
 use crate::save::save_for;
 use crate::state::{FeedError, State};
@@ -510,6 +511,7 @@ fn reply_to<I: Inputs>(
         }
         CommandWords::Same(same) => same_for(alloc, inputs, same),
         CommandWords::Save(save) => save_for(alloc, inputs, save),
+        CommandWords::Moves(moves) => moves_for(alloc, inputs, moves),
     }
 }
 

@@ -5,7 +5,7 @@ ghost use Rattle.fib_addr.specs.Views.{prefix_as};
 ghost use Rattle.fib_io.specs.Reads.{Makes};
 ghost use Rattle.fib_same.specs.Views.{difference_as};
 ghost use Rattle.fib_words.specs.Commands.{Same, same_as};
-ghost use Rattle.fib_main.specs.Comparing.{RepliesTo, answer_reply};
+ghost use Rattle.fib_main.specs.Comparing.{Refuses, RepliesTo, answer_reply, answer_says};
 ghost use Rattle.fib_main.specs.Due.{Repeats, answer_text, compared_at, reply_of, with_reply};
 ghost use Rattle.fib_main.specs.Ends.{ReadsNames};
 ghost use Rattle.fib_same.specs.Gives.{names_at};
@@ -77,28 +77,37 @@ fn reply_to_twice(alloc: Global, prefix: Prefix) -> Result<Reply, AllocError>
     })
 }
 
+/// The reply where texts aren't read: which prefix stands twice in one, or why one is refused.
+pub(crate) fn reply_to_refused(alloc: Global, error: SameError) -> Result<Reply, Outcome>
+    ensures { Refuses error result }
+{
+    match error {
+        SameError::Twice { prefix, .. } => {
+            reply_to_twice(alloc, prefix).map_err(|_| Outcome::NoMemory)
+        }
+        SameError::BadLine { text, line, why } => Err(Outcome::BadLine {
+            input: Which::Text(text),
+            line,
+            why,
+        }),
+        SameError::TooLarge { text } => Err(Outcome::TooLarge {
+            input: Which::Text(text),
+        }),
+        SameError::Fault => Err(Outcome::ReadFault),
+        SameError::NoMemory => Err(Outcome::NoMemory),
+    }
+}
+
 /// The reply to a comparison of texts.
 fn reply_to(
     alloc: Global,
     compared: Result<Option<Difference>, SameError>,
 ) -> Result<Reply, Outcome>
-    ensures { RepliesTo compared result }
+    ensures { RepliesTo answer_says compared result }
 {
     match compared {
         Ok(answer) => reply_to_answer(alloc, answer).map_err(|_| Outcome::NoMemory),
-        Err(SameError::Twice { prefix, .. }) => {
-            reply_to_twice(alloc, prefix).map_err(|_| Outcome::NoMemory)
-        }
-        Err(SameError::BadLine { text, line, why }) => Err(Outcome::BadLine {
-            input: Which::Text(text),
-            line,
-            why,
-        }),
-        Err(SameError::TooLarge { text }) => Err(Outcome::TooLarge {
-            input: Which::Text(text),
-        }),
-        Err(SameError::Fault) => Err(Outcome::ReadFault),
-        Err(SameError::NoMemory) => Err(Outcome::NoMemory),
+        Err(error) => reply_to_refused(alloc, error),
     }
 }
 

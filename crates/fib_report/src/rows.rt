@@ -75,7 +75,7 @@ pub(crate) fn invalid_row(invalid: &Invalid) -> PrintedRow
 }
 
 /// The row of a change.
-fn change_row(event: u64, change: &Change, hops: &HopTable) -> PrintedRow
+pub(crate) fn change_row(event: u64, change: &Change, hops: &HopTable) -> PrintedRow
     ensures { printed_row_as result ≡ of_change hops.now.list (event, change_as change.now) }
 {
     match *change {

@@ -13,7 +13,7 @@ ghost use Rattle.fib_report.specs.Views.{answer_as, invalid_as, moves_as};
 
 use crate::printed_row::put_row;
 use crate::rows::{
-    cert_row, entry_row, invalid_row, moves_row, put_answers, put_cert, put_changes, put_report, row_writer,
+    cert_row, change_row, entry_row, invalid_row, moves_row, put_answers, put_cert, put_changes, put_report, row_writer,
 };
 use crate::run::{Answer, Invalid, Moves, Report};
 use crate::section::Section;
@@ -97,6 +97,27 @@ impl<'a> RunText<'a> {
             (map (λ c. (c.0, change_as c.1)) changes.now))) }
     {
         put_changes(&mut self.out, changes, self.hops)?;
+        Ok(())
+    }
+
+    /// Writes the row of a change that the event of this number makes.
+    fn change(&mut self, event: u64, change: &Change) -> Result<(), AllocError>
+        requires { IsReady self.old }
+        ensures { OnOk result (Writes self.old self.new
+            (of_change (hops_in self.old) (event, change_as change.now) ∷ [])) }
+    {
+        put_row(&mut self.out, change_row(event, change, self.hops))
+    }
+
+    /// Writes the changes that the event of this number makes.
+    pub fn event(&mut self, event: u64, changes: &[Change]) -> Result<(), AllocError>
+        requires { IsReady self.old }
+        ensures { OnOk result (Writes self.old self.new
+            (map (λ c. of_change (hops_in self.old) (event, c)) (map change_as changes.now))) }
+    {
+        for change in changes {
+            self.change(event, change)?;
+        }
         Ok(())
     }
 

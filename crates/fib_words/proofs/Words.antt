@@ -20,7 +20,7 @@ use Rattle.fib_addr.specs.Text.{number_below}
 use Rattle.printed_model.specs.declared.kind.Kind.{Kind}
 use Rattle.fib_words.specs.declared.WordsError.{WordsError}
 use Rattle.fib_words.specs.declared.WordsError.TheVariants.{Usage, NoMemory}
-use Rattle.fib_words.specs.Commands.{Asked, Named, NamedSame, NamedSizes, HasApp, bare_app, run_app, check_app, make_app, steps_app, fib_app, takes, is_empty, is_on, Run, Check, Steps, asked_in, named_by, named_with, number_or, made_by, made_with, Make, Same, Save, same_by, same_with, save_by, save_with, from_one, kind_or, sizes_by, sizes_with, steps_by, steps_with, command_of, IsCommand}
+use Rattle.fib_words.specs.Commands.{Asked, Named, NamedSame, NamedSizes, HasApp, bare_app, run_app, check_app, make_app, steps_app, fib_app, takes, is_empty, is_on, Run, Check, Steps, asked_in, named_by, named_with, number_or, made_by, made_with, Make, Same, Save, same_by, same_with, save_by, save_with, Moves, moves_by, moves_with, from_one, kind_or, sizes_by, sizes_with, steps_by, steps_with, command_of, IsCommand}
 
 fib_free : is_simple_and_free fib_app ≡ true
 unfolding clap_on_literals
@@ -43,10 +43,8 @@ two_under c first second one two d one_app two_app at_c at_one at_two at_first a
   local = at_second.local;
 }
 
-pub last_under : {E : Type 0} (r : Result Command E) (c first one two : Command) (d one_app two_app : App) → HasApp c d → HasApp one one_app → HasApp two two_app → HasApp first (with_subcommand (app_of c) (app_of one).top)
-    → IfOk r (λ second. HasApp second (with_subcommand (app_of first) (app_of two).top)) → IfOk r (λ second. HasApp second (with_subcommand (with_subcommand d one_app.top) two_app.top))
-last_under r c first one two d one_app two_app at_c at_one at_two at_first ok =
-    subst (λ app. IfOk r (λ second. HasApp second app)) (under _ _ _ _ refl (under _ _ _ _ at_first.same at_c.same _ at_one.same) _ at_two.same) ok
+pub last_under : {E : Type 0} (r : Result Command E) (c one : Command) (d one_app : App) → HasApp c d → HasApp one one_app → IfOk r (λ second. HasApp second (with_subcommand (app_of c) (app_of one).top)) → IfOk r (λ second. HasApp second (with_subcommand d one_app.top))
+last_under r c one d one_app at_c at_one ok = subst (λ app. IfOk r (λ second. HasApp second app)) (under _ _ _ _ refl at_c.same _ at_one.same) ok
 
 -- ---- what clap refuses is no command
 
@@ -86,8 +84,11 @@ name_is (Some b) = refl
 
 -- what a command of this name asks for
 
+abbrev asked_of_moves : Text → List Row → Option Asked
+asked_of_moves name rows = cond (bytes_eq name (codes "moves")) (option_map Moves (moves_by rows)) None
+
 abbrev asked_of_save : Text → List Row → Option Asked
-asked_of_save name rows = cond (bytes_eq name (codes "save")) (option_map Save (save_by rows)) None
+asked_of_save name rows = cond (bytes_eq name (codes "save")) (option_map Save (save_by rows)) (asked_of_moves name rows)
 
 abbrev asked_of_same : Text → List Row → Option Asked
 asked_of_same name rows = cond (bytes_eq name (codes "same")) (option_map Same (same_by rows)) (asked_of_save name rows)
@@ -263,3 +264,17 @@ no_save_dump m d = rw (← save_are m, ← d) refl
 
 pub all_save : (m : ArgMatches) (dump : Text) (u : Option Text) → Is (Some dump) m (codes "dump") → Is u m (codes "updates") → Some (record { dump = dump; updates = u }) ≡ save_by (rows_of (found_of m))
 all_save m dump u d is = rw (← save_are m, ← d, ← is) refl
+
+-- the names in the matches of `moves`
+
+moves_are : (m : ArgMatches) → moves_with (found m (codes "router")) (found m (codes "printed")) ≡ moves_by (rows_of (found_of m))
+moves_are m = rw (first_value-rows (found_of m) (codes "router"), first_value-rows (found_of m) (codes "printed")) refl
+
+pub no_router : (m : ArgMatches) → Is None m (codes "router") → None ≡ moves_by (rows_of (found_of m))
+no_router m r = rw (← moves_are m, ← r) refl
+
+pub no_printed : (m : ArgMatches) (router : Text) → Is (Some router) m (codes "router") → Is None m (codes "printed") → None ≡ moves_by (rows_of (found_of m))
+no_printed m router r p = rw (← moves_are m, ← r, ← p) refl
+
+pub all_moves : (m : ArgMatches) (router printed : Text) → Is (Some router) m (codes "router") → Is (Some printed) m (codes "printed") → Some (record { router = router; printed = printed }) ≡ moves_by (rows_of (found_of m))
+all_moves m router printed r p = rw (← moves_are m, ← r, ← p) refl

@@ -12,6 +12,7 @@ use Rattle.printed_model.specs.declared.kind.Kind.TheVariants.{Route, Table, Lea
 use Rattle.fib_words.specs.declared.RunWords.{RunWords}
 use Rattle.fib_words.specs.declared.SameWords.{SameWords}
 use Rattle.fib_words.specs.declared.SaveWords.{SaveWords}
+use Rattle.fib_words.specs.declared.MovesWords.{MovesWords}
 use Rattle.fib_words.specs.declared.SizesWords.{SizesWords}
 use Rattle.fib_words.specs.declared.StepsWords.{StepsWords}
 use Rattle.fib_words.specs.declared.CommandWords.{CommandWords}
@@ -71,6 +72,10 @@ same_app = with_rule (with_rule (with_rule (new_app (codes "same")) (word_rule (
 abbrev pub save_app : App
 save_app = with_rule (with_rule (new_app (codes "save")) (word_rule (codes "dump"))) (option_rule (codes "updates"))
 
+-- `moves ROUTER PRINTED`
+abbrev pub moves_app : App
+moves_app = with_rule (with_rule (new_app (codes "moves")) (word_rule (codes "router"))) (word_rule (codes "printed"))
+
 -- a command has to be there
 abbrev pub with_commands : App → App
 with_commands app = record { top = record app.top { subcommand_required = true }; subs = app.subs }
@@ -81,7 +86,7 @@ bare_app = with_commands (new_app (codes "fib"))
 
 -- `fib COMMAND`
 abbrev pub fib_app : App
-fib_app = with_subcommand (with_subcommand (with_subcommand (with_subcommand (with_subcommand (with_subcommand bare_app run_app.top) check_app.top) make_app.top) steps_app.top) same_app.top) save_app.top
+fib_app = with_subcommand (with_subcommand (with_subcommand (with_subcommand (with_subcommand (with_subcommand (with_subcommand bare_app run_app.top) check_app.top) make_app.top) steps_app.top) same_app.top) save_app.top) moves_app.top
 
 -- ---- what the words name
 
@@ -118,6 +123,11 @@ pub record NamedSame : Type 0 where
 pub record NamedSave : Type 0 where
   pub dump : Text
   pub updates : Option Text
+
+-- The text with the table that a router has, and the one with the routes that it is to forward as.
+pub record NamedMoves : Type 0 where
+  pub router : Text
+  pub printed : Text
 
 -- of each family's trie the direct bits and the orders of its arenas of nodes and of leaves
 pub record NamedSizes : Type 0 where
@@ -216,7 +226,17 @@ save_with dump updates = do
 abbrev pub save_by : List Row → Option NamedSave
 save_by rows = save_with (first_of (codes "dump") rows) (first_of (codes "updates") rows)
 
--- A run; the check of a printed text; a run on so many routes that are made from a seed; a run in steps; a comparison of printed texts; or a checkpoint
+-- what a router must change, if both texts are named
+abbrev pub moves_with : Option Text → Option Text → Option NamedMoves
+moves_with router printed = do
+  r ← router
+  p ← printed
+  Some (record { router = r; printed = p })
+
+abbrev pub moves_by : List Row → Option NamedMoves
+moves_by rows = moves_with (first_of (codes "router") rows) (first_of (codes "printed") rows)
+
+-- A run; the check of a printed text; a run on so many routes that are made from a seed; a run in steps; a comparison of printed texts; a checkpoint; or what a router must change
 pub data Asked : Type 0 where
   Run : Named → Asked
   Check : Text → Asked
@@ -224,6 +244,7 @@ pub data Asked : Type 0 where
   Steps : NamedSteps → Asked
   Same : NamedSame → Asked
   Save : NamedSave → Asked
+  Moves : NamedMoves → Asked
 
 -- so many routes, from 1 to 200,000, made from a seed below 2^64
 abbrev pub made_with : Option Text → Option Text → Option Asked
@@ -245,7 +266,8 @@ asked_in entered =
     else (if bytes_eq entered.0 (codes "make") then made_by entered.1
     else (if bytes_eq entered.0 (codes "steps") then option_map Steps (steps_by entered.1)
     else (if bytes_eq entered.0 (codes "same") then option_map Same (same_by entered.1)
-    else (if bytes_eq entered.0 (codes "save") then option_map Save (save_by entered.1) else None)))))
+    else (if bytes_eq entered.0 (codes "save") then option_map Save (save_by entered.1)
+    else (if bytes_eq entered.0 (codes "moves") then option_map Moves (moves_by entered.1) else None))))))
 
 -- what the words ask for, where the definition takes them
 unfoldable pub command_of : List Text → Option Asked
@@ -269,6 +291,9 @@ same_as same = record { first = same.first.now; rest = map (λ name. name.now) s
 abbrev pub save_as : SaveWords → NamedSave
 save_as save = record { dump = save.dump.now; updates = option_map (λ name. name.now) save.updates }
 
+abbrev pub moves_as : MovesWords → NamedMoves
+moves_as moves = record { router = moves.router.now; printed = moves.printed.now }
+
 abbrev pub asked_as : CommandWords → Asked
 asked_as (code.Run run) = Run (named_as run)
 asked_as (code.Check printed) = Check printed.now
@@ -276,6 +301,7 @@ asked_as (code.Make made) = Make made.routes made.seed
 asked_as (code.Steps steps) = Steps (steps_as steps)
 asked_as (code.Same same) = Same (same_as same)
 asked_as (code.Save save) = Save (save_as save)
+asked_as (code.Moves moves) = Moves (moves_as moves)
 
 -- the sizes are no greater than they may be
 abbrev pub AreSizes : SizesWords → Type 0
@@ -289,6 +315,7 @@ IsWithin (code.Make made) = (1 ≤ made.routes) × (made.routes ≤ 200000)
 IsWithin (code.Steps steps) = (steps.direct ≤ 18) × (steps.nodes ≤ 24) × (steps.leaves ≤ 26)
 IsWithin (code.Same same) = Unit {0}
 IsWithin (code.Save save) = Unit {0}
+IsWithin (code.Moves moves) = Unit {0}
 
 -- what a reading of words returned is what the words ask for, unless memory ran out
 abbrev pub IsCommand : Result CommandWords WordsError → Option Asked → Type 0

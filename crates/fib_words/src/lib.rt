@@ -9,7 +9,7 @@ ghost use Rattle.std.specs.Option.{option_and_then};
 ghost use Rattle.std.specs.String.{string_bytes};
 ghost use Rattle.clap.specs.Words.{app_of, found_of, rows_of, subcommand_name_of, subcommand_rows_of, with_rule, with_subcommand};
 ghost use Rattle.clap.specs.Values.{kind_of};
-ghost use Rattle.fib_words.specs.Commands.{AreSizes, asked_as, asked_in, bare_app, changing_app, check_app, command_of, due_option_rule, fib_app, flag_rule, from_one, HasApp, IsCommand, IsLocal, IsWithin, is_on, kind_or, made_by, make_app, named_as, named_by, number_or, option_rule, run_app, same_app, same_as, same_by, save_app, save_as, save_by, several_rule, sized_app, sizes_as, sizes_by, steps_app, steps_as, steps_by, word_rule};
+ghost use Rattle.fib_words.specs.Commands.{AreSizes, asked_as, asked_in, bare_app, changing_app, check_app, command_of, due_option_rule, fib_app, flag_rule, from_one, HasApp, IsCommand, IsLocal, IsWithin, is_on, kind_or, made_by, make_app, moves_app, moves_as, moves_by, named_as, named_by, number_or, option_rule, run_app, same_app, same_as, same_by, save_app, save_as, save_by, several_rule, sized_app, sizes_as, sizes_by, steps_app, steps_as, steps_by, word_rule};
 ghost use Rattle.fib_addr.specs.Text.{number_below};
 ghost use Rattle.fib_words.specs.declared.WordsError.TheVariants.{NoMemory};
 
@@ -90,6 +90,15 @@ pub struct SaveWords<'a> {
     pub updates: Option<&'a str>,
 }
 
+/// What a router must change, as the words ask for it.
+#[derive(Clone, Copy, Debug)]
+pub struct MovesWords<'a> {
+    /// The text with the table that the router has.
+    pub router: &'a str,
+    /// The text with the routes that it is to forward as.
+    pub printed: &'a str,
+}
+
 /// What the words ask for.
 #[derive(Debug, Drop)]
 pub enum CommandWords<'a> {
@@ -105,6 +114,8 @@ pub enum CommandWords<'a> {
     Same(SameWords<'a>),
     /// A checkpoint of what a dump and updates bring.
     Save(SaveWords<'a>),
+    /// The fewest changes that make a router forward as printed routes do.
+    Moves(MovesWords<'a>),
 }
 
 /// The sizes of a trie, as the words ask for them.
@@ -300,6 +311,14 @@ fn save_command<'a>(alloc: Global) -> Result<Command<'a>, AllocError>
     with_option(alloc, command, "updates")
 }
 
+/// `moves ROUTER PRINTED`.
+fn moves_command<'a>(alloc: Global) -> Result<Command<'a>, AllocError>
+    ensures { IfOk result (λ c. HasApp c moves_app) }
+{
+    let command = with_word(alloc, Command::new(alloc, "moves"), "router")?;
+    with_word(alloc, command, "printed")
+}
+
 /// `fib`, with no command under it yet.
 fn bare_command<'a>(alloc: Global) -> Command<'a>
     ensures { HasApp result bare_app }
@@ -317,12 +336,14 @@ fn fib_command<'a>(alloc: Global) -> Result<Command<'a>, AllocError>
     let steps = steps_command(alloc)?;
     let same = same_command(alloc)?;
     let save = save_command(alloc)?;
+    let moves = moves_command(alloc)?;
     let command = with_command(bare_command(alloc), run)?;
     let command = with_command(command, check)?;
     let command = with_command(command, make)?;
     let command = with_command(command, steps)?;
     let command = with_command(command, same)?;
-    with_command(command, save)
+    let command = with_command(command, save)?;
+    with_command(command, moves)
 }
 
 /// How many events a snapshot follows, by the word after `--every`, and 0 where there is none. `None` exactly where the word isn't
@@ -512,6 +533,15 @@ fn save_words<'a>(matches: &ArgMatches<'a>) -> Option<SaveWords<'a>>
     })
 }
 
+/// What the matches of `moves` name.
+fn moves_words<'a>(matches: &ArgMatches<'a>) -> Option<MovesWords<'a>>
+    ensures { option_map moves_as result ≡ moves_by (rows_of (found_of matches.now)) }
+{
+    let router = matches.get_str("router")?;
+    let printed = matches.get_str("printed")?;
+    Some(MovesWords { router, printed })
+}
+
 /// The command in the matches, unless it is `same`.
 fn other_command<'a>(matches: &ArgMatches<'a>) -> Option<CommandWords<'a>>
     requires { subcommand_name_of matches.now ≢ Some (codes "same") }
@@ -535,9 +565,13 @@ fn other_command<'a>(matches: &ArgMatches<'a>) -> Option<CommandWords<'a>>
         let names = steps_words(steps)?;
         return Some(CommandWords::Steps(names));
     }
-    let save = matches.subcommand_matches("save")?;
-    let names = save_words(save)?;
-    Some(CommandWords::Save(names))
+    if let Some(save) = matches.subcommand_matches("save") {
+        let names = save_words(save)?;
+        return Some(CommandWords::Save(names));
+    }
+    let moves = matches.subcommand_matches("moves")?;
+    let names = moves_words(moves)?;
+    Some(CommandWords::Moves(names))
 }
 
 /// The command in the matches.

@@ -28,6 +28,8 @@ enum Asked<'a> {
     Same(&'a str, &'a [&'a str], Kind),
     /// The names of the dump and the updates.
     Save(&'a str, Option<&'a str>),
+    /// The names of the router's text and of the printed one.
+    Moves(&'a str, &'a str),
 }
 
 /// Words, and what they ask for.
@@ -277,6 +279,10 @@ const JUDGED_COMPARED_SAVED: &[Case<'static>] = &[
         Asked::Save("D", Some("U")),
     ),
     (&["fib", "save"], Asked::Nothing),
+    (&["fib", "moves", "R", "P"], Asked::Moves("R", "P")),
+    (&["fib", "moves", "R"], Asked::Nothing),
+    (&["fib", "moves", "R", "P", "Q"], Asked::Nothing),
+    (&["fib", "moves", "R", "P", "--rows", "least"], Asked::Nothing),
     (&["fib", "save", "D", "U"], Asked::Nothing),
     (&["fib", "save", "D", "--ask", "A"], Asked::Nothing),
     (&["fib", "save", "D", "--vrps", "V"], Asked::Nothing),
@@ -314,6 +320,7 @@ fn ask_for(alloc: Global, texts: &[&str], due: Asked<'_>) -> Result<bool, Fail> 
             return Ok(Asked::Same(same.first, &same.rest, same.rows) == due);
         }
         Ok(CommandWords::Save(save)) => Asked::Save(save.dump, save.updates),
+        Ok(CommandWords::Moves(moves)) => Asked::Moves(moves.router, moves.printed),
         Err(WordsError::Usage) => Asked::Nothing,
         Err(WordsError::NoMemory) => return Ok(false),
     };
