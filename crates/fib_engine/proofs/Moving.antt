@@ -87,6 +87,9 @@ alike_for true (Some r) k a = a
 pub alike_of : (f : Family) (k : Labels) → k.family ≡ f → Alike (width f) (of_family f k.routes) (of_family f k.entries) → IsAlike k
 alike_of f k s a = subst (λ (g : Family). Alike (width g) (of_family g k.routes) (of_family g k.entries)) (sym s) a
 
+pub alike_in : (f : Family) (k : Labels) → k.family ≡ f → IsAlike k → Alike (width f) (of_family f k.routes) (of_family f k.entries)
+alike_in f k s a = subst (λ (g : Family). Alike (width g) (of_family g k.routes) (of_family g k.entries)) s a
+
 -- ---- what both answer
 
 module _ (E A B R S : Entries) (a : AllOf V4 (keys_of A)) (b : AllOf V6 (keys_of B)) (r : R ≡ only V4 E) (s : S ≡ only V6 E) where

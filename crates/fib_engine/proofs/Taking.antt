@@ -63,7 +63,7 @@ use Rattle.fib_engine.specs.Held.{AreKeptNeeds, Held, IsKept, IsSound, if_loaded
 use Rattle.fib_engine.specs.Numbers.{IsNewNumber, IsRouteOf, HasNumber, number_or_none}
 use Rattle.fib_engine.specs.Stands.{IsLoading, Stands, Takes, first_of, routes_after}
 use Rattle.fib_engine.proofs.Holding.{Fine, both_again, some_of, turned, stays_out, stays_all, both_snapshots, both_changes, both_aggregates, fine_renewed, of_only, only_placed}
-use Rattle.fib_engine.proofs.Moving.{moved_in, moved_is, fine_moved, fine_still, both_still, both_moved, both_moved_high, none_alike, fresh_alike, alike_of, both_alike, low_alike, high_alike}
+use Rattle.fib_engine.proofs.Moving.{moved_in, moved_is, fine_moved, fine_still, both_still, both_moved, both_moved_high, none_alike, fresh_alike, alike_in, alike_of, both_alike, low_alike, high_alike}
 use Rattle.fib_engine.proofs.Numbering.{number_least}
 
 -- ---- elementary events of the code are about places that there are
@@ -91,7 +91,7 @@ kept_none f E k s r e = record {
   order = subst (λ (T : Entries). InPlace T) (sym e) none_order;
   of_family = subst (λ (T : Entries). AllByRecursion (λ (p : Prefix). p.family ≡ f) (keys_of T)) (sym e) tt;
   routes = r;
-  alike = none_alike f k.routes k.entries (r ∙ sym e);
+  alike = alike_of f k s (none_alike f k.routes k.entries (r ∙ sym e));
   empty = λ t. e;
 }
 
@@ -163,8 +163,9 @@ kept_fresh f E T R k s r o e = record {
   of_family = subst (λ (U : Entries). AllByRecursion (λ (p : Prefix). p.family ≡ f) (keys_of U)) (sym e) (renewed_family f R T);
   routes = r ∙ o;
   alike =
-      subst (λ (U : Entries). Alike (width f) (of_family f U) (of_family f k.entries)) (sym r)
-      (subst (λ (U : Entries). Alike (width f) (of_family f R) (of_family f U)) (sym e) (fresh_alike f R T));
+      alike_of f k s
+      (subst (λ (U : Entries). Alike (width f) (of_family f U) (of_family f k.entries)) (sym r)
+      (subst (λ (U : Entries). Alike (width f) (of_family f R) (of_family f U)) (sym e) (fresh_alike f R T)));
   empty = λ t. absurd cc;
 }
 
@@ -358,11 +359,11 @@ table_placed C H l b s = placed_both b.v4.entries b.v6.entries s.v4.order s.v6.o
 
 -- each answers as its routes, and both as the routes
 pub are_alike : (C : Candidates) (H : List Address) (l : Bool) (b : Both) → IsSound C H l b → AreAlike b
-are_alike C H l b s = (alike_of V4 b.v4 s.v4.family s.v4.alike, alike_of V6 b.v6 s.v6.family s.v6.alike)
+are_alike C H l b s = (s.v4.alike, s.v6.alike)
 
 routes_alike : (C : Candidates) (H : List Address) (b : Both) → IsSound C H true b → AlikeInBoth (entries_of H C) (both_tables b)
 routes_alike C H b s =
-    both_alike (entries_of H C) b.v4.entries b.v6.entries b.v4.routes b.v6.routes s.v4.of_family s.v6.of_family s.v4.routes s.v6.routes s.v4.alike s.v6.alike
+    both_alike (entries_of H C) b.v4.entries b.v6.entries b.v4.routes b.v6.routes s.v4.of_family s.v6.of_family s.v4.routes s.v6.routes (alike_in V4 b.v4 s.v4.family s.v4.alike) (alike_in V6 b.v6 s.v6.family s.v6.alike)
 
 -- what the engine's parts come to
 pub record IsTaken (fewest : Bool) (every event : ℕ) (C : Candidates) (H : List Address) (elem : Elem) (route : Route) (old new : Both) (v4 v6 : Repair) : Type 0 where
@@ -422,7 +423,7 @@ taken fewest every event C H elem b n m choice route low_plan high_plan due s x 
           order = subst (λ (T : Entries). InPlace T) (sym low.0) ga.order;
           of_family = low_of;
           routes = kr.v4 ∙ low_routes;
-          alike = low_alike N m.v4.entries m.v6.entries m.v4.routes m.v6.routes low_of high_of (kr.v4 ∙ low_routes) (kr.v6 ∙ high_routes) after;
+          alike = alike_of V4 m.v4 (kr.v4_family ∙ (kt.v4_family ∙ s.v4.family)) (low_alike N m.v4.entries m.v6.entries m.v4.routes m.v6.routes low_of high_of (kr.v4 ∙ low_routes) (kr.v6 ∙ high_routes) after);
           empty = λ t. absurd cc;
         };
         v6 = record {
@@ -430,7 +431,7 @@ taken fewest every event C H elem b n m choice route low_plan high_plan due s x 
           order = subst (λ (T : Entries). InPlace T) (sym high.0) gb.order;
           of_family = high_of;
           routes = kr.v6 ∙ high_routes;
-          alike = high_alike N m.v4.entries m.v6.entries m.v4.routes m.v6.routes low_of high_of (kr.v4 ∙ low_routes) (kr.v6 ∙ high_routes) after;
+          alike = alike_of V6 m.v6 (kr.v6_family ∙ (kt.v6_family ∙ s.v6.family)) (high_alike N m.v4.entries m.v6.entries m.v4.routes m.v6.routes low_of high_of (kr.v4 ∙ low_routes) (kr.v6 ∙ high_routes) after);
           empty = λ t. absurd cc;
         };
       };

@@ -2,17 +2,16 @@
 use Rattle.std.specs.Prelude.{◌≡◌, ◌≤◌, ℕ, List, [], length, Bool, false, cond, Option, None}
 use Rattle.std.specs.List.{AllByRecursion}
 use Rattle.std.specs.Map.{keys_of}
-use Rattle.address_model.specs.Width.{width}
 use Rattle.address_model.specs.Address.{Address}
 use Rattle.address_model.specs.declared.family.Family.{Family}
 use Rattle.address_model.specs.declared.family.Family.TheVariants.{V4, V6}
-use Rattle.table_model.specs.Table.{Alike}
-use Rattle.table_model.specs.Entries.{Entries, of_family}
+use Rattle.table_model.specs.Entries.{Entries}
 use Rattle.route_model.specs.Events.{Elem}
 use Rattle.route_model.specs.Choice.{Candidates, IsElem, after_elems}
 use Rattle.feed_model.specs.Feed.{entries_of, hops_after}
 use Rattle.fib_addr.specs.Hops.{most_hops}
 use Rattle.orig_tree.specs.Views.{Labels, InPlace}
+use Rattle.smalta_keep.specs.Answers.{IsAlike}
 use Rattle.route_tries.specs.Sizes.{Sizes, needs_of, shortage}
 use Rattle.route_tries.specs.declared.needs.FamilyNeeds.{FamilyNeeds}
 use Rattle.fib_engine.specs.Tables.{Both, only}
@@ -49,7 +48,7 @@ pub record IsKept (f : Family) (loaded : Bool) (E : Entries) (kept : Labels) : T
   pub order : InPlace kept.entries
   pub of_family : AllByRecursion (λ p. p.family ≡ f) (keys_of kept.entries)
   pub routes : kept.routes ≡ only f (if_loaded loaded E)
-  pub alike : Alike (width f) (of_family f kept.routes) (of_family f kept.entries)
+  pub alike : IsAlike kept
   pub empty : loaded ≡ false → kept.entries ≡ []
 
 -- the needs are those of tries of the routes, and arenas of these sizes have room for them

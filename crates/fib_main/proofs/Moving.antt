@@ -186,8 +186,7 @@ has_row every hops held done rest elem p x =
     let now = after_elems held done in
     let T = table_after true every hops held done in
     let cs = first_changes true hops now T elem in
-    let later = moves_from true every hops (n + 1) (after_elem now elem) (table_by true every hops n now T elem) rest in
-    (
+    let later = moves_from true every hops (n + 1) (after_elem now elem) (table_by true every hops n now T elem) rest in (
       moves_from true every hops 1 held (kept_at_load hops held) done,
       later,
       length cs,

@@ -13,7 +13,8 @@ ghost use Rattle.fib_report.specs.Views.{answer_as, invalid_as, moves_as};
 
 use crate::printed_row::put_row;
 use crate::rows::{
-    cert_row, change_row, entry_row, invalid_row, moves_row, put_answers, put_cert, put_changes, put_report, row_writer,
+    cert_row, change_row, entry_row, invalid_row, moves_row, put_answers, put_cert, put_changes,
+    put_report, row_writer,
 };
 use crate::run::{Answer, Invalid, Moves, Report};
 use crate::section::Section;

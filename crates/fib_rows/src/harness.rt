@@ -53,6 +53,9 @@ pub const WITH_UPDATES: &[&str] = &["fib", "run", "--updates=updates", "dump"];
 
 pub const WITH_SNAPSHOTS: &[&str] = &["fib", "run", "dump", "--updates", "updates", "--every", "1"];
 
+/// The words of a run with updates that asks for the fewest changes.
+pub const WITH_FEWEST: &[&str] = &["fib", "run", "dump", "--updates", "updates", "--fewest"];
+
 /// No limit to a length.
 pub const ALL: usize = usize::MAX;
 

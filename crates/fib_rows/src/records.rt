@@ -416,6 +416,73 @@ pub const ALL_TO_B: &[&str] = &[
     "00",
 ];
 
+/// 0.0.0.0/0 by 192.0.2.1, and within it 64.0.0.0/2 and 192.0.0.0/2 by 192.0.2.2.
+pub const ALL_AND_QUARTERS: &[&str] = &[
+    "00000000 000d 0002 00000023",
+    "00000000 00 0001",
+    FIRST_ENTRY,
+    ORIGIN,
+    PATH,
+    HOP_A,
+    RIB,
+    "00000001 02 40 0001",
+    FIRST_ENTRY,
+    ORIGIN,
+    PATH,
+    HOP_B,
+    RIB,
+    "00000002 02 c0 0001",
+    FIRST_ENTRY,
+    ORIGIN,
+    PATH,
+    HOP_B,
+];
+
+/// 0.0.0.0/0 by 192.0.2.1, and within it 0.0.0.0/1 and 128.0.0.0/1 by 192.0.2.2.
+pub const ALL_AND_HALVES: &[&str] = &[
+    "00000000 000d 0002 00000023",
+    "00000000 00 0001",
+    FIRST_ENTRY,
+    ORIGIN,
+    PATH,
+    HOP_A,
+    RIB,
+    "00000001 01 00 0001",
+    FIRST_ENTRY,
+    ORIGIN,
+    PATH,
+    HOP_B,
+    RIB,
+    "00000002 01 80 0001",
+    FIRST_ENTRY,
+    ORIGIN,
+    PATH,
+    HOP_B,
+];
+
+/// The first peer announces 0.0.0.0/0 by 192.0.2.3.
+pub const ALL_TO_C: &[&str] = &[
+    "00000000 0010 0004 00000040",
+    SESSION,
+    "ffffffffffffffffffffffffffffffff 002c 02",
+    "0000",
+    "0014",
+    ORIGIN,
+    PATH,
+    "400304 c0000203",
+    "00",
+];
+
+/// The first peer withdraws 0.0.0.0/0.
+pub const ALL_WITHDRAWN: &[&str] = &[
+    "00000000 0010 0004 0000002c",
+    SESSION,
+    "ffffffffffffffffffffffffffffffff 0018 02",
+    "0001",
+    "00",
+    "0000",
+];
+
 /// A route of 16 bits by 192.0.2.1: what stands before the two octets of its prefix, and what stands behind them.
 pub const OF_16_BITS: (&[&str], &[&str]) = (
     &["00000000 000d 0002 00000025", "00000000 10"],

@@ -9,6 +9,7 @@ use crate::harness::READ_FAULT;
 use crate::harness::Record;
 use crate::harness::Rows;
 use crate::harness::USAGE;
+use crate::harness::WITH_FEWEST;
 use crate::harness::WITH_SNAPSHOTS;
 use crate::harness::WITH_UPDATES;
 use crate::harness::WORDS;
@@ -19,7 +20,11 @@ use crate::harness::malformed;
 use crate::harness::rows_named;
 use crate::harness::run_on;
 use crate::harness::text_of;
+use crate::records::ALL_AND_HALVES;
+use crate::records::ALL_AND_QUARTERS;
+use crate::records::ALL_TO_C;
 use crate::records::ALL_TWICE;
+use crate::records::ALL_WITHDRAWN;
 use crate::records::GONE_AND_BACK;
 use crate::records::HALVES;
 use crate::records::LONG_HEADER;
@@ -66,6 +71,7 @@ use crate::texts::ROWS_IN_STEADY_ORDER;
 use crate::texts::ROWS_OF_BOTH;
 use crate::texts::ROWS_OF_DROP;
 use crate::texts::ROWS_OF_DROP_BEFORE_HOP;
+use crate::texts::ROWS_OF_FEWEST;
 use crate::texts::ROWS_OF_GONE_AND_BACK;
 use crate::texts::ROWS_OF_KEPT_HOP;
 use crate::texts::ROWS_OF_LATER_SNAPSHOT;
@@ -73,6 +79,7 @@ use crate::texts::ROWS_OF_LONGER;
 use crate::texts::ROWS_OF_LOST;
 use crate::texts::ROWS_OF_LOST_PATHS;
 use crate::texts::ROWS_OF_MEET;
+use crate::texts::ROWS_OF_NO_CHANGE;
 use crate::texts::ROWS_OF_NO_SUCH_PATH;
 use crate::texts::ROWS_OF_OTHER_PATH;
 use crate::texts::ROWS_OF_REDUNDANT;
@@ -296,6 +303,26 @@ fn rows_of_kept_and_least_tables(rt: HostRuntime) -> Result<(), Fail> {
                 ..given
             },
             ROWS_IN_STEADY_ORDER,
+        ),
+        (
+            "the fewest changes",
+            Given {
+                words: WITH_FEWEST,
+                dump: &[PEERS, ALL_AND_QUARTERS],
+                updates: &[ALL_TO_C],
+                ..given
+            },
+            ROWS_OF_FEWEST,
+        ),
+        (
+            "no change is the fewest",
+            Given {
+                words: WITH_FEWEST,
+                dump: &[PEERS, ALL_AND_HALVES],
+                updates: &[ALL_WITHDRAWN],
+                ..given
+            },
+            ROWS_OF_NO_CHANGE,
         ),
         (
             "a snapshot after two events",

@@ -495,6 +495,64 @@ pub const ROWS_IN_STEADY_ORDER: &[&[&str]] = &[&[
     "report,treated,0",
 ]];
 
+/// With the fewest changes asked for, 0.0.0.0/0 gets another hop: one change, where a repair makes five.
+pub const ROWS_OF_FEWEST: &[&[&str]] = &[&[
+    "route,0.0.0.0/0,192.0.2.3",
+    "route,64.0.0.0/2,192.0.2.2",
+    "route,192.0.0.0/2,192.0.2.2",
+    "change,0,+,0.0.0.0/0,192.0.2.1",
+    "change,0,+,64.0.0.0/2,192.0.2.2",
+    "change,0,+,192.0.0.0/2,192.0.2.2",
+    "change,1,=,0.0.0.0/0,192.0.2.3",
+    "moves,1,1",
+    "table,0.0.0.0/0,192.0.2.3",
+    "table,64.0.0.0/2,192.0.2.2",
+    "table,192.0.0.0/2,192.0.2.2",
+    "least,0.0.0.0/0,192.0.2.3",
+    "least,64.0.0.0/2,192.0.2.2",
+    "least,192.0.0.0/2,192.0.2.2",
+    "cert,leaf,0.0.0.0/2,192.0.2.3",
+    "cert,leaf,64.0.0.0/2,192.0.2.2",
+    "cert,join,0.0.0.0/1,1",
+    "cert,leaf,128.0.0.0/2,192.0.2.3",
+    "cert,leaf,192.0.0.0/2,192.0.2.2",
+    "cert,join,128.0.0.0/1,1",
+    "cert,join,0.0.0.0/0,2",
+    "cert,bound,4,3",
+    "cert,leaf,::/0,none",
+    "cert,bound,6,0",
+    "report,records,5",
+    "report,skipped,0",
+    "report,events,4",
+    "report,routes,3",
+    "report,entries,3",
+    "report,nodes,0",
+    "report,leaves,0",
+    "report,treated,0",
+]];
+
+/// With the fewest changes asked for, 0.0.0.0/0 is withdrawn, which nothing is sent by: none is needed.
+pub const ROWS_OF_NO_CHANGE: &[&[&str]] = &[&[
+    "route,0.0.0.0/1,192.0.2.2",
+    "route,128.0.0.0/1,192.0.2.2",
+    "change,0,+,0.0.0.0/0,192.0.2.2",
+    "moves,1,0",
+    "table,0.0.0.0/0,192.0.2.2",
+    "least,0.0.0.0/0,192.0.2.2",
+    "cert,leaf,0.0.0.0/0,192.0.2.2",
+    "cert,bound,4,1",
+    "cert,leaf,::/0,none",
+    "cert,bound,6,0",
+    "report,records,5",
+    "report,skipped,0",
+    "report,events,4",
+    "report,routes,2",
+    "report,entries,1",
+    "report,nodes,0",
+    "report,leaves,0",
+    "report,treated,0",
+]];
+
 /// The same after a second event, which changes nothing.
 pub const ROWS_OF_LATER_SNAPSHOT: &[&[&str]] = &[
     HALVES_ROUTES,

@@ -20,7 +20,7 @@ use Rattle.fib_addr.specs.Text.{number_below}
 use Rattle.printed_model.specs.declared.kind.Kind.{Kind}
 use Rattle.fib_words.specs.declared.WordsError.{WordsError}
 use Rattle.fib_words.specs.declared.WordsError.TheVariants.{Usage, NoMemory}
-use Rattle.fib_words.specs.Commands.{Asked, Named, NamedSame, NamedSizes, HasApp, bare_app, run_app, check_app, make_app, steps_app, fib_app, takes, is_empty, is_on, Run, Check, Steps, asked_in, named_by, named_with, number_or, made_by, made_with, Make, Same, Save, same_by, same_with, save_by, save_with, Moves, moves_by, moves_with, from_one, kind_or, sizes_by, sizes_with, steps_by, steps_with, command_of, IsCommand}
+use Rattle.fib_words.specs.Commands.{Asked, Named, NamedMoves, NamedSame, NamedSizes, HasApp, bare_app, run_app, check_app, make_app, steps_app, fib_app, takes, is_empty, is_on, Run, Check, Steps, asked_in, named_by, named_with, number_or, made_by, made_with, Make, Same, Save, same_by, same_with, save_by, save_with, Moves, moves_by, moves_with, from_one, kind_or, sizes_by, sizes_with, steps_by, steps_with, command_of, IsCommand}
 
 fib_free : is_simple_and_free fib_app ≡ true
 unfolding clap_on_literals
@@ -127,6 +127,9 @@ check_is m check printed e f g =
 
 pub make_is : (m make : ArgMatches) → subcommand_name_of m ≡ Some (codes "make") → option_map (λ (p : Text × List Row). p.1) (subcommand_rows_of m) ≡ Some (rows_of (found_of make)) → option_and_then asked_in (subcommand_rows_of m) ≡ made_by (rows_of (found_of make))
 make_is m make e f = entered m make (codes "make") e f
+
+pub moves_is : (m moves : ArgMatches) (names : Option NamedMoves) → subcommand_name_of m ≡ Some (codes "moves") → option_map (λ (p : Text × List Row). p.1) (subcommand_rows_of m) ≡ Some (rows_of (found_of moves)) → names ≡ moves_by (rows_of (found_of moves)) → option_and_then asked_in (subcommand_rows_of m) ≡ option_map Moves names
+moves_is m moves names e f g = entered m moves (codes "moves") e f ∙ ap (option_map Moves) (sym g)
 
 pub same_is : (m same : ArgMatches) (names : Option NamedSame) → subcommand_name_of m ≡ Some (codes "same") → option_map (λ (p : Text × List Row). p.1) (subcommand_rows_of m) ≡ Some (rows_of (found_of same)) → names ≡ same_by (rows_of (found_of same)) → option_and_then asked_in (subcommand_rows_of m) ≡ option_map Same names
 same_is m same names e f g = entered m same (codes "same") e f ∙ ap (option_map Same) (sym g)

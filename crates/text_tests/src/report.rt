@@ -19,10 +19,7 @@ fn one_route(rt: HostRuntime) -> Result<(), Fail> {
         invalid: Vec::new(rt.alloc()),
         changes: vec![in rt.alloc(); (0, Change::Add(ten, hop))]?,
         moves: vec![in rt.alloc();
-            Moves {
-                event: 1,
-                count: 5
-            },
+            Moves { event: 1, count: 5 },
             Moves {
                 event: u64::MAX,
                 count: 0

@@ -95,7 +95,10 @@ const COMMANDS: &[Case<'static>] = &[
     (&["fib", "run", "D", "--every", ""], Asked::Nothing),
     (&["fib", "run", "D", "--every"], Asked::Nothing),
     (&["fib", "run", "D", "--fewest"], Asked::Fewest("D", false)),
-    (&["fib", "run", "--steady", "--fewest", "D"], Asked::Fewest("D", true)),
+    (
+        &["fib", "run", "--steady", "--fewest", "D"],
+        Asked::Fewest("D", true),
+    ),
     (&["fib", "run", "D", "--fewest=1"], Asked::Nothing),
     (&["fib", "run", "D", "--fewest", "--fewest"], Asked::Nothing),
     (&["fib", "save", "D", "--fewest"], Asked::Nothing),

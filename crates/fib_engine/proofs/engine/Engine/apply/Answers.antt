@@ -97,15 +97,15 @@ invariant_of-self-2 c =
     in
     let told = c.in_ok-fitting.ensures in
     let T =
-    applied t.limits.fewest t.limits.every (t.events + 1) C H c.room.new.self.list elem t.tables c.plan_fitting.new.tables c.commit-2.new.self choice c.in_ok-own.own c.changed_route-route.result c.in_ok-fitting.fitting.plan.v4 c.in_ok-fitting.fitting.plan.v6 c.is_due-due.result s (is_elem c.args.elem.now) c.room.ensures.list
-    (not_over (length (hops_after H (elem ∷ []))) c.in_ok-own.ensures.full.1) c.in_ok-own.ensures.number ch c.changed_route-route.ensures c.plan_fitting.ensures.tables told.put told.told c.commit-2.ensures.routes c.commit-2.ensures.v4 c.commit-2.ensures.v6 c.is_due-due.ensures
+    applied t.limits.fewest t.limits.every (t.events + 1) C H c.room.new.self.list elem t.tables c.plan_fitting.new.tables c.commit-changes.new.self choice c.in_ok-own.own c.changed_route-route.result c.in_ok-fitting.fitting.plan.v4 c.in_ok-fitting.fitting.plan.v6 c.is_due-due.result s (is_elem c.args.elem.now) c.room.ensures.list
+    (not_over (length (hops_after H (elem ∷ []))) c.in_ok-own.ensures.full.1) c.in_ok-own.ensures.number ch c.changed_route-route.ensures c.plan_fitting.ensures.tables told.put told.told c.commit-changes.ensures.routes c.commit-changes.ensures.v4 c.commit-changes.ensures.v6 c.is_due-due.ensures
     in
     let held : c.commit.new.self.candidates ≡ after_elem C elem = c.commit.ensures.candidates ∙ (ap (λ (X : Candidates). after_elem X (pick_elem pick)) c.plan.ensures.candidates ∙ ap (λ (e : Elem). after_elem C e) c.in_ok-pick.ensures.elem) in
     let hops : c.number_hop.new.hops.list ≡ hops_after H (elem ∷ []) = c.number_hop.ensures ∙ ap (λ (hs : List Address). hops_after hs (elem ∷ [])) c.room.ensures.list in
     let routes : entries_of c.number_hop.new.hops.list c.commit.new.self.candidates ≡ N = ap (λ (hs : List Address). entries_of hs c.commit.new.self.candidates) hops ∙ ap (entries_of (hops_after H (elem ∷ []))) held in
     let fit : shortage z N ≡ None = ap (first_short z) (sym put) ∙ c.in_ok-fitting.ensures.fits in (
-      subst (λ (l : Bool). IsSound c.commit.new.self.candidates c.number_hop.new.hops.list l c.commit-2.new.self) (sym loaded)
-          (subst (λ (X : Candidates). IsSound X c.number_hop.new.hops.list true c.commit-2.new.self) (sym held) (subst (λ (hs : List Address). IsSound (after_elem C elem) hs true c.commit-2.new.self) (sym hops) T.sound)),
+      subst (λ (l : Bool). IsSound c.commit.new.self.candidates c.number_hop.new.hops.list l c.commit-changes.new.self) (sym loaded)
+          (subst (λ (X : Candidates). IsSound X c.number_hop.new.hops.list true c.commit-changes.new.self) (sym held) (subst (λ (hs : List Address). IsSound (after_elem C elem) hs true c.commit-changes.new.self) (sym hops) T.sound)),
       subst (λ (R : Entries). AreKeptNeeds z R c.in_ok-fitting.fitting.needs) (sym (ap (λ l. if_loaded l (entries_of c.number_hop.new.hops.list c.commit.new.self.candidates)) loaded ∙ routes)) (record { needs = told.needs ∙ put; fit = fit }),
     )
 
@@ -127,12 +127,12 @@ returns-clause-takes c =
     in
     let told = c.in_ok-fitting.ensures in
     let T =
-    applied t.limits.fewest t.limits.every (t.events + 1) C H c.room.new.self.list elem t.tables c.plan_fitting.new.tables c.commit-2.new.self choice c.in_ok-own.own c.changed_route-route.result c.in_ok-fitting.fitting.plan.v4 c.in_ok-fitting.fitting.plan.v6 c.is_due-due.result s (is_elem c.args.elem.now) c.room.ensures.list
-    (not_over (length (hops_after H (elem ∷ []))) c.in_ok-own.ensures.full.1) c.in_ok-own.ensures.number ch c.changed_route-route.ensures c.plan_fitting.ensures.tables told.put told.told c.commit-2.ensures.routes c.commit-2.ensures.v4 c.commit-2.ensures.v6 c.is_due-due.ensures
+    applied t.limits.fewest t.limits.every (t.events + 1) C H c.room.new.self.list elem t.tables c.plan_fitting.new.tables c.commit-changes.new.self choice c.in_ok-own.own c.changed_route-route.result c.in_ok-fitting.fitting.plan.v4 c.in_ok-fitting.fitting.plan.v6 c.is_due-due.result s (is_elem c.args.elem.now) c.room.ensures.list
+    (not_over (length (hops_after H (elem ∷ []))) c.in_ok-own.ensures.full.1) c.in_ok-own.ensures.number ch c.changed_route-route.ensures c.plan_fitting.ensures.tables told.put told.told c.commit-changes.ensures.routes c.commit-changes.ensures.v4 c.commit-changes.ensures.v6 c.is_due-due.ensures
     in
     let held : c.commit.new.self.candidates ≡ after_elem C elem = c.commit.ensures.candidates ∙ (ap (λ (X : Candidates). after_elem X (pick_elem pick)) c.plan.ensures.candidates ∙ ap (λ (e : Elem). after_elem C e) c.in_ok-pick.ensures.elem) in
     let hops : c.number_hop.new.hops.list ≡ hops_after H (elem ∷ []) = c.number_hop.ensures ∙ ap (λ (hs : List Address). hops_after hs (elem ∷ [])) c.room.ensures.list in
-    let new : Held = record { every = t.limits.every; fewest = t.limits.fewest; sizes = z; candidates = c.commit.new.self.candidates; hops = c.number_hop.new.hops.list; table = table_of c.commit-2.new.self; loaded = t.is_loaded; events = t.events + 1; moves = c.moves_made.result } in
+    let new : Held = record { every = t.limits.every; fewest = t.limits.fewest; sizes = z; candidates = c.commit.new.self.candidates; hops = c.number_hop.new.hops.list; table = table_of c.commit-changes.new.self; loaded = t.is_loaded; events = t.events + 1; moves = c.moves_made-self-inside.result } in
     let old : Held = record { every = t.limits.every; fewest = t.limits.fewest; sizes = z; candidates = C; hops = H; table = table_of t.tables; loaded = t.is_loaded; events = t.events; moves = t.moves } in
     let first : Takes elem old new =
     record {
@@ -144,7 +144,7 @@ returns-clause-takes c =
       table = T.table ∙ ap (λ (hs : List Address). table_by t.limits.fewest t.limits.every hs (t.events + 1) C (table_of t.tables) elem) (sym hops);
       loaded = refl;
       events = refl;
-      moves = c.moves_made.ensures ∙ T.moves c.commit-2.result.first (ap (λ (e : EventChanges). e.first) c.commit-2.ensures.changes ∙ told.first);
+      moves = c.moves_made-self-inside.ensures ∙ T.moves c.commit-changes.result.first (ap (λ (e : EventChanges). e.first) c.commit-changes.ensures.changes ∙ told.first);
     }
     in
     let takes : Takes elem c.args.self.now new = subst (λ (o : Held). Takes elem o new) c.self.view_is first in
@@ -168,10 +168,10 @@ returns-clause-changes c =
     in
     let told = c.in_ok-fitting.ensures in
     let T =
-    applied t.limits.fewest t.limits.every (t.events + 1) C H c.room.new.self.list elem t.tables c.plan_fitting.new.tables c.commit-2.new.self choice c.in_ok-own.own c.changed_route-route.result c.in_ok-fitting.fitting.plan.v4 c.in_ok-fitting.fitting.plan.v6 c.is_due-due.result s (is_elem c.args.elem.now) c.room.ensures.list
-    (not_over (length (hops_after H (elem ∷ []))) c.in_ok-own.ensures.full.1) c.in_ok-own.ensures.number ch c.changed_route-route.ensures c.plan_fitting.ensures.tables told.put told.told c.commit-2.ensures.routes c.commit-2.ensures.v4 c.commit-2.ensures.v6 c.is_due-due.ensures
+    applied t.limits.fewest t.limits.every (t.events + 1) C H c.room.new.self.list elem t.tables c.plan_fitting.new.tables c.commit-changes.new.self choice c.in_ok-own.own c.changed_route-route.result c.in_ok-fitting.fitting.plan.v4 c.in_ok-fitting.fitting.plan.v6 c.is_due-due.result s (is_elem c.args.elem.now) c.room.ensures.list
+    (not_over (length (hops_after H (elem ∷ []))) c.in_ok-own.ensures.full.1) c.in_ok-own.ensures.number ch c.changed_route-route.ensures c.plan_fitting.ensures.tables told.put told.told c.commit-changes.ensures.routes c.commit-changes.ensures.v4 c.commit-changes.ensures.v6 c.is_due-due.ensures
     in
-    ap (λ (e : EventChanges). map change_as e.changes.items) c.commit-2.ensures.changes ∙ (told.changes ∙ (T.changes ∙ ap (λ (o : Held). changes_of elem o) c.self.view_is))
+    ap (λ (e : EventChanges). map change_as e.changes.items) c.commit-changes.ensures.changes ∙ (told.changes ∙ (T.changes ∙ ap (λ (o : Held). changes_of elem o) c.self.view_is))
 
 pub returns-clause-first : goal.returns-clause-first
 returns-clause-first c =
@@ -191,10 +191,10 @@ returns-clause-first c =
     in
     let told = c.in_ok-fitting.ensures in
     let T =
-    applied t.limits.fewest t.limits.every (t.events + 1) C H c.room.new.self.list elem t.tables c.plan_fitting.new.tables c.commit-2.new.self choice c.in_ok-own.own c.changed_route-route.result c.in_ok-fitting.fitting.plan.v4 c.in_ok-fitting.fitting.plan.v6 c.is_due-due.result s (is_elem c.args.elem.now) c.room.ensures.list
-    (not_over (length (hops_after H (elem ∷ []))) c.in_ok-own.ensures.full.1) c.in_ok-own.ensures.number ch c.changed_route-route.ensures c.plan_fitting.ensures.tables told.put told.told c.commit-2.ensures.routes c.commit-2.ensures.v4 c.commit-2.ensures.v6 c.is_due-due.ensures
+    applied t.limits.fewest t.limits.every (t.events + 1) C H c.room.new.self.list elem t.tables c.plan_fitting.new.tables c.commit-changes.new.self choice c.in_ok-own.own c.changed_route-route.result c.in_ok-fitting.fitting.plan.v4 c.in_ok-fitting.fitting.plan.v6 c.is_due-due.result s (is_elem c.args.elem.now) c.room.ensures.list
+    (not_over (length (hops_after H (elem ∷ []))) c.in_ok-own.ensures.full.1) c.in_ok-own.ensures.number ch c.changed_route-route.ensures c.plan_fitting.ensures.tables told.put told.told c.commit-changes.ensures.routes c.commit-changes.ensures.v4 c.commit-changes.ensures.v6 c.is_due-due.ensures
     in
-    ap (λ (e : EventChanges). e.first) c.commit-2.ensures.changes ∙ (told.first ∙ (ap length T.first ∙ ap (λ (o : Held). length (first_of elem o)) c.self.view_is))
+    ap (λ (e : EventChanges). e.first) c.commit-changes.ensures.changes ∙ (told.first ∙ (ap length T.first ∙ ap (λ (o : Held). length (first_of elem o)) c.self.view_is))
 
 pub returns-clause-shortest : goal.returns-clause-shortest
 returns-clause-shortest c =
@@ -253,14 +253,14 @@ returns-clause-stands c = λ load elems st.
     in
     let told = c.in_ok-fitting.ensures in
     let T =
-    applied t.limits.fewest t.limits.every (t.events + 1) C H c.room.new.self.list elem t.tables c.plan_fitting.new.tables c.commit-2.new.self choice c.in_ok-own.own c.changed_route-route.result c.in_ok-fitting.fitting.plan.v4 c.in_ok-fitting.fitting.plan.v6 c.is_due-due.result s (is_elem c.args.elem.now) c.room.ensures.list
-    (not_over (length (hops_after H (elem ∷ []))) c.in_ok-own.ensures.full.1) c.in_ok-own.ensures.number ch c.changed_route-route.ensures c.plan_fitting.ensures.tables told.put told.told c.commit-2.ensures.routes c.commit-2.ensures.v4 c.commit-2.ensures.v6 c.is_due-due.ensures
+    applied t.limits.fewest t.limits.every (t.events + 1) C H c.room.new.self.list elem t.tables c.plan_fitting.new.tables c.commit-changes.new.self choice c.in_ok-own.own c.changed_route-route.result c.in_ok-fitting.fitting.plan.v4 c.in_ok-fitting.fitting.plan.v6 c.is_due-due.result s (is_elem c.args.elem.now) c.room.ensures.list
+    (not_over (length (hops_after H (elem ∷ []))) c.in_ok-own.ensures.full.1) c.in_ok-own.ensures.number ch c.changed_route-route.ensures c.plan_fitting.ensures.tables told.put told.told c.commit-changes.ensures.routes c.commit-changes.ensures.v4 c.commit-changes.ensures.v6 c.is_due-due.ensures
     in
     let held : c.commit.new.self.candidates ≡ after_elem C elem = c.commit.ensures.candidates ∙ (ap (λ (X : Candidates). after_elem X (pick_elem pick)) c.plan.ensures.candidates ∙ ap (λ (e : Elem). after_elem C e) c.in_ok-pick.ensures.elem) in
     let hops : c.number_hop.new.hops.list ≡ hops_after H (elem ∷ []) = c.number_hop.ensures ∙ ap (λ (hs : List Address). hops_after hs (elem ∷ [])) c.room.ensures.list in
     let routes : entries_of c.number_hop.new.hops.list c.commit.new.self.candidates ≡ N = ap (λ (hs : List Address). entries_of hs c.commit.new.self.candidates) hops ∙ ap (entries_of (hops_after H (elem ∷ []))) held in
     let fit : shortage z N ≡ None = ap (first_short z) (sym put) ∙ c.in_ok-fitting.ensures.fits in
-    let new : Held = record { every = t.limits.every; fewest = t.limits.fewest; sizes = z; candidates = c.commit.new.self.candidates; hops = c.number_hop.new.hops.list; table = table_of c.commit-2.new.self; loaded = t.is_loaded; events = t.events + 1; moves = c.moves_made.result } in
+    let new : Held = record { every = t.limits.every; fewest = t.limits.fewest; sizes = z; candidates = c.commit.new.self.candidates; hops = c.number_hop.new.hops.list; table = table_of c.commit-changes.new.self; loaded = t.is_loaded; events = t.events + 1; moves = c.moves_made-self-inside.result } in
     let old : Held = record { every = t.limits.every; fewest = t.limits.fewest; sizes = z; candidates = C; hops = H; table = table_of t.tables; loaded = t.is_loaded; events = t.events; moves = t.moves } in
     let first : Takes elem old new =
     record {
@@ -272,7 +272,7 @@ returns-clause-stands c = λ load elems st.
       table = T.table ∙ ap (λ (hs : List Address). table_by t.limits.fewest t.limits.every hs (t.events + 1) C (table_of t.tables) elem) (sym hops);
       loaded = refl;
       events = refl;
-      moves = c.moves_made.ensures ∙ T.moves c.commit-2.result.first (ap (λ (e : EventChanges). e.first) c.commit-2.ensures.changes ∙ told.first);
+      moves = c.moves_made-self-inside.ensures ∙ T.moves c.commit-changes.result.first (ap (λ (e : EventChanges). e.first) c.commit-changes.ensures.changes ∙ told.first);
     }
     in
     let takes : Takes elem c.args.self.now new = subst (λ (o : Held). Takes elem o new) c.self.view_is first in
