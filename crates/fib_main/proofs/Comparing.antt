@@ -1,6 +1,7 @@
--- The reply to texts that are compared.
+-- The reply to what was found in texts.
 use Rattle.std.proofs.Common.{◌≡◌, ◌∙◌, ℕ, ◌+◌, List, [], ◌∷◌, ◌++◌, Option, Some, None, Result, Ok, Err, inl, inr, refl, sym, ap, subst}
-use Rattle.std.specs.Prelude.{IfErr, IfOk, map, option_map, ◌⊎◌}
+use Rattle.std.specs.Prelude.{IfErr, IfOk, IfSome, map, option_map, ◌⊎◌}
+use Rattle.std.proofs.lemmas.Result.{IfOk-weaker}
 use Rattle.std.proofs.lemmas.List.{map-append}
 use Rattle.cert_model.specs.Verdict.{No, Twice}
 use Rattle.octet_fields.specs.Field.{◌>>=◌}
@@ -10,7 +11,7 @@ use Rattle.fib_io.specs.Causes.{Rose}
 use Rattle.fib_io.specs.Reads.{Anywhere, AtEnd, AtFault, Makes, Pass, PassEnd, PassInTime, PastMost, Read}
 use Rattle.fib_io.proofs.Passing.{makes_as}
 use Rattle.fib_io.proofs.Timing.{ended_in_time, pass_of_text}
-use Rattle.fib_same.specs.Due.{Answers, Compared, TextDifference, answer_of}
+use Rattle.fib_same.specs.Due.{Compared, answer_of}
 use Rattle.fib_same.specs.Due as same
 use Rattle.fib_same.specs.Gives as gives
 use Rattle.fib_same.specs.Passes as passes
@@ -19,7 +20,13 @@ use Rattle.fib_same.specs.Views.{EndsCompared, difference_as}
 use Rattle.fib_same.specs.declared.compare.Difference as code_difference
 use Rattle.fib_same.specs.declared.error.SameError.{SameError}
 use Rattle.fib_same.specs.declared.error.SameError.TheVariants as same_error
-use Rattle.fib_words.specs.Commands.{NamedSame, Same}
+use Rattle.fib_words.specs.Commands.{Asked}
+use Rattle.router_moves.specs.Due.{moves_of as router_moves_of}
+use Rattle.router_moves.specs.Due as router
+use Rattle.router_moves.specs.Views.{EndsShortest, moves_as}
+use Rattle.router_moves.specs.declared.answer.RouterMoves.{RouterMoves}
+use Rattle.cert_check.specs.Views.{no_as}
+use Rattle.cert_check.specs.declared.no.No as code_check
 use Rattle.fib_main.specs.declared.outcome.Outcome.{Outcome}
 use Rattle.fib_main.specs.declared.outcome.Outcome.TheVariants.{BadLine, NoMemory, ReadFault, TooLarge}
 use Rattle.fib_main.specs.declared.outcome.Which.{Which}
@@ -27,20 +34,16 @@ use Rattle.fib_main.specs.declared.outcome.Which.TheVariants.{Text}
 use Rattle.fib_main.specs.declared.reply.Reply as code_reply
 use Rattle.fib_main.specs.declared.reply.Wrong as code_wrong
 use Rattle.fib_main.specs.declared.reply.Wrong.TheVariants as wrong
-use Rattle.fib_main.specs.Comparing.{RepliesTo, answer_reply}
-use Rattle.fib_main.specs.Due.{Alike, Differs, Output, Refuted, Repeats, Reply, Wrong, compared, reply_of, with_reply}
+use Rattle.fib_main.specs.Comparing.{Refuses, RepliesTo, answer_reply, answer_says, moves_reply, moves_say}
+use Rattle.fib_main.specs.Due.{Alike, Differs, Moved, Output, Refuted, Repeats, Reply, Wrong, of_texts, reply_of, with_reply}
 use Rattle.fib_main.specs.Ends.{OneRose, ReadsNames}
 use Rattle.fib_main.specs.InTime.{TextMayGoOn}
-use Rattle.fib_main.specs.Owned.{IsOf}
+use Rattle.fib_main.specs.Owned.{HasInput, IsNo, IsOf, StoppedAt}
 use Rattle.fib_main.specs.Passes.{AllRead, Content, Input, MayBegin, ReadInPart, ReadToOne, ReadUpTo, ReadsCompared, ReadsFound, StopsReading, texts_from}
 use Rattle.fib_main.specs.Stops.{GivesDue, Refused, Stop, Untold}
-use Rattle.fib_main.specs.Untold.{ComparedOfSome}
+use Rattle.fib_main.specs.Untold.{ComparedOfSome, MovedOfSome}
 use Rattle.fib_main.specs.Views.{reply_as, wrong_as}
 use Rattle.fib_main.proofs.Passes.{part_all}
-
--- what comparing texts returned
-abbrev Found : Type 0
-Found = Result (Option code_difference.Difference) SameError
 
 abbrev Replied : Type 0
 Replied = Result code_reply.Reply Outcome
@@ -50,54 +53,74 @@ Replied = Result code_reply.Reply Outcome
 abbrev fine : Reply → Result Reply Stop
 fine x = Ok x
 
-pub reply_due : (d : Result Compared same.Stop) (r : Found) (s : Replied) → RepliesTo r s → gives.GivesDue (option_map difference_as) r (d >>= λ t. Ok (answer_of t)) → GivesDue reply_as s (with_reply (compared d))
-reply_due (Ok t) (Ok answer) (Ok reply) is due = let e : option_map difference_as answer ≡ answer_of t = cc in ap fine (ap answer_reply (sym e) ∙ sym is)
-reply_due (Err same.Untold) (Ok answer) (Ok reply) is due = tt
-reply_due (Err (same.Refused x)) (Ok answer) (Ok reply) is due = absurd cc
-reply_due d (Ok answer) (Err o) is due = rw is tt
-reply_due (Ok t) (Err (same_error.Twice n p)) (Ok reply) is due = absurd cc
-reply_due (Err same.Untold) (Err (same_error.Twice n p)) (Ok reply) is due = tt
-reply_due (Err (same.Refused (same.TooLarge m))) (Err (same_error.Twice n p)) (Ok reply) is due = absurd cc
-reply_due (Err (same.Refused (same.BadLine m line why))) (Err (same_error.Twice n p)) (Ok reply) is due = absurd cc
-reply_due (Err (same.Refused (same.Twice m q))) (Err (same_error.Twice n p)) (Ok reply) is due = let e : q ≡ prefix_as p = cc in ap (λ x. fine (reply_of (Repeats x))) e ∙ ap fine (sym is)
-reply_due d (Err (same_error.Twice n p)) (Err o) is due = rw is tt
-reply_due d (Err (same_error.BadLine n line why)) (Ok reply) is due = absurd is
-reply_due (Ok t) (Err (same_error.BadLine n line why)) (Err o) is due = absurd cc
-reply_due (Err same.Untold) (Err (same_error.BadLine n line why)) (Err o) is due = rw is tt
-reply_due (Err (same.Refused x)) (Err (same_error.BadLine n line why)) (Err o) is due = let e : x ≡ same.BadLine n line why = cc in rw (e, is) refl
-reply_due d (Err (same_error.TooLarge n)) (Ok reply) is due = absurd is
-reply_due (Ok t) (Err (same_error.TooLarge n)) (Err o) is due = absurd cc
-reply_due (Err same.Untold) (Err (same_error.TooLarge n)) (Err o) is due = rw is tt
-reply_due (Err (same.Refused x)) (Err (same_error.TooLarge n)) (Err o) is due = let e : x ≡ same.TooLarge n = cc in rw (e, is) refl
-reply_due d (Err same_error.Fault) (Ok reply) is due = absurd is
-reply_due d (Err same_error.Fault) (Err o) is due = rw is tt
-reply_due d (Err same_error.NoMemory) (Ok reply) is due = absurd is
-reply_due d (Err same_error.NoMemory) (Err o) is due = rw is tt
+abbrev fine_text : {Y : Type 0} → Y → Result Y same.Stop
+fine_text y = Ok y
+
+-- a refusal of texts that is due
+refused_due : {X Y : Type 0} (out : X → Output) (of : X → Y) (d : Result X same.Stop) (e : SameError) (s : Replied) → Refuses e s → gives.FailsDue e (d >>= λ x. fine_text (of x)) → GivesDue reply_as s (with_reply (of_texts out d))
+refused_due out of (Ok t) (same_error.Twice n p) (Ok reply) is due = absurd cc
+refused_due out of (Err same.Untold) (same_error.Twice n p) (Ok reply) is due = tt
+refused_due out of (Err (same.Refused (same.TooLarge m))) (same_error.Twice n p) (Ok reply) is due = absurd cc
+refused_due out of (Err (same.Refused (same.BadLine m line why))) (same_error.Twice n p) (Ok reply) is due = absurd cc
+refused_due out of (Err (same.Refused (same.Twice m q))) (same_error.Twice n p) (Ok reply) is due = let e : q ≡ prefix_as p = cc in ap (λ x. fine (reply_of (Repeats x))) e ∙ ap fine (sym is)
+refused_due out of d (same_error.Twice n p) (Err o) is due = rw is tt
+refused_due out of d (same_error.BadLine n line why) (Ok reply) is due = absurd is
+refused_due out of (Ok t) (same_error.BadLine n line why) (Err o) is due = absurd cc
+refused_due out of (Err same.Untold) (same_error.BadLine n line why) (Err o) is due = rw is tt
+refused_due out of (Err (same.Refused x)) (same_error.BadLine n line why) (Err o) is due = let e : x ≡ same.BadLine n line why = cc in rw (e, is) refl
+refused_due out of d (same_error.TooLarge n) (Ok reply) is due = absurd is
+refused_due out of (Ok t) (same_error.TooLarge n) (Err o) is due = absurd cc
+refused_due out of (Err same.Untold) (same_error.TooLarge n) (Err o) is due = rw is tt
+refused_due out of (Err (same.Refused x)) (same_error.TooLarge n) (Err o) is due = let e : x ≡ same.TooLarge n = cc in rw (e, is) refl
+refused_due out of d same_error.Fault (Ok reply) is due = absurd is
+refused_due out of d same_error.Fault (Err o) is due = rw is tt
+refused_due out of d same_error.NoMemory (Ok reply) is due = absurd is
+refused_due out of d same_error.NoMemory (Err o) is due = rw is tt
+
+-- what was found is what is due, and so is the reply that says it
+pub reply_due : {T X Y : Type 0} (view : T → Y) (says : Y → Reply) (out : X → Output) (of : X → Y) → ((x : X) → reply_of (out x) ≡ says (of x)) → (d : Result X same.Stop) (r : Result T SameError) (s : Replied) → RepliesTo (λ x. says (view x)) r s
+    → gives.GivesDue view r (d >>= λ x. fine_text (of x)) → GivesDue reply_as s (with_reply (of_texts out d))
+reply_due view says out of said (Ok t) (Ok x) (Ok reply) is due = let e : view x ≡ of t = cc in ap fine (said t ∙ (ap says (sym e) ∙ sym is))
+reply_due view says out of said (Err same.Untold) (Ok x) (Ok reply) is due = tt
+reply_due view says out of said (Err (same.Refused x)) (Ok y) (Ok reply) is due = absurd cc
+reply_due view says out of said d (Ok x) (Err o) is due = rw is tt
+reply_due view says out of said d (Err e) s is due = refused_due out of d e s is due
 
 -- whatever the texts hold
-pub reply_some : (d : Result Compared same.Stop) (r : Found) (s : Replied) → RepliesTo r s → IfOk r (EndsCompared d) → ComparedOfSome s
-reply_some d (Ok answer) (Ok reply) is ends = inr (inl (ends.0, ap fine (ap answer_reply (sym ends.2.1) ∙ sym is)))
-reply_some d (Ok answer) (Err o) is ends = inl (1, rw is tt)
-reply_some d (Err (same_error.Twice n p)) (Ok reply) is ends = inr (inr (prefix_as p, ap fine (sym is)))
-reply_some d (Err (same_error.Twice n p)) (Err o) is ends = inl (1, rw is tt)
-reply_some d (Err (same_error.BadLine n line why)) (Ok reply) is ends = absurd is
-reply_some d (Err (same_error.BadLine n line why)) (Err o) is ends = inl (n, rw is (refl, tt))
-reply_some d (Err (same_error.TooLarge n)) (Ok reply) is ends = absurd is
-reply_some d (Err (same_error.TooLarge n)) (Err o) is ends = inl (n, rw is refl)
-reply_some d (Err same_error.Fault) (Ok reply) is ends = absurd is
-reply_some d (Err same_error.Fault) (Err o) is ends = inl (1, rw is tt)
-reply_some d (Err same_error.NoMemory) (Ok reply) is ends = absurd is
-reply_some d (Err same_error.NoMemory) (Err o) is ends = inl (1, rw is tt)
+abbrev pub SomeReply : {X : Type 0} → (X → Output) → Replied → Type 0
+SomeReply {X = X} out s = ((n : ℕ) × StoppedAt (Text n) s) ⊎ (((x : X) × GivesDue reply_as s (with_reply (Ok (out x)))) ⊎ ((p : Prefix) × GivesDue reply_as s (with_reply (Ok (Repeats p)))))
 
--- a refusal is one of this command
-pub reply_own : (named : NamedSame) (r : Found) (s : Replied) → RepliesTo r s → IfErr s (IsOf (Some (Same named)))
-reply_own named r (Ok reply) is = tt
-reply_own named (Ok answer) (Err o) is = rw is tt
-reply_own named (Err (same_error.Twice n p)) (Err o) is = rw is tt
-reply_own named (Err (same_error.BadLine n line why)) (Err o) is = rw is (Text n, tt, (refl, tt))
-reply_own named (Err (same_error.TooLarge n)) (Err o) is = rw is (Text n, tt, refl)
-reply_own named (Err same_error.Fault) (Err o) is = rw is (Text 1, tt, tt)
-reply_own named (Err same_error.NoMemory) (Err o) is = rw is tt
+pub reply_some : {T X Y : Type 0} (view : T → Y) (says : Y → Reply) (out : X → Output) (of : X → Y) → ((x : X) → reply_of (out x) ≡ says (of x)) → (r : Result T SameError) (s : Replied) → RepliesTo (λ x. says (view x)) r s → IfOk r (λ x. (t : X) × (view x ≡ of t)) → SomeReply out s
+reply_some view says out of said (Ok x) (Ok reply) is ends = inr (inl (ends.0, ap fine (said ends.0 ∙ (ap says (sym ends.1) ∙ sym is))))
+reply_some view says out of said (Ok x) (Err o) is ends = inl (1, rw is tt)
+reply_some view says out of said (Err (same_error.Twice n p)) (Ok reply) is ends = inr (inr (prefix_as p, ap fine (sym is)))
+reply_some view says out of said (Err (same_error.Twice n p)) (Err o) is ends = inl (1, rw is tt)
+reply_some view says out of said (Err (same_error.BadLine n line why)) (Ok reply) is ends = absurd is
+reply_some view says out of said (Err (same_error.BadLine n line why)) (Err o) is ends = inl (n, rw is (refl, tt))
+reply_some view says out of said (Err (same_error.TooLarge n)) (Ok reply) is ends = absurd is
+reply_some view says out of said (Err (same_error.TooLarge n)) (Err o) is ends = inl (n, rw is refl)
+reply_some view says out of said (Err same_error.Fault) (Ok reply) is ends = absurd is
+reply_some view says out of said (Err same_error.Fault) (Err o) is ends = inl (1, rw is tt)
+reply_some view says out of said (Err same_error.NoMemory) (Ok reply) is ends = absurd is
+reply_some view says out of said (Err same_error.NoMemory) (Err o) is ends = inl (1, rw is tt)
+
+-- a comparison
+pub same_some : (d : Result Compared same.Stop) (r : Result (Option code_difference.Difference) SameError) (s : Replied) → RepliesTo answer_says r s → IfOk r (EndsCompared d) → ComparedOfSome s
+same_some d r s is ends = reply_some (option_map difference_as) answer_reply Alike answer_of (λ t. refl) r s is (IfOk-weaker r (EndsCompared d) (λ x. (t : Compared) × (option_map difference_as x ≡ answer_of t)) (λ x e. (e.0, e.2.1)) ends)
+
+-- what a router must change
+pub moves_some : (d : Result router.Asked same.Stop) (r : Result RouterMoves SameError) (s : Replied) → RepliesTo moves_say r s → IfOk r (EndsShortest d) → MovedOfSome s
+moves_some d r s is ends = reply_some moves_as moves_reply Moved router_moves_of (λ t. refl) r s is (IfOk-weaker r (EndsShortest d) (λ x. (t : router.Asked) × (moves_as x ≡ router_moves_of t)) (λ x e. (e.0, e.2)) ends)
+
+-- a refusal is one of a command that reads texts and judges them
+pub reply_own : {T : Type 0} (says : T → Reply) (asked : Asked) → ((n : ℕ) → HasInput asked (Text n)) → (r : Result T SameError) (s : Replied) → RepliesTo says r s → IfErr s (IsOf (Some asked))
+reply_own says asked has r (Ok reply) is = tt
+reply_own says asked has (Ok x) (Err o) is = rw is tt
+reply_own says asked has (Err (same_error.Twice n p)) (Err o) is = rw is tt
+reply_own says asked has (Err (same_error.BadLine n line why)) (Err o) is = rw is (Text n, has n, (refl, tt))
+reply_own says asked has (Err (same_error.TooLarge n)) (Err o) is = rw is (Text n, has n, refl)
+reply_own says asked has (Err same_error.Fault) (Err o) is = rw is (Text 1, has 1, tt)
+reply_own says asked has (Err same_error.NoMemory) (Err o) is = rw is tt
 
 -- ---- counts of faults
 
@@ -106,19 +129,19 @@ rose_too [] before now r = r
 rose_too (name ∷ names) before now (inl r) = inl r
 rose_too (name ∷ names) before now (inr r) = inr (rose_too names before now r)
 
-pub reply_cause : (names : List (List ℕ)) (before now : List ℕ → ℕ) (r : Found) (s : Replied) → RepliesTo r s → gives.ReadsNames names before now r → ReadsNames names before now s
-reply_cause names before now (Ok answer) (Ok reply) is c = c
-reply_cause names before now (Ok answer) (Err o) is c = rw is c
-reply_cause names before now (Err (same_error.Twice n p)) (Ok reply) is c = c
-reply_cause names before now (Err (same_error.Twice n p)) (Err o) is c = rw is c
-reply_cause names before now (Err (same_error.BadLine n line why)) (Ok reply) is c = absurd is
-reply_cause names before now (Err (same_error.BadLine n line why)) (Err o) is c = rw is c
-reply_cause names before now (Err (same_error.TooLarge n)) (Ok reply) is c = absurd is
-reply_cause names before now (Err (same_error.TooLarge n)) (Err o) is c = rw is c
-reply_cause names before now (Err same_error.Fault) (Ok reply) is c = absurd is
-reply_cause names before now (Err same_error.Fault) (Err o) is c = rw is (rose_too names before now c)
-reply_cause names before now (Err same_error.NoMemory) (Ok reply) is c = absurd is
-reply_cause names before now (Err same_error.NoMemory) (Err o) is c = rw is c
+pub reply_cause : {T : Type 0} (says : T → Reply) (names : List (List ℕ)) (before now : List ℕ → ℕ) (r : Result T SameError) (s : Replied) → RepliesTo says r s → gives.ReadsNames names before now r → ReadsNames names before now s
+reply_cause says names before now (Ok answer) (Ok reply) is c = c
+reply_cause says names before now (Ok answer) (Err o) is c = rw is c
+reply_cause says names before now (Err (same_error.Twice n p)) (Ok reply) is c = c
+reply_cause says names before now (Err (same_error.Twice n p)) (Err o) is c = rw is c
+reply_cause says names before now (Err (same_error.BadLine n line why)) (Ok reply) is c = absurd is
+reply_cause says names before now (Err (same_error.BadLine n line why)) (Err o) is c = rw is c
+reply_cause says names before now (Err (same_error.TooLarge n)) (Ok reply) is c = absurd is
+reply_cause says names before now (Err (same_error.TooLarge n)) (Err o) is c = rw is c
+reply_cause says names before now (Err same_error.Fault) (Ok reply) is c = absurd is
+reply_cause says names before now (Err same_error.Fault) (Err o) is c = rw is (rose_too names before now c)
+reply_cause says names before now (Err same_error.NoMemory) (Ok reply) is c = absurd is
+reply_cause says names before now (Err same_error.NoMemory) (Err o) is c = rw is c
 
 -- ---- reads
 
@@ -176,11 +199,17 @@ part_up_to content inputs which reads p = record {
   all = p.all;
 }
 
-found_all : (content : Content) (inputs : List Input) (w : Option code_wrong.Wrong) (a : Option TextDifference) (reads : List Read) → option_map wrong_as w ≡ option_map Differs a → AllRead content TextMayGoOn inputs reads → ReadsFound content inputs w reads
-found_all content inputs None a reads e p = p
-found_all content inputs (Some (wrong.Differ d)) a reads e p = p
-found_all content inputs (Some (wrong.No x)) None reads e p = absurd cc
-found_all content inputs (Some (wrong.No x)) (Some t) reads e p = absurd cc
+found_all : (content : Content) (inputs : List Input) (w : Option code_wrong.Wrong) (reads : List Read) → ((x : code_check.No) → w ≡ Some (wrong.No x) → ⊥) → AllRead content TextMayGoOn inputs reads → ReadsFound content inputs w reads
+found_all content inputs None reads e p = p
+found_all content inputs (Some (wrong.Differ d)) reads e p = p
+found_all content inputs (Some (wrong.No x)) reads e p = absurd (e x refl)
+
+-- what says no is no reply to what was found
+pub NeverNo : {T : Type 0} → (T → Reply) → Type 0
+NeverNo {T = T} says = (x : T) (fault : No) → (says x).wrong ≡ Some (Refuted fault) → ⊥
+
+never_no : {T : Type 0} (says : T → Reply) → NeverNo says → (x : T) (w : Option code_wrong.Wrong) → option_map wrong_as w ≡ (says x).wrong → (fault : code_check.No) → w ≡ Some (wrong.No fault) → ⊥
+never_no says never x w e fault is = never x (no_as fault) (sym e ∙ ap (option_map wrong_as) is)
 
 found_one : (content : Content) (inputs : List Input) (w : Option code_wrong.Wrong) (fault : No) (reads : List Read) → option_map wrong_as w ≡ Some (Refuted fault) → ReadToOne content inputs reads → ReadsFound content inputs w reads
 found_one content inputs None fault reads e p = absurd cc
@@ -190,23 +219,50 @@ found_one content inputs (Some (wrong.Differ d)) fault reads e p = absurd cc
 wrong_of : (reply : code_reply.Reply) (r : Reply) → reply_as reply ≡ r → option_map wrong_as reply.wrong ≡ r.wrong
 wrong_of reply r e = ap (λ (x : Reply). x.wrong) e
 
-replied_reads : (content : Content) (xs : List (ℕ × List ℕ)) (r : Found) (s : Replied) (reads : List Read) → RepliesTo r s → passes.ReadsOf xs r reads → ReadsCompared content (map input_as xs) s reads
-replied_reads content xs (Ok answer) (Ok reply) reads is p =
-    found_all content (map input_as xs) reply.wrong (option_map difference_as answer) reads (wrong_of reply (answer_reply (option_map difference_as answer)) is) (all_as content xs reads p)
-replied_reads content xs (Ok answer) (Err o) reads is p = rw is (part_all content TextMayGoOn (map input_as xs) reads (all_as content xs reads p))
-replied_reads content xs (Err (same_error.Twice n p)) (Ok reply) reads is q =
+replied_reads : {T : Type 0} (says : T → Reply) → NeverNo says → (content : Content) (xs : List (ℕ × List ℕ)) (r : Result T SameError) (s : Replied) (reads : List Read) → RepliesTo says r s → passes.ReadsOf xs r reads → ReadsCompared content (map input_as xs) s reads
+replied_reads says never content xs (Ok x) (Ok reply) reads is p =
+    found_all content (map input_as xs) reply.wrong reads (never_no says never x reply.wrong (wrong_of reply (says x) is)) (all_as content xs reads p)
+replied_reads says never content xs (Ok answer) (Err o) reads is p = rw is (part_all content TextMayGoOn (map input_as xs) reads (all_as content xs reads p))
+replied_reads says never content xs (Err (same_error.Twice n p)) (Ok reply) reads is q =
     found_one content (map input_as xs) reply.wrong (Twice (prefix_as p)) reads (wrong_of reply (reply_of (Repeats (prefix_as p))) is) (Text n, up_to_as content xs n AtEnd reads q)
-replied_reads content xs (Err (same_error.Twice n p)) (Err o) reads is q = rw is (part_up_to content (map input_as xs) (Text n) reads (up_to_as content xs n AtEnd reads q))
-replied_reads content xs (Err (same_error.BadLine n line why)) (Ok reply) reads is p = absurd is
-replied_reads content xs (Err (same_error.BadLine n line why)) (Err o) reads is p = rw is (up_to_as content xs n AtEnd reads p)
-replied_reads content xs (Err (same_error.TooLarge n)) (Ok reply) reads is p = absurd is
-replied_reads content xs (Err (same_error.TooLarge n)) (Err o) reads is p = rw is (up_to_as content xs n PastMost reads p)
-replied_reads content xs (Err same_error.Fault) (Ok reply) reads is p = absurd is
-replied_reads content xs (Err same_error.Fault) (Err o) reads is p = rw is (Text p.0, up_to_as content xs p.0 AtFault reads p.1)
-replied_reads content xs (Err same_error.NoMemory) (Ok reply) reads is p = absurd is
-replied_reads content xs (Err same_error.NoMemory) (Err o) reads is p = rw is (part_as content xs reads p)
+replied_reads says never content xs (Err (same_error.Twice n p)) (Err o) reads is q = rw is (part_up_to content (map input_as xs) (Text n) reads (up_to_as content xs n AtEnd reads q))
+replied_reads says never content xs (Err (same_error.BadLine n line why)) (Ok reply) reads is p = absurd is
+replied_reads says never content xs (Err (same_error.BadLine n line why)) (Err o) reads is p = rw is (up_to_as content xs n AtEnd reads p)
+replied_reads says never content xs (Err (same_error.TooLarge n)) (Ok reply) reads is p = absurd is
+replied_reads says never content xs (Err (same_error.TooLarge n)) (Err o) reads is p = rw is (up_to_as content xs n PastMost reads p)
+replied_reads says never content xs (Err same_error.Fault) (Ok reply) reads is p = absurd is
+replied_reads says never content xs (Err same_error.Fault) (Err o) reads is p = rw is (Text p.0, up_to_as content xs p.0 AtFault reads p.1)
+replied_reads says never content xs (Err same_error.NoMemory) (Ok reply) reads is p = absurd is
+replied_reads says never content xs (Err same_error.NoMemory) (Err o) reads is p = rw is (part_as content xs reads p)
 
-pub reply_reads : (content : Content) (before now : Option (List Read)) (names : List (List ℕ)) (r : Found) (s : Replied) → RepliesTo r s → Makes before now (passes.ReadsOf (numbered 1 names) r) → Makes before now (ReadsCompared content (texts_from 1 names) s)
-reply_reads content before now names r s is made =
+pub reply_reads : {T : Type 0} (says : T → Reply) → NeverNo says → (content : Content) (before now : Option (List Read)) (names : List (List ℕ)) (r : Result T SameError) (s : Replied) → RepliesTo says r s → Makes before now (passes.ReadsOf (numbered 1 names) r) → Makes before now (ReadsCompared content (texts_from 1 names) s)
+reply_reads says never content before now names r s is made =
     makes_as before now (passes.ReadsOf (numbered 1 names) r) (ReadsCompared content (texts_from 1 names) s) made
-    (λ reads p. subst (λ inputs. ReadsCompared content inputs s reads) (texts_as 1 names) (replied_reads content (numbered 1 names) r s reads is p))
+    (λ reads p. subst (λ inputs. ReadsCompared content inputs s reads) (texts_as 1 names) (replied_reads says never content (numbered 1 names) r s reads is p))
+
+-- an answer and changes say no no
+pub answers_never : NeverNo answer_says
+answers_never None fault e = cc
+answers_never (Some d) fault e = cc
+
+pub moves_never : NeverNo moves_say
+moves_never m fault e = cc
+
+-- what is wrong where a router's changes are asked for is wrong with a text
+pub moves_owns : (r : Result RouterMoves SameError) (s : Replied) → RepliesTo moves_say r s → IfOk s (λ reply. IfSome reply.wrong IsNo)
+moves_owns r (Err o) is = tt
+moves_owns (Ok m) (Ok reply) is = none reply.wrong (wrong_of reply (moves_say m) is)
+  where
+    none : (w : Option code_wrong.Wrong) → option_map wrong_as w ≡ None → IfSome w IsNo
+    none None e = tt
+    none (Some x) e = absurd cc
+moves_owns (Err (same_error.Twice n p)) (Ok reply) is = one reply.wrong (wrong_of reply (reply_of (Repeats (prefix_as p))) is)
+  where
+    one : (w : Option code_wrong.Wrong) → option_map wrong_as w ≡ Some (Refuted (Twice (prefix_as p))) → IfSome w IsNo
+    one None e = tt
+    one (Some (wrong.No x)) e = tt
+    one (Some (wrong.Differ x)) e = absurd cc
+moves_owns (Err (same_error.BadLine n line why)) (Ok reply) is = absurd is
+moves_owns (Err (same_error.TooLarge n)) (Ok reply) is = absurd is
+moves_owns (Err same_error.Fault) (Ok reply) is = absurd is
+moves_owns (Err same_error.NoMemory) (Ok reply) is = absurd is

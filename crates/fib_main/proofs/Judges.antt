@@ -14,7 +14,7 @@ use Rattle.fib_io.specs.Pieces.{octets_read}
 use Rattle.route_tries.specs.Sizes.{Shortage, Sizes, shortage}
 use Rattle.fib_rov.specs.Rov.{invalid_in, left_of}
 use Rattle.fib_rov.proofs.JudgedLists.{invalid_more, left_more}
-use Rattle.fib_words.specs.Commands.{Asked, Named, Run, Check, Make, Steps, Same, Save}
+use Rattle.fib_words.specs.Commands.{Asked, Named, Run, Check, Make, Steps, Same, Save, Moves}
 use Rattle.fib_main.specs.declared.outcome.MrtInput.{MrtInput}
 use Rattle.fib_main.specs.declared.outcome.MrtInput.TheVariants.{Dump, Updates}
 use Rattle.fib_main.specs.Refusals.{Limits, Refusal, routes_by, stop_at, too_much}
@@ -136,4 +136,5 @@ judges content (Some (Check name)) = tt
 judges content (Some (Make routes seed)) = tt
 judges content (Some (Steps named)) = tt
 judges content (Some (Same named)) = tt
+judges content (Some (Moves named)) = tt
 judges content (Some (Save named)) = tt

@@ -37,12 +37,12 @@ use Rattle.fib_main.specs.declared.reply.Reply as code_reply
 use Rattle.fib_main.specs.declared.reply.Wrong as code_wrong
 use Rattle.fib_main.specs.declared.reply.Wrong.TheVariants as wrong
 use Rattle.fib_main.specs.Views.{wrong_as}
-use Rattle.fib_words.specs.Commands.{Asked, Check, Make, Run, Same, Save, Steps}
+use Rattle.fib_words.specs.Commands.{Asked, Check, Make, Moves, Run, Same, Save, Steps}
 use Rattle.fib_main.specs.Ends.{EndsBy}
 use Rattle.fib_main.specs.Asking.{ask_of_input, ask_refusal}
 use Rattle.fib_main.specs.Loaded.{of_step}
 use Rattle.fib_main.specs.InTime.{TextMayGoOn, RunMayGoOn, SaveMayGoOn, StepsMayGoOn}
-use Rattle.fib_main.specs.Passes.{AllRead, Content, Input, Judge, IsNumbered, MayBegin, ReadInPart, ReadUpTo, ReadsAsked, ReadsAt, ReadsFound, ReadsOf, ReadsTexts, ReadsTo, StopsReading, same_inputs, save_inputs, ask_end, asks_end, check_inputs, feed_end, feeds_end, run_inputs, steps_inputs}
+use Rattle.fib_main.specs.Passes.{AllRead, Content, Input, Judge, IsNumbered, MayBegin, ReadInPart, ReadUpTo, ReadsAsked, ReadsAt, ReadsFound, ReadsOf, ReadsTexts, ReadsTo, StopsReading, moves_inputs, same_inputs, save_inputs, ask_end, asks_end, check_inputs, feed_end, feeds_end, run_inputs, steps_inputs}
 use Rattle.fib_main.specs.Standing.{IsOfLoad, StateTakesAll, of_input, of_read, refusal_at, refusal_of}
 use Rattle.fib_main.specs.Stepped.{arena_of}
 use Rattle.fib_main.specs.Stepping.{refusal_of_whole}
@@ -435,6 +435,7 @@ asked_ended content (Some (Check name)) reply o reads e p = all_ended content Te
 asked_ended content (Some (Make routes seed)) reply o reads e p = p
 asked_ended content (Some (Steps named)) reply o reads e p = all_ended content (StepsMayGoOn named) (steps_inputs named) reply.wrong o reads e p
 asked_ended content (Some (Same named)) reply o reads e p = found_read content (same_inputs named) reply.wrong o reads e p
+asked_ended content (Some (Moves named)) reply o reads e p = found_read content (moves_inputs named) reply.wrong o reads e p
 asked_ended content (Some (Save named)) reply o reads e p = all_ended content SaveMayGoOn (save_inputs named) reply.wrong o reads e p
 
 unwritten_asked : (content : Content) (asked : Option Asked) (reply : code_reply.Reply) (reads : List Read) → ReadsAsked content asked (Ok reply) reads → ReadsAt content asked WriteFault reads
@@ -444,6 +445,7 @@ unwritten_asked content (Some (Check name)) reply reads p = p
 unwritten_asked content (Some (Make routes seed)) reply reads p = p
 unwritten_asked content (Some (Steps named)) reply reads p = p
 unwritten_asked content (Some (Same named)) reply reads p = found_unwritten content (same_inputs named) reply.wrong reads p
+unwritten_asked content (Some (Moves named)) reply reads p = found_unwritten content (moves_inputs named) reply.wrong reads p
 unwritten_asked content (Some (Save named)) reply reads p = p
 
 pub reads_stopped : (content : Content) (Goes : Judge) (inputs : List Input) (o : Outcome) (reads : List Read) → StopsReading content Goes inputs o reads → ReadsTo content Goes inputs o reads
@@ -485,6 +487,7 @@ stopped_asked content (Some (Check name)) o reads p = reads_stopped content Text
 stopped_asked content (Some (Make routes seed)) o reads p = p
 stopped_asked content (Some (Steps named)) o reads p = reads_stopped content (StepsMayGoOn named) (steps_inputs named) o reads p
 stopped_asked content (Some (Same named)) o reads p = texts_stopped content (same_inputs named) o reads p
+stopped_asked content (Some (Moves named)) o reads p = texts_stopped content (moves_inputs named) o reads p
 stopped_asked content (Some (Save named)) o reads p = p
 
 -- the reply was written
@@ -509,6 +512,7 @@ memory_asked content (Some (Check name)) = part_none content TextMayGoOn (check_
 memory_asked content (Some (Make routes seed)) = refl
 memory_asked content (Some (Steps named)) = part_none content (StepsMayGoOn named) (steps_inputs named)
 memory_asked content (Some (Same named)) = part_none content TextMayGoOn (same_inputs named)
+memory_asked content (Some (Moves named)) = part_none content TextMayGoOn (moves_inputs named)
 memory_asked content (Some (Save named)) = part_none content SaveMayGoOn (save_inputs named)
 
 pub memory_read : (content : Content) (now : Option (List Read)) (asked : Option Asked) → Makes now now (ReadsAsked content asked (Err NoMemory))

@@ -7,7 +7,7 @@ use Rattle.cert_model.proofs.Verdicts.{verdict_is, verdict_law}
 use Rattle.cert_model.specs.Verdict.{RowFits}
 use Rattle.printed_model.specs.Texts.{BadLine as BadRow}
 use Rattle.printed_model.specs.Used.{Used, printed_in}
-use Rattle.fib_words.specs.Commands.{Named, NamedSave, Asked, Run, Check, Make, Steps, Same, Save, command_of}
+use Rattle.fib_words.specs.Commands.{Named, NamedSave, Asked, Run, Check, Make, Steps, Same, Save, Moves, command_of}
 use Rattle.fib_main.specs.declared.outcome.Which.TheVariants as which
 use Rattle.fib_main.specs.declared.outcome.Outcome.{Outcome}
 use Rattle.fib_main.specs.Stops.{Stop, Untold, Refused, LongPath, rowed, FailsDue, IsDueIfTold}
@@ -23,9 +23,11 @@ use Rattle.fib_save.specs.Brings.{after_events}
 use Rattle.fib_save.specs.Restores.{Restores}
 use Rattle.fib_same.specs.Due.{Compared, same_at, told_of}
 use Rattle.fib_same.specs.Due as same
+use Rattle.router_moves.specs.Due.{asked_at as router_at}
+use Rattle.router_moves.specs.Due as router
 use Rattle.fib_main.specs.declared.outcome.Outcome.TheVariants.{PeersFull}
 use Rattle.fib_main.specs.Owned.{IsSave}
-use Rattle.fib_main.specs.Due.{Alike, Checked, Made, Output, Printed, Ran, Repeats, Reply, Saved, compared, said_at, saved_at, saved_of, unless_long, stepped, stepping_at, ran, checked, due, made, made_at, input_at, output_at, run_at, usage, used_at, printed_text, with_text, with_reply}
+use Rattle.fib_main.specs.Due.{Alike, Checked, Made, Moved, Output, Printed, Ran, Repeats, Reply, Saved, compared, moved, said_at, saved_at, saved_of, unless_long, stepped, stepping_at, ran, checked, due, made, made_at, input_at, output_at, run_at, usage, used_at, printed_text, with_text, with_reply}
 use Rattle.fib_main.specs.Proves.{Compares, IfChecked, IfCompared, IfRan, IfSaved, IsRun, Decides, PrintsYes, YesProves}
 use Rattle.fib_main.proofs.Due.{fails_by, retyped}
 use Rattle.fib_main.proofs.Fitting.{read_fits}
@@ -81,6 +83,7 @@ IsSavedOnly (Ok (Checked used)) = ⊥
 IsSavedOnly (Ok (Made p)) = ⊥
 IsSavedOnly (Ok (Alike texts)) = ⊥
 IsSavedOnly (Ok (Repeats p)) = ⊥
+IsSavedOnly (Ok (Moved t)) = ⊥
 IsSavedOnly (Err stop) = Unit {0}
 
 long_only : (said : List Event) (c : Option (Place × Offer)) → IsSavedOnly (unless_long said c)
@@ -136,6 +139,13 @@ none_compared P (Err (same.Refused (same.TooLarge n))) = tt
 none_compared P (Err (same.Refused (same.BadLine n line why))) = tt
 none_compared P (Err (same.Refused (same.Twice n p))) = tt
 
+none_moved : (P : Used → Type 0) (t : Result router.Asked same.Stop) → IfChecked (moved t) P
+none_moved P (Ok t) = tt
+none_moved P (Err same.Untold) = tt
+none_moved P (Err (same.Refused (same.TooLarge n))) = tt
+none_moved P (Err (same.Refused (same.BadLine n line why))) = tt
+none_moved P (Err (same.Refused (same.Twice n p))) = tt
+
 none_saved : (P : Used → Type 0) (d : Result Output Stop) → IsSavedOnly d → IfChecked d P
 none_saved P (Ok (Saved said)) s = tt
 none_saved P (Ok (Ran p)) s = absurd s
@@ -143,6 +153,7 @@ none_saved P (Ok (Checked used)) s = absurd s
 none_saved P (Ok (Made p)) s = absurd s
 none_saved P (Ok (Alike texts)) s = absurd s
 none_saved P (Ok (Repeats p)) s = absurd s
+none_saved P (Ok (Moved t)) s = absurd s
 none_saved P (Err stop) s = tt
 
 words_checked : (P : Used → Type 0) → OfEachText P → (content : List ℕ → Option (List ℕ)) (o : Option Asked) → IfChecked (usage o >>= output_at content) P
@@ -153,6 +164,7 @@ words_checked P each content (Some (Check name)) = name_checked P each content n
 words_checked P each content (Some (Make routes seed)) = none_made P (made_at routes seed)
 words_checked P each content (Some (Steps named)) = none_stepped P (stepping_at content named)
 words_checked P each content (Some (Same named)) = none_compared P (same_at content named.rows named.first named.rest)
+words_checked P each content (Some (Moves named)) = none_moved P (router_at content named.router named.printed)
 words_checked P each content (Some (Save named)) = none_saved P (saved_at content named) (saved_only content named)
 
 each_checked : (P : Used → Type 0) → OfEachText P → (words : List (List ℕ)) (content : List ℕ → Option (List ℕ)) → IfChecked (due words content) P
@@ -197,6 +209,13 @@ stepped_none : (s : Result Stepping Stop) → IfCompared (stepped s) Compares
 stepped_none (Ok s) = tt
 stepped_none (Err stop) = tt
 
+moved_none : (t : Result router.Asked same.Stop) → IfCompared (moved t) Compares
+moved_none (Ok t) = tt
+moved_none (Err same.Untold) = tt
+moved_none (Err (same.Refused (same.TooLarge n))) = tt
+moved_none (Err (same.Refused (same.BadLine n line why))) = tt
+moved_none (Err (same.Refused (same.Twice n p))) = tt
+
 saved_none : (d : Result Output Stop) → IsSavedOnly d → IfCompared d Compares
 saved_none (Ok (Saved said)) s = tt
 saved_none (Ok (Ran p)) s = absurd s
@@ -204,6 +223,7 @@ saved_none (Ok (Checked used)) s = absurd s
 saved_none (Ok (Made p)) s = absurd s
 saved_none (Ok (Alike texts)) s = absurd s
 saved_none (Ok (Repeats p)) s = absurd s
+saved_none (Ok (Moved t)) s = absurd s
 saved_none (Err stop) s = tt
 
 words_compare : (content : List ℕ → Option (List ℕ)) (o : Option Asked) → IfCompared (usage o >>= output_at content) Compares
@@ -214,6 +234,7 @@ words_compare content (Some (Check name)) = checked_none (used_at content name)
 words_compare content (Some (Make routes seed)) = made_none (made_at routes seed)
 words_compare content (Some (Steps named)) = stepped_none (stepping_at content named)
 words_compare content (Some (Same named)) = texts_compare (same_at content named.rows named.first named.rest)
+words_compare content (Some (Moves named)) = moved_none (router_at content named.router named.printed)
 words_compare content (Some (Save named)) = saved_none (saved_at content named) (saved_only content named)
 
 pub compares : (words : List (List ℕ)) (content : List ℕ → Option (List ℕ)) → IfCompared (due words content) Compares
@@ -228,6 +249,13 @@ same_ran P (Err (same.Refused (same.TooLarge n))) = tt
 same_ran P (Err (same.Refused (same.BadLine n line why))) = tt
 same_ran P (Err (same.Refused (same.Twice n p))) = tt
 
+pub moves_ran : (P : Printed → Type 0) (t : Result router.Asked same.Stop) → IfRan (moved t) P
+moves_ran P (Ok t) = tt
+moves_ran P (Err same.Untold) = tt
+moves_ran P (Err (same.Refused (same.TooLarge n))) = tt
+moves_ran P (Err (same.Refused (same.BadLine n line why))) = tt
+moves_ran P (Err (same.Refused (same.Twice n p))) = tt
+
 pub save_ran : (P : Printed → Type 0) (d : Result Output Stop) → IsSavedOnly d → IfRan d P
 save_ran P (Ok (Saved said)) s = tt
 save_ran P (Ok (Ran p)) s = absurd s
@@ -235,6 +263,7 @@ save_ran P (Ok (Checked used)) s = absurd s
 save_ran P (Ok (Made p)) s = absurd s
 save_ran P (Ok (Alike texts)) s = absurd s
 save_ran P (Ok (Repeats p)) s = absurd s
+save_ran P (Ok (Moved t)) s = absurd s
 save_ran P (Err stop) s = tt
 
 -- a checkpoint is no run

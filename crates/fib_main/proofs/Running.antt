@@ -32,8 +32,9 @@ use Rattle.fewest_feed.proofs.Meanwhile.{meanwhile}
 use Rattle.fewest_feed.proofs.Moved.{from_placed}
 use Rattle.fewest_feed.proofs.Reported.{run_sum, table_step}
 use Rattle.fib_same.specs.Due.{same_at}
-use Rattle.fib_words.specs.Commands.{Named, Asked, Run, Check, Make, Steps, Same, Save, command_of}
-use Rattle.fib_main.proofs.Replies.{same_ran, save_ran, saved_only}
+use Rattle.router_moves.specs.Due.{asked_at as router_at}
+use Rattle.fib_words.specs.Commands.{Named, Asked, Run, Check, Make, Steps, Same, Save, Moves, command_of}
+use Rattle.fib_main.proofs.Replies.{moves_ran, same_ran, save_ran, saved_only}
 use Rattle.printed_model.specs.Used.{Used}
 use Rattle.fib_main.specs.declared.outcome.MrtInput.{MrtInput}
 use Rattle.fib_main.specs.declared.outcome.MrtInput.TheVariants.{Dump, Updates}
@@ -165,6 +166,7 @@ words_due P each content (Some (Check name)) = check_due P (used_at content name
 words_due P each content (Some (Make routes seed)) = made_due P (made_at routes seed)
 words_due P each content (Some (Steps named)) = steps_due P (stepping_at content named)
 words_due P each content (Some (Same named)) = same_ran P (same_at content named.rows named.first named.rest)
+words_due P each content (Some (Moves named)) = moves_ran P (router_at content named.router named.printed)
 words_due P each content (Some (Save named)) = save_ran P (saved_at content named) (saved_only content named)
 
 each_due : (P : Printed → Type 0) → OfEach P → (words : List (List ℕ)) (content : List ℕ → Option (List ℕ)) → IfRan (due words content) P

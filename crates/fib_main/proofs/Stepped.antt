@@ -11,7 +11,7 @@ use Rattle.stepper.specs.declared.error.StepError.TheVariants as step
 use Rattle.stepper.specs.Runs.{EndsBy}
 use Rattle.step_run.specs.Stepping.{Stepping, IsTextOf, world_of}
 use Rattle.fib_io.specs.Causes.{Rose}
-use Rattle.fib_words.specs.Commands.{Asked, Named, NamedSame, NamedSave, NamedSteps, Run, Check, Make, Steps, Same, Save}
+use Rattle.fib_words.specs.Commands.{Asked, Named, NamedMoves, NamedSame, NamedSave, NamedSteps, Run, Check, Make, Steps, Same, Save, Moves}
 use Rattle.fib_main.specs.declared.reply.Reply as code_reply
 use Rattle.fib_main.specs.declared.reply.Wrong as code_wrong
 use Rattle.fib_main.specs.declared.outcome.Outcome.{Outcome}
@@ -279,3 +279,6 @@ same_gives content named asked result a = rw a tt
 
 pub save_gives : (content : Content) (named : NamedSave) (asked : Asked) (result : Result code_reply.Reply Outcome) → asked ≡ Save named → GivesSteps content (Some asked) result
 save_gives content named asked result a = rw a tt
+
+pub moves_gives : (content : Content) (named : NamedMoves) (asked : Asked) (result : Result code_reply.Reply Outcome) → asked ≡ Moves named → GivesSteps content (Some asked) result
+moves_gives content named asked result a = rw a tt

@@ -10,12 +10,12 @@ use Rattle.fib_same.specs.declared.compare.Difference as code_difference
 use Rattle.fib_main.specs.declared.reply.Wrong as code_wrong
 use Rattle.fib_main.specs.declared.reply.Wrong.TheVariants as wrong
 use Rattle.fib_main.specs.Views.{wrong_as}
-use Rattle.fib_words.specs.Commands.{Asked, NamedSame, Run, Check, Make, Steps, Same, Save}
+use Rattle.fib_words.specs.Commands.{Asked, NamedMoves, NamedSame, Run, Check, Make, Steps, Same, Save, Moves}
 use Rattle.fib_main.specs.declared.reply.Reply as code_reply
 use Rattle.fib_main.specs.declared.outcome.Outcome.{Outcome}
 use Rattle.fib_main.specs.declared.outcome.Outcome.TheVariants.{Done, CheckNo, Differ, Usage, ReadFault, WriteFault, NoMemory, TooLarge, Malformed, HopsFull, TrieFull, BadLine, PeersFull, PathTooLong}
 use Rattle.fib_main.specs.Stops.{Stop, Untold, Refused, LongPath, IsDueIfTold, FailsDue}
-use Rattle.fib_main.specs.Due.{Output, Alike, Checked, Repeats, Wrong, Refuted, Differs, due, reply_at, saved_of, Reply, made, made_at, ran, reply_of, stepped, stepping_at, told_at, output_text, with_reply, with_world, world_at, wrong_in}
+use Rattle.fib_main.specs.Due.{Output, Alike, Checked, Moved, Repeats, Wrong, Refuted, Differs, due, reply_at, saved_of, Reply, made, made_at, ran, reply_of, stepped, stepping_at, told_at, output_text, with_reply, with_world, world_at, wrong_in}
 use Rattle.fib_main.specs.Ends.{EndsBy, IsDue, Meets}
 use Rattle.fib_main.specs.Owned.{IsNo, IsOf, Owns, StopsIn}
 use Rattle.step_run.specs.Stepping.{Stepping}
@@ -30,6 +30,7 @@ memory_some content (Some (Check name)) = inl tt
 memory_some content (Some (Make routes seed)) = tt
 memory_some content (Some (Steps named)) = inl tt
 memory_some content (Some (Same named)) = inl (1, tt)
+memory_some content (Some (Moves named)) = inl (1, tt)
 memory_some content (Some (Save named)) = inl (inl tt)
 
 -- ---- what fits what is due
@@ -169,6 +170,9 @@ some_ends content (Some (Make routes seed)) reply old new o x e a = ends_fit (ma
 some_ends content (Some (Same named)) reply old new o (inl s) e a = absurd s.1
 some_ends content (Some (Same named)) reply old new o (inr (inl x)) e a = inr (inl (x.0, ends_fit (Ok (Alike x.0)) reply.text.items (option_map wrong_as reply.wrong) old new o x.1 e a))
 some_ends content (Some (Same named)) reply old new o (inr (inr x)) e a = inr (inr (x.0, ends_fit (Ok (Repeats x.0)) reply.text.items (option_map wrong_as reply.wrong) old new o x.1 e a))
+some_ends content (Some (Moves named)) reply old new o (inl s) e a = absurd s.1
+some_ends content (Some (Moves named)) reply old new o (inr (inl x)) e a = inr (inl (x.0, ends_fit (Ok (Moved x.0)) reply.text.items (option_map wrong_as reply.wrong) old new o x.1 e a))
+some_ends content (Some (Moves named)) reply old new o (inr (inr x)) e a = inr (inr (x.0, ends_fit (Ok (Repeats x.0)) reply.text.items (option_map wrong_as reply.wrong) old new o x.1 e a))
 some_ends content (Some (Save named)) reply old new o (inl (inl s)) e a = absurd s
 some_ends content (Some (Save named)) reply old new o (inl (inr s)) e a = absurd s
 some_ends content (Some (Save named)) reply old new o (inr x) e a = inr (x.0, ends_fit (saved_of x.0) reply.text.items (option_map wrong_as reply.wrong) old new o x.1 e a)
@@ -188,6 +192,9 @@ some_fault content (Some (Make routes seed)) reply old new x a = fault_fits (mad
 some_fault content (Some (Same named)) reply old new (inl s) a = absurd s.1
 some_fault content (Some (Same named)) reply old new (inr (inl x)) a = inr (inl (x.0, fault_fits (Ok (Alike x.0)) reply.text.items (option_map wrong_as reply.wrong) old new x.1 a))
 some_fault content (Some (Same named)) reply old new (inr (inr x)) a = inr (inr (x.0, fault_fits (Ok (Repeats x.0)) reply.text.items (option_map wrong_as reply.wrong) old new x.1 a))
+some_fault content (Some (Moves named)) reply old new (inl s) a = absurd s.1
+some_fault content (Some (Moves named)) reply old new (inr (inl x)) a = inr (inl (x.0, fault_fits (Ok (Moved x.0)) reply.text.items (option_map wrong_as reply.wrong) old new x.1 a))
+some_fault content (Some (Moves named)) reply old new (inr (inr x)) a = inr (inr (x.0, fault_fits (Ok (Repeats x.0)) reply.text.items (option_map wrong_as reply.wrong) old new x.1 a))
 some_fault content (Some (Save named)) reply old new (inl (inl s)) a = absurd s
 some_fault content (Some (Save named)) reply old new (inl (inr s)) a = absurd s
 some_fault content (Some (Save named)) reply old new (inr x) a = inr (x.0, fault_fits (saved_of x.0) reply.text.items (option_map wrong_as reply.wrong) old new x.1 a)
@@ -206,6 +213,9 @@ some_stop content (Some (Make routes seed)) o old new x same = stop_fits (made (
 some_stop content (Some (Same named)) o old new (inl s) same = inl s
 some_stop content (Some (Same named)) o old new (inr (inl x)) same = inr (inl (x.0, stop_fits (Ok (Alike x.0)) o old new x.1 same))
 some_stop content (Some (Same named)) o old new (inr (inr x)) same = inr (inr (x.0, stop_fits (Ok (Repeats x.0)) o old new x.1 same))
+some_stop content (Some (Moves named)) o old new (inl s) same = inl s
+some_stop content (Some (Moves named)) o old new (inr (inl x)) same = inr (inl (x.0, stop_fits (Ok (Moved x.0)) o old new x.1 same))
+some_stop content (Some (Moves named)) o old new (inr (inr x)) same = inr (inr (x.0, stop_fits (Ok (Repeats x.0)) o old new x.1 same))
 some_stop content (Some (Save named)) o old new (inl s) same = inl s
 some_stop content (Some (Save named)) o old new (inr x) same = inr (x.0, stop_fits (saved_of x.0) o old new x.1 same)
 some_stop content (Some (Steps named)) o old new (inl s) same = inl s
@@ -221,6 +231,7 @@ steps_end content (Some (Run named)) reply old new o g e a = tt
 steps_end content (Some (Check name)) reply old new o g e a = tt
 steps_end content (Some (Make routes seed)) reply old new o g e a = tt
 steps_end content (Some (Same named)) reply old new o g e a = tt
+steps_end content (Some (Moves named)) reply old new o g e a = tt
 steps_end content (Some (Save named)) reply old new o g e a = tt
 steps_end content (Some (Steps named)) reply old new o g e a = if_then (stepping_at content named) _ _ (λ s x. run_ends s reply old new o x e a) g
 
@@ -230,6 +241,7 @@ steps_fault content (Some (Run named)) reply old new g a = tt
 steps_fault content (Some (Check name)) reply old new g a = tt
 steps_fault content (Some (Make routes seed)) reply old new g a = tt
 steps_fault content (Some (Same named)) reply old new g a = tt
+steps_fault content (Some (Moves named)) reply old new g a = tt
 steps_fault content (Some (Save named)) reply old new g a = tt
 steps_fault content (Some (Steps named)) reply old new g a = if_then (stepping_at content named) _ _ (λ s x. run_fault s reply old new x a) g
 
@@ -239,6 +251,7 @@ steps_stop content (Some (Run named)) o old new g = tt
 steps_stop content (Some (Check name)) o old new g = tt
 steps_stop content (Some (Make routes seed)) o old new g = tt
 steps_stop content (Some (Same named)) o old new g = tt
+steps_stop content (Some (Moves named)) o old new g = tt
 steps_stop content (Some (Save named)) o old new g = tt
 steps_stop content (Some (Steps named)) o old new g = if_then (stepping_at content named) _ _ (λ s x. run_stops s old new o x) g
 
@@ -258,6 +271,11 @@ same_owns named None o e = subst (IsOf (Some (Same named))) (sym e) tt
 same_owns named (Some (wrong.No x)) o e = subst (IsOf (Some (Same named))) (sym e.1) tt
 same_owns named (Some (wrong.Differ x)) o e = subst (IsOf (Some (Same named))) (sym e.1) tt
 
+moves_own : (named : NamedMoves) (w : Option code_wrong.Wrong) (o : Outcome) → IfSome w IsNo → EndsBy (option_map wrong_as w) o → IsOf (Some (Moves named)) o
+moves_own named None o fault e = subst (IsOf (Some (Moves named))) (sym e) tt
+moves_own named (Some (wrong.No x)) o fault e = subst (IsOf (Some (Moves named))) (sym e.1) tt
+moves_own named (Some (wrong.Differ x)) o fault e = absurd fault
+
 pub own_end : (asked : Option Asked) (reply : code_reply.Reply) (o : Outcome) → Owns asked reply → EndsBy (option_map wrong_as reply.wrong) o → IsOf asked o
 own_end None reply o own e = absurd own
 own_end (Some (Run named)) reply o own e = none_owns (Run named) reply.wrong o own e
@@ -265,6 +283,7 @@ own_end (Some (Check name)) reply o own e = check_owns name reply.wrong o own e
 own_end (Some (Make routes seed)) reply o own e = none_owns (Make routes seed) reply.wrong o own e
 own_end (Some (Steps named)) reply o own e = none_owns (Steps named) reply.wrong o own e
 own_end (Some (Same named)) reply o own e = same_owns named reply.wrong o e
+own_end (Some (Moves named)) reply o own e = moves_own named reply.wrong o own e
 own_end (Some (Save named)) reply o own e = none_owns (Save named) reply.wrong o own e
 
 pub own_fault : (asked : Option Asked) (reply : code_reply.Reply) → Owns asked reply → IsOf asked WriteFault
