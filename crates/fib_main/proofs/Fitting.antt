@@ -1,4 +1,4 @@
--- The rows of a certificate that was read are of prefixes.
+-- The rows that were read are of prefixes.
 use Rattle.std.proofs.Common.{◌≡◌, ℕ, List, [], ◌∷◌, ◌++◌, Bool, true, false, cond, Option, Some, None, Result, Ok, Err, map, refl, ap, subst, codes}
 use Rattle.std.specs.Prelude.{flat_map, bytes_eq}
 use Rattle.std.specs.List.{AllByRecursion, filter}
@@ -7,16 +7,21 @@ use Rattle.address_model.specs.Address.{Address, Prefix, IsPrefix}
 use Rattle.cert_model.specs.Verdict.{RowFits}
 use Rattle.fib_addr.specs.Text.{prefix_in}
 use Rattle.fib_addr.proofs.PrefixLaws.{read_is_prefix}
-use Rattle.printed_model.specs.Rows.{PrintedRow}
-use Rattle.printed_model.specs.Reading.{or_why, bad_prefix, line_in, row_in, named_in, route_in, change_in, signed_in, answer_in, visits_in, cert_in, part_in, join_in, bound_in, report_in, entry_in, next_field, one_field, two_fields, prefix_field, address_field, number_field, hop_field, count_field, family_field, invalid_in, announced_fields, vrp_fields, announced_in, printed_vrp_in}
+use Rattle.printed_model.specs.Rows.{PrintedRow, route_row, invalid_row, add_row, replace_row, remove_row, moves_row, answer_row, visits_row, table_row, least_row, cert_leaf_row, cert_join_row, cert_bound_row, report_row}
+use Rattle.printed_model.specs.Reading.{or_why, bad_prefix, line_in, row_in, named_in, route_in, change_in, signed_in, moves_in, answer_in, visits_in, cert_in, part_in, join_in, bound_in, report_in, entry_in, next_field, one_field, two_fields, prefix_field, address_field, number_field, hop_field, count_field, family_field, invalid_in, announced_fields, vrp_fields, announced_in, printed_vrp_in}
 use Rattle.printed_model.specs.Texts.{BadLine, hops_in, line_texts, rows_in}
 use Rattle.printed_model.specs.Used.{Used, cert_part, printed_in, used_of}
 use Rattle.printed_model.specs.Whole.{is_filled}
 use Rattle.printed_model.proofs.Whole.{printed_rows}
 
--- what the row says of a certificate is of prefixes, whatever numbers the hops have
+-- the row's prefix is one, if it is a route's, an entry's, or of a certificate
 abbrev pub Fits : PrintedRow → Type 0
-Fits row = (hops : List Address) → AllByRecursion RowFits (cert_part hops row)
+Fits (route_row p a) = IsPrefix p
+Fits (table_row p hop) = IsPrefix p
+Fits (least_row p hop) = IsPrefix p
+Fits (cert_leaf_row p hop) = IsPrefix p
+Fits (cert_join_row p k) = IsPrefix p
+Fits row = Unit {0}
 
 -- so is the row that was read, if one was
 abbrev pub FitsIn : Result PrintedRow ℕ → Type 0
@@ -65,39 +70,43 @@ entry_read word fields e is = by_fields (two_fields fields) is
 
 route_fits : (fields : List (List ℕ)) → FitsIn (route_in fields)
 unfolding route_in
-route_fits fields = before (two_fields fields) _ (λ f e. before (prefix_field f.0) _ (λ p e. before (address_field f.1) _ (λ a e hops. tt)))
+route_fits fields = before (two_fields fields) _ (λ f e. before (prefix_field f.0) _ (λ p is. before (address_field f.1) _ (λ a e. prefix_read f.0 p is)))
 
 signed_fits : (event : ℕ) (sign : List ℕ) (fields : List (List ℕ)) → FitsIn (signed_in event sign fields)
 unfolding signed_in
 signed_fits event sign fields =
-    either (bytes_eq sign (codes "+")) _ _ (before (entry_in (codes "drop") fields) _ (λ e is hops. tt))
-    (either (bytes_eq sign (codes "=")) _ _ (before (entry_in (codes "drop") fields) _ (λ e is hops. tt))
-    (either (bytes_eq sign (codes "-")) _ _ (before (one_field fields) _ (λ f is. before (prefix_field f) _ (λ p is hops. tt))) tt))
+    either (bytes_eq sign (codes "+")) _ _ (before (entry_in (codes "drop") fields) _ (λ e is. tt))
+    (either (bytes_eq sign (codes "=")) _ _ (before (entry_in (codes "drop") fields) _ (λ e is. tt))
+    (either (bytes_eq sign (codes "-")) _ _ (before (one_field fields) _ (λ f is. before (prefix_field f) _ (λ p is. tt))) tt))
 
 change_fits : (fields : List (List ℕ)) → FitsIn (change_in fields)
 unfolding change_in
 change_fits fields = before (next_field fields) _ (λ first e. before (number_field first.0) _ (λ event e. before (next_field first.1) _ (λ sign e. signed_fits event sign.0 sign.1)))
 
+moves_fits : (fields : List (List ℕ)) → FitsIn (moves_in fields)
+unfolding moves_in
+moves_fits fields = before (two_fields fields) _ (λ f e. before (number_field f.0) _ (λ event e. before (number_field f.1) _ (λ n e. tt)))
+
 answer_fits : (fields : List (List ℕ)) → FitsIn (answer_in fields)
 unfolding answer_in
-answer_fits fields = before (two_fields fields) _ (λ f e. before (address_field f.0) _ (λ a e. before (hop_field (codes "none") f.1) _ (λ hop e hops. tt)))
+answer_fits fields = before (two_fields fields) _ (λ f e. before (address_field f.0) _ (λ a e. before (hop_field (codes "none") f.1) _ (λ hop e. tt)))
 
 visits_fits : (fields : List (List ℕ)) → FitsIn (visits_in fields)
 unfolding visits_in
-visits_fits fields = before (two_fields fields) _ (λ f e. before (address_field f.0) _ (λ a e. before (number_field f.1) _ (λ n e hops. tt)))
+visits_fits fields = before (two_fields fields) _ (λ f e. before (address_field f.0) _ (λ a e. before (number_field f.1) _ (λ n e. tt)))
 
 join_fits : (fields : List (List ℕ)) → FitsIn (join_in fields)
 unfolding join_in
-join_fits fields = before (two_fields fields) _ (λ f e. before (prefix_field f.0) _ (λ p is. before (number_field f.1) _ (λ k e hops. (prefix_read f.0 p is, tt))))
+join_fits fields = before (two_fields fields) _ (λ f e. before (prefix_field f.0) _ (λ p is. before (number_field f.1) _ (λ k e. prefix_read f.0 p is)))
 
 bound_fits : (fields : List (List ℕ)) → FitsIn (bound_in fields)
 unfolding bound_in
-bound_fits fields = before (two_fields fields) _ (λ f e. before (family_field f.0) _ (λ family e. before (number_field f.1) _ (λ n e hops. (tt, tt))))
+bound_fits fields = before (two_fields fields) _ (λ f e. before (family_field f.0) _ (λ family e. before (number_field f.1) _ (λ n e. tt)))
 
 part_fits : (word : List ℕ) (fields : List (List ℕ)) → FitsIn (part_in word fields)
 unfolding part_in
 part_fits word fields =
-    either (bytes_eq word (codes "leaf")) _ _ (before (entry_in (codes "none") fields) _ (λ e is hops. (entry_read (codes "none") fields e is, tt)))
+    either (bytes_eq word (codes "leaf")) _ _ (before (entry_in (codes "none") fields) _ (λ e is. entry_read (codes "none") fields e is))
     (either (bytes_eq word (codes "join")) _ _ (join_fits fields) (either (bytes_eq word (codes "bound")) _ _ (bound_fits fields) tt))
 
 cert_fits : (fields : List (List ℕ)) → FitsIn (cert_in fields)
@@ -106,11 +115,11 @@ cert_fits fields = before (next_field fields) _ (λ word e. part_fits word.0 wor
 
 report_fits : (fields : List (List ℕ)) → FitsIn (report_in fields)
 unfolding report_in
-report_fits fields = before (two_fields fields) _ (λ f e. before (count_field f.0) _ (λ count e. before (number_field f.1) _ (λ n e hops. tt)))
+report_fits fields = before (two_fields fields) _ (λ f e. before (count_field f.0) _ (λ count e. before (number_field f.1) _ (λ n e. tt)))
 
 invalid_fits : (fields : List (List ℕ)) → FitsIn (invalid_in fields)
 unfolding invalid_in
-invalid_fits fields = before (announced_fields fields) _ (λ a e. before (vrp_fields a.1) _ (λ v e. before (announced_in a.0) _ (λ x e. before (printed_vrp_in v) _ (λ y e hops. tt))))
+invalid_fits fields = before (announced_fields fields) _ (λ a e. before (vrp_fields a.1) _ (λ v e. before (announced_in a.0) _ (λ x e. before (printed_vrp_in v) _ (λ y e. tt))))
 
 named_fits : (name : List ℕ) (fields : List (List ℕ)) → FitsIn (named_in name fields)
 unfolding named_in
@@ -118,12 +127,13 @@ named_fits name fields =
     either (bytes_eq name (codes "route")) _ _ (route_fits fields)
     (either (bytes_eq name (codes "invalid")) _ _ (invalid_fits fields)
     (either (bytes_eq name (codes "change")) _ _ (change_fits fields)
+    (either (bytes_eq name (codes "moves")) _ _ (moves_fits fields)
     (either (bytes_eq name (codes "answer")) _ _ (answer_fits fields)
     (either (bytes_eq name (codes "visits")) _ _ (visits_fits fields)
-    (either (bytes_eq name (codes "table")) _ _ (before (entry_in (codes "drop") fields) _ (λ e is hops. tt))
-    (either (bytes_eq name (codes "least")) _ _ (before (entry_in (codes "drop") fields) _ (λ e is hops. tt))
+    (either (bytes_eq name (codes "table")) _ _ (before (entry_in (codes "drop") fields) _ (λ e is. entry_read (codes "drop") fields e is))
+    (either (bytes_eq name (codes "least")) _ _ (before (entry_in (codes "drop") fields) _ (λ e is. entry_read (codes "drop") fields e is))
     (either (bytes_eq name (codes "cert")) _ _ (cert_fits fields)
-    (either (bytes_eq name (codes "report")) _ _ (report_fits fields) tt))))))))
+    (either (bytes_eq name (codes "report")) _ _ (report_fits fields) tt)))))))))
 
 row_fits : (fields : List (List ℕ)) → FitsIn (row_in fields)
 unfolding row_in
@@ -138,12 +148,34 @@ all_append P (x ∷ xs) ys all more = (all.0, all_append P xs ys all.1 more)
 head_same : (r : Result PrintedRow ℕ) (rs : List (Result PrintedRow ℕ)) (row : PrintedRow) (rows : List PrintedRow) → r ∷ rs ≡ map read (row ∷ rows) → (r ≡ Ok row) × (rs ≡ map read rows)
 head_same r rs row rows e = (cc, cc)
 
-all_fit : (hops : List Address) (lines : List (List ℕ)) (rows : List PrintedRow) → map line_in lines ≡ map read rows → AllByRecursion RowFits (flat_map (cert_part hops) rows)
-all_fit hops lines [] e = tt
-all_fit hops [] (row ∷ rows) e = absurd cc
-all_fit hops (line ∷ lines) (row ∷ rows) e =
+-- the rows of lines that were read
+pub lines_fit : (lines : List (List ℕ)) (rows : List PrintedRow) → map line_in lines ≡ map read rows → AllByRecursion Fits rows
+lines_fit lines [] e = tt
+lines_fit [] (row ∷ rows) e = absurd cc
+lines_fit (line ∷ lines) (row ∷ rows) e =
     let parts = head_same (line_in line) (map line_in lines) row rows e in
-    all_append RowFits (cert_part hops row) (flat_map (cert_part hops) rows) (subst FitsIn parts.0 (row_fits _) hops) (all_fit hops lines rows parts.1)
+    (subst FitsIn parts.0 (row_fits _), lines_fit lines rows parts.1)
+
+-- what a row says of a certificate is of a prefix, whatever numbers the hops have
+part_fits_in : (hops : List Address) (row : PrintedRow) → Fits row → AllByRecursion RowFits (cert_part hops row)
+part_fits_in hops (cert_leaf_row p hop) f = (f, tt)
+part_fits_in hops (cert_join_row p k) f = (f, tt)
+part_fits_in hops (cert_bound_row g n) f = (tt, tt)
+part_fits_in hops (route_row p a) f = tt
+part_fits_in hops (invalid_row a v) f = tt
+part_fits_in hops (add_row event p hop) f = tt
+part_fits_in hops (replace_row event p hop) f = tt
+part_fits_in hops (remove_row event p) f = tt
+part_fits_in hops (moves_row event n) f = tt
+part_fits_in hops (answer_row a hop) f = tt
+part_fits_in hops (visits_row a n) f = tt
+part_fits_in hops (table_row p hop) f = tt
+part_fits_in hops (least_row p hop) f = tt
+part_fits_in hops (report_row count n) f = tt
+
+all_fit : (hops : List Address) (rows : List PrintedRow) → AllByRecursion Fits rows → AllByRecursion RowFits (flat_map (cert_part hops) rows)
+all_fit hops [] f = tt
+all_fit hops (row ∷ rows) f = all_append RowFits (cert_part hops row) (flat_map (cert_part hops) rows) (part_fits_in hops row f.0) (all_fit hops rows f.1)
 
 abbrev found : Used → Result Used BadLine
 found used = Ok used
@@ -158,5 +190,5 @@ read_fits text used e = by_rows (rows_in text) refl e
     by_rows : (r : Result (List PrintedRow) BadLine) → rows_in text ≡ r → (r >>= λ rows. Ok (used_of rows)) ≡ Ok used → AllByRecursion RowFits used.cert
     by_rows (Ok rows) is e =
         let have = (printed_rows text rows).0 is in
-        subst (λ (u : Used). AllByRecursion RowFits u.cert) (same_used (used_of rows) used e) (all_fit (hops_in rows) (filter is_filled (line_texts text)) rows have.said)
+        subst (λ (u : Used). AllByRecursion RowFits u.cert) (same_used (used_of rows) used e) (all_fit (hops_in rows) rows (lines_fit (filter is_filled (line_texts text)) rows have.said))
     by_rows (Err bad) is e = absurd cc
