@@ -1,5 +1,5 @@
 -- The router's text and the printed one.
-use Rattle.std.proofs.Common.{◌≡◌, ℕ, List, [], ◌∷◌, Option, Result, Ok, Err, refl, sym, ap, subst, ◌∙◌, inr, append-nil}
+use Rattle.std.proofs.Common.{◌≡◌, ℕ, List, [], ◌∷◌, Option, Result, Ok, Err, refl, sym, ap, subst, ◌∙◌, append-nil}
 use Rattle.octet_fields.specs.Field.{◌>>=◌}
 use Rattle.address_model.specs.Address.{Address}
 use Rattle.address_model.specs.declared.family.Family.TheVariants.{V4, V6}
@@ -10,11 +10,11 @@ use Rattle.printed_model.specs.Kinds.{KindEntries}
 use Rattle.fib_same.specs.declared.error.SameError.{SameError}
 use Rattle.fib_same.specs.declared.error.SameError.TheVariants as error
 use Rattle.fib_same.specs.Due.{Refused, Stop, Untold, text_at}
-use Rattle.fib_same.specs.Gives.{FailsDue, IsDueIfTold, OneRose, ReadsNames, names_after}
-use Rattle.fib_same.specs.Passes.{AllRead, ReadInPart, StopsReading, numbered}
-use Rattle.fib_same.proofs.Going.{Among, Content, front_stops}
+use Rattle.fib_same.specs.Gives.{FailsDue, IsDueIfTold}
+use Rattle.fib_same.specs.Passes.{AllRead, StopsReading, numbered}
+use Rattle.fib_same.proofs.Going.{Content, front_stops}
 use Rattle.fib_same.proofs.Reading.{fails_then, untold_fails}
-use Rattle.fib_same.proofs.Whole.{more_names, one_input, others_read}
+use Rattle.fib_same.proofs.Whole.{one_input, others_read}
 use Rattle.std.specs.Prelude.{map, ◌++◌}
 use Rattle.std.specs.List.{AllByRecursion}
 use Rattle.std.specs.Map.{keys_of}
@@ -27,7 +27,7 @@ use Rattle.fib_delta.proofs.Held.{is_prefix}
 use Rattle.cert_rows.specs.Views.{row_as}
 use Rattle.router_model.specs.Both.{AreShortestInBoth, changes_in, changes_in_both, rows_in}
 use Rattle.router_model.proofs.Both.{shortest_both}
-use Rattle.router_moves.specs.Due.{Asked, Moves, asked_at, moves_at, moves_of, names_at}
+use Rattle.router_moves.specs.Due.{Asked, Moves, asked_at, moves_at, moves_of}
 use Rattle.router_moves.specs.Views.{EndsShortest, IsShortest, moves_as}
 use Rattle.router_moves.specs.declared.answer.RouterMoves.{RouterMoves}
 
@@ -87,24 +87,6 @@ printed_fails content between router printed hops old e none same one f =
         let same-old : x ≡ old = cc in
         subst (λ (y : KindEntries). FailsDue e (text_at content Route y.hops 2 printed >>= λ z. Ok (asked y z))) (sym same-old)
         (fails_then e (text_at content Route old.hops 2 printed) (λ z. Ok (asked old z)) (subst (λ (c : Content). FailsDue e (text_at c Route old.hops 2 printed)) same f))
-
--- ---- counts of faults
-
-printed_among : (content : Content) (router printed : List ℕ) (old : KindEntries) → IsDueIfTold (text_at content Least [] 1 router) (Ok old) → Among (printed ∷ []) (names_at content router printed)
-printed_among content router printed old one before now rose = inr (by_router (text_at content Least [] 1 router) one)
-  where
-    by_router : (d : Result KindEntries Stop) → IsDueIfTold d (Ok old) → OneRose (names_after d (printed ∷ []) (λ x. printed ∷ [])) before now
-    by_router (Err Untold) i = rose
-    by_router (Err (Refused r)) i = absurd cc
-    by_router (Ok x) i = rose
-
--- the printed text is refused, and the reading of the router's left the counts as they were
-pub printed_cause : (X Y : Type 0) (content : Content) (router printed : List ℕ) (hops : List Address) (old : KindEntries) (before middle now : List ℕ → ℕ) (e : SameError) → hops ≡ [] → middle ≡ before
-    → IsDueIfTold (text_at content Least hops 1 router) (Ok old) → ReadsNames {X = X} (printed ∷ []) middle now (Err e) → ReadsNames {X = Y} (names_at content router printed) before now (Err e)
-printed_cause X Y content router printed hops old before middle now e none kept one cause =
-    more_names X Y (printed ∷ []) (names_at content router printed) before now e
-    (printed_among content router printed old (subst (λ (hs : List Address). IsDueIfTold (text_at content Least hs 1 router) (Ok old)) none one))
-    (subst (λ (counts : List ℕ → ℕ). ReadsNames {X = X} (printed ∷ []) counts now (Err e)) kept cause)
 
 -- ---- reads
 

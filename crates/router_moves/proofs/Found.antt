@@ -1,5 +1,5 @@
 -- What is found of a family.
-use Rattle.std.proofs.Common.{◌≡◌, List, map, Result, Ok, Err, length}
+use Rattle.std.proofs.Common.{◌≡◌, map, Result, Ok, Err, length}
 use Rattle.std.specs.Prelude.{IfOk}
 use Rattle.std.specs.declared.alloc.AllocError.{AllocError}
 use Rattle.address_model.specs.declared.family.Family.{Family}

@@ -1,5 +1,5 @@
 -- What a clause sees of this crate's values.
-use Rattle.std.specs.Prelude.{◌≡◌, List, ◌++◌, map, Result, Ok, length}
+use Rattle.std.specs.Prelude.{◌≡◌, ◌++◌, map, Result, Ok, length}
 use Rattle.address_model.specs.declared.family.Family.{Family}
 use Rattle.address_model.specs.declared.family.Family.TheVariants.{V4, V6}
 use Rattle.table_model.specs.Entries.{Entries, in_order}
