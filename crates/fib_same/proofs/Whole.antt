@@ -14,7 +14,6 @@ use Rattle.printed_model.specs.declared.kind.Kind.{Kind}
 use Rattle.printed_model.specs.Kinds.{KindEntries}
 use Rattle.cert_check.specs.Runs.{TellsBoth}
 use Rattle.cert_check.specs.declared.table_runs.TableRuns.{TableRuns}
-use Rattle.texts_model.specs.Texts.{least_difference}
 use Rattle.texts_model.proofs.Found.{all_found}
 use Rattle.fib_same.specs.declared.compare.Difference.{Difference}
 use Rattle.fib_same.specs.declared.compare.Found.{Found}
