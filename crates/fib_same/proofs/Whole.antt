@@ -14,7 +14,6 @@ use Rattle.printed_model.specs.declared.kind.Kind.{Kind}
 use Rattle.printed_model.specs.Kinds.{KindEntries}
 use Rattle.cert_check.specs.Runs.{TellsBoth}
 use Rattle.cert_check.specs.declared.table_runs.TableRuns.{TableRuns}
-use Rattle.texts_model.specs.Texts.{least_difference}
 use Rattle.texts_model.proofs.Found.{all_found}
 use Rattle.fib_same.specs.declared.compare.Difference.{Difference}
 use Rattle.fib_same.specs.declared.compare.Found.{Found}
@@ -150,7 +149,7 @@ others_among content kind first rest read one before now rose = inr (by_first (t
     by_first (Err (Refused r)) i = absurd cc
     by_first (Ok x) i = let same : x ≡ read = cc in subst (λ (y : KindEntries). OneRose (names_due content kind y.hops 2 rest) before now) (sym same) rose
 
-pub more_names : (X Y : Type 0) (some all : List (List ℕ)) (before now : List ℕ → ℕ) (e : SameError) → Among some all → ReadsNames {X = X} some before now (Err e) → ReadsNames {X = Y} all before now (Err e)
+more_names : (X Y : Type 0) (some all : List (List ℕ)) (before now : List ℕ → ℕ) (e : SameError) → Among some all → ReadsNames {X = X} some before now (Err e) → ReadsNames {X = Y} all before now (Err e)
 more_names X Y some all before now error.Fault among cause = among before now cause
 more_names X Y some all before now error.NoMemory among cause = cause
 more_names X Y some all before now (error.TooLarge text) among cause = cause

@@ -137,10 +137,7 @@ const CASES: [Case<'static>; 6] = [
             ],
         },
         v6: Due {
-            changes: &[
-                Told::Add(0x00000000, 0, 1),
-                Told::Replace(0x80000000, 1, 2),
-            ],
+            changes: &[Told::Add(0x00000000, 0, 1), Told::Replace(0x80000000, 1, 2)],
             rows: &[
                 Step::Leaf(0x00000000, 1, 1),
                 Step::Leaf(0x80000000, 1, 2),
@@ -153,7 +150,11 @@ const CASES: [Case<'static>; 6] = [
 ];
 
 /// What a router with the one text must change for the other's routes.
-fn moves(alloc: Global, router: &str, printed: &str) -> Result<Result<RouterMoves, SameError>, Fail> {
+fn moves(
+    alloc: Global,
+    router: &str,
+    printed: &str,
+) -> Result<Result<RouterMoves, SameError>, Fail> {
     let mut names = Vec::new(alloc);
     for (name, text) in [("router", router), ("printed", printed)] {
         let name = String::from_str(alloc, name)?;
@@ -167,9 +168,11 @@ fn moves(alloc: Global, router: &str, printed: &str) -> Result<Result<RouterMove
 fn are_due(alloc: Global, family: Family, near: &Near, due: &Due<'_>) -> Result<bool, Fail> {
     let changes = changes_of(alloc, family, due.changes)?;
     let rows = rows_of(alloc, family, due.rows)?;
-    Ok(near.changes.as_slice() == changes.as_slice()
-        && near.bound == changes.len() as u64
-        && near.rows.as_slice() == rows.as_slice())
+    Ok(
+        near.changes.as_slice() == changes.as_slice()
+            && near.bound == changes.len() as u64
+            && near.rows.as_slice() == rows.as_slice(),
+    )
 }
 
 /// The address of a hop whose last octet this is.
@@ -182,11 +185,26 @@ fn routers_get_the_fewest_changes(rt: HostRuntime) -> Result<(), Fail> {
     let alloc = rt.alloc();
     for case in &CASES {
         let told = moves(alloc, case.router, case.printed)??;
-        assert!(rt; are_due(alloc, Family::V4, &told.v4, &case.v4)?, "{}", case.name);
-        assert!(rt; are_due(alloc, Family::V6, &told.v6, &case.v6)?, "{}", case.name);
+        assert!(rt;
+            are_due(alloc, Family::V4, &told.v4, &case.v4)?,
+            "{}",
+            case.name
+        );
+        assert!(rt;
+            are_due(alloc, Family::V6, &told.v6, &case.v6)?,
+            "{}",
+            case.name
+        );
+        let count = told.v4.bound.saturating_add(told.v6.bound);
+        assert!(rt; told.count() == count, "{}", case.name);
         let mut number = 1;
         for octet in case.hops {
-            assert_eq!(rt; told.hops.addr(Hop(number)), hop_addr(*octet), "{}", case.name);
+            assert_eq!(rt;
+                told.hops.addr(Hop(number)),
+                hop_addr(*octet),
+                "{}",
+                case.name
+            );
             number += 1;
         }
         assert_eq!(rt; told.hops.addr(Hop(number)), None, "{}", case.name);

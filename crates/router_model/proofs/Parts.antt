@@ -17,7 +17,7 @@ use Rattle.route_model.proofs.Places.{prefix_key}
 use Rattle.delta_model.specs.Between.{hop_at}
 use Rattle.delta_model.proofs.Held.{Placed, all_folded, in_order_placed}
 use Rattle.kept_model.proofs.Families.{AllOf, hop_low, hop_high, placed_both}
-use Rattle.router_model.specs.Both.{table_of}
+use Rattle.router_model.specs.Both.{family_table}
 
 -- the entries that are of the family
 abbrev pub own : Family → Entries → Entries
@@ -31,10 +31,10 @@ own_of f (e ∷ L) = by_test (same_family f e.0.family) refl (own_of f L)
     by_test true s more = (sym (same_family_is f e.0.family s), more)
     by_test false s more = more
 
-pub table_placed : (f : Family) (L : Entries) → AllByRecursion IsPrefix (keys_of L) → Placed (table_of f L)
+pub table_placed : (f : Family) (L : Entries) → AllByRecursion IsPrefix (keys_of L) → Placed (family_table f L)
 table_placed f L a = in_order_placed (own f L) (all_filter (λ e. same_family f e.0.family) IsPrefix L a)
 
-pub table_all_of : (f : Family) (L : Entries) → AllOf f (keys_of (table_of f L))
+pub table_all_of : (f : Family) (L : Entries) → AllOf f (keys_of (family_table f L))
 table_all_of f L = all_folded (λ p. p.family ≡ f) (own f L) [] (own_of f L) tt
 
 apart : (f : Family) (q p : Prefix) → q.family ≡ f → same_family f p.family ≡ false → same_prefix q p ≡ false
@@ -59,20 +59,20 @@ hop_folded_own f q (x ∷ L) T S e l t s h = by_test (same_family f x.0.family) 
         ih (with_entry T x) S t-more s
         (lookup-put prefix_key q T x.0 x.1 t l.0 ∙ (ap (λ b. cond b (Some x.1) (hop_at q T)) (apart f q x.0 e n) ∙ h))
 
-pub hop_own : (f : Family) (q : Prefix) (L : Entries) → q.family ≡ f → AllByRecursion IsPrefix (keys_of L) → hop_at q (in_order L) ≡ hop_at q (table_of f L)
+pub hop_own : (f : Family) (q : Prefix) (L : Entries) → q.family ≡ f → AllByRecursion IsPrefix (keys_of L) → hop_at q (in_order L) ≡ hop_at q (family_table f L)
 hop_own f q L e a = hop_folded_own f q L [] [] e a tt tt refl
 
 -- ---- IPv4's entries stand before IPv6's
 
-pub parts : (L : Entries) → AllByRecursion IsPrefix (keys_of L) → in_order L ≡ table_of V4 L ++ table_of V6 L
+pub parts : (L : Entries) → AllByRecursion IsPrefix (keys_of L) → in_order L ≡ family_table V4 L ++ family_table V6 L
 parts L a =
     let left = in_order_placed L a in
-    let right = placed_both (table_of V4 L) (table_of V6 L) (table_placed V4 L a) (table_placed V6 L a) (table_all_of V4 L) (table_all_of V6 L) in
-    same_entries prefix_key (in_order L) (table_of V4 L ++ table_of V6 L) left.1 right.1 left.0 right.0 (λ q. by_family q q.family refl)
+    let right = placed_both (family_table V4 L) (family_table V6 L) (table_placed V4 L a) (table_placed V6 L a) (table_all_of V4 L) (table_all_of V6 L) in
+    same_entries prefix_key (in_order L) (family_table V4 L ++ family_table V6 L) left.1 right.1 left.0 right.0 (λ q. by_family q q.family refl)
   where
-    by_family : (q : Prefix) (g : Family) → q.family ≡ g → hop_at q (in_order L) ≡ hop_at q (table_of V4 L ++ table_of V6 L)
-    by_family q V4 e = hop_own V4 q L e a ∙ sym (hop_low q (table_of V4 L) (table_of V6 L) e (table_all_of V6 L))
-    by_family q V6 e = hop_own V6 q L e a ∙ sym (hop_high q (table_of V4 L) (table_of V6 L) e (table_all_of V4 L))
+    by_family : (q : Prefix) (g : Family) → q.family ≡ g → hop_at q (in_order L) ≡ hop_at q (family_table V4 L ++ family_table V6 L)
+    by_family q V4 e = hop_own V4 q L e a ∙ sym (hop_low q (family_table V4 L) (family_table V6 L) e (table_all_of V6 L))
+    by_family q V6 e = hop_own V6 q L e a ∙ sym (hop_high q (family_table V4 L) (family_table V6 L) e (table_all_of V4 L))
 
 family_append : (f : Family) (A B : Entries) → of_family f (A ++ B) ≡ of_family f A ++ of_family f B
 family_append f [] B = refl
@@ -93,6 +93,6 @@ family_low A B b = family_append V4 A B ∙ (ap (λ (L : Table). of_family V4 A 
 pub family_high : (A B : Entries) → AllOf V4 (keys_of A) → of_family V6 (A ++ B) ≡ of_family V6 B
 family_high A B a = family_append V6 A B ∙ ap (λ (L : Table). L ++ of_family V6 B) (family_none V6 V4 A a refl)
 
-pub family_of : (f : Family) (L : Entries) → AllByRecursion IsPrefix (keys_of L) → of_family f (in_order L) ≡ of_family f (table_of f L)
-family_of V4 L a = ap (of_family V4) (parts L a) ∙ family_low (table_of V4 L) (table_of V6 L) (table_all_of V6 L)
-family_of V6 L a = ap (of_family V6) (parts L a) ∙ family_high (table_of V4 L) (table_of V6 L) (table_all_of V4 L)
+pub family_of : (f : Family) (L : Entries) → AllByRecursion IsPrefix (keys_of L) → of_family f (in_order L) ≡ of_family f (family_table f L)
+family_of V4 L a = ap (of_family V4) (parts L a) ∙ family_low (family_table V4 L) (family_table V6 L) (table_all_of V6 L)
+family_of V6 L a = ap (of_family V6) (parts L a) ∙ family_high (family_table V4 L) (family_table V6 L) (table_all_of V4 L)

@@ -12,29 +12,29 @@ use Rattle.moves_model.specs.Dist.{distance}
 use Rattle.moves_cert.specs.Rows.{near_in, near_rows}
 
 -- the entries that are of the family, in the order of prefixes
-abbrev pub table_of : Family → Entries → Entries
-table_of f L = in_order (filter (λ e. same_family f e.0.family) L)
+abbrev pub family_table : Family → Entries → Entries
+family_table f L = in_order (filter (λ e. same_family f e.0.family) L)
 
 -- what makes of the router's table of the family the nearest one that answers as the routes
-abbrev pub changes_in : Family → Entries → Entries → List Change
-changes_in f R T = between (table_of f T) (near_in f (table_of f R) (table_of f T))
+abbrev pub family_changes : Family → Entries → Entries → List Change
+family_changes f R T = between (family_table f T) (near_in f (family_table f R) (family_table f T))
 
 -- the rows that prove that no fewer changes would do
-abbrev pub rows_in : Family → Entries → Entries → List CertRow
-rows_in f R T = near_rows f (table_of f R) (table_of f T)
+abbrev pub proving_rows : Family → Entries → Entries → List CertRow
+proving_rows f R T = near_rows f (family_table f R) (family_table f T)
 
 -- those of both families, IPv4's first
-abbrev pub changes_in_both : Entries → Entries → List Change
-changes_in_both R T = changes_in V4 R T ++ changes_in V6 R T
+abbrev pub both_changes : Entries → Entries → List Change
+both_changes R T = family_changes V4 R T ++ family_changes V6 R T
 
-abbrev pub rows_in_both : Entries → Entries → List CertRow
-rows_in_both R T = rows_in V4 R T ++ rows_in V6 R T
+abbrev pub both_proving_rows : Entries → Entries → List CertRow
+both_proving_rows R T = proving_rows V4 R T ++ proving_rows V6 R T
 
 -- ---- shortest over both families
 
 -- at how many prefixes of either family two tables differ
-abbrev pub distance_in_both : Entries → Entries → ℕ
-distance_in_both T U = distance (of_family V4 T) (of_family V4 U) + distance (of_family V6 T) (of_family V6 U)
+abbrev pub both_distance : Entries → Entries → ℕ
+both_distance T U = distance (of_family V4 T) (of_family V4 U) + distance (of_family V6 T) (of_family V6 U)
 
 -- The changes are possible one after another, and make of T a table that answers as R in both families. No table that does differs
 -- from T at fewer prefixes than there are changes, whatever its prefixes and its hops.
@@ -42,4 +42,4 @@ pub record AreShortestInBoth (R T : Entries) (changes : List Change) : Type 0 wh
   pub after : Entries
   pub makes : after_changes changes T ≡ Some after
   pub alike : AlikeInBoth R after
-  pub fewest : (U : Entries) → AlikeInBoth R U → length changes ≤ distance_in_both T U
+  pub fewest : (U : Entries) → AlikeInBoth R U → length changes ≤ both_distance T U

@@ -1,8 +1,19 @@
 -- The router's text and the printed one.
-use Rattle.std.proofs.Common.{◌≡◌, ℕ, List, [], ◌∷◌, Option, Result, Ok, Err, refl, sym, ap, subst, ◌∙◌, inr, append-nil}
+use Rattle.std.proofs.Common.{◌≡◌, ℕ, List, [], ◌∷◌, Option, Result, Ok, Err, refl, sym, ap, subst, ◌∙◌, append-nil}
+use Rattle.std.specs.Prelude.{map, ◌++◌}
+use Rattle.std.specs.List.{AllByRecursion}
+use Rattle.std.specs.Map.{keys_of}
 use Rattle.octet_fields.specs.Field.{◌>>=◌}
-use Rattle.address_model.specs.Address.{Address}
+use Rattle.address_model.specs.Address.{Address, IsPrefix}
 use Rattle.address_model.specs.declared.family.Family.TheVariants.{V4, V6}
+use Rattle.table_model.specs.Entries.{in_order}
+use Rattle.router_model.specs.Both.{AreShortestInBoth, family_changes, both_changes, proving_rows}
+use Rattle.router_model.proofs.Both.{shortest_both}
+use Rattle.fib_addr.specs.Views.{entry_as}
+use Rattle.fib_addr.specs.declared.entry.Entry.{Entry}
+use Rattle.fib_delta.specs.Views.{change_as}
+use Rattle.fib_delta.proofs.Held.{is_prefix}
+use Rattle.cert_rows.specs.Views.{row_as}
 use Rattle.fib_io.specs.Reads.{Makes, Read}
 use Rattle.fib_io.proofs.Passing.{makes_as}
 use Rattle.printed_model.specs.declared.kind.Kind.TheVariants.{Least, Route}
@@ -10,24 +21,12 @@ use Rattle.printed_model.specs.Kinds.{KindEntries}
 use Rattle.fib_same.specs.declared.error.SameError.{SameError}
 use Rattle.fib_same.specs.declared.error.SameError.TheVariants as error
 use Rattle.fib_same.specs.Due.{Refused, Stop, Untold, text_at}
-use Rattle.fib_same.specs.Gives.{FailsDue, IsDueIfTold, OneRose, ReadsNames, names_after}
-use Rattle.fib_same.specs.Passes.{AllRead, ReadInPart, StopsReading, numbered}
-use Rattle.fib_same.proofs.Going.{Among, Content, front_stops}
+use Rattle.fib_same.specs.Gives.{FailsDue, IsDueIfTold}
+use Rattle.fib_same.specs.Passes.{AllRead, StopsReading, numbered}
+use Rattle.fib_same.proofs.Going.{Content, front_stops}
 use Rattle.fib_same.proofs.Reading.{fails_then, untold_fails}
-use Rattle.fib_same.proofs.Whole.{more_names, one_input, others_read}
-use Rattle.std.specs.Prelude.{map, ◌++◌}
-use Rattle.std.specs.List.{AllByRecursion}
-use Rattle.std.specs.Map.{keys_of}
-use Rattle.address_model.specs.Address.{IsPrefix}
-use Rattle.table_model.specs.Entries.{in_order}
-use Rattle.fib_addr.specs.Views.{entry_as}
-use Rattle.fib_addr.specs.declared.entry.Entry.{Entry}
-use Rattle.fib_delta.specs.Views.{change_as}
-use Rattle.fib_delta.proofs.Held.{is_prefix}
-use Rattle.cert_rows.specs.Views.{row_as}
-use Rattle.router_model.specs.Both.{AreShortestInBoth, changes_in, changes_in_both, rows_in}
-use Rattle.router_model.proofs.Both.{shortest_both}
-use Rattle.router_moves.specs.Due.{Asked, Moves, asked_at, moves_at, moves_of, names_at}
+use Rattle.fib_same.proofs.Whole.{one_input, others_read}
+use Rattle.router_moves.specs.Due.{Asked, ShortestMoves, asked_at, moves_at, moves_for}
 use Rattle.router_moves.specs.Views.{EndsShortest, IsShortest, moves_as}
 use Rattle.router_moves.specs.declared.answer.RouterMoves.{RouterMoves}
 
@@ -56,20 +55,20 @@ asked_told content between router printed hops old routes none same one two =
         subst (λ (y : KindEntries). IsDueIfTold (text_at content Route y.hops 2 printed >>= λ z. Ok (asked y z)) (Ok (asked old routes))) (sym same-old)
         (by_printed (text_at content Route old.hops 2 printed) (subst (λ (c : Content). IsDueIfTold (text_at c Route old.hops 2 printed) (Ok routes)) same two))
 
-pub moves_told : (content : Content) (router printed : List ℕ) (t : Asked) (m : Moves) → IsDueIfTold (asked_at content router printed) (Ok t) → m ≡ moves_of t → IsDueIfTold (moves_at content router printed) (Ok m)
+pub moves_told : (content : Content) (router printed : List ℕ) (t : Asked) (m : ShortestMoves) → IsDueIfTold (asked_at content router printed) (Ok t) → m ≡ moves_for t → IsDueIfTold (moves_at content router printed) (Ok m)
 moves_told content router printed t m told is = by_due (asked_at content router printed) told
   where
-    by_due : (d : Result Asked Stop) → IsDueIfTold d (Ok t) → IsDueIfTold (d >>= λ x. Ok (moves_of x)) (Ok m)
+    by_due : (d : Result Asked Stop) → IsDueIfTold d (Ok t) → IsDueIfTold (d >>= λ x. Ok (moves_for x)) (Ok m)
     by_due (Err Untold) i = tt
     by_due (Err (Refused r)) i = absurd cc
     by_due (Ok x) i =
-        ap (λ (y : Asked). let ok : Result Moves Stop = Ok (moves_of y) in ok) (let same : x ≡ t = cc in same) ∙ ap (λ (n : Moves). let ok : Result Moves Stop = Ok n in ok) (sym is)
+        ap (λ (y : Asked). let ok : Result ShortestMoves Stop = Ok (moves_for y) in ok) (let same : x ≡ t = cc in same) ∙ ap (λ (n : ShortestMoves). let ok : Result ShortestMoves Stop = Ok n in ok) (sym is)
 
 -- the router's text is refused
 pub router_fails : (content : Content) (router printed : List ℕ) (hops : List Address) (e : SameError) → hops ≡ [] → FailsDue e (text_at content Least hops 1 router) → FailsDue e (moves_at content router printed)
 unfolding asked_at
 router_fails content router printed hops e none f =
-    fails_then e (asked_at content router printed) (λ t. Ok (moves_of t))
+    fails_then e (asked_at content router printed) (λ t. Ok (moves_for t))
     (fails_then e (text_at content Least [] 1 router) (λ x. text_at content Route x.hops 2 printed >>= λ y. Ok (asked x y)) (subst (λ (hs : List Address). FailsDue e (text_at content Least hs 1 router)) none f))
 
 -- the printed one is
@@ -77,7 +76,7 @@ pub printed_fails : (content between : Content) (router printed : List ℕ) (hop
     → FailsDue e (text_at between Route old.hops 2 printed) → FailsDue e (moves_at content router printed)
 unfolding asked_at
 printed_fails content between router printed hops old e none same one f =
-    fails_then e (asked_at content router printed) (λ t. Ok (moves_of t))
+    fails_then e (asked_at content router printed) (λ t. Ok (moves_for t))
     (by_router (text_at content Least [] 1 router) (subst (λ (hs : List Address). IsDueIfTold (text_at content Least hs 1 router) (Ok old)) none one))
   where
     by_router : (d : Result KindEntries Stop) → IsDueIfTold d (Ok old) → FailsDue e (d >>= λ x. text_at content Route x.hops 2 printed >>= λ y. Ok (asked x y))
@@ -87,24 +86,6 @@ printed_fails content between router printed hops old e none same one f =
         let same-old : x ≡ old = cc in
         subst (λ (y : KindEntries). FailsDue e (text_at content Route y.hops 2 printed >>= λ z. Ok (asked y z))) (sym same-old)
         (fails_then e (text_at content Route old.hops 2 printed) (λ z. Ok (asked old z)) (subst (λ (c : Content). FailsDue e (text_at c Route old.hops 2 printed)) same f))
-
--- ---- counts of faults
-
-printed_among : (content : Content) (router printed : List ℕ) (old : KindEntries) → IsDueIfTold (text_at content Least [] 1 router) (Ok old) → Among (printed ∷ []) (names_at content router printed)
-printed_among content router printed old one before now rose = inr (by_router (text_at content Least [] 1 router) one)
-  where
-    by_router : (d : Result KindEntries Stop) → IsDueIfTold d (Ok old) → OneRose (names_after d (printed ∷ []) (λ x. printed ∷ [])) before now
-    by_router (Err Untold) i = rose
-    by_router (Err (Refused r)) i = absurd cc
-    by_router (Ok x) i = rose
-
--- the printed text is refused, and the reading of the router's left the counts as they were
-pub printed_cause : (X Y : Type 0) (content : Content) (router printed : List ℕ) (hops : List Address) (old : KindEntries) (before middle now : List ℕ → ℕ) (e : SameError) → hops ≡ [] → middle ≡ before
-    → IsDueIfTold (text_at content Least hops 1 router) (Ok old) → ReadsNames {X = X} (printed ∷ []) middle now (Err e) → ReadsNames {X = Y} (names_at content router printed) before now (Err e)
-printed_cause X Y content router printed hops old before middle now e none kept one cause =
-    more_names X Y (printed ∷ []) (names_at content router printed) before now e
-    (printed_among content router printed old (subst (λ (hs : List Address). IsDueIfTold (text_at content Least hs 1 router) (Ok old)) none one))
-    (subst (λ (counts : List ℕ → ℕ). ReadsNames {X = X} (printed ∷ []) counts now (Err e)) kept cause)
 
 -- ---- reads
 
@@ -125,12 +106,12 @@ prefixes_fit (e ∷ E) = (is_prefix e.prefix, prefixes_fit E)
 -- entries that are some tables' and the moves that are due of them
 pub ends : (content between : Content) (router printed : List ℕ) (before middle : List Address) (table routes : List Entry) (m : RouterMoves) → before ≡ [] → between ≡ content
     → IsDueIfTold (text_at content Least before 1 router) (Ok (record { entries = map entry_as table; hops = middle })) → IsDueIfTold (text_at between Route middle 2 printed) (Ok (record { entries = map entry_as routes; hops = m.hops.list }))
-    → map change_as m.v4.changes.items ≡ changes_in V4 (map entry_as routes) (map entry_as table) → map change_as m.v6.changes.items ≡ changes_in V6 (map entry_as routes) (map entry_as table)
+    → map change_as m.v4.changes.items ≡ family_changes V4 (map entry_as routes) (map entry_as table) → map change_as m.v6.changes.items ≡ family_changes V6 (map entry_as routes) (map entry_as table)
     → IsShortest V4 (map entry_as routes) (map entry_as table) m.v4 → IsShortest V6 (map entry_as routes) (map entry_as table) m.v6 → EndsShortest (asked_at content router printed) m
 ends content between router printed before middle table routes m none same one two low high v4 v6 =
     let R = map entry_as routes in
     let T = map entry_as table in
-    let all : (moves_as m).changes ≡ changes_in_both R T = ap (λ cs. cs ++ map change_as m.v6.changes.items) low ∙ ap (λ cs. changes_in V4 R T ++ cs) high in (
+    let all : (moves_as m).changes ≡ both_changes R T = ap (λ cs. cs ++ map change_as m.v6.changes.items) low ∙ ap (λ cs. family_changes V4 R T ++ cs) high in (
       record { table = T; routes = R; hops = m.hops.list },
       asked_told content between router printed before (record { entries = T; hops = middle }) (record { entries = R; hops = m.hops.list }) none same one two,
       refl,
@@ -140,8 +121,8 @@ ends content between router printed before middle table routes m none same one t
 -- and these are the moves
 pub told : (content between : Content) (router printed : List ℕ) (before middle : List Address) (table routes : List Entry) (m : RouterMoves) → before ≡ [] → between ≡ content
     → IsDueIfTold (text_at content Least before 1 router) (Ok (record { entries = map entry_as table; hops = middle })) → IsDueIfTold (text_at between Route middle 2 printed) (Ok (record { entries = map entry_as routes; hops = m.hops.list }))
-    → map change_as m.v4.changes.items ≡ changes_in V4 (map entry_as routes) (map entry_as table) → map change_as m.v6.changes.items ≡ changes_in V6 (map entry_as routes) (map entry_as table)
-    → map row_as m.v4.rows.items ≡ rows_in V4 (map entry_as routes) (map entry_as table) → map row_as m.v6.rows.items ≡ rows_in V6 (map entry_as routes) (map entry_as table)
+    → map change_as m.v4.changes.items ≡ family_changes V4 (map entry_as routes) (map entry_as table) → map change_as m.v6.changes.items ≡ family_changes V6 (map entry_as routes) (map entry_as table)
+    → map row_as m.v4.rows.items ≡ proving_rows V4 (map entry_as routes) (map entry_as table) → map row_as m.v6.rows.items ≡ proving_rows V6 (map entry_as routes) (map entry_as table)
     → IsDueIfTold (moves_at content router printed) (Ok (moves_as m))
 told content between router printed before middle table routes m none same one two low high low-rows high-rows =
     let R = map entry_as routes in

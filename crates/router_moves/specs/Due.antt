@@ -5,7 +5,7 @@ use Rattle.address_model.specs.Address.{Address}
 use Rattle.table_model.specs.Entries.{Entries}
 use Rattle.table_model.specs.Changes.{Change}
 use Rattle.cert_model.specs.Rows.{CertRow}
-use Rattle.router_model.specs.Both.{changes_in_both, rows_in_both}
+use Rattle.router_model.specs.Both.{both_changes, both_proving_rows}
 use Rattle.printed_model.specs.declared.kind.Kind.TheVariants.{Least, Route}
 use Rattle.fib_same.specs.Due.{Stop, text_at}
 use Rattle.fib_same.specs.Gives.{names_after}
@@ -25,19 +25,19 @@ asked_at content router printed = do
   Ok (record { table = table.entries; routes = routes.entries; hops = routes.hops })
 
 -- The names of the texts that are due to be read: the printed one isn't if the router's is refused.
-abbrev pub names_at : (List ℕ → Option (List ℕ)) → List ℕ → List ℕ → List (List ℕ)
-names_at content router printed = router ∷ names_after (text_at content Least [] 1 router) (printed ∷ []) (λ table. printed ∷ [])
+abbrev pub names_asked : (List ℕ → Option (List ℕ)) → List ℕ → List ℕ → List (List ℕ)
+names_asked content router printed = router ∷ names_after (text_at content Least [] 1 router) (printed ∷ []) (λ table. printed ∷ [])
 
 -- The changes of the router's table, the rows that prove that no fewer would do, and the hops that the numbers in both stand for.
 -- IPv4's come before IPv6's.
-pub record Moves : Type 0 where
+pub record ShortestMoves : Type 0 where
   pub changes : List Change
   pub rows : List CertRow
   pub hops : List Address
 
-abbrev pub moves_of : Asked → Moves
-moves_of t = record { changes = changes_in_both t.routes t.table; rows = rows_in_both t.routes t.table; hops = t.hops }
+abbrev pub moves_for : Asked → ShortestMoves
+moves_for t = record { changes = both_changes t.routes t.table; rows = both_proving_rows t.routes t.table; hops = t.hops }
 
 -- the moves that are due
-abbrev pub moves_at : (List ℕ → Option (List ℕ)) → List ℕ → List ℕ → Result Moves Stop
-moves_at content router printed = asked_at content router printed >>= λ t. Ok (moves_of t)
+abbrev pub moves_at : (List ℕ → Option (List ℕ)) → List ℕ → List ℕ → Result ShortestMoves Stop
+moves_at content router printed = asked_at content router printed >>= λ t. Ok (moves_for t)

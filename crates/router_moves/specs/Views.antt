@@ -1,5 +1,5 @@
 -- What a clause sees of this crate's values.
-use Rattle.std.specs.Prelude.{◌≡◌, List, ◌++◌, map, Result, Ok, length}
+use Rattle.std.specs.Prelude.{◌≡◌, ◌++◌, map, Result, Ok, length}
 use Rattle.address_model.specs.declared.family.Family.{Family}
 use Rattle.address_model.specs.declared.family.Family.TheVariants.{V4, V6}
 use Rattle.table_model.specs.Entries.{Entries, in_order}
@@ -9,11 +9,11 @@ use Rattle.moves_cert.specs.Shortest.{AreProvedShortest, AreShortest}
 use Rattle.fib_moves.specs.declared.answer.Near.{Near}
 use Rattle.fib_same.specs.Due.{Stop}
 use Rattle.fib_same.specs.Gives.{IsDueIfTold}
-use Rattle.router_model.specs.Both.{AreShortestInBoth, table_of}
-use Rattle.router_moves.specs.Due.{Asked, Moves}
+use Rattle.router_model.specs.Both.{AreShortestInBoth, family_table}
+use Rattle.router_moves.specs.Due.{Asked, ShortestMoves}
 use Rattle.router_moves.specs.declared.answer.RouterMoves.{RouterMoves}
 
-abbrev pub moves_as : RouterMoves → Moves
+abbrev pub moves_as : RouterMoves → ShortestMoves
 moves_as m = record {
   changes = map change_as m.v4.changes.items ++ map change_as m.v6.changes.items;
   rows = map row_as m.v4.rows.items ++ map row_as m.v6.rows.items;
@@ -23,8 +23,8 @@ moves_as m = record {
 -- Of a family with the routes R and the table T: the changes make of the table one that answers as the routes, and no fewer do; the rows
 -- prove it; and there are as many as is told.
 pub record IsShortest (f : Family) (R T : Entries) (n : Near) : Type 0 where
-  pub shortest : AreShortest f (table_of f R) (table_of f T) (map change_as n.changes.items)
-  pub proved : AreProvedShortest f (table_of f R) (table_of f T) (map change_as n.changes.items) (map row_as n.rows.items)
+  pub shortest : AreShortest f (family_table f R) (family_table f T) (map change_as n.changes.items)
+  pub proved : AreProvedShortest f (family_table f R) (family_table f T) (map change_as n.changes.items) (map row_as n.rows.items)
   pub count : length n.changes.items ≡ n.bound
 
 -- For some table and routes: the changes are shortest over both families, and each family's rows prove that its own are.

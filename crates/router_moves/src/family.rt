@@ -4,7 +4,7 @@ ghost use Rattle.std.specs.Prelude.{◌≡◌, IfOk, map};
 ghost use Rattle.fib_addr.specs.Views.{entry_as};
 ghost use Rattle.fib_delta.specs.Views.{change_as};
 ghost use Rattle.cert_rows.specs.Views.{row_as};
-ghost use Rattle.router_model.specs.Both.{changes_in, rows_in};
+ghost use Rattle.router_model.specs.Both.{family_changes, proving_rows};
 ghost use Rattle.router_moves.specs.Views.{IsShortest};
 
 use fib_addr::{Entry, Family};
@@ -19,9 +19,9 @@ pub(crate) fn family_moves(
     table: &[Entry],
     routes: &[Entry],
 ) -> Result<Near, AllocError>
-    ensures changes { IfOk result (λ n. map change_as n.changes.items ≡ changes_in family
+    ensures changes { IfOk result (λ n. map change_as n.changes.items ≡ family_changes family
         (map entry_as routes.now) (map entry_as table.now)) }
-    ensures rows { IfOk result (λ n. map row_as n.rows.items ≡ rows_in family
+    ensures rows { IfOk result (λ n. map row_as n.rows.items ≡ proving_rows family
         (map entry_as routes.now) (map entry_as table.now)) }
     ensures shortest { IfOk result (IsShortest family (map entry_as routes.now)
         (map entry_as table.now)) }

@@ -4,7 +4,7 @@ ghost use Rattle.std.specs.Prelude.{◌≡◌, [], ◌∷◌, IfOk};
 ghost use Rattle.fib_io.specs.Reads.{Makes};
 ghost use Rattle.fib_same.specs.Gives.{GivesDue, ReadsNames};
 ghost use Rattle.fib_same.specs.Passes.{ReadsOf, numbered};
-ghost use Rattle.router_moves.specs.Due.{asked_at, moves_at, names_at};
+ghost use Rattle.router_moves.specs.Due.{asked_at, moves_at, names_asked};
 ghost use Rattle.router_moves.specs.Views.{EndsShortest, moves_as};
 
 use crate::answer::RouterMoves;
@@ -36,7 +36,7 @@ pub fn moves_to_routes<I: Inputs>(
     ensures shortest { IfOk result (EndsShortest
         (asked_at (I.content inputs.old) router.now printed.now)) }
     ensures same { I.content inputs.new ≡ I.content inputs.old }
-    ensures cause { ReadsNames (names_at (I.content inputs.old) router.now printed.now)
+    ensures cause { ReadsNames (names_asked (I.content inputs.old) router.now printed.now)
         (I.faults inputs.old) (I.faults inputs.new) result }
     ensures reads { Makes (I.reads inputs.old) (I.reads inputs.new)
         (ReadsOf (numbered 1 (router.now ∷ printed.now ∷ [])) result) }

@@ -1,4 +1,4 @@
-use Rattle.std.proofs.Common.{◌≡◌, map, ap, ◌∙◌}
+use Rattle.std.proofs.Common.{map, ap, ◌∙◌}
 use Rattle.std.specs.List.{filter}
 use Rattle.address_model.specs.Address.{same_family}
 use Rattle.address_model.specs.declared.family.Family.{Family}
