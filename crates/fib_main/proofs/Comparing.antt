@@ -21,7 +21,7 @@ use Rattle.fib_same.specs.declared.compare.Difference as code_difference
 use Rattle.fib_same.specs.declared.error.SameError.{SameError}
 use Rattle.fib_same.specs.declared.error.SameError.TheVariants as same_error
 use Rattle.fib_words.specs.Commands.{Asked}
-use Rattle.router_moves.specs.Due.{moves_of as router_moves_of}
+use Rattle.router_moves.specs.Due.{moves_for}
 use Rattle.router_moves.specs.Due as router
 use Rattle.router_moves.specs.Views.{EndsShortest, moves_as}
 use Rattle.router_moves.specs.declared.answer.RouterMoves.{RouterMoves}
@@ -110,7 +110,7 @@ same_some d r s is ends = reply_some (option_map difference_as) answer_reply Ali
 
 -- what a router must change
 pub moves_some : (d : Result router.Asked same.Stop) (r : Result RouterMoves SameError) (s : Replied) → RepliesTo moves_say r s → IfOk r (EndsShortest d) → MovedOfSome s
-moves_some d r s is ends = reply_some moves_as moves_reply Moved router_moves_of (λ t. refl) r s is (IfOk-weaker r (EndsShortest d) (λ x. (t : router.Asked) × (moves_as x ≡ router_moves_of t)) (λ x e. (e.0, e.2)) ends)
+moves_some d r s is ends = reply_some moves_as moves_reply Moved moves_for (λ t. refl) r s is (IfOk-weaker r (EndsShortest d) (λ x. (t : router.Asked) × (moves_as x ≡ moves_for t)) (λ x e. (e.0, e.2)) ends)
 
 -- a refusal is one of a command that reads texts and judges them
 pub reply_own : {T : Type 0} (says : T → Reply) (asked : Asked) → ((n : ℕ) → HasInput asked (Text n)) → (r : Result T SameError) (s : Replied) → RepliesTo says r s → IfErr s (IsOf (Some asked))

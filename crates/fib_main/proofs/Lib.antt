@@ -12,6 +12,8 @@ pub mod FewEvents
 pub mod Fitting
 pub mod Keeping
 pub mod Moving
+pub mod RouterText
+pub mod Rerouting
 pub mod Passes
 pub mod Printing
 pub mod Refusing

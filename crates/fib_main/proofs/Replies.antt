@@ -7,7 +7,7 @@ use Rattle.cert_model.proofs.Verdicts.{verdict_is, verdict_law}
 use Rattle.cert_model.specs.Verdict.{RowFits}
 use Rattle.printed_model.specs.Texts.{BadLine as BadRow}
 use Rattle.printed_model.specs.Used.{Used, printed_in}
-use Rattle.fib_words.specs.Commands.{Named, NamedSave, Asked, Run, Check, Make, Steps, Same, Save, Moves, command_of}
+use Rattle.fib_words.specs.Commands.{Named, NamedMoves, NamedSave, Asked, Run, Check, Make, Steps, Same, Save, Moves, command_of}
 use Rattle.fib_main.specs.declared.outcome.Which.TheVariants as which
 use Rattle.fib_main.specs.declared.outcome.Outcome.{Outcome}
 use Rattle.fib_main.specs.Stops.{Stop, Untold, Refused, LongPath, rowed, FailsDue, IsDueIfTold}
@@ -28,9 +28,10 @@ use Rattle.router_moves.specs.Due as router
 use Rattle.fib_main.specs.declared.outcome.Outcome.TheVariants.{PeersFull}
 use Rattle.fib_main.specs.Owned.{IsSave}
 use Rattle.fib_main.specs.Due.{Alike, Checked, Made, Moved, Output, Printed, Ran, Repeats, Reply, Saved, compared, moved, said_at, saved_at, saved_of, unless_long, stepped, stepping_at, ran, checked, due, made, made_at, input_at, output_at, run_at, usage, used_at, printed_text, with_text, with_reply}
-use Rattle.fib_main.specs.Proves.{Compares, IfChecked, IfCompared, IfRan, IfSaved, IsRun, Decides, PrintsYes, YesProves}
+use Rattle.fib_main.specs.Proves.{Compares, IfChecked, IfCompared, IfRan, IfSaved, IsRun, Decides, PrintsYes, YesProves, IfMoved, Reroutes}
 use Rattle.fib_main.proofs.Due.{fails_by, retyped}
 use Rattle.fib_main.proofs.Fitting.{read_fits}
+use Rattle.fib_main.proofs.Rerouting.{router_reroutes}
 
 -- ---- what a run replies
 
@@ -271,3 +272,72 @@ pub save_runs_none : {X E : Type 0} (content : List ℕ → Option (List ℕ)) (
 unfolding output_at
 save_runs_none content named asked (Ok x) a = rw a (save_ran PrintsYes (saved_at content named) (saved_only content named))
 save_runs_none content named asked (Err e) a = tt
+
+-- ---- what holds of a router's table and routes, where it is due what the router must change
+
+ran_moves : (p : Result Printed Stop) → IfMoved (ran p) Reroutes
+ran_moves (Ok p) = tt
+ran_moves (Err stop) = tt
+
+checked_moves : (u : Result Used Stop) → IfMoved (checked u) Reroutes
+checked_moves (Ok u) = tt
+checked_moves (Err stop) = tt
+
+made_moves : (p : Result Printed Stop) → IfMoved (made p) Reroutes
+made_moves (Ok p) = tt
+made_moves (Err stop) = tt
+
+stepped_moves : (s : Result Stepping Stop) → IfMoved (stepped s) Reroutes
+stepped_moves (Ok s) = tt
+stepped_moves (Err stop) = tt
+
+same_moves : (t : Result Compared same.Stop) → IfMoved (compared t) Reroutes
+same_moves (Ok t) = tt
+same_moves (Err same.Untold) = tt
+same_moves (Err (same.Refused (same.TooLarge n))) = tt
+same_moves (Err (same.Refused (same.BadLine n line why))) = tt
+same_moves (Err (same.Refused (same.Twice n p))) = tt
+
+save_moves : (d : Result Output Stop) → IsSavedOnly d → IfMoved d Reroutes
+save_moves (Ok (Saved said)) s = tt
+save_moves (Ok (Ran p)) s = absurd s
+save_moves (Ok (Checked used)) s = absurd s
+save_moves (Ok (Made p)) s = absurd s
+save_moves (Ok (Alike texts)) s = absurd s
+save_moves (Ok (Repeats p)) s = absurd s
+save_moves (Ok (Moved t)) s = absurd s
+save_moves (Err stop) s = tt
+
+words_reroute : (content : List ℕ → Option (List ℕ)) (o : Option Asked) → IfMoved (usage o >>= output_at content) Reroutes
+unfolding output_at
+words_reroute content None = tt
+words_reroute content (Some (Run named)) = ran_moves (run_at content named)
+words_reroute content (Some (Check name)) = checked_moves (used_at content name)
+words_reroute content (Some (Make routes seed)) = made_moves (made_at routes seed)
+words_reroute content (Some (Steps named)) = stepped_moves (stepping_at content named)
+words_reroute content (Some (Same named)) = same_moves (same_at content named.rows named.first named.rest)
+words_reroute content (Some (Save named)) = save_moves (saved_at content named) (saved_only content named)
+words_reroute content (Some (Moves named)) = router_reroutes content named.router named.printed
+
+pub reroutes : (words : List (List ℕ)) (content : List ℕ → Option (List ℕ)) → IfMoved (due words content) Reroutes
+unfolding due
+reroutes words content = words_reroute content (command_of words)
+
+-- a router's changes are no run
+pub moves_run_none : {X E : Type 0} (content : List ℕ → Option (List ℕ)) (named : NamedMoves) (asked : Asked) (r : Result X E) → asked ≡ Moves named → OnOk r (IfRan (output_at content asked) PrintsYes)
+unfolding output_at
+moves_run_none content named asked (Ok x) a = rw a (moves_ran PrintsYes (router_at content named.router named.printed))
+moves_run_none content named asked (Err e) a = tt
+
+-- and no checkpoint
+pub moves_save_none : {X E : Type 0} (content : List ℕ → Option (List ℕ)) (named : NamedMoves) (asked : Asked) (r : Result X E) → asked ≡ Moves named → OnOk r (IfSaved (output_at content asked) Restores)
+unfolding output_at
+moves_save_none content named asked (Ok x) a = rw a (none (router_at content named.router named.printed))
+  where
+    none : (t : Result router.Asked same.Stop) → IfSaved (moved t) Restores
+    none (Ok t) = tt
+    none (Err same.Untold) = tt
+    none (Err (same.Refused (same.TooLarge n))) = tt
+    none (Err (same.Refused (same.BadLine n line why))) = tt
+    none (Err (same.Refused (same.Twice n p))) = tt
+moves_save_none content named asked (Err e) a = tt

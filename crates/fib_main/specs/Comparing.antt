@@ -45,7 +45,7 @@ abbrev pub answer_says : Option Difference → Reply
 answer_says answer = answer_reply (option_map difference_as answer)
 
 -- the reply to what a router must change
-abbrev pub moves_reply : router.Moves → Reply
+abbrev pub moves_reply : router.ShortestMoves → Reply
 moves_reply m = record { text = router_text m; wrong = None }
 
 abbrev pub moves_say : RouterMoves → Reply

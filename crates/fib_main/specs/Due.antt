@@ -26,7 +26,7 @@ use Rattle.saved_model.specs.Saved.{long_one, most_peers, peers_with_candidates,
 use Rattle.fib_save.specs.Brings.{after_events}
 use Rattle.fib_same.specs.Due.{Compared, TextDifference, answer_of, same_at}
 use Rattle.fib_same.specs.Due as same
-use Rattle.router_moves.specs.Due.{asked_at as router_at, moves_of as router_moves_of}
+use Rattle.router_moves.specs.Due.{asked_at as router_at, moves_for}
 use Rattle.router_moves.specs.Due as router
 use Rattle.printed_model.specs.Used.{Used, printed_in}
 use Rattle.printed_model.specs.Rows.{Announced, Vrp}
@@ -413,7 +413,7 @@ output_text (Made p) = report_text p.told.report
 output_text (Alike texts) = answer_text (answer_of texts)
 output_text (Repeats p) = verdict_text [] (Some (Twice p))
 output_text (Saved said) = saved (after_events [] said)
-output_text (Moved t) = router_text (router_moves_of t)
+output_text (Moved t) = router_text (moves_for t)
 
 -- a text, and what is wrong where it says so
 pub record Reply : Type 0 where

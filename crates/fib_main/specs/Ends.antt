@@ -8,7 +8,7 @@ use Rattle.fib_addr.specs.Text.{prefix_text}
 use Rattle.fib_addr.specs.Views.{prefix_as}
 use Rattle.fib_addr.specs.declared.prefix.Prefix as code_prefix
 use Rattle.fib_same.specs.Gives.{names_at}
-use Rattle.router_moves.specs.Due.{names_at as router_names}
+use Rattle.router_moves.specs.Due.{names_asked}
 use Rattle.fib_same.specs.Views.{difference_as}
 use Rattle.fib_same.specs.declared.compare.Difference as code_difference
 use Rattle.cert_check.specs.declared.refusal.No as code
@@ -104,7 +104,7 @@ reads_asked content (Some (Make routes seed)) = []
 reads_asked content (Some (Steps named)) = reads_steps content named
 reads_asked content (Some (Same named)) = names_at content named.rows named.first named.rest
 reads_asked content (Some (Save named)) = reads_saved content named
-reads_asked content (Some (Moves named)) = router_names content named.router named.printed
+reads_asked content (Some (Moves named)) = names_asked content named.router named.printed
 
 unfoldable pub reads : List (List ℕ) → (List ℕ → Option (List ℕ)) → List (List ℕ)
 reads words content = reads_asked content (command_of words)

@@ -13,8 +13,8 @@ use Rattle.fib_save.specs.Brings.{after_events}
 use Rattle.address_model.specs.declared.family.Family.TheVariants.{V4, V6}
 use Rattle.table_model.specs.Entries.{in_order}
 use Rattle.moves_cert.specs.Shortest.{AreProvedShortest}
-use Rattle.router_model.specs.Both.{AreShortestInBoth, changes_in, rows_in, table_of}
-use Rattle.router_moves.specs.Due.{moves_of as router_moves_of}
+use Rattle.router_model.specs.Both.{AreShortestInBoth, family_changes, family_table, proving_rows}
+use Rattle.router_moves.specs.Due.{moves_for}
 use Rattle.router_moves.specs.Due as router
 use Rattle.fib_save.specs.Restores.{Restores}
 use Rattle.fib_words.specs.Commands.{Asked, Run, Check, Make, Steps, Same, Save, Moves}
@@ -116,9 +116,9 @@ IfMoved (Err stop) P = Unit {0}
 
 -- The changes are possible one after another, and make the router's table one that sends every address where the routes send it; no table that does differs from the router's at fewer prefixes, whatever its prefixes and hops. In each family the rows prove it, to whoever trusts the rules of rows alone.
 pub record Reroutes (t : router.Asked) : Type 0 where
-  pub shortest : AreShortestInBoth (in_order t.routes) (in_order t.table) (router_moves_of t).changes
-  pub v4 : AreProvedShortest V4 (table_of V4 t.routes) (table_of V4 t.table) (changes_in V4 t.routes t.table) (rows_in V4 t.routes t.table)
-  pub v6 : AreProvedShortest V6 (table_of V6 t.routes) (table_of V6 t.table) (changes_in V6 t.routes t.table) (rows_in V6 t.routes t.table)
+  pub shortest : AreShortestInBoth (in_order t.routes) (in_order t.table) (moves_for t).changes
+  pub v4 : AreProvedShortest V4 (family_table V4 t.routes) (family_table V4 t.table) (family_changes V4 t.routes t.table) (proving_rows V4 t.routes t.table)
+  pub v6 : AreProvedShortest V6 (family_table V6 t.routes) (family_table V6 t.table) (family_changes V6 t.routes t.table) (proving_rows V6 t.routes t.table)
 
 -- ---- checkpoints
 

@@ -4,12 +4,12 @@ use Rattle.feed_model.specs.Feed.{at_event}
 use Rattle.printed_model.specs.Rows.{PrintedRow, moves_row, text_of}
 use Rattle.printed_model.specs.Numbered.{of_cert}
 use Rattle.fib_report.specs.Rows.{of_change}
-use Rattle.router_moves.specs.Due.{Moves}
+use Rattle.router_moves.specs.Due.{ShortestMoves}
 
 -- the changes, as those of event 1, how many there are, and the rows that prove that no fewer would do
-abbrev pub router_rows : Moves → List PrintedRow
+abbrev pub router_rows : ShortestMoves → List PrintedRow
 router_rows m = map (of_change m.hops) (at_event 1 m.changes) ++ (moves_row 1 (length m.changes) ∷ map (of_cert m.hops) m.rows)
 
 -- their text
-abbrev pub router_text : Moves → List ℕ
+abbrev pub router_text : ShortestMoves → List ℕ
 router_text m = text_of (router_rows m)

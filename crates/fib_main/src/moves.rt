@@ -12,7 +12,7 @@ ghost use Rattle.fib_main.specs.RouterRows.{router_text};
 ghost use Rattle.fib_main.specs.Stops.{GivesDue};
 ghost use Rattle.fib_main.specs.Untold.{MovedOfSome};
 ghost use Rattle.fib_main.specs.Views.{reply_as};
-ghost use Rattle.router_moves.specs.Due.{names_at};
+ghost use Rattle.router_moves.specs.Due.{names_asked};
 ghost use Rattle.router_moves.specs.Views.{moves_as};
 
 use crate::outcome::Outcome;
@@ -70,7 +70,7 @@ pub fn moves_for<I: Inputs>(
     ensures own { IfErr result (IsOf (Some (Moves (named_moves command.now)))) }
     ensures owns { IfOk result (λ reply. IfSome reply.wrong IsNo) }
     ensures same { I.content inputs.new ≡ I.content inputs.old }
-    ensures cause { ReadsNames (names_at (I.content inputs.old) (named_moves command.now).router
+    ensures cause { ReadsNames (names_asked (I.content inputs.old) (named_moves command.now).router
         (named_moves command.now).printed) (I.faults inputs.old) (I.faults inputs.new) result }
     ensures reads { Makes (I.reads inputs.old) (I.reads inputs.new)
         (ReadsCompared (I.content inputs.old) (moves_inputs (named_moves command.now)) result) }

@@ -10,7 +10,7 @@ ghost use Rattle.fib_main.specs.Keeps.{Follows, KeepsTables, MissesNone, MovesFe
 ghost use Rattle.fib_io.specs.Reads.{Makes};
 ghost use Rattle.fib_main.specs.Owned.{IsOf};
 ghost use Rattle.fib_main.specs.Passes.{ReadsAt};
-ghost use Rattle.fib_main.specs.Proves.{AddsCheckpoint, AddsFrontOfYes, AddsYes, Compares, Decides, IfChecked, IfCompared, IfRan, IfSaved, IsRun, IsSaving, PrintsYes, YesProves};
+ghost use Rattle.fib_main.specs.Proves.{AddsCheckpoint, AddsFrontOfYes, AddsYes, Compares, Decides, IfChecked, IfCompared, IfMoved, IfRan, IfSaved, IsRun, IsSaving, PrintsYes, Reroutes, YesProves};
 ghost use Rattle.fib_main.specs.Runs.{Answers, Certified, Forwards, HasAggregate, HasHops, HasLeast, IfDue, IsInOrder, SumsUp};
 ghost use Rattle.fib_main.specs.Stepped.{FitsSteps};
 ghost use Rattle.fib_main.specs.Untold.{FitsSome};
@@ -147,7 +147,7 @@ fn run_and_tell<I: Inputs, O: Sink, E: Sink>(
 /// table with its tree and its changes, and the whole text. A check keeps the printed text until it is read, its routes, least
 /// table and certificate, and then the runs of both tables. A run in steps keeps its script, the events of the updates and what
 /// they do, each family's routes with two sets of arenas, and its rows and their text.
-#[tactic(auto, using(crate::proofs::Completing::completes, crate::proofs::Running::sums_up, crate::proofs::Running::forwards, crate::proofs::Running::answers, crate::proofs::Running::least, crate::proofs::Running::follows, crate::proofs::Running::steadied, crate::proofs::Running::renewed, crate::proofs::Running::fewest, crate::proofs::Running::kept, crate::proofs::Running::outside, crate::proofs::Running::moved, crate::proofs::Running::aggregated, crate::proofs::Running::sorted, crate::proofs::Running::certified, crate::proofs::Running::addressed, crate::proofs::Replies::decides, crate::proofs::Replies::yes_proves, crate::proofs::Replies::compares, crate::proofs::Judges::judges))]
+#[tactic(auto, using(crate::proofs::Completing::completes, crate::proofs::Running::sums_up, crate::proofs::Running::forwards, crate::proofs::Running::answers, crate::proofs::Running::least, crate::proofs::Running::follows, crate::proofs::Running::steadied, crate::proofs::Running::renewed, crate::proofs::Running::fewest, crate::proofs::Running::kept, crate::proofs::Running::outside, crate::proofs::Running::moved, crate::proofs::Running::aggregated, crate::proofs::Running::sorted, crate::proofs::Running::certified, crate::proofs::Running::addressed, crate::proofs::Replies::decides, crate::proofs::Replies::yes_proves, crate::proofs::Replies::compares, crate::proofs::Replies::reroutes, crate::proofs::Judges::judges))]
 pub fn run_fib<I: Inputs, O: Sink, E: Sink>(
     alloc: Global,
     words: &[String],
@@ -280,6 +280,10 @@ pub fn run_fib<I: Inputs, O: Sink, E: Sink>(
     // Texts that are compared: none differs from the first, and then every two send every address to the same hop, or the answer is
     // the least address at which one differs, and the first text that does there.
     ensures compared { IfCompared (due_by words.now (I.content inputs.old)) Compares }
+
+    // What a router must change: the changes are possible one after another and make its table send every address where the routes
+    // send it, no table that does differs from its own at fewer prefixes, and the rows prove it in each family.
+    ensures reroutes { IfMoved (due_by words.now (I.content inputs.old)) Reroutes }
 {
     run_and_tell(alloc, words, inputs, out, err)
 }

@@ -1,6 +1,6 @@
 use Rattle.std.proofs.Common.{[], ◌∷◌, refl}
 use Rattle.fib_words.specs.Commands.{Moves, moves_as as named_moves}
-use Rattle.router_moves.specs.Due.{asked_at, moves_of, names_at}
+use Rattle.router_moves.specs.Due.{asked_at, moves_for, names_asked}
 use Rattle.router_moves.specs.Views.{moves_as}
 use Rattle.fib_main.specs.Comparing.{moves_reply, moves_say}
 use Rattle.fib_main.specs.Due.{Moved}
@@ -10,7 +10,7 @@ use Rattle.fib_main.proofs.moves.moves_for.Goals as goal
 pub returns-clause-due : goal.returns-clause-due
 returns-clause-due g c =
     let named = named_moves c.args.command.now in
-    reply_due moves_as moves_reply Moved moves_of (λ t. refl) (asked_at (g.I.Inputs.content c.args.inputs.now) named.router named.printed) c.moves_to_routes-moves.result c.reply_to.result c.reply_to.ensures c.moves_to_routes-moves.ensures.due
+    reply_due moves_as moves_reply Moved moves_for (λ t. refl) (asked_at (g.I.Inputs.content c.args.inputs.now) named.router named.printed) c.moves_to_routes-moves.result c.reply_to.result c.reply_to.ensures c.moves_to_routes-moves.ensures.due
 
 pub returns-clause-some : goal.returns-clause-some
 returns-clause-some g c =
@@ -26,7 +26,7 @@ returns-clause-owns g c = moves_owns c.moves_to_routes-moves.result c.reply_to.r
 pub returns-clause-cause : goal.returns-clause-cause
 returns-clause-cause g c =
     let named = named_moves c.args.command.now in
-    reply_cause moves_say (names_at (g.I.Inputs.content c.args.inputs.now) named.router named.printed) (g.I.Inputs.faults c.args.inputs.now) (g.I.Inputs.faults c.moves_to_routes-moves.new.inputs) c.moves_to_routes-moves.result c.reply_to.result c.reply_to.ensures c.moves_to_routes-moves.ensures.cause
+    reply_cause moves_say (names_asked (g.I.Inputs.content c.args.inputs.now) named.router named.printed) (g.I.Inputs.faults c.args.inputs.now) (g.I.Inputs.faults c.moves_to_routes-moves.new.inputs) c.moves_to_routes-moves.result c.reply_to.result c.reply_to.ensures c.moves_to_routes-moves.ensures.cause
 
 pub returns-clause-reads : goal.returns-clause-reads
 returns-clause-reads g c =

@@ -3,7 +3,7 @@ use Rattle.std.proofs.lemmas.Result.{err_from_is_err_and}
 use Rattle.fib_words.specs.Commands.{asked_as}
 use Rattle.fib_main.proofs.Printing.{run_yes}
 use Rattle.fib_main.proofs.Making.{check_own, own_refused, kept_reads, some_refused}
-use Rattle.fib_main.proofs.Replies.{ran_replied, ran_stops, save_runs_none}
+use Rattle.fib_main.proofs.Replies.{moves_run_none, moves_save_none, ran_replied, ran_stops, save_runs_none}
 use Rattle.fib_main.proofs.Saving.{saves_due}
 use Rattle.fib_main.proofs.Stepped.{check_gives, make_gives, run_gives, some_replied, some_steps_refused, steps_refused, steps_replied}
 use Rattle.fib_main.proofs.run.reply_to.Goals as goal
@@ -81,3 +81,9 @@ returns-in_err-text-in-Run-clause-own g c =
 
 pub returns-in-Check-clause-own : goal.returns-in-Check-clause-own
 returns-in-Check-clause-own g c = check_own _ _ c.check_for.result (ap asked_as c.in-Check.is) c.check_for.ensures.stops
+
+pub returns-in-Moves-clause-due_yes : goal.returns-in-Moves-clause-due_yes
+returns-in-Moves-clause-due_yes g c = moves_run_none _ _ _ c.moves_for.result (ap asked_as c.in-Moves.is)
+
+pub returns-in-Moves-clause-due_saves : goal.returns-in-Moves-clause-due_saves
+returns-in-Moves-clause-due_saves g c = moves_save_none _ _ _ c.moves_for.result (ap asked_as c.in-Moves.is)
