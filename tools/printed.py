@@ -2,7 +2,7 @@
 
 from common import Refused, opened_text
 
-KINDS = {"route", "invalid", "change", "answer", "visits", "table", "least", "cert", "report"}
+KINDS = {"route", "invalid", "change", "moves", "answer", "visits", "table", "least", "cert", "report"}
 
 
 def take_rows(name, takes):
