@@ -10,7 +10,7 @@ _fib() {
     --every | --direct | --nodes | --leaves | --seed | make) return 0 ;; # a number follows
     esac
     if [ "$COMP_CWORD" -eq 1 ]; then
-        words="run check same save make steps"
+        words="run check same save moves make steps"
     elif [ "$before" = --rows ]; then
         words="route table least"
     elif [[ $word == -* && ($before != --* || $before == --fewest || $before == --steady) ]]; then
