@@ -107,14 +107,15 @@ prefixes_fit (e ∷ E) = (is_prefix e.prefix, prefixes_fit E)
 pub ends : (content between : Content) (router printed : List ℕ) (before middle : List Address) (table routes : List Entry) (m : RouterMoves) → before ≡ [] → between ≡ content
     → IsDueIfTold (text_at content Least before 1 router) (Ok (record { entries = map entry_as table; hops = middle })) → IsDueIfTold (text_at between Route middle 2 printed) (Ok (record { entries = map entry_as routes; hops = m.hops.list }))
     → map change_as m.v4.changes.items ≡ family_changes V4 (map entry_as routes) (map entry_as table) → map change_as m.v6.changes.items ≡ family_changes V6 (map entry_as routes) (map entry_as table)
+    → map row_as m.v4.rows.items ≡ proving_rows V4 (map entry_as routes) (map entry_as table) → map row_as m.v6.rows.items ≡ proving_rows V6 (map entry_as routes) (map entry_as table)
     → IsShortest V4 (map entry_as routes) (map entry_as table) m.v4 → IsShortest V6 (map entry_as routes) (map entry_as table) m.v6 → EndsShortest (asked_at content router printed) m
-ends content between router printed before middle table routes m none same one two low high v4 v6 =
+ends content between router printed before middle table routes m none same one two low high low-rows high-rows v4 v6 =
     let R = map entry_as routes in
     let T = map entry_as table in
     let all : (moves_as m).changes ≡ both_changes R T = ap (λ cs. cs ++ map change_as m.v6.changes.items) low ∙ ap (λ cs. family_changes V4 R T ++ cs) high in (
       record { table = T; routes = R; hops = m.hops.list },
       asked_told content between router printed before (record { entries = T; hops = middle }) (record { entries = R; hops = m.hops.list }) none same one two,
-      refl,
+      rw (low, high, low-rows, high-rows) refl,
       record { both = subst (AreShortestInBoth (in_order R) (in_order T)) (sym all) (shortest_both R T (prefixes_fit routes) (prefixes_fit table)); v4 = v4; v6 = v6 },
     )
 

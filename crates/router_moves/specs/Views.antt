@@ -10,7 +10,7 @@ use Rattle.fib_moves.specs.declared.answer.Near.{Near}
 use Rattle.fib_same.specs.Due.{Stop}
 use Rattle.fib_same.specs.Gives.{IsDueIfTold}
 use Rattle.router_model.specs.Both.{AreShortestInBoth, family_table}
-use Rattle.router_moves.specs.Due.{Asked, ShortestMoves}
+use Rattle.router_moves.specs.Due.{Asked, ShortestMoves, moves_for}
 use Rattle.router_moves.specs.declared.answer.RouterMoves.{RouterMoves}
 
 abbrev pub moves_as : RouterMoves → ShortestMoves
@@ -33,6 +33,6 @@ pub record AreShortestFor (t : Asked) (m : RouterMoves) : Type 0 where
   pub v4 : IsShortest V4 t.routes t.table m.v4
   pub v6 : IsShortest V6 t.routes t.table m.v6
 
--- Whatever the texts hold: what is given is shortest for some table and routes, which are those of the texts if these are told.
+-- Whatever the texts hold: what is given is what is due of some table and routes, which are those of the texts if these are told, and is shortest for them.
 abbrev pub EndsShortest : Result Asked Stop → RouterMoves → Type 0
-EndsShortest due m = (t : Asked) × IsDueIfTold due (Ok t) × (t.hops ≡ m.hops.list) × AreShortestFor t m
+EndsShortest due m = (t : Asked) × IsDueIfTold due (Ok t) × (moves_as m ≡ moves_for t) × AreShortestFor t m

@@ -285,7 +285,10 @@ const JUDGED_COMPARED_SAVED: &[Case<'static>] = &[
     (&["fib", "moves", "R", "P"], Asked::Moves("R", "P")),
     (&["fib", "moves", "R"], Asked::Nothing),
     (&["fib", "moves", "R", "P", "Q"], Asked::Nothing),
-    (&["fib", "moves", "R", "P", "--rows", "least"], Asked::Nothing),
+    (
+        &["fib", "moves", "R", "P", "--rows", "least"],
+        Asked::Nothing,
+    ),
     (&["fib", "save", "D", "U"], Asked::Nothing),
     (&["fib", "save", "D", "--ask", "A"], Asked::Nothing),
     (&["fib", "save", "D", "--vrps", "V"], Asked::Nothing),

@@ -50,7 +50,7 @@ returns-clause-shortest g c =
     let m : RouterMoves = record { v4 = c.in_ok-v4.v4; v6 = c.in_ok-v6.v6; hops = c.read_text-2.new.hops } in
     ends (g.I.Inputs.content c.args.inputs.now) (g.I.Inputs.content c.read_text.new.inputs) c.args.router.now c.args.printed.now _ c.read_text.new.hops.list c.in_ok-table.table.items c.in_ok-routes.routes.items m c.new-hops.ensures
     c.in_ok-table.ensures.same c.in_ok-table.ensures.due c.in_ok-routes.ensures.due (rw (c.deref.ensures.value, c.deref-2.ensures.value) at c.in_ok-v4.ensures.changes) (rw (c.deref-3.ensures.value, c.deref-4.ensures.value) at c.in_ok-v6.ensures.changes)
-    (rw (c.deref.ensures.value, c.deref-2.ensures.value) at c.in_ok-v4.ensures.shortest) (rw (c.deref-3.ensures.value, c.deref-4.ensures.value) at c.in_ok-v6.ensures.shortest)
+    (rw (c.deref.ensures.value, c.deref-2.ensures.value) at c.in_ok-v4.ensures.rows) (rw (c.deref-3.ensures.value, c.deref-4.ensures.value) at c.in_ok-v6.ensures.rows) (rw (c.deref.ensures.value, c.deref-2.ensures.value) at c.in_ok-v4.ensures.shortest) (rw (c.deref-3.ensures.value, c.deref-4.ensures.value) at c.in_ok-v6.ensures.shortest)
 
 pub returns-clause-reads : goal.returns-clause-reads
 returns-clause-reads g c = others_read c.args.router.now (c.args.printed.now ∷ []) _ _ _ c.in_ok-table.ensures.reads c.in_ok-routes.ensures.reads
