@@ -144,7 +144,14 @@ fn loaded(
         nodes: 4,
         leaves: 4,
     };
-    let mut engine = Engine::new(alloc, Limits { every, fewest, sizes });
+    let mut engine = Engine::new(
+        alloc,
+        Limits {
+            every,
+            fewest,
+            sizes,
+        },
+    );
     load(&mut engine, routes)?;
     engine.finish_load()?;
     Ok(engine)

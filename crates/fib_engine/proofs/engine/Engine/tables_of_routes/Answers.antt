@@ -7,7 +7,7 @@ use Rattle.route_model.specs.Choice.{routes_of}
 use Rattle.fib_addr.specs.Views.{entry_as}
 use Rattle.orig_tree.specs.Views.{InPlace}
 use Rattle.fib_engine.specs.Held.{Held, routes_in}
-use Rattle.fib_engine.specs.Tables.{Both, only}
+use Rattle.fib_engine.specs.Tables.{only}
 use Rattle.fib_engine.proofs.Numbering.{numbers_least}
 use Rattle.fib_engine.proofs.Taking.{put_in_order, routes_have, routes_placed}
 use Rattle.fib_engine.proofs.engine.Engine.tables_of_routes.Goals as goal
