@@ -52,6 +52,8 @@ mod judged;
 #[cfg(test)]
 mod large;
 #[cfg(test)]
+mod moved;
+#[cfg(test)]
 mod reads;
 #[cfg(test)]
 mod records;
