@@ -1,14 +1,15 @@
 -- An open record takes a candidate, or is closed before it.
-use Rattle.std.proofs.Common.{◌≡◌, ℕ, ◌+◌, Bool, true, false, List, [], ◌∷◌, ◌++◌, length, sym, ap, ◌∙◌, append_assoc, append-nil, length-append, arith}
+use Rattle.std.proofs.Common.{◌≡◌, ℕ, ◌+◌, ◌%◌, ◌^◌, Bool, true, false, List, [], ◌∷◌, ◌++◌, length, None, refl, sym, ap, ◌∙◌, append_assoc, append-nil, length-append, arith}
 use Rattle.std.specs.Prelude.{flat_map, if◌then◌else◌}
 use Rattle.route_model.specs.Events.{Peer}
 use Rattle.route_model.specs.Choice.{Place, Offer, Candidates}
 use Rattle.fib_addr.specs.Views.{prefix_as}
 use Rattle.saved_model.specs.Entries.{entry_octets}
-use Rattle.saved_model.specs.Checkpoint.{Piece, piece_record, piece_records}
+use Rattle.written_model.specs.Octets.{number_octets, prefix_octets, record_octets}
+use Rattle.saved_model.specs.Checkpoint.{Piece, piece_body, piece_record, piece_records, rib_subtype}
 use Rattle.saved_model.specs.Saved.{has_place, piece_of, with_candidate, pieces_from, pieces_of}
 use Rattle.mrt_write.specs.declared.growing.Open.{Open}
-use Rattle.mrt_write.specs.Holds.{OpenHolds, OpenLeadsTo}
+use Rattle.mrt_write.specs.Holds.{LeadsTo, OpenHolds, OpenLeadsTo}
 
 push : (f : Place × Offer → List ℕ) (cs : Candidates) (c : Place × Offer) → flat_map f (cs ++ c ∷ []) ≡ flat_map f cs ++ f c
 push f [] c = append-nil (f c)
@@ -39,8 +40,21 @@ open_grows peers ids old new out c entry rest whole e1 e2 e3 e4 e5 tells o =
       makes = ap (λ n. out ++ piece_records peers ids n (pieces_from peers ids (with_candidate p c) rest)) e1 ∙ (ap (λ ps. out ++ piece_records peers ids old.number ps) (sym more) ∙ o.makes);
     }
 
+-- numbers have four octets, so that behind the last of these comes 0
+round_number : (peers : List Peer) (ids : Bool) (n m : ℕ) (p : Piece) → n % 2 ^ 32 ≡ m % 2 ^ 32 → piece_record peers ids n p ≡ piece_record peers ids m p
+unfolding piece_record piece_body
+round_number peers ids n m p e = ap (λ k. record_octets 13 (rib_subtype ids p.prefix.family) (number_octets 4 k ++ (prefix_octets p.prefix ++ (number_octets 2 (length p.candidates) ++ flat_map (entry_octets peers ids) p.candidates)))) e
+
+rounded : (peers : List Peer) (ids : Bool) (n m : ℕ) (ps : List Piece) → n % 2 ^ 32 ≡ m % 2 ^ 32 → piece_records peers ids n ps ≡ piece_records peers ids m ps
+unfolding piece_records
+rounded peers ids n m [] e = refl
+rounded peers ids n m (p ∷ ps) e = ap (λ xs. xs ++ piece_records peers ids (n + 1) ps) (round_number peers ids n m p e) ∙ ap (λ xs. piece_record peers ids m p ++ xs) (rounded peers ids (n + 1) (m + 1) ps (omega (arith, e)))
+
+round_numbers : (peers : List Peer) (ids : Bool) (n : ℕ) (ps : List Piece) → piece_records peers ids n ps ≡ piece_records peers ids (n % 2 ^ 32) ps
+round_numbers peers ids n ps = rounded peers ids n (n % 2 ^ 32) ps (omega arith)
+
 pub open_closes : (peers : List Peer) (ids : Bool) (old new : Open) (out after : List ℕ) (c : Place × Offer) (entry : List ℕ) (rest : Candidates) (whole : List ℕ)
-    → new.number ≡ old.number + 1 → prefix_as new.prefix ≡ c.0.prefix → new.count ≡ 1 → new.entries.items ≡ entry → entry ≡ entry_octets peers ids c → Tells false peers ids old entry c
+    → new.number ≡ (old.number + 1) % 2 ^ 32 → prefix_as new.prefix ≡ c.0.prefix → new.count ≡ 1 → new.entries.items ≡ entry → entry ≡ entry_octets peers ids c → Tells false peers ids old entry c
     → ((p : Piece) → p.prefix ≡ prefix_as old.prefix → length p.candidates ≡ old.count → old.entries.items ≡ flat_map (entry_octets peers ids) p.candidates → after ≡ out ++ piece_record peers ids old.number p)
     → OpenLeadsTo peers ids old out (c ∷ rest) whole → OpenLeadsTo peers ids new after rest whole
 unfolding pieces_from piece_records
@@ -58,27 +72,33 @@ open_closes peers ids old new out after c entry rest whole e1 e2 e3 e4 e5 tells 
         entries = e4 ∙ (e5 ∙ sym (append-nil (entry_octets peers ids c)));
       };
       makes = ap (λ n. after ++ piece_records peers ids n behind) e1
+          ∙ (ap (λ xs. after ++ xs) (sym (round_numbers peers ids (old.number + 1) behind))
           ∙ (ap (λ xs. xs ++ piece_records peers ids (old.number + 1) behind) written
           ∙ (append_assoc out (piece_record peers ids old.number p) (piece_records peers ids (old.number + 1) behind)
-          ∙ (ap (λ ps. out ++ piece_records peers ids old.number ps) (sym more) ∙ o.makes)));
+          ∙ (ap (λ ps. out ++ piece_records peers ids old.number ps) (sym more) ∙ o.makes))));
     }
 
 -- ---- over all candidates
 
-pub open_starts : (peers : List Peer) (ids : Bool) (o : Open) (out : List ℕ) (c : Place × Offer) (entry : List ℕ) (rest : Candidates) → o.number ≡ 0 → prefix_as o.prefix ≡ c.0.prefix → o.count ≡ 1 → o.entries.items ≡ entry_octets peers ids c
-    → OpenLeadsTo peers ids o out rest (out ++ piece_records peers ids 0 (pieces_of peers ids (c ∷ rest)))
+-- the first record is opened
+pub open_starts : (peers : List Peer) (ids : Bool) (o : Open) (out : List ℕ) (c : Place × Offer) (rest : Candidates) (whole : List ℕ) → o.number ≡ 0 → prefix_as o.prefix ≡ c.0.prefix → o.count ≡ 1 → o.entries.items ≡ entry_octets peers ids c
+    → LeadsTo peers ids None out (c ∷ rest) whole → OpenLeadsTo peers ids o out rest whole
 unfolding pieces_of
-open_starts peers ids o out c entry rest e1 e2 e3 e4 = record {
+open_starts peers ids o out c rest whole e1 e2 e3 e4 h = record {
   piece = piece_of c;
   holds = record { prefix = sym e2; count = sym e3; entries = e4 ∙ sym (append-nil (entry_octets peers ids c)) };
-  makes = ap (λ n. out ++ piece_records peers ids n (pieces_from peers ids (piece_of c) rest)) e1;
+  makes = ap (λ n. out ++ piece_records peers ids n (pieces_from peers ids (piece_of c) rest)) e1 ∙ h;
 }
 
-pub open_ends : (peers : List Peer) (ids : Bool) (o : Open) (out after whole : List ℕ) (rest : Candidates) → rest ≡ [] → OpenLeadsTo peers ids o out rest whole
+-- the last one is put
+pub open_ends : (peers : List Peer) (ids : Bool) (o : Open) (out after whole : List ℕ) → OpenLeadsTo peers ids o out [] whole
     → ((p : Piece) → p.prefix ≡ prefix_as o.prefix → length p.candidates ≡ o.count → o.entries.items ≡ flat_map (entry_octets peers ids) p.candidates → after ≡ out ++ piece_record peers ids o.number p) → after ≡ whole
 unfolding pieces_from piece_records
-open_ends peers ids o out after whole rest none is put =
+open_ends peers ids o out after whole is put =
     let p = is.piece in
-    let written = put p is.holds.prefix is.holds.count is.holds.entries in
-    let all : out ++ piece_records peers ids o.number (pieces_from peers ids p []) ≡ whole = ap (λ r. out ++ piece_records peers ids o.number (pieces_from peers ids p r)) (sym none) ∙ is.makes in
-    written ∙ (ap (λ xs. out ++ xs) (sym (append-nil (piece_record peers ids o.number p))) ∙ all)
+    put p is.holds.prefix is.holds.count is.holds.entries ∙ (ap (λ xs. out ++ xs) (sym (append-nil (piece_record peers ids o.number p))) ∙ is.makes)
+
+-- or there is none
+pub none_ends : (peers : List Peer) (ids : Bool) (out whole : List ℕ) → LeadsTo peers ids None out [] whole → out ≡ whole
+unfolding pieces_of piece_records
+none_ends peers ids out whole h = sym (append-nil out) ∙ h

@@ -1,7 +1,6 @@
 -- The peers of candidates, in the code and in the model.
-use Rattle.std.proofs.Common.{◌≡◌, ℕ, ◌+◌, ◌<◌, List, [], ◌∷◌, ◌++◌, length, map, drop, get_or, refl, sym, ap, ◌∙◌, ◌≤◌, append_assoc, append-nil}
+use Rattle.std.proofs.Common.{◌≡◌, ℕ, List, [], ◌∷◌, ◌++◌, length, map, drop, refl, sym, ap, ◌∙◌, ◌≤◌, append_assoc, append-nil}
 use Rattle.std.specs.Prelude.{fold, flat_map}
-use Rattle.std.proofs.lemmas.List.{drop_more}
 use Rattle.std.proofs.Math.ListN.{drop_of_length-le}
 use Rattle.written_model.specs.Octets.{number_octets}
 use Rattle.saved_model.specs.Entries.{table_peer}
@@ -31,18 +30,17 @@ inserted_as (x ∷ keys) k = by_order (code_peer_cmp k x) (inserted_as keys k) �
     by_order Greater ih = ap (λ xs. peer_as x ∷ xs) ih
 
 -- the peers with those of further candidates
-abbrev pub gathered : List Peer → Candidates → List Peer
+abbrev gathered : List Peer → Candidates → List Peer
 gathered peers held = fold (λ ps c. insert_key peer_cmp ps c.0.via.peer) peers held
 
-pub gather_start : (keys : List code.Peer) (cs : List code_cand.Cand) → keys ≡ [] → gathered (map peer_as keys) (map cand_as (drop 0 cs)) ≡ peers_with_candidates (map cand_as cs)
-unfolding peers_with_candidates
-gather_start keys cs e = ap (λ ks. gathered (map peer_as ks) (map cand_as cs)) e
+-- those of candidates, and of one behind them
+gather_behind : (peers : List Peer) (cs : List code_cand.Cand) (c : code_cand.Cand) → gathered peers (map cand_as (cs ++ c ∷ [])) ≡ insert_key peer_cmp (gathered peers (map cand_as cs)) (peer_as c.via.peer)
+gather_behind peers [] c = refl
+gather_behind peers (x ∷ cs) c = gather_behind (insert_key peer_cmp peers (peer_as x.via.peer)) cs c
 
-pub gather_more : (keys new : List code.Peer) (cs : List code_cand.Cand) (i : ℕ) (c : code_cand.Cand) (all : List Peer) → i < length cs → c ≡ get_or cs i c → new ≡ insert_key code_peer_cmp keys c.via.peer → gathered (map peer_as keys) (map cand_as (drop i cs)) ≡ all → gathered (map peer_as new) (map cand_as (drop (i + 1) cs)) ≡ all
-gather_more keys new cs i c all some at e h =
-    let front : drop i cs ≡ c ∷ drop (i + 1) cs = drop_more cs i c some ∙ ap (λ x. x ∷ drop (i + 1) cs) (sym at) in
-    let one : map peer_as new ≡ insert_key peer_cmp (map peer_as keys) (peer_as c.via.peer) = ap (map peer_as) e ∙ inserted_as keys c.via.peer in
-    ap (λ ps. gathered ps (map cand_as (drop (i + 1) cs))) one ∙ (sym (ap (λ xs. gathered (map peer_as keys) (map cand_as xs)) front) ∙ h)
+pub gather_more : (keys new : List code.Peer) (cs : List code_cand.Cand) (c : code_cand.Cand) → new ≡ insert_key code_peer_cmp keys c.via.peer → map peer_as keys ≡ peers_with_candidates (map cand_as cs) → map peer_as new ≡ peers_with_candidates (map cand_as (cs ++ c ∷ []))
+unfolding peers_with_candidates
+gather_more keys new cs c e h = ap (map peer_as) e ∙ (inserted_as keys c.via.peer ∙ (ap (λ ps. insert_key peer_cmp ps (peer_as c.via.peer)) h ∙ sym (gather_behind [] cs c)))
 
 pub table_put : (before a b c out octets : List ℕ) (n : ℕ) (peers : List Peer) → a ≡ before ++ number_octets 4 0 → b ≡ a ++ number_octets 2 0 → c ≡ b ++ number_octets 2 n → n ≡ length peers → out ≡ c ++ flat_map table_peer peers → out ≡ before ++ table_body peers
 unfolding table_body

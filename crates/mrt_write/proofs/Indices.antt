@@ -1,5 +1,5 @@
 -- The place of a peer.
-use Rattle.std.proofs.Common.{inl, inr, ◌≡◌, ℕ, zero, suc, ◌+◌, ◌<◌, ◌≤◌, Bool, true, false, cond, not, List, [], ◌∷◌, length, map, drop, get_or, refl, sym, ap, subst, ◌∙◌, arith}
+use Rattle.std.proofs.Common.{inl, inr, ◌≡◌, ℕ, zero, suc, ◌+◌, ◌<◌, ◌≤◌, Bool, true, false, cond, not, List, [], ◌∷◌, length, map, get_or, refl, sym, ap, subst, ◌∙◌, arith}
 use Rattle.std.specs.Prelude.{◌||◌, Ok, Err}
 use Rattle.std.specs.List.{AllByRecursion, list_any, position_or_len}
 use Rattle.std.specs.List.Sorted.{IsBinarySearchResult, IsNonDecreasingBy, IsStrictlySortedBy}
@@ -8,8 +8,6 @@ use Rattle.std.specs.declared.cmp.Ordering.{Ordering}
 use Rattle.std.specs.declared.cmp.Ordering.TheVariants.{Less, Equal, Greater}
 use Rattle.std.proofs.lemmas.Bool.{cases_lt}
 use Rattle.std.proofs.lemmas.Cmp.{alike_right}
-use Rattle.std.proofs.lemmas.List.{drop_more}
-use Rattle.std.proofs.Math.ListN.{drop_of_length-le}
 use Rattle.address_model.specs.Width.{width}
 use Rattle.address_model.proofs.BitLaws.{length-bits_of}
 use Rattle.route_model.specs.Events.{Peer, IsPeer, same_peer}
@@ -19,11 +17,8 @@ use Rattle.fib_prefix.specs.Views.{peer_as}
 use Rattle.fib_prefix.specs.Order.{code_peer_cmp}
 use Rattle.fib_prefix.specs.declared.event.Peer as code
 use Rattle.fib_prefix.proofs.Peers.{peer_is, peer_total}
-use Rattle.saved_model.specs.Entries.{peer_index}
-use Rattle.fib_prefix.specs.Views.{cand_as}
-use Rattle.mrt_write.specs.Holds.{AreIn, AreShort}
-use Rattle.fib_prefix.specs.declared.event.Cand.{Cand}
 use Rattle.saved_model.proofs.Sharing.{index_is}
+use Rattle.mrt_write.specs.Dumps.{HasNoIndex, IsIndex}
 
 is_peer : (q : code.Peer) → IsPeer (peer_as q)
 is_peer q = length-bits_of (width q.addr.family) q.addr.bits
@@ -88,7 +83,7 @@ some_place (x ∷ list) q e = by_test (same_peer (peer_as q) (peer_as x)) refl e
     by_test false t f ih = let r = ih f in (suc r.0, omega (arith, r.1), r.2)
 
 -- so a search in order finds it
-pub not_missed : (list : List code.Peer) (q : code.Peer) (i : ℕ) → IsStrictlySortedBy code_peer_cmp list → list_any (same_peer (peer_as q)) (map peer_as list) ≡ true → IsBinarySearchResult (λ y. code_peer_cmp y q) list (Err i) → ⊥
+not_missed : (list : List code.Peer) (q : code.Peer) (i : ℕ) → IsStrictlySortedBy code_peer_cmp list → list_any (same_peer (peer_as q)) (map peer_as list) ≡ true → IsBinarySearchResult (λ y. code_peer_cmp y q) list (Err i) → ⊥
 not_missed list q i s there h =
     let r = some_place list q there in
     let p = h (falls_not list q s) in
@@ -96,6 +91,13 @@ not_missed list q i s there h =
       | inl m ↦ let e : is_eq (code_peer_cmp (get_or list r.0 q) q) ≡ false = ap is_eq (p.0 r.0 q (omega arith) m) in let t = r.2 q in absurd cc
       | inr m ↦ let e : is_eq (code_peer_cmp (get_or list r.0 q) q) ≡ false = ap is_eq (p.1 r.0 q m r.1) in let t = r.2 q in absurd cc
     ]
+
+pub none_found : (list : List code.Peer) (q : code.Peer) (i : ℕ) → IsStrictlySortedBy code_peer_cmp list → IsBinarySearchResult (λ y. code_peer_cmp y q) list (Err i) → HasNoIndex (map peer_as list) (peer_as q)
+none_found list q i s h = by_test (list_any (same_peer (peer_as q)) (map peer_as list)) refl
+  where
+    by_test : (b : Bool) → list_any (same_peer (peer_as q)) (map peer_as list) ≡ b → b ≡ false
+    by_test true t = absurd (not_missed list q i s t h)
+    by_test false t = refl
 
 first_is : (list : List code.Peer) (q : code.Peer) (i : ℕ) → IsStrictlySortedBy code_peer_cmp list → i < length list → ((d : code.Peer) → code_peer_cmp (get_or list i d) q ≡ Equal) → position_or_len (same_peer (peer_as q)) (map peer_as list) ≡ i
 unfolding IsStrictlySortedBy
@@ -107,14 +109,26 @@ first_is (x ∷ list) q (suc i) s l e =
     let one : position_or_len (same_peer (peer_as q)) (map peer_as (x ∷ list)) ≡ 1 + position_or_len (same_peer (peer_as q)) (map peer_as list) = ap (λ b. cond (not b) (1 + position_or_len (same_peer (peer_as q)) (map peer_as list)) 0) no in
     omega (arith, one, first_is list q i s.1 (omega (arith, l)) (λ d. e d))
 
-pub place_found : (list : List code.Peer) (q : code.Peer) (i : ℕ) → IsStrictlySortedBy code_peer_cmp list → list_any (same_peer (peer_as q)) (map peer_as list) ≡ true → i < length list → IsBinarySearchResult (λ y. code_peer_cmp y q) list (Ok i) → i ≡ peer_index (map peer_as list) (peer_as q)
-place_found list q i s there l h = sym (first_is list q i s l (λ d. h d)) ∙ sym (index_is (peer_as q) (map peer_as list) there)
+is_there : (list : List code.Peer) (q : code.Peer) (i : ℕ) → i < length list → ((d : code.Peer) → code_peer_cmp (get_or list i d) q ≡ Equal) → list_any (same_peer (peer_as q)) (map peer_as list) ≡ true
+is_there [] q i l e = absurd (omega (arith, l))
+is_there (x ∷ list) q zero l e = ap (λ b. b || list_any (same_peer (peer_as q)) (map peer_as list)) (turned (peer_as q) (peer_as x) ∙ (sym (tied_is x q) ∙ ap is_eq (e q)))
+is_there (x ∷ list) q (suc i) l e = ap (λ b. same_peer (peer_as q) (peer_as x) || b) (is_there list q i (omega (arith, l)) (λ d. e d)) ∙ or_true (same_peer (peer_as q) (peer_as x))
+  where
+    or_true : (b : Bool) → (b || true) ≡ true
+    or_true true = refl
+    or_true false = refl
+
+index_at : (list : List code.Peer) (q : code.Peer) (i : ℕ) → IsStrictlySortedBy code_peer_cmp list → i < length list → ((d : code.Peer) → code_peer_cmp (get_or list i d) q ≡ Equal) → IsIndex (map peer_as list) (peer_as q) i
+index_at list q i s l h =
+    let there = is_there list q i l h in
+    (there, sym (first_is list q i s l h) ∙ sym (index_is (peer_as q) (map peer_as list) there))
+
+pub place_found : (list : List code.Peer) (q : code.Peer) (i : ℕ) → IsStrictlySortedBy code_peer_cmp list → i < length list → IsBinarySearchResult (λ y. code_peer_cmp y q) list (Ok i) → IsIndex (map peer_as list) (peer_as q) i
+place_found list q i s l h = index_at list q i s l (λ d. h d)
 
 -- or a place that is tried has it
-pub place_tried : (list : List code.Peer) (q x : code.Peer) (i : ℕ) → IsStrictlySortedBy code_peer_cmp list → list_any (same_peer (peer_as q)) (map peer_as list) ≡ true → i < length list → x ≡ get_or list i x → is_eq (code_peer_cmp x q) ≡ true → i ≡ peer_index (map peer_as list) (peer_as q)
-place_tried list q x i s there l at e =
-    let here : (d : code.Peer) → code_peer_cmp (get_or list i d) q ≡ Equal = λ d. ap (λ y. code_peer_cmp y q) (by_default list i d l ∙ sym at) ∙ equal (code_peer_cmp x q) e in
-    sym (first_is list q i s l here) ∙ sym (index_is (peer_as q) (map peer_as list) there)
+pub place_tried : (list : List code.Peer) (q x : code.Peer) (i : ℕ) → IsStrictlySortedBy code_peer_cmp list → i < length list → x ≡ get_or list i x → is_eq (code_peer_cmp x q) ≡ true → IsIndex (map peer_as list) (peer_as q) i
+place_tried list q x i s l at e = index_at list q i s l (λ d. ap (λ y. code_peer_cmp y q) (by_default list i d l ∙ sym at) ∙ equal (code_peer_cmp x q) e)
   where
     by_default : (ys : List code.Peer) (j : ℕ) (d : code.Peer) → j < length ys → get_or ys j d ≡ get_or ys j x
     by_default [] j d m = absurd (omega (arith, m))
@@ -125,16 +139,3 @@ place_tried list q x i s there l at e =
     equal Less t = absurd cc
     equal Equal t = refl
     equal Greater t = absurd cc
-
--- one of the others
-pub in_others : (peers : List Peer) (f : Cand) (cs : List Cand) (i : ℕ) (x : Cand) → AreIn peers (f ∷ cs) → i < length cs → x ≡ get_or cs i x → list_any (same_peer (peer_as x.via.peer)) peers ≡ true
-in_others peers f cs i x h some at = ap (λ (y : Cand). list_any (same_peer (peer_as y.via.peer)) peers) at ∙ h (suc i) x (omega arith)
-
-pub short_others : (f : Cand) (cs : List Cand) (i : ℕ) (x : Cand) → AreShort (f ∷ cs) → i < length cs → x ≡ get_or cs i x → x.path ≤ 15000
-short_others f cs i x h some at = omega (arith, ap (λ (y : Cand). y.path) at, h (suc i) x (omega arith))
-
-pub next_other : (cs : List Cand) (i : ℕ) (x : Cand) → i < length cs → x ≡ get_or cs i x → map cand_as (drop i cs) ≡ cand_as x ∷ map cand_as (drop (i + 1) cs)
-next_other cs i x some at = ap (map cand_as) (drop_more cs i x some ∙ ap (λ y. y ∷ drop (i + 1) cs) (sym at))
-
-pub no_other : (cs : List Cand) (i : ℕ) → length cs ≤ i → map cand_as (drop i cs) ≡ []
-no_other cs i h = ap (map cand_as) (drop_of_length-le cs h)

@@ -1,6 +1,6 @@
 //! The record that candidates are being put into.
 
-ghost use Rattle.std.specs.Prelude.{◌≡◌, ◌≤◌, ◌<◌, ◌+◌, ◌^◌, ◌++◌, ◌∷◌, Bool, true, List, ℕ, length, flat_map, OnOk};
+ghost use Rattle.std.specs.Prelude.{◌≡◌, ◌≤◌, ◌<◌, ◌+◌, ◌^◌, ◌++◌, ◌∷◌, Bool, true, List, ℕ, length, flat_map, IfOk, OnOk};
 ghost use Rattle.route_model.specs.Events.{Peer};
 ghost use Rattle.route_model.specs.Choice.{Candidates};
 ghost use Rattle.fib_addr.specs.Views.{prefix_as};
@@ -13,7 +13,7 @@ ghost use Rattle.mrt_write.specs.Holds.{OpenHolds, OpenTakes};
 use crate::record::put_rib;
 use fib_addr::Prefix;
 use fib_prefix::Cand;
-use std::alloc::AllocError;
+use std::alloc::{AllocError, Global};
 
 /// The most entries of a record, whose number has two octets.
 const MOST_ENTRIES: u16 = 65_535;
@@ -24,8 +24,8 @@ const MOST_BODY: usize = 16_777_216;
 /// A record that isn't closed yet: its number, its prefix, and its entries so far.
 #[derive(Drop)]
 pub struct Open {
-    /// Its number, from 0.
-    pub number: u64,
+    /// Its number, from 0, to which 2^32 may be added.
+    pub number: u32,
     /// The prefix.
     pub prefix: Prefix,
     /// How many entries.
@@ -49,6 +49,21 @@ fn has_room(prefix: &Prefix, count: u16, octets: usize, cand: &Cand, more: usize
     same & few & small
 }
 
+/// The first record, of this candidate, whose entry has these octets.
+pub fn opened(alloc: Global, cand: &Cand, entry: &[u8]) -> Result<Open, AllocError>
+    ensures { IfOk result (λ o. (o.number ≡ 0) × (o.prefix ≡ cand.now.prefix) × (o.count ≡ 1)
+        × (o.entries.items ≡ entry.now)) }
+{
+    let mut entries = Vec::new(alloc);
+    entries.extend_from_slice(entry)?;
+    Ok(Open {
+        number: 0,
+        prefix: cand.prefix,
+        count: 1,
+        entries,
+    })
+}
+
 impl Open {
     /// Adds the entry of the next candidate, which has these octets: to this record if it has room, else to the next one, before
     /// which this one is put.
@@ -62,11 +77,9 @@ impl Open {
     ) -> Result<(), AllocError>
         requires few { length self.old.entries.items ≤ 16777216 }
         requires short { length entry.now ≤ 65548 }
-        requires number { self.old.number + 1 < 2 ^ 64 }
         ensures takes { OnOk result (OpenTakes ids (cand_as cand.now) entry.now
             self.old out.old.items self.new out.new.items) }
         ensures few { OnOk result (length self.new.entries.items ≤ 16777216) }
-        ensures number { OnOk result (self.new.number ≤ self.old.number + 1) }
     {
         let octets: &[u8] = &self.entries;
         if has_room(&self.prefix, self.count, octets.len(), cand, entry.len()) {
@@ -82,7 +95,7 @@ impl Open {
             body,
             out,
         )?;
-        self.number += 1;
+        self.number = self.number.wrapping_add(1);
         self.prefix = cand.prefix;
         self.count = 1;
         self.entries.clear();

@@ -27,19 +27,8 @@ pub fn put_peer(peer: &Peer, out: &mut Vec<u8>) -> Result<(), AllocError>
     put_u32(peer.asn, out)
 }
 
-/// The peers of candidates, each once.
-fn peer_set(alloc: Global, cands: &[Cand]) -> Result<BTreeSet<Peer>, AllocError>
-    ensures { IfOk result (λ set. map peer_as set.keys ≡ peers_with_candidates (map cand_as cands.now)) }
-{
-    let mut set = BTreeSet::new(alloc);
-    for cand in cands {
-        set.insert(cand.via.peer)?;
-    }
-    Ok(set)
-}
-
-/// They, in a list.
-fn listed(alloc: Global, set: &BTreeSet<Peer>) -> Result<Vec<Peer>, AllocError>
+/// The peers of a set, in a list.
+pub fn listed(alloc: Global, set: &BTreeSet<Peer>) -> Result<Vec<Peer>, AllocError>
     ensures list { IfOk result (λ list. list.items ≡ set.now.keys) }
     ensures sorted { IfOk result (λ list. IsStrictlySortedBy code_peer_cmp list.items) }
 {
@@ -48,15 +37,6 @@ fn listed(alloc: Global, set: &BTreeSet<Peer>) -> Result<Vec<Peer>, AllocError>
         list.push(*peer)?;
     }
     Ok(list)
-}
-
-/// The peers that have a candidate, in their order.
-pub fn peers_with_candidates(alloc: Global, cands: &[Cand]) -> Result<Vec<Peer>, AllocError>
-    ensures peers { IfOk result (λ list. map peer_as list.items ≡ peers_with_candidates (map cand_as cands.now)) }
-    ensures sorted { IfOk result (λ list. IsStrictlySortedBy code_peer_cmp list.items) }
-{
-    let set = peer_set(alloc, cands)?;
-    listed(alloc, &set)
 }
 
 /// Puts the body of a peer table: Collector BGP ID, an empty View Name, Peer Count, the peers.

@@ -27,7 +27,7 @@ fn subtype_of(ids: bool, family: Family) -> u16
 
 /// Puts the record of a piece: of this prefix, with so many entries in these octets. There is `body` for its body.
 pub fn put_rib(
-    number: u64,
+    number: u32,
     ids: bool,
     prefix: &Prefix,
     count: u16,
@@ -41,7 +41,7 @@ pub fn put_rib(
         → out.new.items ≡ out.old.items ++ piece_record peers ids number p) }
 {
     body.clear();
-    put_u32((number % (1 << 32)) as u32, body)?;
+    put_u32(number, body)?;
     put_prefix(prefix, body)?;
     put_u16(count, body)?;
     body.extend_from_slice(entries)?;

@@ -1,7 +1,6 @@
 -- The candidates of all prefixes that rows and ranks have are all candidates.
-use Rattle.std.proofs.Common.{◌≡◌, List, [], ◌∷◌, ◌++◌, Bool, true, false, cond, Option, Some, None, refl, sym, ap, ◌∙◌, append_assoc, append-nil}
-use Rattle.std.specs.Prelude.{option_map, map, filter, ◌&&◌, ◌||◌, Result, Ok, Err, IfOk}
-use Rattle.std.specs.declared.vec.Vec.{Vec}
+use Rattle.std.proofs.Common.{◌≡◌, List, [], ◌∷◌, ◌++◌, Bool, true, false, cond, Option, Some, None, refl, sym, ap, ◌∙◌}
+use Rattle.std.specs.Prelude.{option_map, map, filter, ◌&&◌, ◌||◌}
 use Rattle.std.specs.List.{AllByRecursion, list_any}
 use Rattle.std.specs.List.Sorted.{IsStrictlySortedBy}
 use Rattle.std.specs.Map.{lookup, keys_of}
@@ -260,47 +259,21 @@ module _ (seats : Seats) where
           let x : option_map offer_as (offer_at seats r.0) ≡ Some v = sym (at_seat r.0 seats) ∙ (ap (λ k. lookup (same_place k) held) r.1 ∙ e) in
           ap (λ b. cond b (lookup (same_place q) held) None) (by_offer q v r.0 r.1 (offer_at seats r.0) refl x)
 
--- ---- walks
+-- ---- those of a prefix, by what was gathered for it
 
-pub prefix_pushed : (seats : Seats) (old new whole : Candidates) (p : code.Prefix) (it rest : List code.Prefix) → it ≡ p ∷ rest → new ≡ old ++ held_at seats p → old ++ held_for seats it ≡ whole → new ++ held_for seats rest ≡ whole
-prefix_pushed seats old new whole p it rest i n h =
-    ap (λ xs. xs ++ held_for seats rest) n
-    ∙ (append_assoc old (held_at seats p) (held_for seats rest) ∙ (ap (λ xs. old ++ xs) (sym (held_more seats p rest)) ∙ (ap (λ ps. old ++ held_for seats ps) (sym i) ∙ h)))
-
-pub all_pushed : (seats : Seats) (old whole : Candidates) (it : List code.Prefix) → it ≡ [] → old ++ held_for seats it ≡ whole → old ≡ whole
-all_pushed seats old whole it i h = sym (append-nil old) ∙ (ap (λ xs. old ++ xs) (sym (held_none seats)) ∙ (ap (λ ps. old ++ held_for seats ps) (sym i) ∙ h))
-
-pub cand_pushed : (old : List Cand) (c : Cand) → map cand_as (old ++ c ∷ []) ≡ map cand_as old ++ cand_as c ∷ []
-cand_pushed [] c = refl
-cand_pushed (x ∷ old) c = ap (λ xs. cand_as x ∷ xs) (cand_pushed old c)
-
-pub cand_behind : (p : code.Prefix) (e : Via × Offer) (c : Cand) (old new : List Cand) → cand_as c ≡ by_way p e → new ≡ old ++ c ∷ [] → map cand_as new ≡ map cand_as old ++ by_way p e ∷ []
-cand_behind p e c old new is n = ap (map cand_as) n ∙ (cand_pushed old c ∙ ap (λ x. map cand_as old ++ x ∷ []) is)
-
-pub way_pushed : (p : code.Prefix) (old new whole : Candidates) (it rest : Ways) (e : Via × Offer) → it ≡ e ∷ rest → new ≡ old ++ by_way p e ∷ [] → old ++ by_ways p it ≡ whole → new ++ by_ways p rest ≡ whole
-way_pushed p old new whole it rest e i n h = ap (λ xs. xs ++ by_ways p rest) n ∙ (append_assoc old (by_way p e ∷ []) (by_ways p rest) ∙ (ap (λ ws. old ++ by_ways p ws) (sym i) ∙ h))
-
-pub ways_pushed : (p : code.Prefix) (old whole : Candidates) (it : Ways) → it ≡ [] → old ++ by_ways p it ≡ whole → old ≡ whole
-ways_pushed p old whole it i h = sym (append-nil old) ∙ (ap (λ ws. old ++ by_ways p ws) (sym i) ∙ h)
-
--- the candidates of a prefix are pushed, by what was gathered for it
-pub gathered_pushed : (base over : Seats) (p : code.Prefix) (none mid now : Ways) (old new : Candidates) → AreApart base over → none ≡ [] → AddsWays base p none mid → AddsWays over p mid now → IsStrictlySortedBy code_via_cmp (keys_of now) → new ≡ old ++ by_ways p now → new ≡ old ++ held_at (base ++ over) p
-gathered_pushed base over p none mid now old new apart e first then s h = h ∙ ap (λ xs. old ++ xs) (ways_are (base ++ over) p now s (both_gathered base over p none mid now e apart first then))
+gathered_are : (base over : Seats) (p : code.Prefix) (none mid now : Ways) → AreApart base over → none ≡ [] → AddsWays base p none mid → AddsWays over p mid now → IsStrictlySortedBy code_via_cmp (keys_of now) → by_ways p now ≡ held_at (base ++ over) p
+gathered_are base over p none mid now apart e first then s = ways_are (base ++ over) p now s (both_gathered base over p none mid now e apart first then)
 
 -- those of the base alone, and with those of the maps
-pub list_pushed : (base over : Seats) (p : code.Prefix) (ways list : Ways) (old new : Candidates) → AreApart base over → AddsWays base p [] ways → AddsWays over p ways ways → IsStrictlySortedBy code_via_cmp (keys_of ways) → list ≡ ways → new ≡ old ++ by_ways p list → new ≡ old ++ held_at (base ++ over) p
-list_pushed base over p ways list old new apart first then s e h = gathered_pushed base over p [] ways ways old new apart refl first then s (h ∙ ap (λ ws. old ++ by_ways p ws) e)
+pub list_are : (base over : Seats) (p : code.Prefix) (ways list : Ways) → AreApart base over → AddsWays base p [] ways → AddsWays over p ways ways → IsStrictlySortedBy code_via_cmp (keys_of ways) → list ≡ ways → by_ways p list ≡ held_at (base ++ over) p
+list_are base over p ways list apart first then s e = ap (by_ways p) e ∙ gathered_are base over p [] ways ways apart refl first then s
 
-pub map_pushed : (base over : Seats) (p : code.Prefix) (ways list mid now : Ways) (old new : Candidates) → AreApart base over → AddsWays base p [] ways → list ≡ ways → ((v : Via) → way_offer mid v ≡ way_offer list v) → AddsWays over p mid now → IsStrictlySortedBy code_via_cmp (keys_of now) → new ≡ old ++ by_ways p now → new ≡ old ++ held_at (base ++ over) p
-map_pushed base over p ways list mid now old new apart first e same then s h = gathered_pushed base over p [] mid now old new apart refl (λ v. same v ∙ (ap (λ ws. way_offer ws v) e ∙ first v)) then s h
+pub map_are : (base over : Seats) (p : code.Prefix) (ways list mid now : Ways) → AreApart base over → AddsWays base p [] ways → list ≡ ways → ((v : Via) → way_offer mid v ≡ way_offer list v) → AddsWays over p mid now → IsStrictlySortedBy code_via_cmp (keys_of now) → by_ways p now ≡ held_at (base ++ over) p
+map_are base over p ways list mid now apart first e same then s = gathered_are base over p [] mid now apart refl (λ v. same v ∙ (ap (λ ws. way_offer ws v) e ∙ first v)) then s
 
 pub all_octets : (cs : List Cand) → AllByRecursion IsOfOctets (map cand_as cs)
 all_octets [] = tt
 all_octets (c ∷ cs) = (of_octets c, all_octets cs)
 
-pub octets_of : {A E : Type 0} (r : Result (Vec Cand A) E) → IfOk r (λ cs. AllByRecursion IsOfOctets (map cand_as cs.items))
-octets_of (Ok cs) = all_octets cs.items
-octets_of (Err e) = tt
-
-pub by_all_prefixes : (b : Flat) (over : Seats) (ranks : List Rank) (ps read : List code.Prefix) (cs : Candidates) → IsIndexed over ranks → HasRows b.rows.items ps → HasRanks ranks ps → IsStrictlySortedBy code_cmp ps → read ≡ ps → cs ≡ held_for (both b over) read → cs ≡ held_in (both b over)
-by_all_prefixes b over ranks ps read cs i rows has s e h = h ∙ (ap (held_for (both b over)) e ∙ held_all (both b over) ps s (covered b over ranks ps i rows has))
+pub by_all_prefixes : (b : Flat) (over : Seats) (ranks : List Rank) (ps read : List code.Prefix) → IsIndexed over ranks → HasRows b.rows.items ps → HasRanks ranks ps → IsStrictlySortedBy code_cmp ps → read ≡ ps → held_for (both b over) read ≡ held_in (both b over)
+by_all_prefixes b over ranks ps read i rows has s e = ap (held_for (both b over)) e ∙ held_all (both b over) ps s (covered b over ranks ps i rows has)

@@ -11,3 +11,4 @@ pub mod AllPrefixes
 pub mod RankWays
 pub mod ListWays
 pub mod AllCandidates
+pub mod Handed

@@ -3,22 +3,24 @@
 ghost use Rattle.std.specs.Prelude.{◌≡◌, [], map, option_map, Some, None, IfOk, OnOk, OnErr};
 ghost use Rattle.fib_addr.specs.Views.{addr_as, prefix_as, route_as};
 ghost use Rattle.std.specs.List.{AllByRecursion};
-ghost use Rattle.fib_prefix.specs.Views.{IsOfOctets, cand_as, peer_as, event_as, elem_as};
+ghost use Rattle.fib_prefix.specs.Views.{IsOfOctets, peer_as, event_as, elem_as};
 ghost use Rattle.route_model.specs.Choice.{AreCandidates, after_elem, elems_of, chosen_for, routes_of};
+ghost use Rattle.cand_rows.specs.Taken.{Takes};
 ghost use Rattle.flat_base.specs.Seats.{held_in};
 ghost use Rattle.flat_base.specs.Flat.{IsFlat, AreApart, flat_seats, both};
 ghost use Rattle.route_choice.specs.Held.{Held, IsChoice, IsPlanned, pick_elem};
 ghost use Rattle.route_choice.specs.Kept.{IsKept};
 ghost use Rattle.route_choice.specs.Space.{HasSpace, planned_elem, over_of as over};
 
-use crate::all::all_candidates;
+use crate::all::hand_candidates;
 use crate::both::{best_of, carry_one, choice_of, load_elem, make_space, plan_of};
 use crate::choice::{Choice, Pick};
 use crate::down::cuts_of;
 use crate::over::give_back;
 use crate::plan::{Plan, over_of};
 use crate::routes::routes_of as all_routes;
-use fib_prefix::{Addr, Cand, Elem, Event, Peer, Prefix};
+use cand_rows::CandSink;
+use fib_prefix::{Addr, Elem, Event, Peer, Prefix};
 use flat_base::{Flat, Offer, Rank, Seat};
 use std::alloc::{AllocError, Global};
 use std::collections::{BTreeMap, BTreeSet};
@@ -192,18 +194,20 @@ impl Candidates {
     {
         all_routes(self.alloc, &self.flat, &self.seats, &self.ranks)
     }
-    /// All candidates, in the order of prefixes, then of ways.
+
+    /// Hands on all candidates one by one, in the order of prefixes, then of ways. No list of them is made, but one of their prefixes.
     ///
     /// # Errors
     ///
-    /// No memory.
-    pub fn all(&self) -> Result<Vec<Cand>, AllocError>
-        ensures candidates { IfOk result (λ cands. map cand_as cands.items
-            ≡ self.now.candidates) }
-        ensures octets { IfOk result (λ cands. AllByRecursion IsOfOctets
-            (map cand_as cands.items)) }
+    /// No memory; then a front of the candidates was taken.
+    pub fn hand_all<S: CandSink>(&self, out: &mut S) -> Result<(), AllocError>
+        requires { S.ready out.old }
+        ensures ready { OnOk result (S.ready out.new) }
+        ensures takes { OnOk result (Takes S.takes out.old self.now.candidates out.new) }
+        ensures octets { OnOk result (AllByRecursion IsOfOctets self.now.candidates) }
         ensures held { AreCandidates self.now.candidates }
     {
-        all_candidates(self.alloc, &self.flat, &self.seats, &self.ranks)
+        hand_candidates(self.alloc, &self.flat, &self.seats, &self.ranks, out)?;
+        Ok(())
     }
 }

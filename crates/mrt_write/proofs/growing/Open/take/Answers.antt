@@ -1,4 +1,4 @@
-use Rattle.std.proofs.Common.{ap, sym, ◌∙◌, ◌+◌, ◌++◌, refl, length}
+use Rattle.std.proofs.Common.{ap, sym, ◌∙◌, ◌+◌, ◌%◌, ◌^◌, ◌++◌, refl, length}
 use Rattle.fib_prefix.specs.Views.{cand_as}
 use Rattle.mrt_write.specs.declared.growing.Open.{Open}
 use Rattle.octet_put.proofs.Written.{last_put}
@@ -18,7 +18,7 @@ returns-then-has_room-clause-takes c =
 pub returns-clause-takes : goal.returns-clause-takes
 returns-clause-takes c =
     let old : Open = c.args.self.now in
-    let new : Open = record { number = old.number + 1; prefix = c.args.cand.now.prefix; count = 1; entries = c.extend_from_slice-2.new.self } in
+    let new : Open = record { number = (old.number + 1) % 2 ^ 32; prefix = c.args.cand.now.prefix; count = 1; entries = c.extend_from_slice-2.new.self } in
     let entry = c.args.entry.now in
     on_ok c.extend_from_slice-2.result (last_put c.extend_from_slice-2.result new.entries.items c.clear.new.self.items entry entry c.extend_from_slice-2.ensures.items (ap (λ xs. xs ++ entry) c.clear.ensures.items))
     (λ items peers rest whole e o. open_closes peers c.args.ids old new c.args.out.now.items c.put_rib.new.out.items (cand_as c.args.cand.now) entry rest whole refl refl refl items e

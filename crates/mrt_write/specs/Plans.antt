@@ -1,0 +1,36 @@
+-- What a plan knows of candidates, and what it begins.
+use Rattle.std.specs.Prelude.{◌≡◌, ℕ, ◌≤◌, List, [], ◌++◌, length, map, option_map, None, Result, Ok, Err}
+use Rattle.std.proofs.Common.{sym, subst, append_assoc, append-nil}
+use Rattle.route_model.specs.Choice.{Candidates}
+use Rattle.fib_prefix.specs.Views.{cand_as, peer_as}
+use Rattle.fib_prefix.specs.declared.event.Cand.{Cand}
+use Rattle.saved_model.specs.Checkpoint.{has_ids}
+use Rattle.saved_model.specs.Saved.{peers_with_candidates, most_peers, long_one, saved}
+use Rattle.mrt_write.specs.Answers.{WriterAnswers}
+use Rattle.mrt_write.specs.Dumps.{IsReady, Writes}
+use Rattle.mrt_write.specs.declared.plan.DumpPlan.{DumpPlan}
+use Rattle.mrt_write.specs.declared.dump.DumpWriter.{DumpWriter}
+use Rattle.mrt_write.specs.declared.write.WriteError.{WriteError}
+
+-- which peers have one, whether any has a path identifier, and the first whose path is too long
+pub record Knows (plan : DumpPlan) (cands : List Cand) : Type 0 where
+  pub peers : map peer_as plan.peers.keys ≡ peers_with_candidates (map cand_as cands)
+  pub ids : plan.ids ≡ has_ids (map cand_as cands)
+  pub long : option_map cand_as plan.long ≡ long_one (map cand_as cands)
+
+-- it knows of these candidates, behind all of which it knew
+abbrev pub Learns : DumpPlan → List Cand → DumpPlan → Type 0
+Learns before cands now = (old : List Cand) → Knows before old → Knows now (old ++ cands)
+
+-- Checkpoint begun, which becomes that of the candidates once they were put into it; or why there is none.
+abbrev pub PlanAnswers : Candidates → Result DumpWriter WriteError → Type 0
+PlanAnswers held (Ok w) = (length (peers_with_candidates held) ≤ most_peers) × (long_one held ≡ None) × IsReady w × Writes w held (saved held)
+PlanAnswers held (Err error) = WriterAnswers {A = ℕ} held (Err error)
+
+-- ---- candidates behind candidates
+
+pub learns_none : (a : DumpPlan) → Learns a [] a
+learns_none a = λ old k. subst (Knows a) (sym (append-nil old)) k
+
+pub learns_more : (a b c : DumpPlan) (cands more : List Cand) → Learns a cands b → Learns b more c → Learns a (cands ++ more) c
+learns_more a b c cands more first next = λ old k. subst (Knows c) (append_assoc old cands more) (next (old ++ cands) (first old k))

@@ -1,0 +1,139 @@
+//! Whole checkpoints, of candidates that come one by one.
+
+ghost use Rattle.std.specs.Prelude.{◌≡◌, ◌≤◌, ◌++◌, List, [], ◌∷◌, ℕ, Bool, None, length, map, OnOk, IfOk};
+ghost use Rattle.std.specs.List.Sorted.{IsStrictlySortedBy};
+ghost use Rattle.fib_prefix.specs.Order.{code_peer_cmp};
+ghost use Rattle.fib_prefix.specs.Views.{cand_as, peer_as};
+ghost use Rattle.saved_model.specs.Entries.{entry_octets};
+ghost use Rattle.saved_model.specs.Checkpoint.{table_body};
+ghost use Rattle.written_model.specs.Octets.{record_octets};
+ghost use Rattle.mrt_write.specs.Dumps.{IsBegun, IsReady, Puts, Writes, puts_more, puts_none};
+
+use crate::entry::{Scratch, put_entry};
+use crate::growing::{Open, opened};
+use crate::index::index_near;
+use crate::peers::put_table;
+use crate::record::put_rib;
+use crate::write::MOST_PATH;
+use cand_rows::CandSink;
+use fib_prefix::{Cand, Peer};
+use octet_put::put_record;
+use std::alloc::{AllocError, Global};
+
+/// A checkpoint that candidates are being put into, in the order of prefixes, then of ways, each once: an MRT dump that is read as
+/// exactly these (`saved_model`). Its octets are in memory, some 30 a candidate.
+///
+/// A candidate of another peer than the plan's, or with a path that is too long, is left out.
+#[derive(Drop)]
+pub struct DumpWriter {
+    alloc: Global,
+    peers: Vec<Peer>,
+    ids: bool,
+    // the index of the last candidate's peer
+    last: u16,
+    open: Option<Open>,
+    scratch: Scratch,
+    // the octets of the next entry
+    next: Vec<u8>,
+    body: Vec<u8>,
+    out: Vec<u8>,
+}
+
+impl DumpWriter {
+    /// Begins a checkpoint with the table of these peers.
+    pub(crate) fn begin(
+        alloc: Global,
+        peers: Vec<Peer>,
+        ids: bool,
+    ) -> Result<DumpWriter, AllocError>
+        requires few { length peers.items ≤ 65535 }
+        ensures { IfOk result (IsBegun peers.items ids) }
+    {
+        let mut body = Vec::new(alloc);
+        put_table(&peers, &mut body)?;
+        let mut out = Vec::new(alloc);
+        put_record(13, 1, &body, &mut out)?;
+        Ok(DumpWriter {
+            alloc,
+            peers,
+            ids,
+            last: 0,
+            open: None,
+            scratch: Scratch::new(alloc),
+            next: Vec::new(alloc),
+            body,
+            out,
+        })
+    }
+
+    /// Adds the entry of the next candidate, to the open record or to a new one.
+    fn take_entry(&mut self, cand: &Cand) -> Result<(), AllocError>
+        requires ready { IsReady self.old }
+        requires short { length self.old.next.items ≤ 65548 }
+        ensures ready { OnOk result (IsReady self.new) }
+        ensures puts { OnOk result (self.old.next.items
+            ≡ entry_octets (map peer_as self.old.peers.items) self.old.ids (cand_as cand.now)
+            → Puts self.old (cand.now ∷ []) self.new) }
+    {
+        match &mut self.open {
+            Some(open) => open.take(self.ids, cand, &self.next, &mut self.body, &mut self.out),
+            None => {
+                self.open = Some(opened(self.alloc, cand, &self.next)?);
+                Ok(())
+            }
+        }
+    }
+
+    /// The octets of the whole checkpoint.
+    ///
+    /// # Errors
+    ///
+    /// No memory.
+    pub fn finish(self) -> Result<Vec<u8>, AllocError>
+        requires { IsReady self }
+        ensures { IfOk result (λ octets. (whole : List ℕ) → Writes self [] whole → octets.items ≡ whole) }
+    {
+        let DumpWriter {
+            ids,
+            open,
+            mut body,
+            mut out,
+            ..
+        } = self;
+        if let Some(open) = open {
+            put_rib(
+                open.number,
+                ids,
+                &open.prefix,
+                open.count,
+                &open.entries,
+                &mut body,
+                &mut out,
+            )?;
+        }
+        Ok(out)
+    }
+}
+
+impl CandSink for DumpWriter {
+    ghost ready = { IsReady };
+
+    ghost takes = { Puts };
+
+    ghost none = { λ a ready. puts_none a };
+
+    ghost more = { puts_more };
+
+    fn put(&mut self, cand: &Cand) -> Result<(), AllocError> {
+        if cand.path > MOST_PATH {
+            return Ok(());
+        }
+        let Some(index) = index_near(&self.peers, &cand.via.peer, self.last) else {
+            return Ok(());
+        };
+        self.last = index;
+        self.next.clear();
+        put_entry(index, self.ids, cand, &mut self.scratch, &mut self.next)?;
+        self.take_entry(cand)
+    }
+}
