@@ -2,11 +2,14 @@
 use Rattle.std.specs.Prelude.{◌≡◌, ℕ, ◌≤◌, List, [], ◌++◌, length, map, option_map, None, Result, Ok, Err}
 use Rattle.std.proofs.Common.{sym, subst, append_assoc, append-nil}
 use Rattle.route_model.specs.Choice.{Candidates}
+use Rattle.std.specs.List.Sorted.{IsStrictlySortedBy}
+use Rattle.fib_prefix.specs.Order.{code_peer_cmp}
 use Rattle.fib_prefix.specs.Views.{cand_as, peer_as}
 use Rattle.fib_prefix.specs.declared.event.Cand.{Cand}
 use Rattle.saved_model.specs.Checkpoint.{has_ids}
 use Rattle.saved_model.specs.Saved.{peers_with_candidates, most_peers, long_one, saved}
 use Rattle.mrt_write.specs.Answers.{WriterAnswers}
+use Rattle.mrt_write.specs.Met.{AreAmong}
 use Rattle.mrt_write.specs.Dumps.{IsReady, Writes}
 use Rattle.mrt_write.specs.declared.plan.DumpPlan.{DumpPlan}
 use Rattle.mrt_write.specs.declared.dump.DumpWriter.{DumpWriter}
@@ -17,6 +20,11 @@ pub record Knows (plan : DumpPlan) (cands : List Cand) : Type 0 where
   pub peers : map peer_as plan.peers.keys ≡ peers_with_candidates (map cand_as cands)
   pub ids : plan.ids ≡ has_ids (map cand_as cands)
   pub long : option_map cand_as plan.long ≡ long_one (map cand_as cands)
+
+-- its peers are in their order, and those that are found at once are among them
+pub record HasMet (plan : DumpPlan) : Type 0 where
+  pub sorted : IsStrictlySortedBy code_peer_cmp plan.peers.keys
+  pub among : AreAmong (map peer_as plan.peers.keys) plan.met
 
 -- it knows of these candidates, behind all of which it knew
 abbrev pub Learns : DumpPlan → List Cand → DumpPlan → Type 0
