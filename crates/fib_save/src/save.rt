@@ -78,10 +78,10 @@ fn checkpoint(alloc: Global, candidates: &Candidates) -> Result<Vec<u8>, WriteEr
 /// The checkpoint of the candidates that the dump and then the updates, if they are named, bring: an MRT dump that is read as exactly
 /// these (`saved_model`).
 ///
-/// All is read before the candidates are handed on, and they are handed on twice: once for what must be known before the first octet,
-/// and then to be written. In memory are one record and the peer table, or the candidates' prefixes (48 octets each), and beside
-/// them the candidates (some 20 octets each, and 56 a prefix) and at the end the octets (some 30 a candidate), but no list of
-/// candidates.
+/// All is read before the candidates are handed on, which they are twice, one by one: first for what must be known before the first
+/// octet, then to be written. In memory are one record and the peer table, until all is read; the candidates, 24 octets each and 32
+/// a prefix where they came in the order of prefixes; while they are handed on a list of their prefixes, 48 octets each; and the
+/// octets that are written, some 30 a candidate. There is no list of candidates.
 ///
 /// # Errors
 ///

@@ -50,8 +50,7 @@ pub put_among : (keys new met : List code.Peer) (c : Cand) → new ≡ insert_ke
     → AllByRecursion (λ x. list_any (same_peer (peer_as x)) (map peer_as new) ≡ true) met × (list_any (same_peer (peer_as c.via.peer)) (map peer_as new) ≡ true)
 put_among keys new met c h a =
     let q = c.via.peer in
-    let e : insert_key peer_cmp (map peer_as keys) (peer_as q) ≡ map peer_as new = sym (ap (map peer_as) h ∙ inserted_as keys q) in
-    (
+    let e : insert_key peer_cmp (map peer_as keys) (peer_as q) ≡ map peer_as new = sym (ap (map peer_as) h ∙ inserted_as keys q) in (
       subst (λ ps. AllByRecursion (λ x. list_any (same_peer (peer_as x)) ps ≡ true) met) e (stay_among (map peer_as keys) met c a),
       subst (λ ps. list_any (same_peer (peer_as q)) ps ≡ true) e (has_peer (peer_as q) (map peer_as keys) (is_peer q) (all_peers keys)),
     )
