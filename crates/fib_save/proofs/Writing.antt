@@ -8,7 +8,7 @@ use Rattle.cand_rows.specs.Taken.{Takes}
 use Rattle.saved_model.specs.Saved.{saved}
 use Rattle.mrt_write.specs.Answers.{WriterAnswers}
 use Rattle.mrt_write.specs.Plans.{Knows, Learns, PlanAnswers}
-use Rattle.mrt_write.specs.Dumps.{IsReady, Puts, Writes}
+use Rattle.mrt_write.specs.Dumps.{Puts, Writes}
 use Rattle.mrt_write.specs.declared.plan.DumpPlan.{DumpPlan}
 use Rattle.mrt_write.specs.declared.dump.DumpWriter.{DumpWriter}
 use Rattle.mrt_write.specs.declared.write.WriteError.{WriteError}
@@ -21,13 +21,10 @@ Begins plan result = (cands : List Cand) → Knows plan cands → PlanAnswers (m
 pub plan_answers : (none plan : DumpPlan) (held : Candidates) (result : Result DumpWriter WriteError) → Knows none [] → Takes Learns none held plan → Begins plan result → PlanAnswers held result
 plan_answers none plan held result k t b = subst (λ h. PlanAnswers h result) t.are (b t.cands (t.took [] k))
 
-pub begun_is_ready : (none plan : DumpPlan) (held : Candidates) (dump : DumpWriter) → Knows none [] → Takes Learns none held plan → Begins plan (Ok dump) → IsReady dump
-begun_is_ready none plan held dump k t b = (plan_answers none plan held (Ok dump) k t b).2
-
 pub all_written : {A : Type 0} (none plan : DumpPlan) (held : Candidates) (dump last : DumpWriter) (v : Vec ℕ A) → Knows none [] → Takes Learns none held plan → Begins plan (Ok dump) → Takes Puts dump held last → ((whole : List ℕ) → Writes last [] whole → v.items ≡ whole) → WriterAnswers {A = A} held (Ok v)
 all_written none plan held dump last v k t b u end =
     let answers = plan_answers none plan held (Ok dump) k t b in
-    (answers.0, answers.1, end (saved held) (u.took [] (saved held) (subst (λ h. Writes dump h (saved held)) (sym (append-nil (map cand_as u.cands) ∙ u.are)) answers.3)))
+    (answers.0, answers.1, end (saved held) (u.took [] (saved held) (subst (λ h. Writes dump h (saved held)) (sym (append-nil (map cand_as u.cands) ∙ u.are)) answers.2)))
 
 refused : (A : Type 0) (held : Candidates) (error : WriteError) → PlanAnswers held (Err error) → WriterAnswers {A = A} held (Err error)
 refused A held (PeersFull n) h = h

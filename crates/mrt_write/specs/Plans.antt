@@ -10,7 +10,7 @@ use Rattle.saved_model.specs.Checkpoint.{has_ids}
 use Rattle.saved_model.specs.Saved.{peers_with_candidates, most_peers, long_one, saved}
 use Rattle.mrt_write.specs.Answers.{WriterAnswers}
 use Rattle.mrt_write.specs.Met.{AreAmong}
-use Rattle.mrt_write.specs.Dumps.{IsReady, Writes}
+use Rattle.mrt_write.specs.Dumps.{Writes}
 use Rattle.mrt_write.specs.declared.plan.DumpPlan.{DumpPlan}
 use Rattle.mrt_write.specs.declared.dump.DumpWriter.{DumpWriter}
 use Rattle.mrt_write.specs.declared.write.WriteError.{WriteError}
@@ -32,7 +32,7 @@ Learns before cands now = (old : List Cand) → Knows before old → Knows now (
 
 -- Checkpoint begun, which becomes that of the candidates once they were put into it; or why there is none.
 abbrev pub PlanAnswers : Candidates → Result DumpWriter WriteError → Type 0
-PlanAnswers held (Ok w) = (length (peers_with_candidates held) ≤ most_peers) × (long_one held ≡ None) × IsReady w × Writes w held (saved held)
+PlanAnswers held (Ok w) = (length (peers_with_candidates held) ≤ most_peers) × (long_one held ≡ None) × Writes w held (saved held)
 PlanAnswers held (Err error) = WriterAnswers {A = ℕ} held (Err error)
 
 -- ---- candidates behind candidates

@@ -1,11 +1,12 @@
 //! What must be known of candidates before the first octet is written.
 
-ghost use Rattle.std.specs.Prelude.{◌≡◌, ◌||◌, List, [], ◌∷◌, map, option_map, OnOk};
+ghost use Rattle.std.specs.Prelude.{◌≡◌, ◌||◌, List, [], ◌∷◌, map, option_map, IfOk, OnOk};
 ghost use Rattle.std.specs.Option.{option_or};
 ghost use Rattle.fib_prefix.specs.declared.event.Cand.{Cand as CodeCand};
 ghost use Rattle.fib_prefix.specs.Views.{cand_as};
 ghost use Rattle.saved_model.specs.Checkpoint.{has_ids};
 ghost use Rattle.saved_model.specs.Saved.{long_one};
+ghost use Rattle.mrt_write.specs.Dumps.{IsReady};
 ghost use Rattle.mrt_write.specs.Plans.{HasMet, Knows, Learns, PlanAnswers, learns_more, learns_none};
 
 use crate::dump::DumpWriter;
@@ -70,7 +71,9 @@ impl DumpPlan {
     ///
     /// More than 65,535 peers have a candidate; else the first candidate whose path is longer than 15,000; else no memory.
     pub fn begin(&self) -> Result<DumpWriter, WriteError>
-        ensures { (cands : List CodeCand) → Knows self.now cands → PlanAnswers (map cand_as cands) result }
+        ensures ready { IfOk result IsReady }
+        ensures answers { (cands : List CodeCand) → Knows self.now cands
+            → PlanAnswers (map cand_as cands) result }
     {
         let peers = listed(self.alloc, &self.peers)?;
         if peers.len() > MOST_PEERS {
