@@ -1,2 +1,3 @@
 pub mod Taking
 pub mod Saving
+pub mod Writing

@@ -11,8 +11,7 @@ ghost use Rattle.fib_save.specs.Saves.{BringsNone, SaveAnswers, SaveFaults, Save
 
 use crate::input::take_input;
 use fib_io::Inputs;
-use fib_prefix::Cand;
-use mrt_write::{WriteError, write_dump};
+use mrt_write::{DumpPlan, WriteError};
 use route_choice::Candidates;
 use std::alloc::Global;
 use thiserror::Error;
@@ -62,28 +61,27 @@ fn candidates_of<I: Inputs>(
     Ok(candidates)
 }
 
-/// No list is as long as this: its candidates would take more octets than there are addresses.
-const TOO_MANY: usize = 1 << 60;
-
 /// The checkpoint of candidates.
 fn checkpoint(alloc: Global, candidates: &Candidates) -> Result<Vec<u8>, WriteError>
     ensures written { WriterAnswers candidates.now.candidates result }
     ensures octets { OnOk result (AllByRecursion IsOfOctets candidates.now.candidates) }
     ensures held { AreCandidates candidates.now.candidates }
 {
-    let list = candidates.all()?;
-    let cands: &[Cand] = &list;
-    if cands.len() >= TOO_MANY {
-        return Err(WriteError::NoMemory);
-    }
-    write_dump(alloc, cands)
+    let mut plan = DumpPlan::new(alloc);
+    candidates.hand_all(&mut plan)?;
+    let mut dump = plan.begin()?;
+    candidates.hand_all(&mut dump)?;
+    let octets = dump.finish()?;
+    Ok(octets)
 }
 
 /// The checkpoint of the candidates that the dump and then the updates, if they are named, bring: an MRT dump that is read as exactly
 /// these (`saved_model`).
 ///
-/// All is read before the candidates are put into a list, and the list before it is written. In memory are one record, the peer
-/// table, the candidates, and at the end their list and the octets.
+/// All is read before the candidates are handed on, which they are twice, one by one: first for what must be known before the first
+/// octet, then to be written. In memory are one record and the peer table, until all is read; the candidates, 24 octets each and 32
+/// a prefix where they came in the order of prefixes; while they are handed on a list of their prefixes, 48 octets each; and the
+/// octets that are written, some 30 a candidate. There is no list of candidates.
 ///
 /// # Errors
 ///

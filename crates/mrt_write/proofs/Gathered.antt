@@ -42,6 +42,10 @@ pub gather_more : (keys new : List code.Peer) (cs : List code_cand.Cand) (c : co
 unfolding peers_with_candidates
 gather_more keys new cs c e h = ap (map peer_as) e ∙ (inserted_as keys c.via.peer ∙ (ap (λ ps. insert_key peer_cmp ps (peer_as c.via.peer)) h ∙ sym (gather_behind [] cs c)))
 
+pub gather_same : (keys : List code.Peer) (cs : List code_cand.Cand) (c : code_cand.Cand) → insert_key peer_cmp (map peer_as keys) (peer_as c.via.peer) ≡ map peer_as keys → map peer_as keys ≡ peers_with_candidates (map cand_as cs) → map peer_as keys ≡ peers_with_candidates (map cand_as (cs ++ c ∷ []))
+unfolding peers_with_candidates
+gather_same keys cs c e h = sym e ∙ (ap (λ ps. insert_key peer_cmp ps (peer_as c.via.peer)) h ∙ sym (gather_behind [] cs c))
+
 pub table_put : (before a b c out octets : List ℕ) (n : ℕ) (peers : List Peer) → a ≡ before ++ number_octets 4 0 → b ≡ a ++ number_octets 2 0 → c ≡ b ++ number_octets 2 n → n ≡ length peers → out ≡ c ++ flat_map table_peer peers → out ≡ before ++ table_body peers
 unfolding table_body
 table_put before a b c out octets n peers e f g m h = rw (h, g, m, f, e) (simp append_assoc refl)

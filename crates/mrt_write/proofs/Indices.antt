@@ -3,14 +3,15 @@ use Rattle.std.proofs.Common.{inl, inr, ◌≡◌, ℕ, zero, suc, ◌+◌, ◌<
 use Rattle.std.specs.Prelude.{◌||◌, Ok, Err}
 use Rattle.std.specs.List.{AllByRecursion, list_any, position_or_len}
 use Rattle.std.specs.List.Sorted.{IsBinarySearchResult, IsNonDecreasingBy, IsStrictlySortedBy}
-use Rattle.std.specs.Ordering.{is_eq, ordering_index}
+use Rattle.std.specs.BTreeSet.{insert_key}
+use Rattle.std.specs.Ordering.{is_eq, match_ordering, ordering_index, ordering_reverse}
 use Rattle.std.specs.declared.cmp.Ordering.{Ordering}
 use Rattle.std.specs.declared.cmp.Ordering.TheVariants.{Less, Equal, Greater}
 use Rattle.std.proofs.lemmas.Bool.{cases_lt}
 use Rattle.std.proofs.lemmas.Cmp.{alike_right}
 use Rattle.address_model.specs.Width.{width}
 use Rattle.address_model.proofs.BitLaws.{length-bits_of}
-use Rattle.route_model.specs.Events.{Peer, IsPeer, same_peer}
+use Rattle.route_model.specs.Events.{Peer, IsPeer, same_peer, peer_cmp}
 use Rattle.route_model.proofs.Keyed.{key_test}
 use Rattle.route_model.proofs.Places.{peer_key}
 use Rattle.fib_prefix.specs.Views.{peer_as}
@@ -139,3 +140,27 @@ place_tried list q x i s l at e = index_at list q i s l (λ d. ap (λ y. code_pe
     equal Less t = absurd cc
     equal Equal t = refl
     equal Greater t = absurd cc
+
+-- ---- a peer that is there is not put once more
+
+present_at : (list : List code.Peer) (q : code.Peer) (i : ℕ) → IsStrictlySortedBy code_peer_cmp list → i < length list → ((d : code.Peer) → code_peer_cmp (get_or list i d) q ≡ Equal) → insert_key peer_cmp (map peer_as list) (peer_as q) ≡ map peer_as list
+unfolding IsStrictlySortedBy
+present_at [] q i s l e = absurd (omega (arith, l))
+present_at (x ∷ list) q zero s l e =
+    let same : code_peer_cmp q x ≡ Equal = peer_total.antisymm q x ∙ ap ordering_reverse (e q) in
+    ap (λ o. match_ordering o (peer_as q ∷ map peer_as (x ∷ list)) (map peer_as (x ∷ list)) (peer_as x ∷ insert_key peer_cmp (map peer_as list) (peer_as q))) (sym (peer_is q x) ∙ same)
+present_at (x ∷ list) q (suc i) s l e =
+    let less : code_peer_cmp x q ≡ Less = sym (alike_right peer_total (get_or list i q) q x (e q)) ∙ rises (x ∷ list) 0 (suc i) q s (omega arith) l in
+    let more : code_peer_cmp q x ≡ Greater = peer_total.antisymm q x ∙ ap ordering_reverse less in
+    ap (λ o. match_ordering o (peer_as q ∷ map peer_as (x ∷ list)) (map peer_as (x ∷ list)) (peer_as x ∷ insert_key peer_cmp (map peer_as list) (peer_as q))) (sym (peer_is q x) ∙ more)
+    ∙ ap (λ qs. peer_as x ∷ qs) (present_at list q i s.1 (omega (arith, l)) (λ d. e d))
+
+pub present : (list : List code.Peer) (q : code.Peer) → IsStrictlySortedBy code_peer_cmp list → list_any (same_peer (peer_as q)) (map peer_as list) ≡ true → insert_key peer_cmp (map peer_as list) (peer_as q) ≡ map peer_as list
+present list q s there =
+    let r = some_place list q there in
+    present_at list q r.0 s r.1 (λ d. tied (code_peer_cmp (get_or list r.0 d) q) (r.2 d))
+  where
+    tied : (o : Ordering) → is_eq o ≡ true → o ≡ Equal
+    tied Less t = absurd cc
+    tied Equal t = refl
+    tied Greater t = absurd cc

@@ -27,7 +27,7 @@ use Rattle.mrt_write.specs.Answers.{WriterAnswers, no_memory}
 use Rattle.mrt_write.specs.declared.write.WriteError.{WriteError}
 use Rattle.fib_prefix.specs.declared.event.Cand.{Cand}
 
-has_peer : (r : Peer) (peers : List Peer) → IsPeer r → AllByRecursion IsPeer peers → list_any (same_peer r) (insert_key peer_cmp peers r) ≡ true
+pub has_peer : (r : Peer) (peers : List Peer) → IsPeer r → AllByRecursion IsPeer peers → list_any (same_peer r) (insert_key peer_cmp peers r) ≡ true
 has_peer r [] h a = ap (λ b. b || false) (peer_key.itself r)
 has_peer r (x ∷ peers) h a = by_order (peer_cmp r x) refl (has_peer r peers h a.1)
   where
@@ -45,7 +45,7 @@ has_peer r (x ∷ peers) h a = by_order (peer_cmp r x) refl (has_peer r peers h 
 abbrev gathered : List Peer → Candidates → List Peer
 gathered peers held = fold (λ ps c. insert_key peer_cmp ps c.0.via.peer) peers held
 
-is_peer : (q : code.Peer) → IsPeer (peer_as q)
+pub is_peer : (q : code.Peer) → IsPeer (peer_as q)
 is_peer q = length-bits_of (width q.addr.family) q.addr.bits
 
 all_there : (peers : List Peer) (cs : List Cand) → AllByRecursion IsPeer peers → AreIn (gathered peers (map cand_as cs)) (map cand_as cs)

@@ -1,5 +1,5 @@
 -- What a checkpoint that is being written is, and what it becomes.
-use Rattle.std.specs.Prelude.{◌≡◌, ℕ, ◌≤◌, Bool, true, false, Option, Some, None, List, [], ◌∷◌, ◌++◌, length, map, IfSome}
+use Rattle.std.specs.Prelude.{◌≡◌, ℕ, ◌≤◌, Bool, true, false, None, List, [], ◌∷◌, ◌++◌, length, map, IfSome}
 use Rattle.std.proofs.Common.{ap, subst, refl}
 use Rattle.std.specs.List.{AllByRecursion, list_any}
 use Rattle.std.specs.List.Sorted.{IsStrictlySortedBy}

@@ -2,12 +2,15 @@
 use Rattle.std.specs.Prelude.{◌≡◌, ℕ, ◌≤◌, List, [], ◌++◌, length, map, option_map, None, Result, Ok, Err}
 use Rattle.std.proofs.Common.{sym, subst, append_assoc, append-nil}
 use Rattle.route_model.specs.Choice.{Candidates}
+use Rattle.std.specs.List.Sorted.{IsStrictlySortedBy}
+use Rattle.fib_prefix.specs.Order.{code_peer_cmp}
 use Rattle.fib_prefix.specs.Views.{cand_as, peer_as}
 use Rattle.fib_prefix.specs.declared.event.Cand.{Cand}
 use Rattle.saved_model.specs.Checkpoint.{has_ids}
 use Rattle.saved_model.specs.Saved.{peers_with_candidates, most_peers, long_one, saved}
 use Rattle.mrt_write.specs.Answers.{WriterAnswers}
-use Rattle.mrt_write.specs.Dumps.{IsReady, Writes}
+use Rattle.mrt_write.specs.Met.{AreAmong}
+use Rattle.mrt_write.specs.Dumps.{Writes}
 use Rattle.mrt_write.specs.declared.plan.DumpPlan.{DumpPlan}
 use Rattle.mrt_write.specs.declared.dump.DumpWriter.{DumpWriter}
 use Rattle.mrt_write.specs.declared.write.WriteError.{WriteError}
@@ -18,13 +21,18 @@ pub record Knows (plan : DumpPlan) (cands : List Cand) : Type 0 where
   pub ids : plan.ids ≡ has_ids (map cand_as cands)
   pub long : option_map cand_as plan.long ≡ long_one (map cand_as cands)
 
+-- its peers are in their order, and those that are found at once are among them
+pub record HasMet (plan : DumpPlan) : Type 0 where
+  pub sorted : IsStrictlySortedBy code_peer_cmp plan.peers.keys
+  pub among : AreAmong (map peer_as plan.peers.keys) plan.met
+
 -- it knows of these candidates, behind all of which it knew
 abbrev pub Learns : DumpPlan → List Cand → DumpPlan → Type 0
 Learns before cands now = (old : List Cand) → Knows before old → Knows now (old ++ cands)
 
 -- Checkpoint begun, which becomes that of the candidates once they were put into it; or why there is none.
 abbrev pub PlanAnswers : Candidates → Result DumpWriter WriteError → Type 0
-PlanAnswers held (Ok w) = (length (peers_with_candidates held) ≤ most_peers) × (long_one held ≡ None) × IsReady w × Writes w held (saved held)
+PlanAnswers held (Ok w) = (length (peers_with_candidates held) ≤ most_peers) × (long_one held ≡ None) × Writes w held (saved held)
 PlanAnswers held (Err error) = WriterAnswers {A = ℕ} held (Err error)
 
 -- ---- candidates behind candidates

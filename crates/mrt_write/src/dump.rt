@@ -12,6 +12,7 @@ ghost use Rattle.mrt_write.specs.Dumps.{IsBegun, IsReady, Puts, Writes, puts_mor
 use crate::entry::{Scratch, put_entry};
 use crate::growing::{Open, opened};
 use crate::index::index_near;
+use crate::met::Guesses;
 use crate::peers::put_table;
 use crate::record::put_rib;
 use crate::write::MOST_PATH;
@@ -29,8 +30,7 @@ pub struct DumpWriter {
     alloc: Global,
     peers: Vec<Peer>,
     ids: bool,
-    // the index of the last candidate's peer
-    last: u16,
+    guesses: Guesses,
     open: Option<Open>,
     scratch: Scratch,
     // the octets of the next entry
@@ -57,7 +57,7 @@ impl DumpWriter {
             alloc,
             peers,
             ids,
-            last: 0,
+            guesses: Guesses::new(alloc)?,
             open: None,
             scratch: Scratch::new(alloc),
             next: Vec::new(alloc),
@@ -128,10 +128,12 @@ impl CandSink for DumpWriter {
         if cand.path > MOST_PATH {
             return Ok(());
         }
-        let Some(index) = index_near(&self.peers, &cand.via.peer, self.last) else {
+        let peer = &cand.via.peer;
+        let guess = self.guesses.guess(peer);
+        let Some(index) = index_near(&self.peers, peer, guess) else {
             return Ok(());
         };
-        self.last = index;
+        self.guesses.note(peer, index);
         self.next.clear();
         put_entry(index, self.ids, cand, &mut self.scratch, &mut self.next)?;
         self.take_entry(cand)

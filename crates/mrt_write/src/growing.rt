@@ -24,7 +24,7 @@ const MOST_BODY: usize = 16_777_216;
 /// A record that isn't closed yet: its number, its prefix, and its entries so far.
 #[derive(Drop)]
 pub struct Open {
-    /// Its number, from 0, to which 2^32 may be added.
+    /// Its number, of four octets: the first one's is 0.
     pub number: u32,
     /// The prefix.
     pub prefix: Prefix,

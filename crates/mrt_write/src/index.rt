@@ -23,14 +23,14 @@ fn index_of(list: &[Peer], peer: &Peer) -> Option<u16>
     }
 }
 
-/// The place of a peer, which is searched if it isn't the next one after the last.
-pub fn index_near(list: &[Peer], peer: &Peer, last: u16) -> Option<u16>
+/// The place of a peer, which is searched if it isn't the one that is tried first.
+pub fn index_near(list: &[Peer], peer: &Peer, guess: u16) -> Option<u16>
     requires sorted { IsStrictlySortedBy code_peer_cmp list.now }
     requires few { length list.now ≤ 65535 }
     ensures { MatchOption result (HasNoIndex (map peer_as list.now) (peer_as peer.now))
         (IsIndex (map peer_as list.now) (peer_as peer.now)) }
 {
-    let near = usize::from(last) + 1;
+    let near = usize::from(guess);
     if near < list.len() && list[near].cmp(peer).is_eq() {
         return Some(near as u16);
     }

@@ -1,14 +1,16 @@
 //! What must be known of candidates before the first octet is written.
 
-ghost use Rattle.std.specs.Prelude.{◌≡◌, ◌||◌, List, [], ◌∷◌, map, option_map, OnOk};
+ghost use Rattle.std.specs.Prelude.{◌≡◌, ◌||◌, List, [], ◌∷◌, map, option_map, IfOk, OnOk};
 ghost use Rattle.std.specs.Option.{option_or};
 ghost use Rattle.fib_prefix.specs.declared.event.Cand.{Cand as CodeCand};
 ghost use Rattle.fib_prefix.specs.Views.{cand_as};
 ghost use Rattle.saved_model.specs.Checkpoint.{has_ids};
 ghost use Rattle.saved_model.specs.Saved.{long_one};
-ghost use Rattle.mrt_write.specs.Plans.{Knows, Learns, PlanAnswers, learns_more, learns_none};
+ghost use Rattle.mrt_write.specs.Dumps.{IsReady};
+ghost use Rattle.mrt_write.specs.Plans.{HasMet, Knows, Learns, PlanAnswers, learns_more, learns_none};
 
 use crate::dump::DumpWriter;
+use crate::met::Met;
 use crate::peers::listed;
 use crate::write::{MOST_PATH, MOST_PEERS, WriteError};
 use cand_rows::CandSink;
@@ -22,6 +24,8 @@ use std::collections::BTreeSet;
 pub struct DumpPlan {
     alloc: Global,
     peers: BTreeSet<Peer>,
+    // some of them, so that one that is met again is found at once
+    met: Met,
     ids: bool,
     long: Option<Cand>,
 }
@@ -49,11 +53,13 @@ fn keep_long(long: &mut Option<Cand>, cand: &Cand)
 impl DumpPlan {
     /// A plan for no candidate.
     pub fn new(alloc: Global) -> DumpPlan
-        ensures { Knows result [] }
+        ensures knows { Knows result [] }
+        ensures ready { HasMet result }
     {
         DumpPlan {
             alloc,
             peers: BTreeSet::new(alloc),
+            met: Met::new(alloc),
             ids: false,
             long: None,
         }
@@ -65,7 +71,9 @@ impl DumpPlan {
     ///
     /// More than 65,535 peers have a candidate; else the first candidate whose path is longer than 15,000; else no memory.
     pub fn begin(&self) -> Result<DumpWriter, WriteError>
-        ensures { (cands : List CodeCand) → Knows self.now cands → PlanAnswers (map cand_as cands) result }
+        ensures ready { IfOk result IsReady }
+        ensures answers { (cands : List CodeCand) → Knows self.now cands
+            → PlanAnswers (map cand_as cands) result }
     {
         let peers = listed(self.alloc, &self.peers)?;
         if peers.len() > MOST_PEERS {
@@ -80,7 +88,7 @@ impl DumpPlan {
 }
 
 impl CandSink for DumpPlan {
-    ghost ready = { λ _. Unit {0} };
+    ghost ready = { HasMet };
 
     ghost takes = { Learns };
 
@@ -91,7 +99,11 @@ impl CandSink for DumpPlan {
     fn put(&mut self, cand: &Cand) -> Result<(), AllocError> {
         self.ids = any_id(self.ids, cand);
         keep_long(&mut self.long, cand);
+        if self.met.has(&cand.via.peer) {
+            return Ok(());
+        }
         self.peers.insert(cand.via.peer)?;
+        self.met.put(&cand.via.peer)?;
         Ok(())
     }
 }

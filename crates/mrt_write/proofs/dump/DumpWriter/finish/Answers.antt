@@ -1,5 +1,4 @@
-use Rattle.std.proofs.Common.{[], map, Option, ap, ◌∙◌, subst}
-use Rattle.std.specs.declared.vec.Vec.{Vec}
+use Rattle.std.proofs.Common.{[], map, Option, ◌∙◌, subst}
 use Rattle.fib_prefix.specs.Views.{peer_as}
 use Rattle.mrt_write.specs.Holds.{LeadsTo}
 use Rattle.mrt_write.specs.declared.growing.Open.{Open}

@@ -1,4 +1,4 @@
-use Rattle.std.proofs.Common.{◌∷◌, map, Option, refl, sym, ap, ◌∙◌, subst}
+use Rattle.std.proofs.Common.{◌∷◌, map, Option, ap, ◌∙◌, subst}
 use Rattle.fib_addr.specs.Views.{prefix_as}
 use Rattle.fib_prefix.specs.Views.{cand_as, peer_as}
 use Rattle.mrt_write.specs.Holds.{LeadsTo}
