@@ -2,7 +2,7 @@
 
 ghost use Rattle.std.specs.Prelude.{◌≡◌, ◌∷◌, [], IfErr, IfOk, IfSome};
 ghost use Rattle.fib_io.specs.Reads.{Makes};
-ghost use Rattle.fib_words.specs.Commands.{Moves, moves_as as named_moves};
+ghost use Rattle.fib_words.specs.Commands.{Moves as AsksMoves, moves_as as named_moves};
 ghost use Rattle.fib_main.specs.Comparing.{RepliesTo, moves_say};
 ghost use Rattle.fib_main.specs.Due.{moved_at, with_reply};
 ghost use Rattle.fib_main.specs.Ends.{ReadsNames};
@@ -67,7 +67,7 @@ pub fn moves_for<I: Inputs>(
     ensures due { GivesDue reply_as result
         (with_reply (moved_at (I.content inputs.old) (named_moves command.now))) }
     ensures some { MovedOfSome result }
-    ensures own { IfErr result (IsOf (Some (Moves (named_moves command.now)))) }
+    ensures own { IfErr result (IsOf (Some (AsksMoves (named_moves command.now)))) }
     ensures owns { IfOk result (λ reply. IfSome reply.wrong IsNo) }
     ensures same { I.content inputs.new ≡ I.content inputs.old }
     ensures cause { ReadsNames (names_asked (I.content inputs.old) (named_moves command.now).router
