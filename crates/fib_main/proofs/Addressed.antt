@@ -302,11 +302,11 @@ new_at_most n S (Some g) h a t = by_tests (is_allowed g S) (is_allowed h S)
 
 root_at_most : (n : ℕ) (T : Table) → TableAtMost n T → TableAtMost n (here (root T))
 root_at_most n [] t = tt
-root_at_most n (e ∷ T) t = by_prefix e.prefix
+root_at_most n (e ∷ T) t = by_prefix e.prefix (root_at_most n T t.1)
   where
-    by_prefix : (p : List Bool) → TableAtMost n (here (root_of p e.hop (root T)))
-    by_prefix [] = (t.0, tt)
-    by_prefix (b ∷ p) = root_at_most n T t.1
+    by_prefix : (p : List Bool) → TableAtMost n (here (root T)) → TableAtMost n (here (root_of p e.hop (root T)))
+    by_prefix [] more = (t.0, tt)
+    by_prefix (b ∷ p) more = more
 
 half_at_most : (n : ℕ) (b : Bool) (T : Table) → TableAtMost n T → TableAtMost n (half b T)
 half_at_most n b [] t = tt

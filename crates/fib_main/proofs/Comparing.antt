@@ -26,7 +26,7 @@ use Rattle.router_moves.specs.Due as router
 use Rattle.router_moves.specs.Views.{EndsShortest, moves_as}
 use Rattle.router_moves.specs.declared.answer.RouterMoves.{RouterMoves}
 use Rattle.cert_check.specs.Views.{no_as}
-use Rattle.cert_check.specs.declared.no.No as code_check
+use Rattle.cert_check.specs.declared.refusal.No as code_check
 use Rattle.fib_main.specs.declared.outcome.Outcome.{Outcome}
 use Rattle.fib_main.specs.declared.outcome.Outcome.TheVariants.{BadLine, NoMemory, ReadFault, TooLarge}
 use Rattle.fib_main.specs.declared.outcome.Which.{Which}
@@ -205,7 +205,7 @@ found_all content inputs (Some (wrong.Differ d)) reads e p = p
 found_all content inputs (Some (wrong.No x)) reads e p = absurd (e x refl)
 
 -- what says no is no reply to what was found
-pub NeverNo : {T : Type 0} → (T → Reply) → Type 0
+abbrev pub NeverNo : {T : Type 0} → (T → Reply) → Type 0
 NeverNo {T = T} says = (x : T) (fault : No) → (says x).wrong ≡ Some (Refuted fault) → ⊥
 
 never_no : {T : Type 0} (says : T → Reply) → NeverNo says → (x : T) (w : Option code_wrong.Wrong) → option_map wrong_as w ≡ (says x).wrong → (fault : code_check.No) → w ≡ Some (wrong.No fault) → ⊥

@@ -3,10 +3,9 @@ use Rattle.std.proofs.Common.{◌≡◌, ℕ, suc, ◌+◌, ◌<◌, ◌≤◌, 
 use Rattle.std.specs.Prelude.{nat_eq, nat_le}
 use Rattle.std.specs.List.{AllByRecursion, filter}
 use Rattle.std.proofs.Math.Seq.{take-append_seam}
-use Rattle.std.proofs.lemmas.Bool.{ne_eqb}
+use Rattle.std.proofs.lemmas.Bool.{eq-eqb, ne_eqb}
 use Rattle.std.proofs.lemmas.List.Sums.{fold-append}
 use Rattle.std.proofs.lemmas.List.Sorted.{length_permutation}
-use Rattle.std.proofs.Math.Dec.{eqb-refl}
 use Rattle.address_model.specs.Address.{Address, Prefix, IsPrefix}
 use Rattle.address_model.specs.Width.{width}
 use Rattle.table_model.specs.Table.{Alike, Table}
@@ -47,7 +46,7 @@ none_at n (c ∷ cs) a = ap (λ b. cond b (c ∷ filter (is_at n) cs) (filter (i
 
 all_at : (n : ℕ) (cs : List Change) → filter (is_at n) (at_event n cs) ≡ at_event n cs
 all_at n [] = refl
-all_at n (c ∷ cs) = ap (λ b. cond b ((n, c) ∷ filter (is_at n) (at_event n cs)) (filter (is_at n) (at_event n cs))) (eqb-refl n) ∙ ap (λ ds. (n, c) ∷ ds) (all_at n cs)
+all_at n (c ∷ cs) = ap (λ b. cond b ((n, c) ∷ filter (is_at n) (at_event n cs)) (filter (is_at n) (at_event n cs))) (eq-eqb n n refl) ∙ ap (λ ds. (n, c) ∷ ds) (all_at n cs)
 
 filter_both : (n : ℕ) (xs ys : Numbered) → filter (is_at n) (xs ++ ys) ≡ filter (is_at n) xs ++ filter (is_at n) ys
 filter_both n [] ys = refl

@@ -2,11 +2,10 @@ use Rattle.std.proofs.Common.{◌+◌, ◌++◌, ◌∷◌, [], refl, sym, ap, m
 use Rattle.table_model.specs.Changes.{additions}
 use Rattle.feed_model.specs.Feed.{at_event, hops_after}
 use Rattle.fewest_feed.specs.Moved.{moved_by, table_by}
-use Rattle.fib_report.specs.Views.{moves_as}
 use Rattle.fib_addr.specs.Views.{entry_as}
 use Rattle.fib_delta.specs.Views.{change_as}
 use Rattle.fib_prefix.specs.Views.{elem_as}
-use Rattle.fib_main.specs.Views.{changes_as}
+use Rattle.fib_main.specs.Views.{changes_as, moves_told, told_moves}
 use Rattle.fib_main.proofs.Passes.{load_numbered, update_numbered}
 use Rattle.fib_main.proofs.Steps.{all_changed, loads_one, not_loaded, not_taken, takes_one, took_it}
 use Rattle.fib_main.proofs.state.step.Goals as goal
@@ -29,7 +28,8 @@ returns-in_ok-push_moves-in-Ok-apply-clause-takes c =
     let whole = all_changed c.in-Ok-apply.told.changes.len c.order_event.new.changes c.in-Ok-apply.told.changes.items (c.order_event.ensures.same ∙ c.deref_mut.ensures.len) in
     let load = at_event 0 (additions (map entry_as old.added.items)) in
     let grown = ap (λ cs. load ++ cs) c.in_ok-push_changes-in-Ok-apply.ensures ∙ sym (append_assoc load (changes_as old.changes.items) _) in
-    rw c.in-Updates.is (takes_one _ elem old _ _ told.takes told.stands (took_it c.in-Ok-apply.told _ old told.full.1) told.fits refl refl (ap (map change_as) (c.deref.ensures.value ∙ whole) ∙ ordered) grown c.in_ok-push_moves-in-Ok-apply.ensures)
+    let counted = c.in_ok-push_moves-in-Ok-apply.ensures ∙ ap (λ m. told_moves old ++ moves_told old.fewest c.args.event m) c.last_moves-moves.ensures in
+    rw c.in-Updates.is (takes_one _ elem old _ _ told.takes told.stands (took_it c.in-Ok-apply.told _ old told.full.1) told.fits refl refl (ap (map change_as) (c.deref.ensures.value ∙ whole) ∙ ordered) grown counted)
 
 pub returns-in-Err-apply-clause-takes : goal.returns-in-Err-apply-clause-takes
 returns-in-Err-apply-clause-takes c =
