@@ -197,7 +197,7 @@ fn routers_get_the_fewest_changes(rt: HostRuntime) -> Result<(), Fail> {
         );
         let count = told.v4.bound.saturating_add(told.v6.bound);
         assert!(rt; told.count() == count, "{}", case.name);
-        let mut number = 1;
+        let mut number: u16 = 1;
         for octet in case.hops {
             assert_eq!(rt;
                 told.hops.addr(Hop(number)),
@@ -205,7 +205,7 @@ fn routers_get_the_fewest_changes(rt: HostRuntime) -> Result<(), Fail> {
                 "{}",
                 case.name
             );
-            number += 1;
+            number = number.saturating_add(1);
         }
         assert_eq!(rt; told.hops.addr(Hop(number)), None, "{}", case.name);
     }
