@@ -246,6 +246,7 @@ module _ (p : Printed) (steady : Bool) (are : p.told.changes ≡ all_changes tru
   all_say (row ∷ rows) a = (row_says row a.0, all_say rows a.1)
 
   pub rows_say : p.told.moves ≡ moves_of_run true p.limits.every p.hops (after_elems [] p.load) p.updates → AllByRecursion (IsFewestRow p) p.told.moves
+  unfolding table_from
   rows_say m =
       let held = after_elems [] p.load in
       subst (AllByRecursion (IsFewestRow p)) (sym m) (all_say (moves_of_run true p.limits.every p.hops held p.updates) (rows_from p.limits.every p.hops held p.updates [] p.updates 1 held (kept_at_load p.hops held) refl refl refl refl))
