@@ -1,5 +1,5 @@
 -- The reply to what was found in texts.
-use Rattle.std.proofs.Common.{◌≡◌, ◌∙◌, ℕ, ◌+◌, List, [], ◌∷◌, ◌++◌, Option, Some, None, Result, Ok, Err, inl, inr, refl, sym, ap, subst}
+use Rattle.std.proofs.Common.{◌≡◌, ◌∙◌, ℕ, ◌+◌, List, [], ◌∷◌, Option, Some, None, Result, Ok, Err, inl, inr, refl, sym, ap, subst}
 use Rattle.std.specs.Prelude.{IfErr, IfOk, IfSome, map, option_map, ◌⊎◌}
 use Rattle.std.proofs.lemmas.Result.{IfOk-weaker}
 use Rattle.std.proofs.lemmas.List.{map-append}
@@ -7,8 +7,7 @@ use Rattle.cert_model.specs.Verdict.{No, Twice}
 use Rattle.octet_fields.specs.Field.{◌>>=◌}
 use Rattle.address_model.specs.Address.{Prefix}
 use Rattle.fib_addr.specs.Views.{prefix_as}
-use Rattle.fib_io.specs.Causes.{Rose}
-use Rattle.fib_io.specs.Reads.{Anywhere, AtEnd, AtFault, Makes, Pass, PassEnd, PassInTime, PastMost, Read}
+use Rattle.fib_io.specs.Reads.{Anywhere, AtEnd, AtFault, Makes, PassEnd, PastMost, Read}
 use Rattle.fib_io.proofs.Passing.{makes_as}
 use Rattle.fib_io.proofs.Timing.{ended_in_time, pass_of_text}
 use Rattle.fib_same.specs.Due.{Compared, answer_of}
@@ -28,19 +27,18 @@ use Rattle.router_moves.specs.declared.answer.RouterMoves.{RouterMoves}
 use Rattle.cert_check.specs.Views.{no_as}
 use Rattle.cert_check.specs.declared.refusal.No as code_check
 use Rattle.fib_main.specs.declared.outcome.Outcome.{Outcome}
-use Rattle.fib_main.specs.declared.outcome.Outcome.TheVariants.{BadLine, NoMemory, ReadFault, TooLarge}
 use Rattle.fib_main.specs.declared.outcome.Which.{Which}
 use Rattle.fib_main.specs.declared.outcome.Which.TheVariants.{Text}
 use Rattle.fib_main.specs.declared.reply.Reply as code_reply
 use Rattle.fib_main.specs.declared.reply.Wrong as code_wrong
 use Rattle.fib_main.specs.declared.reply.Wrong.TheVariants as wrong
 use Rattle.fib_main.specs.Comparing.{Refuses, RepliesTo, answer_reply, answer_says, moves_reply, moves_say}
-use Rattle.fib_main.specs.Due.{Alike, Differs, Moved, Output, Refuted, Repeats, Reply, Wrong, of_texts, reply_of, with_reply}
+use Rattle.fib_main.specs.Due.{Alike, Moved, Output, Refuted, Repeats, Reply, of_texts, reply_of, with_reply}
 use Rattle.fib_main.specs.Ends.{OneRose, ReadsNames}
 use Rattle.fib_main.specs.InTime.{TextMayGoOn}
 use Rattle.fib_main.specs.Owned.{HasInput, IsNo, IsOf, StoppedAt}
-use Rattle.fib_main.specs.Passes.{AllRead, Content, Input, MayBegin, ReadInPart, ReadToOne, ReadUpTo, ReadsCompared, ReadsFound, StopsReading, texts_from}
-use Rattle.fib_main.specs.Stops.{GivesDue, Refused, Stop, Untold}
+use Rattle.fib_main.specs.Passes.{AllRead, Content, Input, MayBegin, ReadInPart, ReadToOne, ReadUpTo, ReadsCompared, ReadsFound, texts_from}
+use Rattle.fib_main.specs.Stops.{GivesDue, Stop}
 use Rattle.fib_main.specs.Untold.{ComparedOfSome, MovedOfSome}
 use Rattle.fib_main.specs.Views.{reply_as, wrong_as}
 use Rattle.fib_main.proofs.Passes.{part_all}

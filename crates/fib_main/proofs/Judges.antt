@@ -1,15 +1,14 @@
 -- What is due of a run is judged by its list of VRPs.
-use Rattle.std.proofs.Common.{◌≡◌, ◌∙◌, ℕ, Bool, true, false, List, [], ◌++◌, Option, Some, None, Result, Ok, Err, refl, sym, ap, subst}
-use Rattle.std.specs.Prelude.{IfOk, not, ◌&&◌}
-use Rattle.std.proofs.lemmas.List.Sums.{fold-append}
+use Rattle.std.proofs.Common.{◌≡◌, ◌∙◌, ℕ, List, [], ◌++◌, Option, Some, None, Result, Ok, Err, refl, sym, ap, subst}
+use Rattle.std.specs.Prelude.{IfOk}
 use Rattle.octet_fields.specs.Field.{◌>>=◌}
 use Rattle.address_model.specs.Address.{Address}
 use Rattle.route_model.specs.Events.{Elem, Event}
-use Rattle.route_model.specs.Choice.{Candidates, after_elem, after_elems, elems_after}
+use Rattle.route_model.specs.Choice.{after_elems, elems_after}
 use Rattle.route_model.proofs.Elems.{elems_more}
 use Rattle.feed_model.specs.Feed.{entries_of, hops_after}
 use Rattle.printed_model.specs.Rows.{Vrp}
-use Rattle.reading_model.specs.Input.{Progress, Stopped, input}
+use Rattle.reading_model.specs.Input.{Progress, input}
 use Rattle.fib_io.specs.Pieces.{octets_read}
 use Rattle.route_tries.specs.Sizes.{Shortage, Sizes, shortage}
 use Rattle.fib_rov.specs.Rov.{invalid_in, left_of}
@@ -20,7 +19,7 @@ use Rattle.fib_main.specs.declared.outcome.MrtInput.TheVariants.{Dump, Updates}
 use Rattle.fib_main.specs.Refusals.{Limits, Refusal, routes_by, stop_at, too_much}
 use Rattle.fib_main.specs.Stops.{Stop, records_due, told_content, unless_stopped, with_room}
 use Rattle.fib_main.specs.Stepping.{events_of}
-use Rattle.fib_main.specs.Due.{Feed, Printed, asks_at, elems_in, feed_at, feed_in, feed_of, feeds_at, later_at, limits_of, load_at, no_feed, printed, read_part, run_at, sizes_of, told_at, vrps_at}
+use Rattle.fib_main.specs.Due.{Feed, asks_at, elems_in, feed_at, feed_in, feed_of, feeds_at, later_at, limits_of, load_at, no_feed, printed, read_part, run_at, sizes_of, told_at, vrps_at}
 use Rattle.fib_main.specs.Judged.{IsJudgedBy, Judges}
 
 abbrev Content : Type 0

@@ -1,5 +1,5 @@
 -- Inputs of records that are judged as those of a run, or of a run in steps.
-use Rattle.std.proofs.Common.{List, [], ◌∷◌, ◌++◌, ℕ, Option, Some, None, Result, Ok, Err, subst, sym, ◌≡◌}
+use Rattle.std.proofs.Common.{List, [], ◌∷◌, ℕ, Option, Some, None, Result, Ok, Err, subst, sym, ◌≡◌}
 use Rattle.std.specs.Prelude.{IfOk}
 use Rattle.fib_io.specs.Reads.{Makes, Read}
 use Rattle.printed_model.specs.Rows.{Vrp}

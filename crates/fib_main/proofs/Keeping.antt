@@ -14,7 +14,7 @@ use Rattle.table_model.specs.Changes.{Change, sum_of}
 use Rattle.table_model.specs.Table.{Alike}
 use Rattle.least_model.specs.Regions.{SameOutside}
 use Rattle.least_model.specs.Both.{LeastInBoth}
-use Rattle.delta_model.specs.Between.{AreEntries, between, hop_at}
+use Rattle.delta_model.specs.Between.{AreEntries, hop_at}
 use Rattle.delta_model.proofs.Held.{Placed}
 use Rattle.kept_model.specs.Patched.{after_repair, entries_outside, patch_of, region_aggregate}
 use Rattle.kept_model.proofs.Patches.{family_table, hop_patched, patched_least, placed_patched}
@@ -29,7 +29,7 @@ use Rattle.steady_feed.specs.Told.{load_told}
 use Rattle.steady_feed.proofs.Told.{load_told_stays}
 use Rattle.fewest_feed.specs.Moved.{moved_by, table_by, table_from}
 use Rattle.fewest_feed.specs.Reported.{moves_from, moves_of, told_from, told_of}
-use Rattle.fewest_feed.proofs.Moved.{from_alike, from_placed, renewed_least}
+use Rattle.fewest_feed.proofs.Moved.{from_alike, renewed_least}
 use Rattle.fewest_feed.proofs.Reported.{moves_from_stay, moves_step, run_sum, table_from_stays, told_from_stays, told_more, told_step}
 use Rattle.kept_feed.proofs.Alike.{loaded_alike, snapshot_least}
 use Rattle.kept_feed.proofs.Sums.{snapshot_placed}

@@ -1,5 +1,5 @@
 -- What the rows say of how many changes each event needs, where the fewest are asked for.
-use Rattle.std.proofs.Common.{◌≡◌, ℕ, suc, ◌+◌, ◌<◌, ◌≤◌, List, [], ◌∷◌, ◌++◌, Bool, true, false, cond, Option, Some, None, length, map, take, refl, sym, ap, subst, ◌∙◌, arith, append_assoc, append-nil, length-append}
+use Rattle.std.proofs.Common.{◌≡◌, ℕ, ◌+◌, ◌≤◌, List, [], ◌∷◌, ◌++◌, Bool, true, false, cond, Option, Some, None, length, map, take, refl, sym, ap, subst, ◌∙◌, arith, append_assoc, append-nil, length-append}
 use Rattle.std.specs.Prelude.{nat_eq, nat_le}
 use Rattle.std.specs.List.{AllByRecursion, filter}
 use Rattle.std.proofs.Math.Seq.{take-append_seam}
@@ -8,7 +8,7 @@ use Rattle.std.proofs.lemmas.List.Sums.{fold-append}
 use Rattle.std.proofs.lemmas.List.Sorted.{length_permutation}
 use Rattle.address_model.specs.Address.{Address, Prefix, IsPrefix}
 use Rattle.address_model.specs.Width.{width}
-use Rattle.table_model.specs.Table.{Alike, Table}
+use Rattle.table_model.specs.Table.{Alike}
 use Rattle.table_model.specs.Entries.{AlikeInBoth, Entries, of_family}
 use Rattle.table_model.specs.Changes.{Change, after_changes, sum_of}
 use Rattle.route_model.specs.Events.{Elem}
@@ -25,14 +25,14 @@ use Rattle.kept_feed.specs.Kept.{changed_at, kept_at_load}
 use Rattle.kept_feed.proofs.Alike.{loaded_alike}
 use Rattle.kept_feed.proofs.Steps.{elems_more}
 use Rattle.steady_feed.specs.Told.{load_told, steady_if}
-use Rattle.steady_feed.proofs.Blocks.{after_more, in_at_event, in_both}
+use Rattle.steady_feed.proofs.Blocks.{after_more, in_at_event}
 use Rattle.fewest_feed.specs.Moved.{moved_by, table_by, table_from}
-use Rattle.fewest_feed.specs.Reported.{counted_at, first_changes, moves_from, moves_of, moves_of_run, then_changes, told_from, told_of}
-use Rattle.fewest_feed.proofs.Moved.{from_alike, from_placed, moved_alike, moved_placed, table_placed}
+use Rattle.fewest_feed.specs.Reported.{counted_at, first_changes, moves_from, moves_of_run, then_changes, told_from, told_of}
+use Rattle.fewest_feed.proofs.Moved.{from_alike, from_placed, moved_alike, moved_placed}
 use Rattle.fewest_feed.proofs.Reported.{moves_more, run_sum, table_step, told_count, told_more}
 use Rattle.fewest_feed.proofs.Shortest.{counted, move_shortest}
 use Rattle.fib_main.specs.Due.{Printed}
-use Rattle.fib_main.specs.Keeps.{HasRow, HasTable, IsFewestRow, changes_at, has_snapshot}
+use Rattle.fib_main.specs.Keeps.{HasRow, IsFewestRow, changes_at, has_snapshot}
 use Rattle.fib_main.proofs.Keeping.{Numbered, all_changes, all_weaker, changes_are, event_is, loaded_placed, none_due, numbers_from, numbers_to, table_after, table_is}
 
 -- ---- the changes of one event among all

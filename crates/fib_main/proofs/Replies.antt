@@ -26,9 +26,8 @@ use Rattle.fib_same.specs.Due as same
 use Rattle.router_moves.specs.Due.{asked_at as router_at}
 use Rattle.router_moves.specs.Due as router
 use Rattle.fib_main.specs.declared.outcome.Outcome.TheVariants.{PeersFull}
-use Rattle.fib_main.specs.Owned.{IsSave}
 use Rattle.fib_main.specs.Due.{Alike, Checked, Made, Moved, Output, Printed, Ran, Repeats, Reply, Saved, compared, moved, said_at, saved_at, saved_of, unless_long, stepped, stepping_at, ran, checked, due, made, made_at, input_at, output_at, run_at, usage, used_at, printed_text, with_text, with_reply}
-use Rattle.fib_main.specs.Proves.{Compares, IfChecked, IfCompared, IfRan, IfSaved, IsRun, Decides, PrintsYes, YesProves, IfMoved, Reroutes}
+use Rattle.fib_main.specs.Proves.{Compares, IfChecked, IfCompared, IfRan, IfSaved, Decides, PrintsYes, YesProves, IfMoved, Reroutes}
 use Rattle.fib_main.proofs.Due.{fails_by, retyped}
 use Rattle.fib_main.proofs.Fitting.{read_fits}
 use Rattle.fib_main.proofs.Rerouting.{router_reroutes}

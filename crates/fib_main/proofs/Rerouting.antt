@@ -1,10 +1,9 @@
 -- What a router must change, where it is due, is shortest, and its rows prove it.
-use Rattle.std.proofs.Common.{◌≡◌, ℕ, List, [], ◌∷◌, ◌++◌, Option, Some, None, Result, Ok, Err, refl, sym, ap, subst}
-use Rattle.std.specs.Prelude.{◌≤◌, flat_map, length, map, IfSome}
+use Rattle.std.proofs.Common.{◌≡◌, ℕ, List, [], ◌∷◌, ◌++◌, Option, Some, None, Result, Ok, Err, refl, subst}
+use Rattle.std.specs.Prelude.{◌≤◌, flat_map, length, IfSome}
 use Rattle.std.proofs.Common.{arith}
 use Rattle.std.specs.List.{AllByRecursion, filter}
 use Rattle.std.specs.Map.{keys_of}
-use Rattle.std.proofs.lemmas.List.{map-append}
 use Rattle.octet_fields.specs.Field.{◌>>=◌}
 use Rattle.address_model.specs.Address.{Address, Prefix, IsPrefix}
 use Rattle.address_model.specs.declared.family.Family.{Family}
@@ -22,7 +21,7 @@ use Rattle.moves_cert.specs.Shortest.{AreProvedShortest}
 use Rattle.fib_same.specs.Due.{Stop, Untold, Refused, entries_in, octets_at, rowed, text_at, unless_twice}
 use Rattle.fib_same.specs.Due as same
 use Rattle.router_model.specs.Both.{family_changes, family_table, proving_rows}
-use Rattle.router_moves.specs.Due.{Asked, asked_at, moves_for}
+use Rattle.router_moves.specs.Due.{Asked, asked_at}
 use Rattle.fib_main.specs.Proves.{Reroutes}
 use Rattle.fib_main.proofs.Fitting.{Fits, lines_fit}
 use Rattle.fib_addr.specs.Hops.{most_hops}
@@ -31,7 +30,7 @@ use Rattle.delta_model.proofs.Alike.{placed_are}
 use Rattle.moves_cert.proofs.Whole.{near_shortest}
 use Rattle.router_model.proofs.Both.{shortest_both}
 use Rattle.router_model.proofs.Parts.{table_all_of, table_placed}
-use Rattle.fib_main.specs.Due.{Output, moved}
+use Rattle.fib_main.specs.Due.{moved}
 use Rattle.fib_main.specs.Proves.{IfMoved}
 
 -- ---- the entries that were read are of prefixes

@@ -1,12 +1,10 @@
 -- The reply to a checkpoint.
-use Rattle.std.proofs.Common.{◌≡◌, ◌∙◌, ◌≤◌, ◌<◌, ℕ, Bool, true, false, cond, List, [], ◌∷◌, ◌++◌, length, Option, Some, None, Result, Ok, Err, inl, inr, refl, sym, ap, subst, append-nil}
-use Rattle.std.specs.Prelude.{IfOk, IfSome, OnOk, nat_lt, option_to_list, option_map, ◌⊎◌}
+use Rattle.std.proofs.Common.{◌≡◌, ◌∙◌, ◌≤◌, ◌<◌, ℕ, cond, List, [], ◌∷◌, ◌++◌, length, Option, Some, None, Result, Ok, Err, inl, inr, refl, sym, ap, subst, append-nil}
+use Rattle.std.specs.Prelude.{IfOk, IfSome, OnOk, option_to_list}
 use Rattle.std.proofs.lemmas.Bool.{le-ltb, lt-ltb}
 use Rattle.std.specs.declared.vec.Vec.{Vec}
 use Rattle.octet_fields.specs.Field.{◌>>=◌}
 use Rattle.address_model.specs.Address.{Prefix}
-use Rattle.fib_addr.specs.Views.{prefix_as}
-use Rattle.fib_addr.specs.declared.prefix.Prefix as code_prefix
 use Rattle.route_model.specs.Events.{Event}
 use Rattle.route_model.specs.Choice.{Candidates, Offer, Place}
 use Rattle.saved_model.specs.Saved.{long_one, most_peers, peers_with_candidates, saved}
@@ -30,20 +28,20 @@ use Rattle.fib_words.specs.Commands.{Asked, NamedSave, Save}
 use Rattle.fib_main.specs.declared.outcome.MrtInput.{MrtInput}
 use Rattle.fib_main.specs.declared.outcome.MrtInput.TheVariants as mrt
 use Rattle.fib_main.specs.declared.outcome.Outcome.{Outcome}
-use Rattle.fib_main.specs.declared.outcome.Outcome.TheVariants.{NoMemory, PathTooLong, PeersFull, ReadFault, TooLarge}
+use Rattle.fib_main.specs.declared.outcome.Outcome.TheVariants.{PeersFull}
 use Rattle.fib_main.specs.declared.outcome.Which.TheVariants.{Dump, Updates}
 use Rattle.fib_main.specs.declared.reply.Reply as code_reply
-use Rattle.fib_main.specs.Due.{Output, Reply, Saved, later_at, reply_of, said_at, saved_at, saved_of, saved_with, output_at, unless_long, with_reply}
-use Rattle.fib_main.specs.Ends.{OneRose, ReadsBy, after, reads_saved}
+use Rattle.fib_main.specs.Due.{Output, Saved, later_at, reply_of, said_at, saved_at, saved_of, saved_with, output_at, unless_long, with_reply}
+use Rattle.fib_main.specs.Ends.{OneRose, ReadsBy, reads_saved}
 use Rattle.fib_main.specs.InTime.{SaveMayGoOn}
 use Rattle.fib_main.specs.Owned.{IsOf, StopsAt}
-use Rattle.fib_main.specs.Passes.{AllRead, Content, Input, MayBegin, ReadInPart, ReadUpTo, ReadsSaved, ReadsTo, StopsReading, input_for, save_inputs}
+use Rattle.fib_main.specs.Passes.{AllRead, Content, Input, ReadUpTo, ReadsTo, StopsReading, input_for, save_inputs}
 use Rattle.fib_main.specs.Proves.{IfSaved, IsCheckpoint}
 use Rattle.fib_main.specs.Saving.{HoldsCheckpoint, refusal_of_save}
 use Rattle.fib_main.specs.Stepping.{events_of, refusal_by}
-use Rattle.fib_main.specs.Stops.{FailsDue, GivesDue, IsDueIfTold, LongPath, Refused, Stop, Untold, input_of}
+use Rattle.fib_main.specs.Stops.{FailsDue, IsDueIfTold, LongPath, Refused, Stop, input_of}
 use Rattle.fib_main.specs.Untold.{SavedOfSome}
-use Rattle.fib_main.specs.Views.{reply_as, wrong_as}
+use Rattle.fib_main.specs.Views.{reply_as}
 use Rattle.fib_main.proofs.Due.{after_is, fails_first, fails_then, is_then}
 use Rattle.fib_main.proofs.Passes.{part_all, reads_stopped}
 use Rattle.fib_main.proofs.Whole.{all_due, all_fails}

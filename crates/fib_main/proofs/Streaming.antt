@@ -5,7 +5,7 @@ use Rattle.std.proofs.lemmas.Bool.{le-leb, lt-leb}
 use Rattle.route_model.specs.Events.{Elem, Event}
 use Rattle.printed_model.specs.Rows.{Announced, Vrp}
 use Rattle.fib_rov.specs.Rov.{invalid_in, left_of}
-use Rattle.fib_rov.proofs.JudgedLists.{invalid_more, left_many}
+use Rattle.fib_rov.proofs.JudgedLists.{left_many}
 use Rattle.std.proofs.lemmas.List.{drop_all, length-map, take_all}
 use Rattle.fib_prefix.specs.Views.{event_as}
 use Rattle.fib_prefix.specs.declared.event.Event as code_event

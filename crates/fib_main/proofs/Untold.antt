@@ -3,7 +3,6 @@ use Rattle.std.proofs.Common.{◌≡◌, ℕ, List, Option, Some, None, Result, 
 use Rattle.std.specs.Prelude.{option_map, IfSome}
 use Rattle.fib_io.specs.Octets.{Adds, AddsSome}
 use Rattle.cert_check.specs.declared.refusal.No as code
-use Rattle.address_model.specs.Address.{Prefix}
 use Rattle.fib_addr.specs.Views.{prefix_as}
 use Rattle.fib_addr.specs.declared.prefix.Prefix as code_prefix
 use Rattle.fib_same.specs.declared.compare.Difference as code_difference

@@ -3,7 +3,6 @@ use Rattle.std.specs.Prelude.{◌≡◌, ℕ, List, [], ◌∷◌, ◌++◌, cod
 use Rattle.fib_io.specs.Causes.{Rose}
 use Rattle.printed_model.specs.Rows.{Vrp}
 use Rattle.fib_io.specs.Octets.{Adds, AddsSome}
-use Rattle.cert_model.specs.Verdict.{No}
 use Rattle.fib_addr.specs.Text.{prefix_text}
 use Rattle.fib_addr.specs.Views.{prefix_as}
 use Rattle.fib_addr.specs.declared.prefix.Prefix as code_prefix

@@ -1,5 +1,5 @@
 -- What a list of VRPs does to what a run prints.
-use Rattle.std.specs.Prelude.{◌≡◌, ℕ, List, [], ◌++◌, Option, Some, None, Result, Ok, IfOk}
+use Rattle.std.specs.Prelude.{◌≡◌, ℕ, List, [], ◌++◌, Option, Some, None, Ok, IfOk}
 use Rattle.route_model.specs.Events.{Event}
 use Rattle.route_model.specs.Choice.{after_elems, elems_after}
 use Rattle.feed_model.specs.Feed.{entries_of}

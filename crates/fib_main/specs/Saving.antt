@@ -1,5 +1,5 @@
 -- The reply to a checkpoint.
-use Rattle.std.specs.Prelude.{◌≡◌, ℕ, List, [], Option, None, Result, Ok}
+use Rattle.std.specs.Prelude.{◌≡◌, ℕ, List, [], Option, None, Ok}
 use Rattle.route_model.specs.Events.{Event}
 use Rattle.saved_model.specs.Saved.{saved}
 use Rattle.mrt_write.specs.declared.write.WriteError.TheVariants as write
@@ -14,7 +14,7 @@ use Rattle.fib_main.specs.declared.outcome.MrtInput.TheVariants.{Dump, Updates}
 use Rattle.fib_main.specs.declared.reply.Reply as code_reply
 use Rattle.fib_main.specs.Due.{Saved, said_at, saved_of}
 use Rattle.fib_main.specs.Stepping.{refusal_by}
-use Rattle.fib_main.specs.Stops.{IsDueIfTold, Stop}
+use Rattle.fib_main.specs.Stops.{IsDueIfTold}
 
 -- the outcome where there is no checkpoint
 abbrev pub refusal_of_save : SaveError → Outcome
