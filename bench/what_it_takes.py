@@ -73,6 +73,12 @@ def vrps(table, path):
     return len(prefixes)
 
 
+def router(table, path):
+    """A text of a router that has the routes of a printed table as they are."""
+    with open(table) as text, open(path, "w") as out:
+        out.writelines("least" + line[len("route"):] for line in text if line.startswith("route,"))
+
+
 def number(n):
     return "{:,}".format(round(n))
 
@@ -122,6 +128,9 @@ def main():
         os.rename(out, table)
         check = Run([program, "check", table], out)
         same = Run([program, "same", table, table], out)
+        has = os.path.join(folder, "router.txt")
+        router(table, has)
+        moved = Run([program, "moves", has, table], out)
         roas = os.path.join(folder, "vrps.txt")
         count = vrps(table, roas)
         judged = Run([program, "run", path, "--vrps", roas, *ROOM], out)
@@ -143,6 +152,8 @@ def main():
             "%.2f s an event, %s changes" % ((flapped.seconds - one.seconds) / FLAPS, number(changes / FLAPS)))
         row("`fib same` of two such texts", "%.1f" % same.seconds, number(same.memory / MIB),
             "%.1f octets of memory an octet of one text" % (same.memory / one.text))
+        row("`fib moves` of a router with its routes", "%.1f" % moved.seconds, number(moved.memory / MIB),
+            "%s changes" % number(moved.rows["change"]))
         row("`--vrps` with %s VRPs" % number(count), "%.1f more" % (judged.seconds - one.seconds), number(judged.memory / MIB),
             "%.2f us a candidate" % ((judged.seconds - one.seconds) / one.rows["route"] * 1e6))
         row("`fib save` of both, four peers", "%.1f" % save.seconds, number(save.memory / MIB),
