@@ -63,9 +63,11 @@ def main():
         four, updates, one, none = (os.path.join(folder, name) for name in ("four.mrt", "updates.mrt", "one.mrt", "none.mrt"))
         make("make_large.py", *PREFIXES, 4, 200_000, 1, four, updates)
         make("make_large.py", *PREFIXES, 1, 0, 1, one, none)
-        run = [program, "run", four, *ROOM, "--updates", updates]
+        load = [program, "run", four, *ROOM]
+        run = [*load, "--updates", updates]
         text = [os.path.join(folder, name) for name in ("repaired", "fewest", "later", "often")]
-        in_turns([("run", run, text[0]), ("--fewest", [*run, "--fewest"], text[1]),
+        in_turns([("run, without the updates", load, os.path.join(folder, "loaded")), ("run", run, text[0]),
+                  ("--fewest", [*run, "--fewest"], text[1]),
                   ("--fewest --every 100000", [*run, "--fewest", "--every", "100000"], text[2]),
                   ("--fewest --every 10000", [*run, "--fewest", "--every", "10000"], text[3])])
         plain, has, kept = (os.path.join(folder, name) for name in ("plain", "has", "kept"))
