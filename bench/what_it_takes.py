@@ -131,6 +131,8 @@ def main():
         has = os.path.join(folder, "router.txt")
         router(table, has)
         moved = Run([program, "moves", has, table], out)
+        open(has, "w").close()
+        loaded = Run([program, "moves", has, table], out)
         roas = os.path.join(folder, "vrps.txt")
         count = vrps(table, roas)
         judged = Run([program, "run", path, "--vrps", roas, *ROOM], out)
@@ -154,6 +156,8 @@ def main():
             "%.1f octets of memory an octet of one text" % (same.memory / one.text))
         row("`fib moves` of a router with its routes", "%.1f" % moved.seconds, number(moved.memory / MIB),
             "%s changes" % number(moved.rows["change"]))
+        row("`fib moves` of an empty router", "%.1f" % loaded.seconds, number(loaded.memory / MIB),
+            "%s changes" % number(loaded.rows["change"]))
         row("`--vrps` with %s VRPs" % number(count), "%.1f more" % (judged.seconds - one.seconds), number(judged.memory / MIB),
             "%.2f us a candidate" % ((judged.seconds - one.seconds) / one.rows["route"] * 1e6))
         row("`fib save` of both, four peers", "%.1f" % save.seconds, number(save.memory / MIB),
