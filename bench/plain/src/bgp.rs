@@ -101,11 +101,10 @@ pub fn rib_route(list: &[u8], family: Family) -> Read<Option<Route>> {
         match attribute(&mut list)? {
             (AS_PATH, value) if path.is_none() => path = Some(path_len(value, true)?),
             (NEXT_HOP, value) if hop.is_none() => hop = Some(next_hop(value)?),
-            (MP_REACH_NLRI, value) => {
-                if mp_hop.replace(rib_mp_next_hop(value, family)).is_some() {
-                    return Err(Malformed("a second MP_REACH_NLRI"));
-                }
+            (MP_REACH_NLRI, _) if mp_hop.is_some() => {
+                return Err(Malformed("a second MP_REACH_NLRI"))
             }
+            (MP_REACH_NLRI, value) => mp_hop = Some(rib_mp_next_hop(value, family)),
             _ => {}
         }
     }

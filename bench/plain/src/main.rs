@@ -46,7 +46,7 @@ impl Words {
             return None;
         }
         let mut read = Words {
-            dump: words.next()?,
+            dump: String::new(),
             updates: None,
             ask: None,
             every: 0,
@@ -55,8 +55,15 @@ impl Words {
             leaves: 18,
         };
         while let Some(word) = words.next() {
-            let value = words.next()?;
-            match word.as_str() {
+            if !word.starts_with('-') && read.dump.is_empty() {
+                read.dump = word;
+                continue;
+            }
+            let (name, value) = match word.split_once('=') {
+                Some((name, value)) => (name.to_string(), value.to_string()),
+                None => (word, words.next()?),
+            };
+            match name.as_str() {
                 "--updates" => read.updates = Some(value),
                 "--ask" => read.ask = Some(value),
                 "--every" => read.every = value.parse().ok()?,

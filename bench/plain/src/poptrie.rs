@@ -121,7 +121,7 @@ impl Trie {
             if matches!(node.best, Best::Uniform(_)) {
                 break;
             }
-            if depth >= direct && (depth - direct) % STRIDE == 0 {
+            if depth >= direct && (depth - direct).is_multiple_of(STRIDE) {
                 visits += 1;
             }
             match node.half(bit(bits, depth)) {

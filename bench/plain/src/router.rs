@@ -81,7 +81,7 @@ impl Router {
                 trie.set_route(prefix, route, &self.hops, &mut self.changes);
             }
         }
-        if self.every > 0 && self.changes.event % self.every == 0 {
+        if self.every > 0 && self.changes.event.is_multiple_of(self.every) {
             for trie in &mut self.tries {
                 trie.snapshot(&self.hops, &mut self.changes);
             }
