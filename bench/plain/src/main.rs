@@ -15,15 +15,16 @@ mod mrt;
 mod ortc;
 mod poptrie;
 mod router;
+mod rows;
 mod text;
 mod trie;
 mod wire;
 
 use addr::Addr;
-use cert::{Rows, Writer};
 use mrt::Counts;
 use poptrie::Need;
 use router::Router;
+use rows::{Rows, Writer};
 use std::io::{self, Write};
 use std::process::ExitCode;
 
@@ -124,14 +125,14 @@ fn print<W: Write>(
     let (tries, hops) = (&router.tries, &router.hops);
     let (mut routes, mut entries) = (0, 0);
     for trie in tries {
-        routes += trie.route_rows(hops, rows)?;
+        routes += Writer { trie, hops, rows }.route_rows()?;
     }
     rows.whole(&router.changes.text)?;
     for &addr in asks {
         answer(addr, words.direct, router, rows)?;
     }
     for trie in tries {
-        entries += trie.table_rows(hops, rows)?;
+        entries += Writer { trie, hops, rows }.table_rows()?;
     }
     for trie in tries {
         Writer { trie, hops, rows }.least_rows()?;

@@ -29,7 +29,7 @@ impl Best {
     }
 }
 
-/// The lists of best hops that are longer than a few.
+/// The best hops where they are more than a few.
 #[derive(Default)]
 pub struct Lists {
     lists: Vec<Box<[Hop]>>,
@@ -69,7 +69,7 @@ impl Lists {
                 std::cmp::Ordering::Less => Best::Few(2, [a, b, 0]),
                 std::cmp::Ordering::Greater => Best::Few(2, [b, a, 0]),
             };
-            return self.replace(best, joined);
+            return self.put(best, joined);
         }
         let mut joined = std::mem::take(&mut self.joined);
         joined.clear();
@@ -104,7 +104,7 @@ impl Lists {
     }
 
     /// Makes `best` this, which isn't a list.
-    pub fn replace(&mut self, best: &mut Best, new: Best) -> bool {
+    fn put(&mut self, best: &mut Best, new: Best) -> bool {
         let same = match (*best, new) {
             (Best::Uniform(a), Best::Uniform(b)) => a == b,
             (Best::Few(..), Best::Few(..)) => self.hops(best) == self.hops(&new),
@@ -153,4 +153,45 @@ fn either(mut a: &[Hop], mut b: &[Hop], out: &mut Vec<Hop>) {
     }
     out.extend_from_slice(a);
     out.extend_from_slice(b);
+}
+
+#[cfg(test)]
+mod tests {
+    use super::*;
+
+    fn joined(lists: &mut Lists, low: Best, high: Best) -> Best {
+        let mut best = Best::Uniform(0);
+        lists.join(low, high, &mut best);
+        best
+    }
+
+    #[test]
+    fn halves_with_one_hop_are_uniform() {
+        let lists = &mut Lists::default();
+        let both = joined(lists, Best::Uniform(3), Best::Uniform(3));
+        assert_eq!(both.uniform(), Some(3));
+    }
+
+    #[test]
+    fn common_hops_come_before_all() {
+        let lists = &mut Lists::default();
+        let low = joined(lists, Best::Uniform(2), Best::Uniform(1));
+        let high = joined(lists, Best::Uniform(5), Best::Uniform(4));
+        let all = joined(lists, low, high);
+        assert_eq!(lists.hops(&all), [1, 2, 4, 5]);
+        let common = joined(lists, all, Best::Uniform(4));
+        assert_eq!(lists.hops(&common), [4]);
+        assert_eq!(common.uniform(), None);
+    }
+
+    #[test]
+    fn the_same_hops_are_no_change() {
+        let lists = &mut Lists::default();
+        let low = joined(lists, Best::Uniform(2), Best::Uniform(1));
+        let high = joined(lists, Best::Uniform(5), Best::Uniform(4));
+        let mut all = joined(lists, low, high);
+        assert!(!lists.join(high, low, &mut all));
+        assert!(lists.join(low, low, &mut all));
+        assert_eq!(lists.hops(&all), [1, 2]);
+    }
 }

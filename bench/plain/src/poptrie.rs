@@ -7,7 +7,6 @@
 
 use crate::addr::{bit, Addr};
 use crate::hops::{Hop, NONE};
-use crate::ortc::Best;
 use crate::trie::{Trie, ROOT};
 
 const STRIDE: u8 = 6;
@@ -70,7 +69,7 @@ impl Trie {
     /// Adds the needs of the direct words of a region.
     fn add_direct(&self, at: u32, above: Hop, left: u8, need: &mut Need) {
         let node = self.node(at);
-        if matches!(node.best, Best::Uniform(_)) {
+        if node.best.uniform().is_some() {
             return;
         }
         let routed = node.routed(above);
@@ -104,9 +103,9 @@ impl Trie {
                 continue;
             };
             let node = self.node(half);
-            match node.best {
-                Best::Uniform(hop) => slots.leaf(hop),
-                _ => self.add_slots(half, node.routed(routed), left - 1, slots, need),
+            match node.best.uniform() {
+                Some(hop) => slots.leaf(hop),
+                None => self.add_slots(half, node.routed(routed), left - 1, slots, need),
             }
         }
     }
@@ -118,7 +117,7 @@ impl Trie {
         let (mut at, mut visits) = (ROOT, 0);
         for depth in 0..self.family.width() {
             let node = self.node(at);
-            if matches!(node.best, Best::Uniform(_)) {
+            if node.best.uniform().is_some() {
                 break;
             }
             if depth >= direct && (depth - direct).is_multiple_of(STRIDE) {

@@ -121,3 +121,47 @@ pub fn prefix(out: &mut Vec<u8>, prefix: &Prefix) {
     out.push(b'/');
     number(out, u64::from(prefix.len));
 }
+
+#[cfg(test)]
+mod tests {
+    use super::*;
+
+    fn of(text: &str) -> String {
+        let mut out = Vec::new();
+        addr(&mut out, Addr::parse(text).expect("an address"));
+        String::from_utf8(out).expect("ASCII")
+    }
+
+    #[test]
+    fn addresses_are_written_as_they_are_read() {
+        for text in [
+            "0.0.0.0",
+            "10.1.20.255",
+            "::",
+            "::1",
+            "1::",
+            "2001:db8::1",
+            "1:0:2:3::",
+            "1:0:2:3:4:5:6:7",
+        ] {
+            assert_eq!(of(text), text);
+        }
+    }
+
+    #[test]
+    fn the_first_of_the_longest_runs_is_left_out() {
+        assert_eq!(of("1:0:0:2:0:0:3:4"), "1::2:0:0:3:4");
+        assert_eq!(of("1:0:0:2:0:0:0:4"), "1:0:0:2::4");
+        assert_eq!(of("::FFFF:1:2"), "::ffff:1:2");
+    }
+
+    #[test]
+    fn numbers_are_decimal() {
+        let mut out = Vec::new();
+        for next in [0, 9, 10, u64::MAX] {
+            number(&mut out, next);
+            out.push(b' ');
+        }
+        assert_eq!(out, b"0 9 10 18446744073709551615 ");
+    }
+}
