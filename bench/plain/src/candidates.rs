@@ -54,7 +54,7 @@ impl Candidates {
         via
     }
 
-    /// The place of the link to a way's candidate in a list: `None` for the list's own.
+    /// A way's candidate in a list: the place of the one before it, if there is one, and its own.
     fn find(&self, list: u32, via: Via) -> Option<(Option<u32>, u32)> {
         let (mut before, mut at) = (None, list);
         while at != EMPTY {
@@ -129,7 +129,7 @@ impl Candidates {
                 && self.vias[one.via as usize] < self.vias[other.via as usize]
     }
 
-    /// Adds a peer's ways in a list, in the order of path identifiers.
+    /// Finds a peer's ways in a list, in the order of path identifiers.
     pub fn of_peer(&self, list: u32, peer: Peer, found: &mut Vec<Via>) {
         found.clear();
         let mut at = list;
