@@ -25,7 +25,8 @@ struct Candidate {
     next: u32,
 }
 
-/// All candidates. A prefix's are a list, which is told by the place of its first one, or `EMPTY`.
+/// All candidates. A prefix's are a list, which is told by the place of its first one, or `EMPTY`. The greatest number of a way
+/// comes first, so that a dump, which has the peers in order, adds to the front.
 pub struct Candidates {
     held: Vec<Candidate>,
     /// The first spare place.
@@ -54,49 +55,24 @@ impl Candidates {
         via
     }
 
-    /// A way's candidate in a list: the place of the one before it, if there is one, and its own.
-    fn find(&self, list: u32, via: Via) -> Option<(Option<u32>, u32)> {
+    /// Where a way's candidate stands in a list, or would stand: the place of the one before it, if there is one, and its own or
+    /// that of the one behind it.
+    fn find(&self, list: u32, via: Via) -> (Option<u32>, u32) {
         let (mut before, mut at) = (None, list);
-        while at != EMPTY {
-            let candidate = &self.held[at as usize];
-            if candidate.via == via {
-                return Some((before, at));
-            }
-            (before, at) = (Some(at), candidate.next);
+        while at != EMPTY && self.held[at as usize].via > via {
+            before = Some(at);
+            at = self.held[at as usize].next;
         }
-        None
+        (before, at)
     }
 
-    /// Puts a way's candidate in the place of its last one, and tells the list.
-    pub fn put(&mut self, list: u32, via: Via, path_len: u16, hop: Hop) -> u32 {
-        if let Some((_, at)) = self.find(list, via) {
-            let candidate = &mut self.held[at as usize];
-            candidate.path_len = path_len;
-            candidate.hop = hop;
-            return list;
-        }
-        let new = Candidate {
-            via,
-            path_len,
-            hop,
-            next: list,
-        };
-        if self.spare == EMPTY {
-            self.held.push(new);
-            return self.held.len() as u32 - 1;
-        }
-        let at = self.spare;
-        self.spare = std::mem::replace(&mut self.held[at as usize], new).next;
-        at
+    /// Whether there is a candidate at a place, and it is this way's.
+    fn is_of(&self, at: u32, via: Via) -> bool {
+        at != EMPTY && self.held[at as usize].via == via
     }
 
-    /// Takes a way's candidate away, if there is one, and tells the list.
-    pub fn cut(&mut self, list: u32, via: Via) -> u32 {
-        let Some((before, at)) = self.find(list, via) else {
-            return list;
-        };
-        let next = std::mem::replace(&mut self.held[at as usize].next, self.spare);
-        self.spare = at;
+    /// Has another place follow one in a list, or the list begin with it, and tells the list.
+    fn link(&mut self, list: u32, before: Option<u32>, next: u32) -> u32 {
         match before {
             None => next,
             Some(before) => {
@@ -104,6 +80,46 @@ impl Candidates {
                 list
             }
         }
+    }
+
+    /// Puts a way's candidate in the place of its last one, and tells the list.
+    pub fn put(&mut self, list: u32, via: Via, path_len: u16, hop: Hop) -> u32 {
+        let (before, at) = self.find(list, via);
+        if self.is_of(at, via) {
+            let candidate = &mut self.held[at as usize];
+            candidate.path_len = path_len;
+            candidate.hop = hop;
+            return list;
+        }
+        let new = self.place(Candidate {
+            via,
+            path_len,
+            hop,
+            next: at,
+        });
+        self.link(list, before, new)
+    }
+
+    /// Puts a candidate into a spare place, or a new one.
+    fn place(&mut self, candidate: Candidate) -> u32 {
+        if self.spare == EMPTY {
+            self.held.push(candidate);
+            return self.held.len() as u32 - 1;
+        }
+        let at = self.spare;
+        self.spare = std::mem::replace(&mut self.held[at as usize], candidate).next;
+        at
+    }
+
+    /// Takes a way's candidate away, if there is one, and tells the list.
+    pub fn cut(&mut self, list: u32, via: Via) -> u32 {
+        let (before, at) = self.find(list, via);
+        if !self.is_of(at, via) {
+            return list;
+        }
+        let next = std::mem::replace(&mut self.held[at as usize].next, self.spare);
+        self.spare = at;
+        self.link(list, before, next)
     }
 
     /// The next hop of the chosen candidate of a list: the one of the shortest path, of several the one of the least way.
