@@ -37,7 +37,7 @@ def make(args, dump, updates):
         out.writelines(make_large.update(ranges, args.peers, rng) for _ in range(args.updates))
 
 
-def made(args, dump, updates):
+def made(args, dump, updates, make=make):
     """The same in a process of its own, so that this one stays small: its size counts as the programs' too."""
     pid = os.fork()
     if pid == 0:

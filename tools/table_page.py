@@ -5,10 +5,10 @@ Usage:  table_page.py FOLDER [--every K] PRINTED..
 
 Each PRINTED is a text that `fib run` printed, called NAME.txt, also if bzip2, gzip, xz or zstd has compressed it; a pipe will do.
 FOLDER gets README.md, with a section for each, and its pictures (SVG): entries by prefix length of the routes and of the least
-table, in each family; the kept and the least table's size, of 100 routes, by family; of a run with updates their changes by event,
-and the entries of the kept table over time.  There the least table is drawn too so far as its size is known: at the load, at the
-end, and, if --every K says so of the texts behind it, at each event at which the run made the table least again.  Equal texts give
-equal pages.  If a text can't be read nothing is written.
+table, in each family; the least table's size, of 100 routes, by family, and beside it the kept table's if updates changed that; their
+changes by event, and the entries of the kept table over time.  There the least table is drawn too so far as its size is known: at
+the load, at the end, and, if --every K says so of the texts behind it, at each event at which the run made the table least again.
+Equal texts give equal pages.  If a text can't be read nothing is written.
 """
 
 import collections
@@ -183,8 +183,9 @@ def lengths_picture(printed, family, path):
 
 def ratio_picture(printed, path):
     families = printed.families()
-    sizes = {family: [("kept table", KEPT, printed.kept[family]), ("least table", LEAST, printed.entries("least", family))]
-             for family in families}
+    sizes = {family: [("least table", LEAST, printed.entries("least", family))] for family in families}
+    if printed.changes:
+        sizes = {family: [("kept table", KEPT, printed.kept[family]), *bars] for family, bars in sizes.items()}
     parts = {family: 100 / printed.entries("route", family) for family in families}
     most = max(size * parts[family] for family in families for _, _, size in sizes[family])
     picture = Picture("Entries, of 100 routes", "family", "entries", int(1.1 * most) + 1)
@@ -192,8 +193,9 @@ def ratio_picture(printed, path):
     width = (WIDTH - LEFT - RIGHT) / len(families)
     for place, family in enumerate(families):
         x = picture.x(place, len(families))
-        for at, (name, color, size) in zip((.27, .52), sizes[family]):
-            part = size * parts[family]
+        first = .52 - .125 * len(sizes[family])
+        for index, (name, color, size) in enumerate(sizes[family]):
+            at, part = first + .25 * index, size * parts[family]
             picture.bar(x + width * at, width * .21, 0, part, color, f"{name}: {size:,} entries, {part:.1f} of 100 routes")
             picture.parts.append(f'<text x="{x + width * (at + .105):.1f}" y="{picture.y(part) - 4:.1f}" text-anchor="middle">{part:.1f}</text>')
         picture.below(x + width / 2, f"IPv{family}: {printed.entries('route', family):,} routes")

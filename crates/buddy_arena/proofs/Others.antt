@@ -1,8 +1,9 @@
 -- What else is out stays out.
-use Rattle.std.proofs.Common.{◌≡◌, ℕ, zero, suc, ◌+◌, ◌^◌, ◌≤◌, List, [], ◌∷◌, length, inl, inr, Bool, true, false, refl, sym, ap, ◌∙◌, subst, arith, replicate, nat_eq}
-use Rattle.buddy_arena.specs.Space.{marked, blocks, num, IsOut, Takes, OneEach, Apart}
+use Rattle.std.proofs.Common.{◌≡◌, ℕ, zero, suc, ◌+◌, ◌^◌, ◌≤◌, List, [], ◌∷◌, ◌++◌, take, drop, length, inl, inr, Bool, true, false, refl, sym, ap, ◌∙◌, subst, arith, replicate, nat_eq}
+use Rattle.buddy_arena.specs.Space.{Space, marked, blocks, num, empty, IsOut, Takes, OneEach, Apart}
 use Rattle.buddy_arena.proofs.Blocks.{blocks_whole, all_replicate}
 use Rattle.std.specs.Prelude.{◌⊎◌}
+use Rattle.std.proofs.lemmas.List.{take_at}
 use Rattle.std.proofs.lemmas.Nat.{pow_pos}
 use Rattle.buddy_arena.proofs.Totals.{tick_le}
 use Rattle.buddy_arena.proofs.Words.{no_overlap}
@@ -64,3 +65,14 @@ given_out order old new q m p k e (inr a) o = record { aligned = o.aligned; smal
 
 pub given_still : (order later : ℕ) (old new : List Bool) (q m p k : ℕ) → later ≡ order → new ≡ marked q (2 ^ m) true old → Apart p k q m → IsOut order old p k → IsOut later new p k
 given_still order later old new q m p k e f a o = subst (λ (n : ℕ). IsOut n new p k) (sym e) (given_out order old new q m p k f a o)
+
+-- an arena of nothing but free places, each cell as at first
+abbrev space : {T : Type 0} → ℕ → List Bool → List T → T → Space T
+space n f cells v = record { order = n; free = f; cells = cells; fill = v }
+
+pub made_empty : {T : Type 0} (n : ℕ) (f : List Bool) (cells : List T) (v : T) → f ≡ replicate (2 ^ n) true → cells ≡ replicate (2 ^ n) v → space n f cells v ≡ empty n v
+made_empty n f cells v e d = ap (λ x. space n x cells v) e ∙ ap (λ x. space n (replicate (2 ^ n) true) x v) d
+
+-- what a vector holds after a call that was lent all of it
+pub lent_all : {X : Type 0} (n : ℕ) (new old : List X) → length new ≡ n → take n (new ++ drop (length new) old) ≡ new
+lent_all n new old e = take_at new (drop (length new) old) n e

@@ -20,6 +20,6 @@ pub use cert_rows::Row;
 pub use error::{BadRow, PrintedError};
 pub use invalid::{Announced, PrintedVrp};
 pub use kind_rows::read_rows;
-pub use printed::{Printed, read_printed};
+pub use printed::{Printed, hop_refused, number_hop, read_printed, row_of};
 pub use printed_model::Kind;
 pub use printed_row::{Count, PrintedRow, read_row};

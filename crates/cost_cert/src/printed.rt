@@ -38,15 +38,19 @@ fn bad_row(line: u64, why: u8) -> PrintedError
     PrintedError::BadRow(BadRow { line, why })
 }
 
-/// The row of the line of this number.
-pub(crate) fn row_of(number: u64, line: &[u8]) -> Result<PrintedRow, PrintedError>
+/// The row of the line of this number, or why it has none.
+///
+/// # Errors
+///
+/// `BadRow`, with the number and why.
+pub fn row_of(number: u64, line: &[u8]) -> Result<PrintedRow, PrintedError>
     ensures { IsRowOf result number (line_in line.now) }
 {
     read_row(line).map_err(|why| bad_row(number, why))
 }
 
 /// Why the line of this number isn't taken, if its hop isn't.
-pub(crate) fn hop_refused(number: u64, error: HopError) -> PrintedError
+pub fn hop_refused(number: u64, error: HopError) -> PrintedError
     ensures { IsHopRefused number error result }
 {
     match error {
@@ -55,8 +59,12 @@ pub(crate) fn hop_refused(number: u64, error: HopError) -> PrintedError
     }
 }
 
-/// The number of a hop, and `Hop::NONE` for none.
-pub(crate) fn number_hop(hops: &mut HopTable, hop: Option<Addr>) -> Result<Hop, HopError>
+/// The number of a hop, which gets one if it has none, and `Hop::NONE` for none.
+///
+/// # Errors
+///
+/// The hop would be the 65,535th, or no memory.
+pub fn number_hop(hops: &mut HopTable, hop: Option<Addr>) -> Result<Hop, HopError>
     requires { length hops.old.list ≤ most_hops }
     ensures { Numbers result (hops_with hops.old.list (option_map addr_as hop))
         (λ h. (hops.new.list ≡ hops_with hops.old.list (option_map addr_as hop))

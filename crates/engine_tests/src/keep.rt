@@ -78,6 +78,7 @@ const CASES: [(&str, &[Call]); 3] = [
     ),
 ];
 
+/// The prefix of a net's address and length.
 pub fn prefix(net: Net) -> Prefix
     ensures { result.family ≡ V4 }
 {

@@ -4,15 +4,15 @@ use Rattle.std.specs.Prelude.{IfSome, [], unwrap_or}
 use Rattle.fib_io.specs.Reads.{Read}
 use Rattle.fib_io.proofs.Passing.{makes_none}
 use Rattle.fib_io.proofs.Timing.{no_pass_in_time}
-use Rattle.fib_words.specs.Commands.{Asked, Run, Check, Make, Steps, Same, Save, Moves, command_of}
-use Rattle.fib_main.specs.declared.outcome.Outcome.TheVariants.{NoMemory}
-use Rattle.fib_main.specs.Ends.{TellsOf}
-use Rattle.fib_main.specs.Owned.{IsOf}
-use Rattle.fib_main.specs.InTime.{TextMayGoOn, RunMayGoOn, SaveMayGoOn, StepsMayGoOn}
-use Rattle.fib_main.specs.Passes.{Content, Input, Judge, ReadInPart, ReadsAt, check_inputs, moves_inputs, run_inputs, same_inputs, save_inputs, steps_inputs}
-use Rattle.fib_main.specs.Stepped.{EndsRun, FitsSteps, IfStepping}
-use Rattle.fib_main.specs.Due.{stepping_at}
-use Rattle.fib_main.specs.Untold.{FitsSome}
+use Rattle.fib_words.specs.Commands.{Asked, Run, Check, Make, Steps, Same, Save, Moves, CheckMoves, command_of}
+use Rattle.fib_due.specs.declared.outcome.Outcome.TheVariants.{NoMemory}
+use Rattle.fib_due.specs.Ends.{TellsOf}
+use Rattle.fib_due.specs.Owned.{IsOf}
+use Rattle.fib_due.specs.InTime.{TextMayGoOn, RunMayGoOn, SaveMayGoOn, StepsMayGoOn}
+use Rattle.fib_due.specs.Passes.{Content, Input, Judge, ReadInPart, ReadsAt, check_inputs, check_moves_inputs, moves_inputs, run_inputs, same_inputs, save_inputs, steps_inputs}
+use Rattle.fib_due.specs.Stepped.{EndsRun, FitsSteps, IfStepping}
+use Rattle.fib_due.specs.Due.{stepping_at}
+use Rattle.fib_due.specs.Untold.{FitsSome}
 use Rattle.fib.specs.Ends.{Ends, moment}
 
 owned : (asked : Option Asked) → IsOf asked NoMemory
@@ -28,6 +28,7 @@ fits_some content (Some (Steps named)) out = inl tt
 fits_some content (Some (Same named)) out = inl (1, tt)
 fits_some content (Some (Save named)) out = inl (inl tt)
 fits_some content (Some (Moves named)) out = inl (1, tt)
+fits_some content (Some (CheckMoves named)) out = inl (1, tt)
 
 fits_steps : (content : List ℕ → Option (List ℕ)) (asked : Option Asked) (out : Option (List ℕ)) → FitsSteps content asked out out NoMemory
 fits_steps content None out = tt
@@ -37,6 +38,7 @@ fits_steps content (Some (Make routes seed)) out = tt
 fits_steps content (Some (Same named)) out = tt
 fits_steps content (Some (Save named)) out = tt
 fits_steps content (Some (Moves named)) out = tt
+fits_steps content (Some (CheckMoves named)) out = tt
 fits_steps content (Some (Steps named)) out = elim (stepping_at content named) as (λ d. IfStepping d (λ s. EndsRun s out out NoMemory)) [ Ok s ↦ tt | Err stop ↦ tt ]
 
 -- none of these inputs was begun
@@ -53,6 +55,7 @@ none_read content (Some (Steps named)) = none_begun content (StepsMayGoOn named)
 none_read content (Some (Same named)) = none_begun content TextMayGoOn (same_inputs named)
 none_read content (Some (Save named)) = none_begun content SaveMayGoOn (save_inputs named)
 none_read content (Some (Moves named)) = none_begun content TextMayGoOn (moves_inputs named)
+none_read content (Some (CheckMoves named)) = none_begun content TextMayGoOn (check_moves_inputs named)
 
 not_more : {P : Type 0} (n : ℕ) → n < n → P
 not_more n h = absurd (omega (arith, h))

@@ -5,16 +5,16 @@ use Rattle.std.specs.declared.vec.IntoIter.{IntoIter}
 use Rattle.fib_io.specs.Causes.{Rose}
 use Rattle.fib_io.specs.Reads.{Makes, Read}
 use Rattle.fib_words.specs.Commands.{command_of}
-use Rattle.fib_main.specs.declared.outcome.Outcome.{Outcome}
-use Rattle.fib_main.specs.declared.outcome.Outcome.TheVariants.{Done, ReadFault, WriteFault}
-use Rattle.fib_main.specs.Due.{due}
-use Rattle.fib_main.specs.Ends.{Completes, Meets, OneRose, reads, ReadsFrom, status_of, TellsOf, text_due, Writes, WritesBy}
-use Rattle.fib_main.specs.Owned.{IsOf}
-use Rattle.fib_main.specs.Passes.{ReadsAt}
+use Rattle.fib_due.specs.declared.outcome.Outcome.{Outcome}
+use Rattle.fib_due.specs.declared.outcome.Outcome.TheVariants.{Done, ReadFault, WriteFault}
+use Rattle.fib_due.specs.Due.{due}
+use Rattle.fib_due.specs.Ends.{Completes, Meets, OneRose, reads, ReadsFrom, status_of, TellsOf, text_due, Writes, WritesBy}
+use Rattle.fib_due.specs.Owned.{IsOf}
+use Rattle.fib_due.specs.Passes.{ReadsAt}
 use Rattle.fib_save.specs.Restores.{Restores}
-use Rattle.fib_main.specs.Proves.{AddsCheckpoint, AddsFrontOfYes, AddsYes, IfRan, IfSaved, IsRun, IsSaving, PrintsYes}
-use Rattle.fib_main.specs.Stepped.{FitsSteps}
-use Rattle.fib_main.specs.Untold.{FitsSome}
+use Rattle.fib_due.specs.Proves.{AddsCheckpoint, AddsFrontOfYes, AddsYes, IfRan, IfSaved, IsRun, IsSaving, PrintsYes}
+use Rattle.fib_due.specs.Stepped.{FitsSteps}
+use Rattle.fib_due.specs.Untold.{FitsSome}
 
 -- the words that are still to come
 abbrev pub words_left : {X Z : Type 0} → IntoIter X Z → List X

@@ -4,7 +4,7 @@
 ghost use Rattle.std.specs.Prelude.{◌≡◌, ℕ, List, [], Option, None, IfErr, IfOk, IfSome, ◌⊎◌};
 ghost use Rattle.std.specs.IoError.{error_kind};
 ghost use Rattle.std.specs.Process.{exit_status};
-ghost use Rattle.fib_main.specs.Words.{texts_of};
+ghost use Rattle.fib_due.specs.Words.{texts_of};
 ghost use Rattle.fib.specs.Ends.{EndsOf, EndsWith, moment, words_left};
 
 use fib_io::{FileInputs, Inputs, Sink, StdSink};

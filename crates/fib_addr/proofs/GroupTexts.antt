@@ -7,7 +7,8 @@ use Rattle.std.specs.Char.{digit_value, is_digit}
 use Rattle.std.specs.Net.Text.{dotted_text}
 use Rattle.std.specs.Net.Grammar.{IsGroup, IsGroupsAfter, IsGroups, IsColonHex}
 use Rattle.std.specs.Str.Parse.{AllDigits, digits_value}
-use Rattle.std.proofs.lemmas.Bool.{ne_eqb, eq-eqb, eqb-true, and_parts, and_from, lt-ltb, ltb-true, le-leb, leb-true}
+use Rattle.std.proofs.lemmas.Option.{none-some, same_Some}
+use Rattle.std.proofs.lemmas.Bool.{ne_eqb, eq-eqb, eqb-true, and_parts, and_from, lt-ltb, ltb-true, le-leb, leb-true, false≢true}
 use Rattle.std.proofs.lemmas.List.{length-replicate}
 use Rattle.std.proofs.lemmas.List.Elements.{All-from_recursion}
 use Rattle.std.proofs.lemmas.List.Folds.{list_any-append}
@@ -52,9 +53,8 @@ group_is text s e = by_test (nat_le 1 (length text) && nat_le (length text) 4 &&
         let x = and_parts _ _ t in
         let y = and_parts _ _ x.0 in
         let one : 1 ≤ length text = leb-true 1 (length text) y.0 in
-        let v : digits_value 16 text ≡ s = cc in
-        (((omega arith, digits_are text x.1), v), leb-true (length text) 4 y.1)
-    by_test false t f = absurd cc
+        (((omega arith, digits_are text x.1), same_Some (digits_value 16 text) s f), leb-true (length text) 4 y.1)
+    by_test false t f = absurd (none-some s f)
 
 -- a hexadecimal digit is no colon and no dot
 no_colon : (c : ℕ) → digit_value c < 16 → is_colon c ≡ false
@@ -95,7 +95,7 @@ plain lead text (s ∷ segments) n (inr h) =
     let none : list_any is_dot h.0 ≡ false = (no_dots_after lead h.0 (ap (list_any is_dot) (sym h.3) ∙ n)).1 in
     let d = h.4 in
     let some : list_any is_dot h.0 ≡ true = ap (list_any is_dot) d.spelled ∙ dotted_has_dot d.a d.b d.c d.d in
-    absurd cc
+    absurd (false≢true (sym none ∙ some))
 
 -- ---- the first `::`
 
@@ -139,7 +139,7 @@ gap_after_more text (s ∷ segments) rest (inl (g, more, e, is, later)) =
     ap around_gap (ap (λ xs. xs ++ rest) e ∙ ap (λ xs. 58 ∷ xs) (append_assoc g more rest))
     ∙ (gap_after_colon g (more ++ rest) is.0.0.0 is.0.0.1
     ∙ (ap (before (58 ∷ g)) (gap_after_more more segments rest later) ∙ (before_both (58 ∷ g) more (around_gap rest) ∙ ap (λ xs. before xs (around_gap rest)) (sym e))))
-gap_after_more text (s ∷ segments) rest (inr h) = let f : false ≡ true = h.2 in absurd cc
+gap_after_more text (s ∷ segments) rest (inr h) = absurd (false≢true h.2)
 
 gap_after_groups : (text segments rest : List ℕ) → IsGroupsAfter false [] text segments → around_gap (text ++ rest) ≡ before text (around_gap rest)
 gap_after_groups text [] rest h = ap (λ xs. around_gap (xs ++ rest)) h ∙ (before_nothing (around_gap rest) ∙ ap (λ xs. before xs (around_gap rest)) (sym h))
@@ -147,11 +147,11 @@ gap_after_groups text (s ∷ segments) rest (inl (g, more, e, is, later)) =
     ap around_gap (ap (λ xs. xs ++ rest) e ∙ append_assoc g more rest)
     ∙ (gap_after_digits g (more ++ rest) is.0.0.1
     ∙ (ap (before g) (gap_after_more more segments rest later) ∙ (before_both g more (around_gap rest) ∙ ap (λ xs. before xs (around_gap rest)) (sym e))))
-gap_after_groups text (s ∷ segments) rest (inr h) = let f : false ≡ true = h.2 in absurd cc
+gap_after_groups text (s ∷ segments) rest (inr h) = absurd (false≢true h.2)
 
 gap_is : (text : List ℕ) (sides : List ℕ × List ℕ) → around_gap text ≡ Some sides → text ≡ sides.0 ++ (58 ∷ 58 ∷ sides.1)
-gap_is [] sides e = absurd cc
-gap_is (c ∷ []) sides e = absurd cc
+gap_is [] sides e = absurd (none-some sides e)
+gap_is (c ∷ []) sides e = absurd (none-some sides e)
 gap_is (c ∷ d ∷ text) sides e = by_test ((c == 58) && (d == 58)) refl e (λ s f. gap_is (d ∷ text) s f)
   where
     by_test : (t : Bool) → ((c == 58) && (d == 58)) ≡ t → cond t (Some ([], text)) (in_front c (around_gap (d ∷ text))) ≡ Some sides
@@ -160,7 +160,7 @@ gap_is (c ∷ d ∷ text) sides e = by_test ((c == 58) && (d == 58)) refl e (λ 
         let h = and_parts (c == 58) (d == 58) t in
         let x : c ≡ 58 = eqb-true c 58 h.0 in
         let y : d ≡ 58 = eqb-true d 58 h.1 in
-        let s : ([], text) ≡ sides = cc in
+        let s = same_Some ([], text) sides f in
         rw (← s, x, y) refl
     by_test false t f later =
         let m = some_map (λ (s : List ℕ × List ℕ). (c ∷ s.0, s.1)) (around_gap (d ∷ text)) sides f in
@@ -177,7 +177,7 @@ split_groups g rest s (r ∷ more) is (inl (h, last, e, is_next, later)) =
     ∙ (ap (λ parts. all_there (map group_in parts)) (slice_split_at is_colon g 58 (h ++ last) (no_colons g is.0.0.1) refl)
     ∙ (ap (λ o. all_there (o ∷ map group_in (slice_split is_colon (h ++ last)))) (group_read g s is)
     ∙ ap (option_map (λ ns. s ∷ ns)) (split_groups h last r more is_next later)))
-split_groups g rest s (r ∷ more) is (inr h) = let f : false ≡ true = h.2 in absurd cc
+split_groups g rest s (r ∷ more) is (inr h) = absurd (false≢true h.2)
 
 filled_single : (g rest : List ℕ) → 0 < length g → single_groups_in (g ++ rest) ≡ all_there (map group_in (slice_split is_colon (g ++ rest)))
 filled_single [] rest h = absurd (omega arith)
@@ -186,29 +186,28 @@ filled_single (c ∷ g) rest h = refl
 single_read : (text segments : List ℕ) → IsGroupsAfter false [] text segments → single_groups_in text ≡ Some segments
 single_read text [] h = ap single_groups_in h
 single_read text (s ∷ segments) (inl (g, rest, e, is, later)) = ap single_groups_in e ∙ (filled_single g rest is.0.0.0 ∙ split_groups g rest s segments is later)
-single_read text (s ∷ segments) (inr h) = let f : false ≡ true = h.2 in absurd cc
+single_read text (s ∷ segments) (inr h) = absurd (false≢true h.2)
 
 parts_are : (b : Bool) (lead p : List ℕ) (parts : List (List ℕ)) (segments : List ℕ) → all_there (map group_in (p ∷ parts)) ≡ Some segments → IsGroupsAfter b lead (lead ++ join_with_byte 58 (p ∷ parts)) segments
 parts_are b lead p [] segments e = by_first (group_in p) refl e
   where
     by_first : (o : Option ℕ) → group_in p ≡ o → all_there (o ∷ []) ≡ Some segments → IsGroupsAfter b lead (lead ++ p) segments
-    by_first None o f = absurd cc
+    by_first None o f = absurd (none-some segments f)
     by_first (Some s) o f =
-        let same : s ∷ [] ≡ segments = cc in
-        subst (IsGroupsAfter b lead (lead ++ p)) same (inl (p, [], sym (append-nil (lead ++ p)), group_is p s o, refl))
+        subst (IsGroupsAfter b lead (lead ++ p)) (same_Some (s ∷ []) segments f) (inl (p, [], sym (append-nil (lead ++ p)), group_is p s o, refl))
 parts_are b lead p (q ∷ parts) segments e = by_first (group_in p) refl e (λ more f. parts_are b (codes ":") q parts more f)
   where
     by_first : (o : Option ℕ) → group_in p ≡ o → all_there (o ∷ map group_in (q ∷ parts)) ≡ Some segments
         → ((more : List ℕ) → all_there (map group_in (q ∷ parts)) ≡ Some more → IsGroupsAfter b (codes ":") (58 ∷ join_with_byte 58 (q ∷ parts)) more)
         → IsGroupsAfter b lead (lead ++ (p ++ (58 ∷ join_with_byte 58 (q ∷ parts)))) segments
-    by_first None o f later = absurd cc
+    by_first None o f later = absurd (none-some segments f)
     by_first (Some s) o f later =
         let m = some_map (λ (ns : List ℕ). s ∷ ns) (all_there (map group_in (q ∷ parts))) segments f in
         subst (IsGroupsAfter b lead (lead ++ (p ++ (58 ∷ join_with_byte 58 (q ∷ parts))))) (sym m.2)
         (inl (p, 58 ∷ join_with_byte 58 (q ∷ parts), sym (append_assoc lead p (58 ∷ join_with_byte 58 (q ∷ parts))), group_is p s o, later m.0 m.1))
 
 single_is : (b : Bool) (text segments : List ℕ) → single_groups_in text ≡ Some segments → IsGroups b text segments
-single_is b [] segments e = let same : [] ≡ segments = cc in subst (IsGroupsAfter b [] []) same refl
+single_is b [] segments e = subst (IsGroupsAfter b [] []) (same_Some [] segments e) refl
 single_is b (c ∷ text) segments e = by_parts (slice_split is_colon (c ∷ text)) (join_with_byte-slice_split 58 (c ∷ text)) e
   where
     by_parts : (parts : List (List ℕ)) → join_with_byte 58 parts ≡ c ∷ text → all_there (map group_in parts) ≡ Some segments → IsGroups b (c ∷ text) segments
@@ -218,25 +217,24 @@ single_is b (c ∷ text) segments e = by_parts (slice_split is_colon (c ∷ text
 -- ---- eight groups, or fewer around `::`
 
 pub then_some_is : {A B : Type 0} (f : A → Option B) (o : Option A) (y : B) → option_and_then f o ≡ Some y → (x : A) × (o ≡ Some x) × (f x ≡ Some y)
-then_some_is f None y e = absurd cc
+then_some_is f None y e = absurd (none-some y e)
 then_some_is f (Some x) y e = (x, refl, e)
 
 eight_is : (groups segments : List ℕ) → eight groups ≡ Some segments → (groups ≡ segments) × (length groups ≡ 8)
 eight_is groups segments e = by_test (length groups == 8) refl e
   where
     by_test : (t : Bool) → (length groups == 8) ≡ t → cond t (Some groups) None ≡ Some segments → (groups ≡ segments) × (length groups ≡ 8)
-    by_test true t f = let s : groups ≡ segments = cc in (s, eqb-true (length groups) 8 t)
-    by_test false t f = absurd cc
+    by_test true t f = (same_Some groups segments f, eqb-true (length groups) 8 t)
+    by_test false t f = absurd (none-some segments f)
 
 filled_is : (head tail segments : List ℕ) → filled_up head tail ≡ Some segments → (length head + length tail < 8) × (segments ≡ head ++ replicate (8 - length head - length tail) 0 ++ tail)
 filled_is head tail segments e = by_test (nat_le (length head + length tail) 7) refl e
   where
     by_test : (t : Bool) → nat_le (length head + length tail) 7 ≡ t → cond t (Some (head ++ replicate (8 - length head - length tail) 0 ++ tail)) None ≡ Some segments → (length head + length tail < 8) × (segments ≡ head ++ replicate (8 - length head - length tail) 0 ++ tail)
     by_test true t f =
-        let s : head ++ replicate (8 - length head - length tail) 0 ++ tail ≡ segments = cc in
         let l : length head + length tail ≤ 7 = leb-true (length head + length tail) 7 t in
-        (omega arith, sym s)
-    by_test false t f = absurd cc
+        (omega arith, sym (same_Some (head ++ replicate (8 - length head - length tail) 0 ++ tail) segments f))
+    by_test false t f = absurd (none-some segments f)
 
 -- what is read is in the grammar
 pub groups_are_hex : (text segments : List ℕ) → groups_in text ≡ Some segments → IsColonHex text segments
@@ -304,7 +302,7 @@ group_fits text s h =
 after_fit : (lead text groups : List ℕ) → IsGroupsAfter false lead text groups → Fit groups
 after_fit lead text [] h = tt
 after_fit lead text (s ∷ groups) (inl h) = (group_fits h.0 s h.3, after_fit (codes ":") h.1 groups h.4)
-after_fit lead text (s ∷ groups) (inr h) = let f : false ≡ true = h.2 in absurd cc
+after_fit lead text (s ∷ groups) (inr h) = absurd (false≢true h.2)
 
 both_fit : (xs ys : List ℕ) → Fit xs → Fit ys → Fit (xs ++ ys)
 both_fit [] ys h k = k

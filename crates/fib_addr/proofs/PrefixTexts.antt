@@ -4,7 +4,8 @@ use Rattle.std.specs.Prelude.{◌&&◌, nat_lt, option_map, position}
 use Rattle.std.specs.Bool.{then_some}
 use Rattle.std.specs.Option.{option_and_then}
 use Rattle.std.specs.List.{list_any, position_or_len}
-use Rattle.std.proofs.lemmas.Bool.{cond-true, cond-false}
+use Rattle.std.proofs.lemmas.Bool.{cond-true, cond-false, false≢true}
+use Rattle.std.proofs.lemmas.Option.{none-some, same_Some}
 use Rattle.std.proofs.lemmas.List.{take_rest, take-append-drop, length-take, length-drop}
 use Rattle.address_model.specs.Bits.{same_bits}
 use Rattle.address_model.specs.Width.{width}
@@ -27,15 +28,15 @@ pub no_slash : (text : List ℕ) → None ≡ position is_slash text → None �
 no_slash text e = by_test (nat_lt (position_or_len is_slash text) (length text)) refl e
   where
     by_test : (t : Bool) → nat_lt (position_or_len is_slash text) (length text) ≡ t → None ≡ cond t (Some (position_or_len is_slash text)) None → None ≡ prefix_in text
-    by_test true t f = absurd cc
+    by_test true t f = absurd (none-some _ f)
     by_test false t f = sym (cond-false _ _ _ (any_before is_slash text ∙ t))
 
 slash_place : (text : List ℕ) (k : ℕ) → Some k ≡ position is_slash text → (list_any is_slash text ≡ true) × (position_or_len is_slash text ≡ k)
 slash_place text k e = by_test (nat_lt (position_or_len is_slash text) (length text)) refl e
   where
     by_test : (t : Bool) → nat_lt (position_or_len is_slash text) (length text) ≡ t → Some k ≡ cond t (Some (position_or_len is_slash text)) None → (list_any is_slash text ≡ true) × (position_or_len is_slash text ≡ k)
-    by_test true t f = let same : position_or_len is_slash text ≡ k = cc in (any_before is_slash text ∙ t, same)
-    by_test false t f = absurd cc
+    by_test true t f = (any_before is_slash text ∙ t, sym (same_Some k (position_or_len is_slash text) f))
+    by_test false t f = absurd (none-some k (sym f))
 
 abbrev pub of_parts : List ℕ → List ℕ → Option Prefix
 of_parts front back = option_and_then (λ a. option_and_then (prefix_from a) (number_below (width a.family + 1) back)) (address_in front)
@@ -98,7 +99,7 @@ prefix_read text k len w a first p test result slash front back wide fits is_fir
     ∙ ap (option_and_then (prefix_from A)) back_is)))
   where
     by_test : (b s : Bool) → s ≡ not b → option_map prefix_as (then_some s p) ≡ cond b None (Some (first_bits len (addr_as a)))
-    by_test true true e = absurd cc
+    by_test true true e = absurd (false≢true (sym e))
     by_test true false e = refl
     by_test false true e = ap Some is_first
-    by_test false false e = absurd cc
+    by_test false false e = absurd (false≢true e)

@@ -7,6 +7,7 @@ use Rattle.std.specs.Net.Text.{dotted_text}
 use Rattle.std.specs.Str.Parse.{AllDigits, digits_value}
 use Rattle.std.proofs.Math.Seq.{drop-append-add, take-append_seam}
 use Rattle.std.proofs.lemmas.Bool.{ne_eqb, eq-eqb, eqb-true, and_parts, and_from, lt-ltb, ltb-true}
+use Rattle.std.proofs.lemmas.Option.{none-some, same_Some}
 use Rattle.std.proofs.lemmas.Fmt.{decimal_is_IsNumeral}
 use Rattle.std.proofs.lemmas.Str.Parse.{digit_from_value}
 use Rattle.std.proofs.lemmas.List.Elements.{All-from_recursion}
@@ -72,6 +73,9 @@ take_front xs ys n e = ap (λ j. take j (xs ++ ys)) (sym e) ∙ take-append_seam
 octet_front : (x : ℕ) (rest : List Bool) → x < 256 → value_of (take 8 (bits_of 8 x ++ rest)) ≡ x
 octet_front x rest h = ap value_of (take_front (bits_of 8 x) rest 8 (length-bits_of 8 x)) ∙ (value-bits_of 8 x ∙ mod-eq_of_lt h)
 
+same_dotted : (i j k l a b c d : ℕ) → i ≡ a → j ≡ b → k ≡ c → l ≡ d → dotted_text i j k l ≡ dotted_text a b c d
+same_dotted i j k l a b c d w x y z = cc
+
 pub octets_back : (a b c d : ℕ) → a < 256 → b < 256 → c < 256 → d < 256 → bits_text V4 (octet_bits (a ∷ b ∷ c ∷ d ∷ [])) ≡ dotted_text a b c d
 unfolding octet_bits
 octets_back a b c d ha hb hc hd =
@@ -83,9 +87,7 @@ octets_back a b c d ha hb hc hd =
     let x : octet_of 1 W ≡ b = ap (λ l. value_of (take 8 l)) (drop_past (bits_of 8 a) X 8 0 (length-bits_of 8 a)) ∙ octet_front b Y hb in
     let y : octet_of 2 W ≡ c = ap (λ l. value_of (take 8 l)) (drop_past (bits_of 8 a) X 8 8 (length-bits_of 8 a) ∙ drop_past (bits_of 8 b) Y 8 0 (length-bits_of 8 b)) ∙ octet_front c Z hc in
     let z : octet_of 3 W ≡ d = ap (λ l. value_of (take 8 l)) (drop_past (bits_of 8 a) X 8 16 (length-bits_of 8 a) ∙ (drop_past (bits_of 8 b) Y 8 8 (length-bits_of 8 b) ∙ drop_past (bits_of 8 c) Z 8 0 (length-bits_of 8 c))) ∙ octet_front d [] hd in
-    ap (λ i. dotted_text i (octet_of 1 W) (octet_of 2 W) (octet_of 3 W)) w
-    ∙ (ap (λ i. dotted_text a i (octet_of 2 W) (octet_of 3 W)) x
-    ∙ (ap (λ i. dotted_text a b i (octet_of 3 W)) y ∙ ap (dotted_text a b c) z))
+    same_dotted (octet_of 0 W) (octet_of 1 W) (octet_of 2 W) (octet_of 3 W) a b c d w x y z
 
 -- four numbers that were read are below 256, and the text is theirs
 record IsRead (parts : List (List ℕ)) (octets : List ℕ) : Type 0 where
@@ -105,12 +107,15 @@ number_is text n e = by_test (bytes_eq (decimal (digits_value 10 text)) text) (n
     by_test true false s t f = absurd cc
     by_test false b s t f = absurd cc
 
+same_four : (p q r s t u v w : List ℕ) → p ≡ t → q ≡ u → r ≡ v → s ≡ w → p ∷ q ∷ r ∷ s ∷ [] ≡ t ∷ u ∷ v ∷ w ∷ []
+same_four p q r s t u v w a b c d = cc
+
 octets_read : (parts : List (List ℕ)) (octets : List ℕ) → octets_in parts ≡ Some octets → IsRead parts octets
-octets_read [] octets e = absurd cc
-octets_read (p ∷ []) octets e = absurd cc
-octets_read (p ∷ q ∷ []) octets e = absurd cc
-octets_read (p ∷ q ∷ r ∷ []) octets e = absurd cc
-octets_read (p ∷ q ∷ r ∷ s ∷ t ∷ more) octets e = absurd cc
+octets_read [] octets e = absurd (none-some octets e)
+octets_read (p ∷ []) octets e = absurd (none-some octets e)
+octets_read (p ∷ q ∷ []) octets e = absurd (none-some octets e)
+octets_read (p ∷ q ∷ r ∷ []) octets e = absurd (none-some octets e)
+octets_read (p ∷ q ∷ r ∷ s ∷ t ∷ more) octets e = absurd (none-some octets e)
 octets_read (p ∷ q ∷ r ∷ s ∷ []) octets e = by_numbers (number_below 256 p) (number_below 256 q) (number_below 256 r) (number_below 256 s) refl refl refl refl e
   where
     by_numbers : (w x y z : Option ℕ) → number_below 256 p ≡ w → number_below 256 q ≡ x → number_below 256 r ≡ y → number_below 256 s ≡ z
@@ -120,11 +125,11 @@ octets_read (p ∷ q ∷ r ∷ s ∷ []) octets e = by_numbers (number_below 256
         let n = number_is q j b in
         let o = number_is r k c in
         let u = number_is s l d in
-        record { a = i; b = j; c = k; d = l; fit = (m.1, n.1, o.1, u.1); octets_are = cc; parts_are = rw (m.0, n.0, o.0, u.0) refl }
-    by_numbers None x y z a b c d f = absurd cc
-    by_numbers (Some i) None y z a b c d f = absurd cc
-    by_numbers (Some i) (Some j) None z a b c d f = absurd cc
-    by_numbers (Some i) (Some j) (Some k) None a b c d f = absurd cc
+        record { a = i; b = j; c = k; d = l; fit = (m.1, n.1, o.1, u.1); octets_are = sym (same_Some (i ∷ j ∷ k ∷ l ∷ []) octets f); parts_are = same_four p q r s (decimal i) (decimal j) (decimal k) (decimal l) m.0 n.0 o.0 u.0 }
+    by_numbers None x y z a b c d f = absurd (none-some octets f)
+    by_numbers (Some i) None y z a b c d f = absurd (none-some octets f)
+    by_numbers (Some i) (Some j) None z a b c d f = absurd (none-some octets f)
+    by_numbers (Some i) (Some j) (Some k) None a b c d f = absurd (none-some octets f)
 
 -- a text that is read as an address
 pub record IsDottedText (text : List ℕ) (x : Address) : Type 0 where

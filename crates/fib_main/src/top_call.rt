@@ -3,22 +3,21 @@
 ghost use Rattle.std.specs.Prelude.{◌≡◌, ℕ, ◌<◌, List, Some, option_map};
 ghost use Rattle.fib_io.specs.Causes.{Rose};
 ghost use Rattle.fib_save.specs.Restores.{Restores};
-ghost use Rattle.fib_main.specs.Views.{wrong_as};
-ghost use Rattle.fib_main.specs.Ends.{Completes, EndsBy, Meets, OneRose, ReadsFrom, TellsOf, text_due, Writes, WritesBy};
-ghost use Rattle.fib_main.specs.Judged.{Judges};
-ghost use Rattle.fib_main.specs.Keeps.{Follows, KeepsTables, MissesNone, MovesFewest, RenewsLeast, RepairsFewest, RepairsWithin};
+ghost use Rattle.fib_due.specs.Views.{wrong_as};
+ghost use Rattle.fib_due.specs.Ends.{Completes, EndsBy, Meets, OneRose, ReadsFrom, TellsOf, text_due, Writes, WritesBy};
+ghost use Rattle.fib_due.specs.Judged.{Judges};
+ghost use Rattle.fib_due.specs.Keeps.{Follows, KeepsTables, MissesNone, MovesFewest, RenewsLeast, RepairsFewest, RepairsWithin};
 ghost use Rattle.fib_io.specs.Reads.{Makes};
-ghost use Rattle.fib_main.specs.Owned.{IsOf};
-ghost use Rattle.fib_main.specs.Passes.{ReadsAt};
-ghost use Rattle.fib_main.specs.Proves.{AddsCheckpoint, AddsFrontOfYes, AddsYes, Compares, Decides, IfChecked, IfCompared, IfMoved, IfRan, IfSaved, IsRun, IsSaving, PrintsYes, Reroutes, YesProves};
-ghost use Rattle.fib_main.specs.Runs.{Answers, Certified, Forwards, HasAggregate, HasHops, HasLeast, IfDue, IsInOrder, SumsUp};
-ghost use Rattle.fib_main.specs.Stepped.{FitsSteps};
-ghost use Rattle.fib_main.specs.Untold.{FitsSome};
-ghost use Rattle.fib_main.specs.Words.{asked_by, due_by, read_by};
+ghost use Rattle.fib_due.specs.Owned.{IsOf};
+ghost use Rattle.fib_due.specs.Passes.{ReadsAt};
+ghost use Rattle.fib_due.specs.Proves.{AddsCheckpoint, AddsFrontOfYes, AddsYes, Compares, Decides, IfChecked, IfClaimed, IfCompared, IfMoved, IfRan, IfSaved, IsRun, IsSaving, PrintsYes, Reroutes, ReroutesSteadily, YesProves, DecidesMoves};
+ghost use Rattle.fib_due.specs.Runs.{Answers, Certified, Forwards, HasAggregate, HasHops, HasLeast, IfDue, IsInOrder, SumsUp};
+ghost use Rattle.fib_due.specs.Stepped.{FitsSteps};
+ghost use Rattle.fib_due.specs.Untold.{FitsSome};
+ghost use Rattle.fib_due.specs.Words.{asked_by, due_by, read_by};
 
-use crate::outcome::Outcome;
-use crate::reply::Wrong;
-use crate::run::reply_for;
+use crate::command::reply_for;
+use fib_due::{Outcome, Wrong};
 use fib_io::{Inputs, Sink, write_all};
 use std::alloc::Global;
 
@@ -29,6 +28,7 @@ fn outcome_of_wrong(wrong: Wrong) -> Outcome
     match wrong {
         Wrong::No(no) => Outcome::CheckNo(no),
         Wrong::Differ(difference) => Outcome::Differ(difference),
+        Wrong::MovesNo(wrong) => Outcome::MovesNo(wrong),
     }
 }
 
@@ -43,7 +43,7 @@ fn end_of(wrong: Option<Wrong>) -> Outcome
 }
 
 /// The outcome, with nothing told of it yet.
-#[tactic(auto, using(crate::proofs::Passes::reads_ended, crate::proofs::Passes::reads_refused, crate::proofs::Passes::reads_unwritten, crate::proofs::Untold::own_end, crate::proofs::Untold::own_fault, crate::proofs::Untold::some_ends, crate::proofs::Untold::some_fault, crate::proofs::Untold::some_stop, crate::proofs::Untold::steps_end, crate::proofs::Untold::steps_fault, crate::proofs::Untold::steps_stop), unfolding(crate::specs::Due::reply_at))]
+#[tactic(auto, using(fib_due::proofs::Passes::reads_ended, fib_due::proofs::Passes::reads_refused, fib_due::proofs::Passes::reads_unwritten, fib_due::proofs::Untold::own_end, fib_due::proofs::Untold::own_fault, fib_due::proofs::Untold::some_ends, fib_due::proofs::Untold::some_fault, fib_due::proofs::Untold::some_stop, fib_due::proofs::Untold::steps_end, fib_due::proofs::Untold::steps_fault, fib_due::proofs::Untold::steps_stop), unfolding(fib_due::specs::Due::reply_at))]
 fn outcome_of<I: Inputs, O: Sink>(
     alloc: Global,
     words: &[String],
@@ -135,11 +135,12 @@ fn run_and_tell<I: Inputs, O: Sink, E: Sink>(
 }
 
 /// Does what the words say: reads the inputs that they name, and writes to `out` the rows of a run, the verdict on a printed text, the
-/// rows of a run in steps, whether texts say the same table, or a checkpoint.
+/// rows of a run in steps, whether texts say the same table, a checkpoint, what a router must change, or the verdict on what it was told
+/// to change.
 ///
 /// What is due is a function of the words and of what the inputs hold, but for the text of a run in steps, which is that of one
 /// of the runs that its machine allows. The outcome is the due one, but that a fault of reading or want of memory may come
-/// before it, and a fault of writing in place of Done, CheckNo and Differ. Nothing is written to `out` before all is accepted. Every
+/// before it, and a fault of writing in place of Done, CheckNo, MovesNo and Differ. Nothing is written to `out` before all is accepted. Every
 /// outcome but Done is told by one line to `err`, and a fault of `err` changes nothing.
 ///
 /// It costs n log n in the octets read and the rows written, and the routes' number times the lengths of their prefixes. In
@@ -147,7 +148,7 @@ fn run_and_tell<I: Inputs, O: Sink, E: Sink>(
 /// table with its tree and its changes, and the whole text. A check keeps the printed text until it is read, its routes, least
 /// table and certificate, and then the runs of both tables. A run in steps keeps its script, the events of the updates and what
 /// they do, each family's routes with two sets of arenas, and its rows and their text.
-#[tactic(auto, using(crate::proofs::Completing::completes, crate::proofs::Running::sums_up, crate::proofs::Running::forwards, crate::proofs::Running::answers, crate::proofs::Running::least, crate::proofs::Running::follows, crate::proofs::Running::steadied, crate::proofs::Running::renewed, crate::proofs::Running::fewest, crate::proofs::Running::kept, crate::proofs::Running::outside, crate::proofs::Running::moved, crate::proofs::Running::aggregated, crate::proofs::Running::sorted, crate::proofs::Running::certified, crate::proofs::Running::addressed, crate::proofs::Replies::decides, crate::proofs::Replies::yes_proves, crate::proofs::Replies::compares, crate::proofs::Replies::reroutes, crate::proofs::Judges::judges))]
+#[tactic(auto, using(fib_due::proofs::Completing::completes, fib_due::proofs::Running::sums_up, fib_due::proofs::Running::forwards, fib_due::proofs::Running::answers, fib_due::proofs::Running::least, fib_due::proofs::Running::follows, fib_due::proofs::Running::steadied, fib_due::proofs::Running::renewed, fib_due::proofs::Running::fewest, fib_due::proofs::Running::kept, fib_due::proofs::Running::outside, fib_due::proofs::Running::moved, fib_due::proofs::Running::aggregated, fib_due::proofs::Running::sorted, fib_due::proofs::Running::certified, fib_due::proofs::Running::addressed, fib_due::proofs::Replies::decides, fib_due::proofs::Replies::yes_proves, fib_due::proofs::Replies::compares, fib_due::proofs::Replies::reroutes, fib_due::proofs::Replies::reroutes_steadily, fib_due::proofs::Replies::judges_moves, fib_due::proofs::Judges::judges))]
 pub fn run_fib<I: Inputs, O: Sink, E: Sink>(
     alloc: Global,
     words: &[String],
@@ -173,7 +174,7 @@ pub fn run_fib<I: Inputs, O: Sink, E: Sink>(
     // A fault of writing has its cause in out.
     ensures write { WritesBy (O.faults out.old) (O.faults out.new) result }
 
-    // Out has the due text at Done, CheckNo and Differ, a front of it at a fault of writing, and else nothing new.
+    // Out has the due text at Done, CheckNo, MovesNo and Differ, a front of it at a fault of writing, and else nothing new.
     ensures out { Writes (text_due (due_by words.now (I.content inputs.old))) (O.written out.old)
         (O.written out.new) result }
 
@@ -184,9 +185,9 @@ pub fn run_fib<I: Inputs, O: Sink, E: Sink>(
     // The words have the outcome, whether or not an input tells what it holds.
     ensures own { IsOf (asked_by words.now) result }
 
-    // Where the asks or the list of VRPs of a run, the text of a check, the script of a run in steps, the texts of a comparison or
-    // the inputs of a checkpoint don't tell, all is as it is due of some that there could be; asks and a list that tell are just
-    // these.
+    // Where the asks or the list of VRPs of a run, the text of a check, the script of a run in steps, the texts of a comparison or of
+    // a router, or the inputs of a checkpoint don't tell, all is as it is due of some that there could be; asks and a list that tell
+    // are just these.
     ensures some { FitsSome (I.content inputs.old) (asked_by words.now) (O.written out.old)
         (O.written out.new) result }
 
@@ -284,6 +285,14 @@ pub fn run_fib<I: Inputs, O: Sink, E: Sink>(
     // What a router must change: the changes are possible one after another and make its table send every address where the routes
     // send it, no table that does differs from its own at fewer prefixes, and the rows prove it in each family.
     ensures reroutes { IfMoved (due_by words.now (I.content inputs.old)) Reroutes }
+
+    // Where they are told in steady order: while the router makes them one by one, it sends each address where its table sent it or
+    // where the routes send it, and never back.
+    ensures reroutes_steadily { IfMoved (due_by words.now (I.content inputs.old)) ReroutesSteadily }
+
+    // What a router was told to change: a check of it that is due says yes exactly where it is all this, but for a steady order, and the
+    // rows beside it prove it, whoever wrote them.
+    ensures judges_moves { IfClaimed (due_by words.now (I.content inputs.old)) DecidesMoves }
 {
     run_and_tell(alloc, words, inputs, out, err)
 }

@@ -3,8 +3,8 @@
 
 ghost use Rattle.std.specs.Prelude.{◌≡◌, List, ℕ, map, Ok, Some, ◌++◌, ◌⊎◌};
 ghost use Rattle.std.specs.String.{string_bytes};
-ghost use Rattle.fib_main.specs.Due.{due, Output, output_text};
-ghost use Rattle.fib_main.specs.Ends.{IsDue};
+ghost use Rattle.fib_due.specs.Due.{due, Output, output_text};
+ghost use Rattle.fib_due.specs.Ends.{IsDue};
 
 use fib_io::{Inputs, MemSink, Sink, SureInputs, SureSink};
 use fib_main::{Outcome, run_fib};
@@ -43,6 +43,8 @@ pub fn run_memory(
     run_fib(alloc, words, inputs, out, err)
 }
 
+#[cfg(test)]
+mod fewest;
 #[cfg(test)]
 mod harness;
 #[cfg(test)]

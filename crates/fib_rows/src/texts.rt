@@ -1,7 +1,7 @@
 //! The texts of the rows, a printed row a line.
 
 /// The certificate of the route of 10.0.0.0/8 by 192.0.2.1 alone.
-const CERT_OF_TEN: &[&str] = &[
+pub const CERT_OF_TEN: &[&str] = &[
     "cert,leaf,0.0.0.0/5,none",
     "cert,leaf,8.0.0.0/7,none",
     "cert,leaf,10.0.0.0/8,192.0.2.1",
@@ -197,13 +197,8 @@ pub const ROWS_OF_SIX: &[&[&str]] = &[&[
     "report,treated,0",
 ]];
 
-/// 10.0.0.0/8 goes over to 192.0.2.2, since the first peer's path has become longer.
-pub const ROWS_OF_LONGER: &[&[&str]] = &[&[
-    "route,10.0.0.0/8,192.0.2.2",
-    "change,0,+,10.0.0.0/8,192.0.2.1",
-    "change,1,=,10.0.0.0/8,192.0.2.2",
-    "table,10.0.0.0/8,192.0.2.2",
-    "least,10.0.0.0/8,192.0.2.2",
+/// The certificate of 10.0.0.0/8 by the second next hop.
+pub const CERT_OF_OTHER_HOP: &[&str] = &[
     "cert,leaf,0.0.0.0/5,none",
     "cert,leaf,8.0.0.0/7,none",
     "cert,leaf,10.0.0.0/8,192.0.2.2",
@@ -224,6 +219,10 @@ pub const ROWS_OF_LONGER: &[&[&str]] = &[&[
     "cert,bound,4,1",
     "cert,leaf,::/0,none",
     "cert,bound,6,0",
+];
+
+/// The counts of a replaced path.
+pub const COUNTS_OF_LONGER: &[&str] = &[
     "report,records,3",
     "report,skipped,0",
     "report,events,3",
@@ -232,7 +231,32 @@ pub const ROWS_OF_LONGER: &[&[&str]] = &[&[
     "report,nodes,0",
     "report,leaves,0",
     "report,treated,0",
-]];
+];
+
+/// 10.0.0.0/8 goes over to 192.0.2.2, since the first peer's path has become longer.
+pub const ROWS_OF_LONGER: &[&[&str]] = &[
+    &[
+        "route,10.0.0.0/8,192.0.2.2",
+        "change,0,+,10.0.0.0/8,192.0.2.1",
+        "change,1,=,10.0.0.0/8,192.0.2.2",
+        "table,10.0.0.0/8,192.0.2.2",
+        "least,10.0.0.0/8,192.0.2.2",
+    ],
+    CERT_OF_OTHER_HOP,
+    COUNTS_OF_LONGER,
+];
+
+/// The counts of a route that is gone and back.
+pub const COUNTS_OF_GONE_AND_BACK: &[&str] = &[
+    "report,records,3",
+    "report,skipped,0",
+    "report,events,3",
+    "report,routes,1",
+    "report,entries,1",
+    "report,nodes,0",
+    "report,leaves,0",
+    "report,treated,0",
+];
 
 /// 10.0.0.0/8 is withdrawn and announced again.
 pub const ROWS_OF_GONE_AND_BACK: &[&[&str]] = &[
@@ -245,28 +269,19 @@ pub const ROWS_OF_GONE_AND_BACK: &[&[&str]] = &[
         "least,10.0.0.0/8,192.0.2.1",
     ],
     CERT_OF_TEN,
-    &[
-        "report,records,3",
-        "report,skipped,0",
-        "report,events,3",
-        "report,routes,1",
-        "report,entries,1",
-        "report,nodes,0",
-        "report,leaves,0",
-        "report,treated,0",
-    ],
+    COUNTS_OF_GONE_AND_BACK,
 ];
 
-/// All routes go with their peer's session.
-pub const ROWS_OF_LOST: &[&[&str]] = &[&[
-    "change,0,+,10.0.0.0/8,192.0.2.1",
-    "change,0,+,10.1.0.0/16,192.0.2.2",
-    "change,1,-,10.0.0.0/8",
-    "change,2,-,10.1.0.0/16",
+/// The certificate of no routes.
+pub const CERT_OF_NOTHING: &[&str] = &[
     "cert,leaf,0.0.0.0/0,none",
     "cert,bound,4,0",
     "cert,leaf,::/0,none",
     "cert,bound,6,0",
+];
+
+/// The counts of a lost session.
+pub const COUNTS_OF_LOST: &[&str] = &[
     "report,records,5",
     "report,skipped,0",
     "report,events,4",
@@ -275,7 +290,19 @@ pub const ROWS_OF_LOST: &[&[&str]] = &[&[
     "report,nodes,0",
     "report,leaves,0",
     "report,treated,0",
-]];
+];
+
+/// All routes go with their peer's session.
+pub const ROWS_OF_LOST: &[&[&str]] = &[
+    &[
+        "change,0,+,10.0.0.0/8,192.0.2.1",
+        "change,0,+,10.1.0.0/16,192.0.2.2",
+        "change,1,-,10.0.0.0/8",
+        "change,2,-,10.1.0.0/16",
+    ],
+    CERT_OF_NOTHING,
+    COUNTS_OF_LOST,
+];
 
 /// 10.0.0.0/8 by the lesser peer, since a set counts as one.
 pub const ROWS_OF_SET: &[&[&str]] = &[
@@ -411,6 +438,18 @@ pub const ROWS_OF_REDUNDANT: &[&[&str]] = &[
     ],
 ];
 
+/// The counts of two halves with an entry each.
+pub const COUNTS_OF_TWO_ENTRIES: &[&str] = &[
+    "report,records,3",
+    "report,skipped,0",
+    "report,events,2",
+    "report,routes,2",
+    "report,entries,2",
+    "report,nodes,0",
+    "report,leaves,0",
+    "report,treated,0",
+];
+
 /// The other half comes by the same next hop: without a snapshot the kept table has both halves.
 pub const ROWS_OF_REPAIR: &[&[&str]] = &[
     HALVES_ROUTES,
@@ -420,16 +459,19 @@ pub const ROWS_OF_REPAIR: &[&[&str]] = &[
         "table,128.0.0.0/1,192.0.2.1",
     ],
     CERT_OF_HALVES,
-    &[
-        "report,records,3",
-        "report,skipped,0",
-        "report,events,2",
-        "report,routes,2",
-        "report,entries,2",
-        "report,nodes,0",
-        "report,leaves,0",
-        "report,treated,0",
-    ],
+    COUNTS_OF_TWO_ENTRIES,
+];
+
+/// The counts of two halves with one entry.
+pub const COUNTS_OF_ONE_ENTRY: &[&str] = &[
+    "report,records,3",
+    "report,skipped,0",
+    "report,events,2",
+    "report,routes,2",
+    "report,entries,1",
+    "report,nodes,0",
+    "report,leaves,0",
+    "report,treated,0",
 ];
 
 /// A snapshot after that makes the kept table least: its changes come behind those of the repair.
@@ -443,16 +485,7 @@ pub const ROWS_OF_SNAPSHOT: &[&[&str]] = &[
         "table,0.0.0.0/0,192.0.2.1",
     ],
     CERT_OF_HALVES,
-    &[
-        "report,records,3",
-        "report,skipped,0",
-        "report,events,2",
-        "report,routes,2",
-        "report,entries,1",
-        "report,nodes,0",
-        "report,leaves,0",
-        "report,treated,0",
-    ],
+    COUNTS_OF_ONE_ENTRY,
 ];
 
 /// Of four quarters the first is withdrawn, and a snapshot follows: in steady order. In that of prefixes 0.0.0.0/0 would be replaced
@@ -577,14 +610,14 @@ pub const ROWS_OF_LATER_SNAPSHOT: &[&[&str]] = &[
 ];
 
 /// Two halves by one next hop, of which the load had the first.
-const HALVES_ROUTES: &[&str] = &[
+pub const HALVES_ROUTES: &[&str] = &[
     "route,0.0.0.0/1,192.0.2.1",
     "route,128.0.0.0/1,192.0.2.1",
     "change,0,+,0.0.0.0/1,192.0.2.1",
 ];
 
 /// Their least table and its certificate.
-const CERT_OF_HALVES: &[&str] = &[
+pub const CERT_OF_HALVES: &[&str] = &[
     "least,0.0.0.0/0,192.0.2.1",
     "cert,leaf,0.0.0.0/0,192.0.2.1",
     "cert,bound,4,1",
@@ -592,22 +625,18 @@ const CERT_OF_HALVES: &[&str] = &[
     "cert,bound,6,0",
 ];
 
-/// The old entry's hop is best, and stays, though the other was seen first.
-pub const ROWS_OF_KEPT_HOP: &[&[&str]] = &[&[
-    "route,0.0.0.0/0,192.0.2.2",
-    "route,128.0.0.0/1,192.0.2.1",
-    "change,0,+,0.0.0.0/0,192.0.2.2",
-    "change,1,+,128.0.0.0/1,192.0.2.1",
-    "table,0.0.0.0/0,192.0.2.2",
-    "table,128.0.0.0/1,192.0.2.1",
-    "least,0.0.0.0/0,192.0.2.2",
-    "least,128.0.0.0/1,192.0.2.1",
+/// The certificate of all addresses by one next hop, and the upper half by another.
+pub const CERT_OF_KEPT_HOP: &[&str] = &[
     "cert,leaf,0.0.0.0/1,192.0.2.2",
     "cert,leaf,128.0.0.0/1,192.0.2.1",
     "cert,join,0.0.0.0/0,1",
     "cert,bound,4,2",
     "cert,leaf,::/0,none",
     "cert,bound,6,0",
+];
+
+/// The counts of an old hop that is kept.
+pub const COUNTS_OF_KEPT_HOP: &[&str] = &[
     "report,records,3",
     "report,skipped,0",
     "report,events,3",
@@ -616,7 +645,23 @@ pub const ROWS_OF_KEPT_HOP: &[&[&str]] = &[&[
     "report,nodes,0",
     "report,leaves,0",
     "report,treated,0",
-]];
+];
+
+/// The old entry's hop is best, and stays, though the other was seen first.
+pub const ROWS_OF_KEPT_HOP: &[&[&str]] = &[
+    &[
+        "route,0.0.0.0/0,192.0.2.2",
+        "route,128.0.0.0/1,192.0.2.1",
+        "change,0,+,0.0.0.0/0,192.0.2.2",
+        "change,1,+,128.0.0.0/1,192.0.2.1",
+        "table,0.0.0.0/0,192.0.2.2",
+        "table,128.0.0.0/1,192.0.2.1",
+        "least,0.0.0.0/0,192.0.2.2",
+        "least,128.0.0.0/1,192.0.2.1",
+    ],
+    CERT_OF_KEPT_HOP,
+    COUNTS_OF_KEPT_HOP,
+];
 
 /// None and a next hop are both best: none comes first.
 pub const ROWS_OF_DROP_BEFORE_HOP: &[&[&str]] = &[&[

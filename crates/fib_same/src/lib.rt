@@ -3,7 +3,8 @@
 //! Each text is read whole, judged, compared, and let go before the next one is read. In memory stay the first one's entries as runs of
 //! addresses, the hops of all texts, and the least difference so far. Sorting aside, all of it is linear in the texts.
 //!
-//! `read_text` reads and judges a single text, for whoever does something else with its entries.
+//! `read_text` reads and judges a single text, for whoever does something else with its entries, and `octets_of` reads one without
+//! judging it.
 #![tactic(auto)]
 
 mod compare;
@@ -12,4 +13,4 @@ mod text;
 
 pub use compare::{Difference, compare_texts};
 pub use error::SameError;
-pub use text::read_text;
+pub use text::{octets_of, read_text};

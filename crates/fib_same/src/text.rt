@@ -15,9 +15,13 @@ use fib_addr::{Entry, HopTable};
 use fib_io::{Inputs, ReadError, read_whole};
 use std::alloc::Global;
 
-/// The octets of the text of this name and number.
+/// The octets of the text of this name and number, which is read to its end.
+///
+/// # Errors
+///
+/// The text is too large. A failed read, or no memory.
 #[tactic(auto, using(crate::proofs::Reading::text_read, crate::proofs::Reading::text_fails, crate::proofs::Reading::text_large, crate::proofs::Reading::text_begun), unfolding(crate::specs::Due::octets_at, crate::specs::Due::sized))]
-fn octets_of<I: Inputs>(
+pub fn octets_of<I: Inputs>(
     alloc: Global,
     inputs: &mut I,
     name: &str,

@@ -1,3 +1,2 @@
 pub mod Taking
 pub mod Saving
-pub mod Writing

@@ -1,15 +1,12 @@
 -- What comes of both inputs.
-use Rattle.std.proofs.Common.{◌≡◌, ◌≤◌, ◌+◌, ℕ, List, [], ◌∷◌, ◌++◌, length, map, Option, Some, None, Result, Ok, Err, refl, sym, ap, subst, ◌∙◌, append-nil}
+use Rattle.std.proofs.Common.{◌≡◌, ◌≤◌, ℕ, List, [], ◌++◌, length, Option, Some, None, Result, Ok, Err, refl, sym, ap, subst, ◌∙◌, append-nil}
 use Rattle.std.specs.List.{AllByRecursion}
 use Rattle.route_model.specs.Events.{Event}
 use Rattle.fib_prefix.specs.Views.{IsOfOctets}
-use Rattle.reading_model.specs.Input.{Progress, input}
-use Rattle.saved_model.specs.Checkpoint.{announced, has_ids}
-use Rattle.saved_model.specs.Saved.{IsCode, long_one, most_peers, peers_with_candidates, pieces_of, saved}
-use Rattle.saved_model.proofs.Records.{checkpoint_read}
-use Rattle.saved_model.proofs.Sharing.{all_there, all_writable}
-use Rattle.saved_model.proofs.Held.{held_again, said_again}
+use Rattle.saved_model.specs.Saved.{long_one, most_peers, peers_with_candidates, saved}
 use Rattle.mrt_write.specs.Answers.{WriterAnswers}
+use Rattle.mrt_write.specs.Reads.{ReadsAs, after_events}
+use Rattle.mrt_write.proofs.Reading.{saved_reads}
 use Rattle.mrt_write.specs.declared.write.WriteError.{WriteError}
 use Rattle.fib_save.specs.Restores.{Restores}
 use Rattle.std.specs.Prelude.{IfSome}
@@ -20,7 +17,7 @@ use Rattle.fib_io.proofs.Passing.{makes_then}
 use Rattle.whole_input.specs.Whole.{FaultRose, HasEvents, end_by}
 use Rattle.whole_input.specs.declared.whole.WholeError.{WholeError}
 use Rattle.whole_input.specs.declared.whole.WholeError.TheVariants as whole
-use Rattle.fib_save.specs.Brings.{after_events, Brings, HasNamed, Takes}
+use Rattle.fib_save.specs.Brings.{Brings, HasNamed, Takes}
 use Rattle.fib_save.specs.Saves.{BringsNone, FaultOf, PassOf, SaveAnswers, SaveFaults, SaveReads, UpdatesStop, Written}
 use Rattle.fib_save.specs.declared.save.SaveError.{SaveError}
 use Rattle.fib_save.specs.declared.save.SaveError.TheVariants.{Dump, Updates, Unwritten}
@@ -97,42 +94,8 @@ none_reads S {T = T} content before now dump updates error result e h = subst (�
 
 -- ---- a checkpoint restores what it was written of
 
-all_code : (held : Candidates) → AllByRecursion IsOfOctets held → AllByRecursion IsCode held
-all_code [] a = tt
-all_code (c ∷ held) a = (record { asn = a.0.asn; id = a.0.id; hop = a.0.hop }, all_code held a.1)
-
--- what is read of it
-abbrev read_again : Candidates → Progress
-read_again held = record {
-  peers = Some (peers_with_candidates held);
-  events = map announced held;
-  records = 1 + length (pieces_of (peers_with_candidates held) (has_ids held) held);
-  skipped = 0;
-  treated = 0;
-}
-
-saved_again : (held : Candidates) → AreCandidates held → AllByRecursion IsCode held → length (peers_with_candidates held) ≤ most_peers → long_one held ≡ None → input (saved held) ≡ Ok (read_again held)
-saved_again held are code few short =
-    let peers = peers_with_candidates held in
-    let ids = has_ids held in
-    let pieces = pieces_of peers ids held in
-    checkpoint_read peers ids pieces (all_writable held are code few short)
-    ∙ ap (λ (all : Candidates). Ok (record { peers = Some peers; events = map announced all; records = 1 + length pieces; skipped = 0; treated = 0 })) (all_there peers ids held)
-
 restores : (said : List Event) (held : Candidates) → held ≡ after_events [] said → AreCandidates held → AllByRecursion IsOfOctets held → length (peers_with_candidates held) ≤ most_peers → long_one held ≡ None → Restores said
-restores said held e are octets few short =
-    let same : AreCandidates (after_events [] said) = subst AreCandidates e are in
-    let code : AllByRecursion IsCode (after_events [] said) = subst (AllByRecursion IsCode) e (all_code held octets) in
-    let some : length (peers_with_candidates (after_events [] said)) ≤ most_peers = subst (λ h. length (peers_with_candidates h) ≤ most_peers) e few in
-    let none : long_one (after_events [] said) ≡ None = subst (λ h. long_one h ≡ None) e short in
-    record {
-      read = read_again (after_events [] said);
-      accepted = saved_again (after_events [] said) same code some none;
-      none_skipped = refl;
-      none_treated = refl;
-      again = held_again (after_events [] said) same;
-      replay = λ later. said_again said later same;
-    }
+restores said held e are octets few short = subst (λ h. ReadsAs (saved h) h) e (saved_reads held are octets few short)
 
 abbrev written : {A : Type 0} → Vec ℕ A → Result (Vec ℕ A) WriteError
 written v = Ok v

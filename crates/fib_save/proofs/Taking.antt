@@ -23,7 +23,8 @@ use Rattle.whole_input.specs.declared.whole.WholeError.TheVariants.{Malformed}
 use Rattle.whole_input.proofs.Cutting.{IsCutNow}
 use Rattle.whole_input.proofs.Gathering.{Gathering, gathering_feeds, gathering_start, gathering_takes, goes_on_at, has_all}
 use Rattle.whole_input.proofs.Gathering as gathering
-use Rattle.fib_save.specs.Brings.{after_events, Takes}
+use Rattle.mrt_write.specs.Reads.{after_events}
+use Rattle.fib_save.specs.Brings.{Takes}
 
 -- ---- events one after another
 

@@ -1,12 +1,9 @@
 -- What inputs bring: candidates.
 use Rattle.std.specs.Prelude.{◌≡◌, List, [], ◌++◌, ℕ, Option, Some, None, IfSome}
 use Rattle.route_model.specs.Events.{Event}
-use Rattle.route_model.specs.Choice.{Candidates, after_elems, elems_after}
+use Rattle.route_model.specs.Choice.{Candidates}
 use Rattle.whole_input.specs.Whole.{HasEvents}
-
--- the candidates after events
-abbrev pub after_events : Candidates → List Event → Candidates
-after_events held events = after_elems held (elems_after held events)
+use Rattle.mrt_write.specs.Reads.{after_events}
 
 -- the candidates are those after all events of an input
 pub record Takes (content : Option (List ℕ)) (before now : Candidates) : Type 0 where

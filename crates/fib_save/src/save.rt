@@ -27,7 +27,7 @@ pub enum SaveError {
     #[error("updates: {0}")]
     Updates(WholeError),
     /// The candidates aren't written.
-    #[error("the candidates aren't written")]
+    #[error("{0}")]
     Unwritten(WriteError),
 }
 

@@ -3,7 +3,7 @@
 ghost use Rattle.std.specs.Prelude.{◌≡◌, map, OnOk};
 ghost use Rattle.fib_prefix.specs.Views.{elem_as, event_as};
 ghost use Rattle.route_model.specs.Choice.{after_elems, elems_of};
-ghost use Rattle.fib_save.specs.Brings.{after_events};
+ghost use Rattle.mrt_write.specs.Reads.{after_events};
 
 use fib_prefix::{Elem, Event};
 use route_choice::Candidates;

@@ -20,7 +20,7 @@ use Rattle.fib_addr.specs.Text.{number_below}
 use Rattle.printed_model.specs.declared.kind.Kind.{Kind}
 use Rattle.fib_words.specs.declared.WordsError.{WordsError}
 use Rattle.fib_words.specs.declared.WordsError.TheVariants.{Usage, NoMemory}
-use Rattle.fib_words.specs.Commands.{Asked, Named, NamedMoves, NamedSame, NamedSizes, HasApp, bare_app, run_app, check_app, make_app, steps_app, fib_app, takes, is_empty, is_on, Run, Check, Steps, asked_in, named_by, named_with, number_or, made_by, made_with, Make, Same, Save, same_by, same_with, save_by, save_with, Moves, moves_by, moves_with, from_one, kind_or, sizes_by, sizes_with, steps_by, steps_with, command_of, IsCommand}
+use Rattle.fib_words.specs.Commands.{Asked, Named, NamedSame, NamedSizes, HasApp, fib_app, takes, is_empty, is_on, Run, Check, Steps, asked_in, named_by, named_with, number_or, made_by, made_with, Make, Same, Save, same_by, same_with, save_by, save_with, moves_asked, moves_by, moves_with, from_one, kind_or, sizes_by, sizes_with, steps_by, steps_with, command_of, IsCommand}
 
 fib_free : is_simple_and_free fib_app ≡ true
 unfolding clap_on_literals
@@ -85,7 +85,7 @@ name_is (Some b) = refl
 -- what a command of this name asks for
 
 abbrev asked_of_moves : Text → List Row → Option Asked
-asked_of_moves name rows = cond (bytes_eq name (codes "moves")) (option_map Moves (moves_by rows)) None
+asked_of_moves name rows = cond (bytes_eq name (codes "moves")) (moves_by rows) None
 
 abbrev asked_of_save : Text → List Row → Option Asked
 asked_of_save name rows = cond (bytes_eq name (codes "save")) (option_map Save (save_by rows)) (asked_of_moves name rows)
@@ -128,8 +128,8 @@ check_is m check printed e f g =
 pub make_is : (m make : ArgMatches) → subcommand_name_of m ≡ Some (codes "make") → option_map (λ (p : Text × List Row). p.1) (subcommand_rows_of m) ≡ Some (rows_of (found_of make)) → option_and_then asked_in (subcommand_rows_of m) ≡ made_by (rows_of (found_of make))
 make_is m make e f = entered m make (codes "make") e f
 
-pub moves_is : (m moves : ArgMatches) (names : Option NamedMoves) → subcommand_name_of m ≡ Some (codes "moves") → option_map (λ (p : Text × List Row). p.1) (subcommand_rows_of m) ≡ Some (rows_of (found_of moves)) → names ≡ moves_by (rows_of (found_of moves)) → option_and_then asked_in (subcommand_rows_of m) ≡ option_map Moves names
-moves_is m moves names e f g = entered m moves (codes "moves") e f ∙ ap (option_map Moves) (sym g)
+pub moves_is : (m moves : ArgMatches) → subcommand_name_of m ≡ Some (codes "moves") → option_map (λ (p : Text × List Row). p.1) (subcommand_rows_of m) ≡ Some (rows_of (found_of moves)) → option_and_then asked_in (subcommand_rows_of m) ≡ moves_by (rows_of (found_of moves))
+moves_is m moves e f = entered m moves (codes "moves") e f
 
 pub same_is : (m same : ArgMatches) (names : Option NamedSame) → subcommand_name_of m ≡ Some (codes "same") → option_map (λ (p : Text × List Row). p.1) (subcommand_rows_of m) ≡ Some (rows_of (found_of same)) → names ≡ same_by (rows_of (found_of same)) → option_and_then asked_in (subcommand_rows_of m) ≡ option_map Same names
 same_is m same names e f g = entered m same (codes "same") e f ∙ ap (option_map Same) (sym g)
@@ -270,8 +270,15 @@ all_save m dump u d is = rw (← save_are m, ← d, ← is) refl
 
 -- the names in the matches of `moves`
 
-moves_are : (m : ArgMatches) → moves_with (found m (codes "router")) (found m (codes "printed")) ≡ moves_by (rows_of (found_of m))
-moves_are m = rw (first_value-rows (found_of m) (codes "router"), first_value-rows (found_of m) (codes "printed")) refl
+moves_are : (m : ArgMatches) → moves_with (found m (codes "router")) (found m (codes "printed")) (found m (codes "moves")) (found m (codes "check")) (found m (codes "steady")) ≡ moves_by (rows_of (found_of m))
+moves_are m =
+    rw (
+      first_value-rows (found_of m) (codes "router"),
+      first_value-rows (found_of m) (codes "printed"),
+      first_value-rows (found_of m) (codes "moves"),
+      first_value-rows (found_of m) (codes "check"),
+      first_value-rows (found_of m) (codes "steady"),
+    ) refl
 
 pub no_router : (m : ArgMatches) → Is None m (codes "router") → None ≡ moves_by (rows_of (found_of m))
 no_router m r = rw (← moves_are m, ← r) refl
@@ -279,5 +286,6 @@ no_router m r = rw (← moves_are m, ← r) refl
 pub no_printed : (m : ArgMatches) (router : Text) → Is (Some router) m (codes "router") → Is None m (codes "printed") → None ≡ moves_by (rows_of (found_of m))
 no_printed m router r p = rw (← moves_are m, ← r, ← p) refl
 
-pub all_moves : (m : ArgMatches) (router printed : Text) → Is (Some router) m (codes "router") → Is (Some printed) m (codes "printed") → Some (record { router = router; printed = printed }) ≡ moves_by (rows_of (found_of m))
-all_moves m router printed r p = rw (← moves_are m, ← r, ← p) refl
+pub all_moves : (m : ArgMatches) (router printed : Text) (t c s : Option Text) (check steady : Bool) → Is (Some router) m (codes "router") → Is (Some printed) m (codes "printed")
+    → Is t m (codes "moves") → Is c m (codes "check") → check ≡ is_on c → Is s m (codes "steady") → steady ≡ is_on s → moves_asked router printed t check steady ≡ moves_by (rows_of (found_of m))
+all_moves m router printed t c s check steady r p is_t is_c on is_s in_order = rw (on, in_order, ← moves_are m, ← r, ← p, ← is_t, ← is_c, ← is_s) refl

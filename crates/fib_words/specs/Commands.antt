@@ -13,6 +13,7 @@ use Rattle.fib_words.specs.declared.RunWords.{RunWords}
 use Rattle.fib_words.specs.declared.SameWords.{SameWords}
 use Rattle.fib_words.specs.declared.SaveWords.{SaveWords}
 use Rattle.fib_words.specs.declared.MovesWords.{MovesWords}
+use Rattle.fib_words.specs.declared.CheckMovesWords.{CheckMovesWords}
 use Rattle.fib_words.specs.declared.SizesWords.{SizesWords}
 use Rattle.fib_words.specs.declared.StepsWords.{StepsWords}
 use Rattle.fib_words.specs.declared.CommandWords.{CommandWords}
@@ -23,6 +24,10 @@ use Rattle.fib_words.specs.declared.WordsError.TheVariants.{Usage, NoMemory}
 -- a word that has to be there
 abbrev pub word_rule : List ℕ → Rule
 word_rule id = record (new_rule id) { required = true }
+
+-- a word that may be there
+abbrev pub spare_rule : List ℕ → Rule
+spare_rule id = new_rule id
 
 -- a word that has to be there and may stand several times
 abbrev pub several_rule : List ℕ → Rule
@@ -72,9 +77,9 @@ same_app = with_rule (with_rule (with_rule (new_app (codes "same")) (word_rule (
 abbrev pub save_app : App
 save_app = with_rule (with_rule (new_app (codes "save")) (word_rule (codes "dump"))) (option_rule (codes "updates"))
 
--- `moves ROUTER PRINTED`
+-- `moves ROUTER PRINTED [MOVES] [--check] [--steady]`
 abbrev pub moves_app : App
-moves_app = with_rule (with_rule (new_app (codes "moves")) (word_rule (codes "router"))) (word_rule (codes "printed"))
+moves_app = with_rule (with_rule (with_rule (with_rule (with_rule (new_app (codes "moves")) (word_rule (codes "router"))) (word_rule (codes "printed"))) (spare_rule (codes "moves"))) (flag_rule (codes "check"))) (flag_rule (codes "steady"))
 
 -- a command has to be there
 abbrev pub with_commands : App → App
@@ -124,10 +129,17 @@ pub record NamedSave : Type 0 where
   pub dump : Text
   pub updates : Option Text
 
--- The text with the table that a router has, and the one with the routes that it is to forward as.
+-- The text with the table that a router has, and the one with the routes that it is to forward as; and whether the changes are told in steady order.
 pub record NamedMoves : Type 0 where
   pub router : Text
   pub printed : Text
+  pub steady : Bool
+
+-- The same two texts, and the one with the changes and the rows that are to prove that no fewer would do.
+pub record NamedCheckMoves : Type 0 where
+  pub router : Text
+  pub printed : Text
+  pub moves : Text
 
 -- of each family's trie the direct bits and the orders of its arenas of nodes and of leaves
 pub record NamedSizes : Type 0 where
@@ -226,17 +238,7 @@ save_with dump updates = do
 abbrev pub save_by : List Row → Option NamedSave
 save_by rows = save_with (first_of (codes "dump") rows) (first_of (codes "updates") rows)
 
--- what a router must change, if both texts are named
-abbrev pub moves_with : Option Text → Option Text → Option NamedMoves
-moves_with router printed = do
-  r ← router
-  p ← printed
-  Some (record { router = r; printed = p })
-
-abbrev pub moves_by : List Row → Option NamedMoves
-moves_by rows = moves_with (first_of (codes "router") rows) (first_of (codes "printed") rows)
-
--- A run; the check of a printed text; a run on so many routes that are made from a seed; a run in steps; a comparison of printed texts; a checkpoint; or what a router must change
+-- A run; the check of a printed text; a run on so many routes that are made from a seed; a run in steps; a comparison of printed texts; a checkpoint; what a router must change; or the check of what it was told to change
 pub data Asked : Type 0 where
   Run : Named → Asked
   Check : Text → Asked
@@ -245,6 +247,7 @@ pub data Asked : Type 0 where
   Same : NamedSame → Asked
   Save : NamedSave → Asked
   Moves : NamedMoves → Asked
+  CheckMoves : NamedCheckMoves → Asked
 
 -- so many routes, from 1 to 200,000, made from a seed below 2^64
 abbrev pub made_with : Option Text → Option Text → Option Asked
@@ -258,6 +261,23 @@ made_with routes seed = do
 abbrev pub made_by : List Row → Option Asked
 made_by rows = made_with (first_of (codes "routes") rows) (first_of (codes "seed") rows)
 
+-- What a router must change, or the check of a third text with such changes: the flag of a check and a third text stand together or not at all, and a check has no order to tell changes in.
+abbrev pub moves_asked : Text → Text → Option Text → Bool → Bool → Option Asked
+moves_asked router printed None false steady = Some (Moves (record { router = router; printed = printed; steady = steady }))
+moves_asked router printed None true steady = None
+moves_asked router printed (Some moves) false steady = None
+moves_asked router printed (Some moves) true false = Some (CheckMoves (record { router = router; printed = printed; moves = moves }))
+moves_asked router printed (Some moves) true true = None
+
+abbrev pub moves_with : Option Text → Option Text → Option Text → Option Text → Option Text → Option Asked
+moves_with router printed moves check steady = do
+  r ← router
+  p ← printed
+  moves_asked r p moves (is_on check) (is_on steady)
+
+abbrev pub moves_by : List Row → Option Asked
+moves_by rows = moves_with (first_of (codes "router") rows) (first_of (codes "printed") rows) (first_of (codes "moves") rows) (first_of (codes "check") rows) (first_of (codes "steady") rows)
+
 -- what a command with its names asks for
 abbrev pub asked_in : Text × List Row → Option Asked
 asked_in entered =
@@ -267,7 +287,7 @@ asked_in entered =
     else (if bytes_eq entered.0 (codes "steps") then option_map Steps (steps_by entered.1)
     else (if bytes_eq entered.0 (codes "same") then option_map Same (same_by entered.1)
     else (if bytes_eq entered.0 (codes "save") then option_map Save (save_by entered.1)
-    else (if bytes_eq entered.0 (codes "moves") then option_map Moves (moves_by entered.1) else None))))))
+    else (if bytes_eq entered.0 (codes "moves") then moves_by entered.1 else None))))))
 
 -- what the words ask for, where the definition takes them
 unfoldable pub command_of : List Text → Option Asked
@@ -292,7 +312,10 @@ abbrev pub save_as : SaveWords → NamedSave
 save_as save = record { dump = save.dump.now; updates = option_map (λ name. name.now) save.updates }
 
 abbrev pub moves_as : MovesWords → NamedMoves
-moves_as moves = record { router = moves.router.now; printed = moves.printed.now }
+moves_as moves = record { router = moves.router.now; printed = moves.printed.now; steady = moves.steady }
+
+abbrev pub check_moves_as : CheckMovesWords → NamedCheckMoves
+check_moves_as check = record { router = check.router.now; printed = check.printed.now; moves = check.moves.now }
 
 abbrev pub asked_as : CommandWords → Asked
 asked_as (code.Run run) = Run (named_as run)
@@ -302,6 +325,7 @@ asked_as (code.Steps steps) = Steps (steps_as steps)
 asked_as (code.Same same) = Same (same_as same)
 asked_as (code.Save save) = Save (save_as save)
 asked_as (code.Moves moves) = Moves (moves_as moves)
+asked_as (code.CheckMoves check) = CheckMoves (check_moves_as check)
 
 -- the sizes are no greater than they may be
 abbrev pub AreSizes : SizesWords → Type 0
@@ -316,6 +340,7 @@ IsWithin (code.Steps steps) = (steps.direct ≤ 18) × (steps.nodes ≤ 24) × (
 IsWithin (code.Same same) = Unit {0}
 IsWithin (code.Save save) = Unit {0}
 IsWithin (code.Moves moves) = Unit {0}
+IsWithin (code.CheckMoves check) = Unit {0}
 
 -- what a reading of words returned is what the words ask for, unless memory ran out
 abbrev pub IsCommand : Result CommandWords WordsError → Option Asked → Type 0

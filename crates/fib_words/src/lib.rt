@@ -9,7 +9,7 @@ ghost use Rattle.std.specs.Option.{option_and_then};
 ghost use Rattle.std.specs.String.{string_bytes};
 ghost use Rattle.clap.specs.Words.{app_of, found_of, rows_of, subcommand_name_of, subcommand_rows_of, with_rule, with_subcommand};
 ghost use Rattle.clap.specs.Values.{kind_of};
-ghost use Rattle.fib_words.specs.Commands.{AreSizes, asked_as, asked_in, bare_app, changing_app, check_app, command_of, due_option_rule, fib_app, flag_rule, from_one, HasApp, IsCommand, IsLocal, IsWithin, is_on, kind_or, made_by, make_app, moves_app, moves_as, moves_by, named_as, named_by, number_or, option_rule, run_app, same_app, same_as, same_by, save_app, save_as, save_by, several_rule, sized_app, sizes_as, sizes_by, steps_app, steps_as, steps_by, word_rule};
+ghost use Rattle.fib_words.specs.Commands.{AreSizes, asked_as, asked_in, bare_app, changing_app, check_app, command_of, due_option_rule, fib_app, flag_rule, from_one, HasApp, IsCommand, IsLocal, IsWithin, is_on, kind_or, made_by, make_app, moves_app, moves_asked, moves_by, named_as, named_by, number_or, option_rule, run_app, same_app, same_as, same_by, save_app, save_as, save_by, several_rule, sized_app, sizes_as, sizes_by, spare_rule, steps_app, steps_as, steps_by, word_rule};
 ghost use Rattle.fib_addr.specs.Text.{number_below};
 ghost use Rattle.fib_words.specs.declared.WordsError.TheVariants.{NoMemory};
 
@@ -97,6 +97,19 @@ pub struct MovesWords<'a> {
     pub router: &'a str,
     /// The text with the routes that it is to forward as.
     pub printed: &'a str,
+    /// Whether the changes are told in steady order: no packet goes astray while the router makes them one by one.
+    pub steady: bool,
+}
+
+/// The check of what a router was told to change, as the words ask for it.
+#[derive(Clone, Copy, Debug)]
+pub struct CheckMovesWords<'a> {
+    /// The text with the table that the router has.
+    pub router: &'a str,
+    /// The text with the routes that it is to forward as.
+    pub printed: &'a str,
+    /// The text with the changes and the rows that are to prove that no fewer would do.
+    pub moves: &'a str,
 }
 
 /// What the words ask for.
@@ -116,6 +129,8 @@ pub enum CommandWords<'a> {
     Save(SaveWords<'a>),
     /// The fewest changes that make a router forward as printed routes do.
     Moves(MovesWords<'a>),
+    /// A check of such changes.
+    CheckMoves(CheckMovesWords<'a>),
 }
 
 /// The sizes of a trie, as the words ask for them.
@@ -208,6 +223,20 @@ fn with_word<'a>(
         (word_rule name.entry.now))) }
 {
     let word = Arg::new(alloc, name).required(true);
+    command.arg(word)
+}
+
+/// The command with one more word that may be there.
+fn with_spare<'a>(
+    alloc: Global,
+    command: Command<'a>,
+    name: &'a str,
+) -> Result<Command<'a>, AllocError>
+    requires { IsLocal command }
+    ensures { IfOk result (λ c. HasApp c (with_rule (app_of command.entry)
+        (spare_rule name.entry.now))) }
+{
+    let word = Arg::new(alloc, name);
     command.arg(word)
 }
 
@@ -311,12 +340,15 @@ fn save_command<'a>(alloc: Global) -> Result<Command<'a>, AllocError>
     with_option(alloc, command, "updates")
 }
 
-/// `moves ROUTER PRINTED`.
+/// `moves ROUTER PRINTED [MOVES] [--check] [--steady]`.
 fn moves_command<'a>(alloc: Global) -> Result<Command<'a>, AllocError>
     ensures { IfOk result (λ c. HasApp c moves_app) }
 {
     let command = with_word(alloc, Command::new(alloc, "moves"), "router")?;
-    with_word(alloc, command, "printed")
+    let command = with_word(alloc, command, "printed")?;
+    let command = with_spare(alloc, command, "moves")?;
+    let command = with_flag(alloc, command, "check")?;
+    with_flag(alloc, command, "steady")
 }
 
 /// `fib`, with no command under it yet.
@@ -331,18 +363,18 @@ fn fib_command<'a>(alloc: Global) -> Result<Command<'a>, AllocError>
     ensures { IfOk result (λ c. HasApp c fib_app) }
 {
     let run = run_command(alloc)?;
-    let check = check_command(alloc)?;
-    let make = make_command(alloc)?;
-    let steps = steps_command(alloc)?;
-    let same = same_command(alloc)?;
-    let save = save_command(alloc)?;
-    let moves = moves_command(alloc)?;
     let command = with_command(bare_command(alloc), run)?;
+    let check = check_command(alloc)?;
     let command = with_command(command, check)?;
+    let make = make_command(alloc)?;
     let command = with_command(command, make)?;
+    let steps = steps_command(alloc)?;
     let command = with_command(command, steps)?;
+    let same = same_command(alloc)?;
     let command = with_command(command, same)?;
+    let save = save_command(alloc)?;
     let command = with_command(command, save)?;
+    let moves = moves_command(alloc)?;
     with_command(command, moves)
 }
 
@@ -533,13 +565,45 @@ fn save_words<'a>(matches: &ArgMatches<'a>) -> Option<SaveWords<'a>>
     })
 }
 
-/// What the matches of `moves` name.
-fn moves_words<'a>(matches: &ArgMatches<'a>) -> Option<MovesWords<'a>>
-    ensures { option_map moves_as result ≡ moves_by (rows_of (found_of matches.now)) }
+/// What `moves` asks for: what a router must change, or the check of a third text with such changes. `None` exactly if the flag of
+/// a check stands without a third text, or that text without the flag, or a check is to be in steady order.
+fn moves_of<'a>(
+    router: &'a str,
+    printed: &'a str,
+    moves: Option<&'a str>,
+    check: bool,
+    steady: bool,
+) -> Option<CommandWords<'a>>
+    ensures same { option_map asked_as result ≡ moves_asked router.now printed.now
+        (option_map (λ w. w.now) moves.entry) check steady }
+    ensures within { IfSome result IsWithin }
+{
+    match (moves, check, steady) {
+        (None, false, _) => Some(CommandWords::Moves(MovesWords {
+            router,
+            printed,
+            steady,
+        })),
+        (Some(moves), true, false) => Some(CommandWords::CheckMoves(CheckMovesWords {
+            router,
+            printed,
+            moves,
+        })),
+        _ => None,
+    }
+}
+
+/// What the matches of `moves` ask for.
+fn moves_words<'a>(matches: &ArgMatches<'a>) -> Option<CommandWords<'a>>
+    ensures same { option_map asked_as result ≡ moves_by (rows_of (found_of matches.now)) }
+    ensures within { IfSome result IsWithin }
 {
     let router = matches.get_str("router")?;
     let printed = matches.get_str("printed")?;
-    Some(MovesWords { router, printed })
+    let moves = matches.get_str("moves");
+    let check = is_on(matches.get_str("check"));
+    let steady = is_on(matches.get_str("steady"));
+    moves_of(router, printed, moves, check, steady)
 }
 
 /// The command in the matches, unless it is `same`.
@@ -570,8 +634,7 @@ fn other_command<'a>(matches: &ArgMatches<'a>) -> Option<CommandWords<'a>>
         return Some(CommandWords::Save(names));
     }
     let moves = matches.subcommand_matches("moves")?;
-    let names = moves_words(moves)?;
-    Some(CommandWords::Moves(names))
+    moves_words(moves)
 }
 
 /// The command in the matches.

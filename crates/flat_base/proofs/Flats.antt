@@ -1,5 +1,5 @@
 -- The seats of the flat candidates.
-use Rattle.std.proofs.Common.{not, length-append, length-set, ◌^◌, Result, Ok, Err, nat_eq, get_or, ◌-◌, position, ◌≡◌, ℕ, zero, suc, ◌<◌, ◌≤◌, List, [], ◌∷◌, ◌++◌, Bool, true, false, cond, Option, Some, None, length, refl, sym, ap, subst, ◌∙◌, arith, inl, inr}
+use Rattle.std.proofs.Common.{not, length-append, length-set, ◌^◌, nat_eq, get_or, ◌-◌, position, ◌≡◌, ℕ, zero, suc, ◌<◌, ◌≤◌, List, [], ◌∷◌, ◌++◌, Bool, true, false, cond, Option, Some, None, length, refl, sym, ap, subst, ◌∙◌, arith, inl, inr}
 use Rattle.std.specs.Prelude.{◌⊎◌, ◌&&◌, slice_get, slice_set, option_map, MatchOption, IfSome, IfNone}
 use Rattle.std.specs.Map.{lookup}
 use Rattle.std.specs.List.{list_any}
@@ -8,11 +8,8 @@ use Rattle.std.specs.BTreeMap.{is_at}
 use Rattle.std.specs.declared.cmp.Ordering.{Ordering}
 use Rattle.std.specs.declared.cmp.Ordering.TheVariants.{Less, Equal, Greater}
 use Rattle.std.proofs.lemmas.Bool.{cases_lt}
-use Rattle.std.proofs.lemmas.Cmp.{tied_back, alike_right, tied_itself}
-use Rattle.std.specs.Result.{result_ok}
-use Rattle.std.specs.Ordering.{ordering_index}
-use Rattle.std.specs.List.Sorted.{IsNonDecreasingBy, IsBinarySearchResult, IsSearchInRange}
-use Rattle.std.proofs.lemmas.Option.{none-some, same_Some, slice_get_within, slice_get_past, slice_get_read, slice_get-get_or, get_or_from_slice_get}
+use Rattle.std.proofs.lemmas.Cmp.{tied_back, tied_itself}
+use Rattle.std.proofs.lemmas.Option.{none-some, same_Some, slice_get_within, slice_get_past, slice_get_read, slice_get-get_or}
 use Rattle.address_model.specs.Width.{width}
 use Rattle.address_model.specs.declared.family.Family.{Family}
 use Rattle.address_model.specs.declared.family.Family.TheVariants.{V4, V6}
@@ -34,6 +31,7 @@ use Rattle.flat_base.specs.declared.flat.Flat.{Flat}
 use Rattle.flat_base.specs.Orders.{seat_cmp}
 use Rattle.flat_base.specs.Seats.{Seats, flat, offer_at}
 use Rattle.flat_base.specs.Flat.{via_or, via_on, seat_or, seat_on, offer_on, seat_then, seats_on, flat_seats, IsPlaced, IsFlat, IsRow, HasNoRow, IsSlot, HasNoSlot, IsSlotOf, HasNoSeat, HasNoNumber, IsBehind, IsRun, off_or, IsLastRow, IsGrown, IsNumber, AreFlat, IsNext, IsHop, HasHop, AreNumbers, Puts, offer_by, with_offer, no_hop, IsLastFree, emptied, Thins, Offers, NoSeatComes, Grows}
+use Rattle.flat_base.proofs.RowLists.{flipped}
 use Rattle.flat_base.proofs.Equals.{peer_eq}
 use Rattle.flat_base.proofs.Chains.{chain_pushed, chain_kept, chain_longer, chain_dropped, end_there}
 use Rattle.flat_base.proofs.Views.{lookup_by_test}
@@ -233,79 +231,20 @@ number_told q keys (Some n) e = let f = position_found (peer_test q) keys n (sym
 
 -- ---- rows
 
-flipped : (p q : code.Prefix) → code_cmp p q ≡ Less → is_eq (code_cmp q p) ≡ false
-flipped p q e = ap is_eq (prefix_total.antisymm q p ∙ ap ordering_reverse e)
-
-pub all_behind : (b : Flat) (p : code.Prefix) (last : Row) → IsFlat b → (xs : List Row) → xs ≡ b.rows.items → 0 < length xs → last ≡ get_or xs (length xs - 1) last → code_cmp last.prefix p ≡ Less → IsBehind b.rows.items p
-all_behind b p last f xs d k h less i row g = elim (cases_lt i (length b.rows.items - 1)) [
+pub all_behind : (b : Flat) (p : code.Prefix) (last : Row) → IsFlat b → slice_get b.rows.items (length b.rows.items - 1) ≡ Some last → code_cmp last.prefix p ≡ Less → IsBehind b.rows.items p
+all_behind b p last f there less i row g = elim (cases_lt i (length b.rows.items - 1)) [
   | inl m ↦ prefix_total.trans row.prefix last.prefix p (f.ordered i (length b.rows.items - 1) row last m g there) less
   | inr m ↦
-      let k : i ≡ length b.rows.items - 1 = omega (arith, m, l, slice_get_within b.rows.items i row g) in
+      let k : i ≡ length b.rows.items - 1 = omega (arith, m, slice_get_within b.rows.items i row g) in
       let x : row ≡ last = same_Some row last (sym g ∙ (ap (slice_get b.rows.items) k ∙ there)) in
       ap (λ (r : Row). code_cmp r.prefix p) x ∙ less
 ]
-  where
-    l : 0 < length b.rows.items
-    l = subst (λ ys. 0 < length ys) d k
-
-    e : last ≡ get_or b.rows.items (length b.rows.items - 1) last
-    e = h ∙ ap (λ ys. get_or ys (length ys - 1) last) d
-
-    there : slice_get b.rows.items (length b.rows.items - 1) ≡ Some last
-    there = slice_get_read b.rows.items (length b.rows.items) (length b.rows.items - 1) last refl (omega (arith, l)) e
 
 pub behind_none : (rows : List Row) (p : code.Prefix) → IsBehind rows p → HasNoRow rows p
 behind_none rows p h = λ i row g. flipped row.prefix p (h i row g)
 
-pub last_row : (rows : List Row) (p : code.Prefix) (last : Row) → (xs : List Row) → xs ≡ rows → 0 < length xs → last ≡ get_or xs (length xs - 1) last → code_cmp last.prefix p ≡ Equal → (n : ℕ) → n ≡ length rows → IsLastRow rows p (n - 1)
-last_row rows p last xs d l0 e0 same n k =
-    let l : 0 < length rows = subst (λ ys. 0 < length ys) d l0 in
-    let e : last ≡ get_or rows (length rows - 1) last = e0 ∙ ap (λ ys. get_or ys (length ys - 1) last) d in
-    ((last, ap (λ m. slice_get rows (m - 1)) k ∙ slice_get_read rows (length rows) (length rows - 1) last refl (omega (arith, l)) e, ap is_eq (tied_back prefix_total last.prefix p same)), omega (arith, l, k))
-
-abbrev row_order : Row → Row → Ordering
-row_order r t = code_cmp r.prefix t.prefix
-
-rises : (b : Flat) (x : Row) → IsFlat b → IsNonDecreasingBy (λ y. ordering_index (row_order y x)) b.rows.items
-rises b x f i j d le lt = elim (cases_lt i j) [
-  | inl m ↦ by_order (row_order (get_or b.rows.items j d) x) refl (f.ordered i j (get_or b.rows.items i d) (get_or b.rows.items j d) m (slice_get-get_or b.rows.items i d (omega (arith, m, lt))) (slice_get-get_or b.rows.items j d lt))
-  | inr m ↦ let e : i ≡ j = omega (arith, m, le) in subst (λ k. ordering_index (row_order (get_or b.rows.items i d) x) ≤ ordering_index (row_order (get_or b.rows.items k d) x)) e (omega arith)
-]
-  where
-    low : (o : Ordering) → o ≡ Less → (n : ℕ) → ordering_index o ≤ n
-    low Less e n = omega arith
-    low Equal e n = absurd cc
-    low Greater e n = absurd cc
-
-    high : (o : Ordering) → ordering_index o ≤ 2
-    high Less = omega arith
-    high Equal = omega arith
-    high Greater = omega arith
-
-    by_order : (o : Ordering) → row_order (get_or b.rows.items j d) x ≡ o → row_order (get_or b.rows.items i d) (get_or b.rows.items j d) ≡ Less → ordering_index (row_order (get_or b.rows.items i d) x) ≤ ordering_index o
-    by_order Less e l = low (row_order (get_or b.rows.items i d) x) (prefix_total.trans (get_or b.rows.items i d).prefix (get_or b.rows.items j d).prefix x.prefix l e) 0
-    by_order Equal e l = low (row_order (get_or b.rows.items i d) x) (sym (alike_right prefix_total (get_or b.rows.items j d).prefix x.prefix (get_or b.rows.items i d).prefix e) ∙ l) 1
-    by_order Greater e l = high (row_order (get_or b.rows.items i d) x)
-
-row_told_in : (b : Flat) (x : Row) (p : code.Prefix) → IsFlat b → x.prefix ≡ p → (r : Result ℕ ℕ) → IsSearchInRange r (length b.rows.items) → IsBinarySearchResult (λ y. row_order y x) b.rows.items r → (o : Option ℕ) → o ≡ result_ok r → MatchOption o (HasNoRow b.rows.items p) (IsRow b.rows.items p)
-row_told_in b x p f e (Ok i) l h (Some n) g =
-    let k : n ≡ i = same_Some n i g in
-    subst (IsRow b.rows.items p) (sym k) (get_or b.rows.items i x, slice_get-get_or b.rows.items i x l, ap is_eq (tied_back prefix_total (get_or b.rows.items i x).prefix p (ap (code_cmp (get_or b.rows.items i x).prefix) (sym e) ∙ h x)))
-row_told_in b x p f e (Ok i) l h None g = absurd cc
-row_told_in b x p f e (Err i) l h (Some n) g = absurd cc
-row_told_in b x p f e (Err i) l h None g = λ k row there. elim (cases_lt k i) [
-  | inl m ↦ flipped row.prefix p (at k row there Less ((h (rises b x f)).0 k x (omega arith) m))
-  | inr m ↦ after row (at k row there Greater ((h (rises b x f)).1 k x m (slice_get_within b.rows.items k row there)))
-]
-  where
-    at : (k : ℕ) (row : Row) → slice_get b.rows.items k ≡ Some row → (o : Ordering) → row_order (get_or b.rows.items k x) x ≡ o → code_cmp row.prefix p ≡ o
-    at k row there o y = ap (λ (r : Row). code_cmp r.prefix p) (sym (get_or_from_slice_get b.rows.items k row x there)) ∙ (ap (code_cmp (get_or b.rows.items k x).prefix) (sym e) ∙ y)
-
-    after : (row : Row) → code_cmp row.prefix p ≡ Greater → is_eq (code_cmp p row.prefix) ≡ false
-    after row y = ap is_eq (prefix_total.antisymm p row.prefix ∙ ap ordering_reverse y)
-
-pub row_told : (b : Flat) (x : Row) (p : code.Prefix) → IsFlat b → x.prefix ≡ p → (xs : List Row) → xs ≡ b.rows.items → (r : Result ℕ ℕ) → IsSearchInRange r (length xs) → IsBinarySearchResult (λ y. row_order y x) xs r → (o : Option ℕ) → o ≡ result_ok r → MatchOption o (HasNoRow b.rows.items p) (IsRow b.rows.items p)
-row_told b x p f e xs d r l h o g = row_told_in b x p f e r (subst (λ ys. IsSearchInRange r (length ys)) d l) (subst (λ ys. IsBinarySearchResult (λ y. row_order y x) ys r) d h) o g
+pub last_row : (rows : List Row) (p : code.Prefix) (last : Row) → slice_get rows (length rows - 1) ≡ Some last → code_cmp last.prefix p ≡ Equal → IsLastRow rows p (length rows - 1)
+last_row rows p last there same = let l : length rows - 1 < length rows = slice_get_within rows (length rows - 1) last there in ((last, there, ap is_eq (tied_back prefix_total last.prefix p same)), omega (arith, l))
 
 -- ---- the run of a row
 
@@ -362,8 +301,10 @@ addr_same a b t = addr_made a.family b.family a.bits b.bits a.below b.below (sam
 pub hop_told : (h : Addr) (keys : List Addr) (at : ℕ) → Some at ≡ position (addr_test h) keys → slice_get keys at ≡ Some h
 hop_told h keys at e = let f = position_found (addr_test h) keys at (sym e) in f.1 ∙ ap Some (sym (addr_same h f.0 f.2))
 
-pub none_behind : (rows : List Row) (p : code.Prefix) (xs : List Row) → xs ≡ rows → length xs ≤ 0 → IsBehind rows p
-none_behind rows p xs d l i row g = let m : i < length rows = slice_get_within rows i row g in let n : length rows ≤ 0 = subst (λ ys. length ys ≤ 0) d l in absurd (omega (arith, m, n))
+pub none_behind : (rows : List Row) (p : code.Prefix) → slice_get rows (length rows - 1) ≡ None → IsBehind rows p
+none_behind rows p none i row g =
+    let m : i < length rows = slice_get_within rows i row g in
+    absurd (none-some _ (sym none ∙ slice_get-get_or rows (length rows - 1) row (omega (arith, m))))
 
 pub tried : (at : ℕ) (o : Option ℕ) (keys : List Addr) (h : Addr) → slice_get keys at ≡ Some h → IfSome o (λ n. n ≡ at) → IfSome o (λ n. slice_get keys n ≡ Some h)
 tried at None keys h g e = tt

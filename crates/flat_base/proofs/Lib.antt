@@ -4,10 +4,12 @@ pub mod Equals
 pub mod Views
 pub mod Holds
 pub mod Places
+pub mod RowLists
 pub mod Chains
 pub mod Flats
 pub mod Parts
 pub mod Betters
+pub mod BestSlots
 pub mod Sessions
 pub mod Gathers
 pub mod WayLists

@@ -16,6 +16,7 @@ use Rattle.route_model.specs.Choice.{Place, Candidates, IsHeld, beats}
 use Rattle.flat_base.specs.declared.keys.Offer.{Offer}
 use Rattle.flat_base.specs.declared.keys.Candidate.{Candidate}
 use Rattle.flat_base.specs.declared.flat.Slot.{Slot}
+use Rattle.flat_base.specs.declared.flat.Flat.{Flat}
 use Rattle.flat_base.specs.Seats.{Seats, held_in}
 use Rattle.flat_base.specs.Flat.{offer_on, via_on}
 use Rattle.fib_addr.specs.declared.addr.Addr.{Addr}
@@ -44,16 +45,29 @@ candidate_as p c = (record { prefix = p; via = via_as c.via }, offer_as c.offer)
 abbrev pub IsBest : Seats → Option Via → code.Prefix → Option Candidate → Type 0
 IsBest seats but p c = IsBestOf (held_in seats) (prefix_as p) (out_as but) (option_map (candidate_as (prefix_as p)) c)
 
+-- whether a candidate is preferred to another one: its path is shorter, or as long and its way comes first
+abbrev pub comes_before : Candidate → Candidate → Bool
+comes_before c d = nat_lt c.offer.path d.offer.path || (c.offer.path == d.offer.path && is_lt (code_via_cmp c.via d.via))
+
 -- the better of two candidates
 abbrev pub better_one : Candidate → Option Candidate → Candidate
 better_one c None = c
-better_one c (Some d) = if nat_lt c.offer.path d.offer.path || (c.offer.path == d.offer.path && is_lt (code_via_cmp c.via d.via)) then c else d
+better_one c (Some d) = if comes_before c d then c else d
 
 -- the better of what comes by a way and another candidate, where the way isn't left out
 abbrev pub better_on : Option Via → Option Via → Option Offer → Option Candidate → Option Candidate
 better_on but None o best = best
 better_on but (Some q) None best = best
 better_on but (Some q) (Some o) best = if is_out but q then best else Some (better_one (record { via = q; offer = o }) best)
+
+-- the candidate of a slot
+abbrev pub candidate_on : Flat → Option Slot → Option Candidate
+candidate_on b None = None
+candidate_on b (Some s) = better_on None (via_on b.peers.keys s) (offer_on b.hops.keys s) None
+
+-- something is offered at the slot
+abbrev pub IsLive : Flat → Slot → Type 0
+IsLive b s = (c : Candidate) × (candidate_on b (Some s) ≡ Some c)
 
 -- whether a slot of the row and the way is among these
 abbrev pub is_via : events.Via → Option Via → Bool

@@ -1,5 +1,6 @@
 pub mod Keys
 pub mod Rows
+pub mod RowLists
 pub mod Orders
 pub mod Seats
 pub mod Flat

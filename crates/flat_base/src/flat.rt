@@ -1,18 +1,21 @@
 //! The flat base: what comes in the order of prefixes, in runs of slots.
 
-ghost use Rattle.std.specs.Prelude.{◌||◌, ◌≡◌, ◌≢◌, ◌≤◌, ◌<◌, ◌+◌, ◌-◌, ◌^◌, ℕ, [], suc, true, false, None, Some, MatchOption, IfOk, OnOk, OnErr, IfSome, IfNone, length, option_map, slice_get, slice_set, slice_index_or, ◌++◌, ◌∷◌};
+ghost use Rattle.std.specs.Prelude.{◌||◌, ◌≡◌, ◌≢◌, ◌≤◌, ◌<◌, ◌+◌, ◌-◌, ◌^◌, ℕ, [], suc, true, false, None, Some, MatchOption, MatchBool, IfOk, OnOk, OnErr, IfSome, IfNone, length, option_map, slice_get, slice_set, slice_index_or, ◌++◌, ◌∷◌};
 ghost use Rattle.std.specs.declared.cmp.Ordering.TheVariants.{Less, Equal};
 ghost use Rattle.std.specs.Map.{lookup};
 ghost use Rattle.std.specs.BTreeMap.{is_at};
+ghost use Rattle.std.specs.Ordering.{is_lt};
+ghost use Rattle.fib_prefix.specs.Order.{code_via_cmp};
 ghost use Rattle.fib_prefix.specs.declared.event.Via as code;
 ghost use Rattle.flat_base.specs.Orders.{seat_cmp};
 ghost use Rattle.flat_base.specs.Seats.{Seats};
 ghost use Rattle.flat_base.specs.Chains.{no_peer, end_of as chain_end};
 ghost use Rattle.flat_base.specs.Flat.{IsFlat, IsRow, HasNoRow, IsSlot, HasNoSlot, HasNoSeat, IsNumber, HasNoNumber, HasNumbers, IsGrown, IsRun, IsBehind, IsLastRow, IsNext, IsHop, HasHop, Puts, AreNumbers, AreApart, Offers, Thins, NoSeatComes, IsLastFree, Grows, IsSlotOf, live_on, is_seat, is_among, is_offered_by, with_offer, emptied, offer_by, seats_on, no_slot, flat_seats, offer_on, via_on, no_hop, both};
-ghost use Rattle.flat_base.specs.Bests.{IsBest, better_on, best_step, better_one as better};
+ghost use Rattle.flat_base.specs.Bests.{IsBest, IsLive, is_out, candidate_on, comes_before, better_on, best_step, better_one as better};
 ghost use Rattle.flat_base.specs.Ways.{AddsWays, way_offer, way_put, way_step};
 
 use crate::keys::{Candidate, Offer, Seat};
+use crate::row_list::RowList;
 use crate::rows::Row;
 use crate::ways::WayOffers;
 use fib_prefix::{Addr, Peer, Prefix, Via};
@@ -53,7 +56,7 @@ pub struct Slot {
 /// Slots in runs, one run a row, and in chains, one chain a peer, with what their numbers stand for.
 #[derive(Drop)]
 pub struct Flat {
-    rows: Vec<Row>,
+    rows: RowList,
     slots: Vec<Slot>,
     peers: IndexSet<Peer>,
     hops: IndexSet<Addr>,
@@ -75,7 +78,7 @@ impl Flat {
         ensures seats { flat_seats result ≡ [] }
     {
         Flat {
-            rows: Vec::new(alloc),
+            rows: RowList::new(alloc),
             slots: Vec::new(alloc),
             peers: IndexSet::new(alloc),
             hops: IndexSet::new(alloc),
@@ -103,7 +106,7 @@ impl Flat {
         match self.order_last(prefix) {
             Ordering::Less => None,
             Ordering::Equal => Some(self.rows.len().saturating_sub(1)),
-            Ordering::Greater => self.rows.binary_search(&Row::new(prefix, 0)).ok(),
+            Ordering::Greater => self.rows.find(prefix),
         }
     }
 
@@ -113,14 +116,8 @@ impl Flat {
     {
         let end = self.slots.len();
         Run {
-            from: match self.rows.get(row) {
-                Some(row) => row.off() as usize,
-                None => end,
-            },
-            to: match self.rows.get(row.saturating_add(1)) {
-                Some(next) => next.off() as usize,
-                None => end,
-            },
+            from: self.rows.off_at(row, end),
+            to: self.rows.off_behind(row, end),
         }
     }
 
@@ -590,11 +587,14 @@ impl Flat {
         ensures { (over : Seats) → AreApart (flat_seats self.now) over → IsBest over but prefix.now other → IsBest (both self.now over) but prefix.now result }
     {
         let run = self.run_of(row);
-        let mut best = other;
+        let mut best = None;
         for i in run.from..run.to {
-            best = self.best_at(i, row, but, best);
+            best = self.best_at(i, row, &but, best);
         }
-        best
+        match best {
+            Some(slot) => self.better(&slot, None, other),
+            None => other,
+        }
     }
 
     /// The best candidate of the prefix of a seat, by the place of its slot, that of the seat's way left out: of all slots of the
@@ -615,24 +615,95 @@ impl Flat {
         }
     }
 
-    /// The better of what the slot at a place offers, if it is the row's, and another candidate.
-    fn best_at(
-        &self,
-        at: usize,
-        row: usize,
-        but: Option<Via>,
-        best: Option<Candidate>,
-    ) -> Option<Candidate>
-        ensures { result ≡ best_step self.now.peers.keys self.now.hops.keys row but (slice_get self.now.slots.items at) best }
+    /// The better of the slot at a place, if it is the row's, and another one where something is offered. Slots are compared as
+    /// they lie: the candidate is made once, of the best one.
+    fn best_at(&self, at: usize, row: usize, but: &Option<Via>, best: Option<Slot>) -> Option<Slot>
+        requires { IfSome best (IsLive self.now) }
+        ensures live { IfSome result (IsLive self.now) }
+        ensures best { candidate_on self.now result ≡ best_step self.now.peers.keys self.now.hops.keys row but.now
+            (slice_get self.now.slots.items at) (candidate_on self.now best) }
     {
         match self.slots.get(at) {
             Some(slot) => {
                 if slot.row as usize != row {
                     return best;
                 }
-                self.better(slot, but, best)
+                self.better_slot(slot, but, best)
             }
             None => best,
+        }
+    }
+
+    /// The better of a slot and another one where something is offered: the other one, where the slot is of the way that is left
+    /// out or offers nothing.
+    fn better_slot(&self, slot: &Slot, but: &Option<Via>, best: Option<Slot>) -> Option<Slot>
+        requires { IfSome best (IsLive self.now) }
+        ensures live { IfSome result (IsLive self.now) }
+        ensures best { candidate_on self.now result ≡ better_on but.now (via_on self.now.peers.keys slot.now)
+            (offer_on self.now.hops.keys slot.now) (candidate_on self.now best) }
+    {
+        if !self.is_live(slot) || self.is_left_out(slot, but) {
+            return best;
+        }
+        match best {
+            Some(other) => {
+                if self.is_preferred(slot, &other) {
+                    return Some(*slot);
+                }
+                Some(other)
+            }
+            None => Some(*slot),
+        }
+    }
+
+    /// Whether something is offered at a slot: its peer and its hop have numbers.
+    fn is_live(&self, slot: &Slot) -> bool
+        ensures { MatchBool result (IsLive self.now slot.now) (candidate_on self.now (Some slot.now) ≡ None) }
+    {
+        (slot.peer as usize) < self.peers.len() && (slot.hop as usize) < self.hops.len()
+    }
+
+    /// Whether a slot is of the way that is left out.
+    fn is_left_out(&self, slot: &Slot, but: &Option<Via>) -> bool
+        ensures { (q : code.Via) → via_on self.now.peers.keys slot.now ≡ Some q → result ≡ is_out but.now q }
+    {
+        match but {
+            Some(via) => {
+                if slot.id != via.id {
+                    return false;
+                }
+                match self.peers.get_index(slot.peer as usize) {
+                    Some(peer) => *peer == via.peer,
+                    None => false,
+                }
+            }
+            None => false,
+        }
+    }
+
+    /// Whether what a slot offers is preferred to what another one offers: its path is shorter, or as long and its way comes
+    /// first.
+    fn is_preferred(&self, slot: &Slot, other: &Slot) -> bool
+        ensures { (c d : Candidate) → candidate_on self.now (Some slot.now) ≡ Some c
+            → candidate_on self.now (Some other.now) ≡ Some d → result ≡ comes_before c d }
+    {
+        slot.path < other.path || (slot.path == other.path && self.is_way_before(slot, other))
+    }
+
+    /// Whether the way of a slot comes before that of another one.
+    fn is_way_before(&self, slot: &Slot, other: &Slot) -> bool
+        ensures { (q v : code.Via) → via_on self.now.peers.keys slot.now ≡ Some q
+            → via_on self.now.peers.keys other.now ≡ Some v → result ≡ is_lt (code_via_cmp q v) }
+    {
+        let peer = self.peers.get_index(slot.peer as usize);
+        let held = self.peers.get_index(other.peer as usize);
+        match (peer, held) {
+            (Some(peer), Some(held)) => match peer.cmp(held) {
+                Ordering::Less => true,
+                Ordering::Equal => slot.id < other.id,
+                Ordering::Greater => false,
+            },
+            _ => false,
         }
     }
 
@@ -800,11 +871,6 @@ impl Flat {
             ways.put(via, offer)?;
         }
         Ok(())
-    }
-
-    /// How many slots there are: no fewer than the candidates that lie in them.
-    pub fn slot_count(&self) -> usize {
-        self.slots.len()
     }
 
     /// How many rows there are.

@@ -11,6 +11,7 @@
 
 mod flat;
 mod keys;
+mod row_list;
 mod rows;
 mod ways;
 

@@ -31,10 +31,13 @@ use Rattle.fib_addr.specs.declared.prefix.Prefix as code
 use Rattle.orig_tree.specs.Views.{Labels, InPlace}
 use Rattle.orig_tree.specs.Spots.{Spot, answers_in}
 use Rattle.orig_tree.specs.Walk.{Walks, behind}
-use Rattle.kept_pass.specs.declared.pass.Place.{Place}
+use Rattle.kept_pass.specs.declared.place.Place.{Place}
+use Rattle.kept_pass.specs.declared.place.Rerouted.{Rerouted}
+use Rattle.kept_pass.specs.declared.place.Rerouted.TheVariants.{Nowhere}
+use Rattle.kept_pass.specs.Places.{IsBefore, IsPlace}
 use Rattle.kept_pass.specs.declared.pass.Differing.{Differing}
 use Rattle.kept_pass.specs.Known.{IsKnown}
-use Rattle.kept_pass.specs.Passes.{IsPlace, IsPass, IsRootOf, AreApart}
+use Rattle.kept_pass.specs.Passes.{IsPass, IsRootOf, AreApart}
 use Rattle.least_model.proofs.Both.{sorted_aggregate}
 use Rattle.least_model.proofs.Laws.{aggregate_table}
 use Rattle.least_model.proofs.Region.{cut_lift}
@@ -58,11 +61,11 @@ renewed_placed f R T =
 renewed_family : (f : Family) (R T : Entries) → AllByRecursion (λ (p : Prefix). p.family ≡ f) (keys_of (aggregate_in f R T))
 renewed_family f R T = table_of f (aggregate (width f) (of_family f R) [] 0 (of_family f T))
 
-no_change : (p : Prefix) (o : Option ℕ) → change_at p o o ≡ []
+pub no_change : (p : Prefix) (o : Option ℕ) → change_at p o o ≡ []
 no_change p None = refl
 no_change p (Some h) = ap (λ b. cond b [] (Replace p h ∷ [])) (eq-eqb h h refl)
 
-both_change : (p : Prefix) (a b c d : Option ℕ) → BothOrNeither a b c d → change_at p a b ≡ change_at p c d
+pub both_change : (p : Prefix) (a b c d : Option ℕ) → BothOrNeither a b c d → change_at p a b ≡ change_at p c d
 both_change p a b c d (inl x) = ap (λ o. change_at p o b) (sym x.0) ∙ ap (change_at p c) (sym x.1)
 both_change p a b c d (inr x) = ap (change_at p a) (sym x.2) ∙ (no_change p a ∙ sym (ap (λ o. change_at p o d) x.0 ∙ ap (change_at p None) x.1))
 
@@ -137,11 +140,15 @@ module _ (k : Labels) (whole : code.Prefix) (s : Spot) (root : Walks) (e : prefi
       subst (λ (M : Table). Settled s.bits (answers_in s) s.entries 0 M) (ap (λ (h : Family). of_family h v.entries) (sym x.0) ∙ r)
       (subst (λ (L : Table). Settled s.bits (answers_in s) L 0 (of_family g v.entries)) (sym whole_entries) (settled_alike s.bits (answers (of_family g k.routes) []) (answers_in s) (of_family g k.entries) 0 (of_family g v.entries) (λ b u. whole_answers b) y))
 
-  pub whole_place : (p : Place) (u : Option Labels) (h : ℕ) → p.region ≡ s → p.node ≡ Some root → IsRootOf u p.marks → p.marked ≡ is_none u → h ≡ 0 → IsKnown k u → IsPlace p h
-  whole_place p u h r y m z j x = record {
+  pub whole_place : (p : Place) (u : Option Labels) (h : ℕ) → p.region ≡ s → p.node ≡ Some root → IsRootOf u p.marks → p.marked ≡ is_none u → p.rerouted ≡ Nowhere → h ≡ 0 → IsKnown k u → IsPlace p h
+  whole_place p u h r y m z v j x = record {
     node = ap (λ w. (behind w).entries) y ∙ (root_entries ∙ ap (λ (v : Spot). v.entries) (sym r));
     table = subst (λ (v : Spot). IsTable v.bits v.entries) (sym r) (subst (λ (d : ℕ). IsTable d s.entries) (sym whole_bits) (subst (λ (L : Table). IsTable (width k.family) L) (sym whole_entries) (family_table k.family k.entries (placed_are k.entries t))));
-    known = λ q. subst (λ (v : Spot). Settled v.bits (answers_in v) v.entries h (behind p.marks).entries) (sym r) (subst (λ (c : ℕ). Settled s.bits (answers_in s) s.entries c (behind p.marks).entries) (sym j) (known_whole u p.marks x m (sym z ∙ q)));
+    known = λ q. record {
+      before = answers_in p.region;
+      settled = subst (λ (v : Spot). Settled v.bits (answers_in v) v.entries h (behind p.marks).entries) (sym r) (subst (λ (c : ℕ). Settled s.bits (answers_in s) s.entries c (behind p.marks).entries) (sym j) (known_whole u p.marks x m (sym z ∙ q)));
+      was = subst (λ (w : Rerouted). IsBefore w (answers_in p.region) p.region (behind p.node).routes) (sym v) (λ b. refl);
+    };
   }
 
   pub whole_apart : (h : ℕ) (before after : Differing) → h ≡ 0 → map entry_as before.had.items ≡ [] → map entry_as before.gets.items ≡ [] → IsPass (prefix_as whole) s h before after → AreApart k after

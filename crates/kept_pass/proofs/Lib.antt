@@ -1,2 +1,4 @@
+pub mod Seeking
 pub mod Passing
 pub mod Apart
+pub mod Within

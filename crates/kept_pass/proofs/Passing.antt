@@ -5,7 +5,8 @@ use Rattle.std.specs.Option.{option_to_list}
 use Rattle.address_model.specs.Address.{Prefix}
 use Rattle.address_model.specs.Width.{width}
 use Rattle.address_model.specs.Regions.{half_at}
-use Rattle.table_model.specs.Table.{Table, IsTable, root, half, here, inherit}
+use Rattle.table_model.specs.Table.{Table, IsTable, root, half, here, inherit, lpm}
+use Rattle.table_model.proofs.Cut.{lpm_cut, lpm_nil}
 use Rattle.table_model.specs.Entries.{Entries, of_table}
 use Rattle.least_model.specs.Regions.{lift, join, entry_at}
 use Rattle.least_model.specs.Sets.{side, set_of, own, agg}
@@ -13,10 +14,10 @@ use Rattle.least_model.proofs.Join.{table_join}
 use Rattle.least_model.proofs.Patch.{table_half}
 use Rattle.least_model.proofs.Same.{cut_nil}
 use Rattle.least_model.proofs.Cost.{agg_root}
-use Rattle.stays_model.specs.Stays.{Stays, Settled}
+use Rattle.stays_model.specs.Stays.{Stays, Settled, is_wide}
 use Rattle.stays_model.specs.Parts.{BothOrNeither, ArePart, IsEnd}
 use Rattle.stays_model.proofs.Again.{agg_same, agg_half}
-use Rattle.stays_model.proofs.Settling.{settled_half, settled_clean, settled_alike}
+use Rattle.stays_model.proofs.Settling.{settled_half, settled_clean}
 use Rattle.stays_model.proofs.Parting.{part_none, part_here, part_join, end_no_bit, end_bare}
 use Rattle.fib_addr.specs.Views.{prefix_as, entry_as}
 use Rattle.fib_addr.specs.declared.prefix.Prefix as code
@@ -25,9 +26,12 @@ use Rattle.orig_tree.specs.Walk.{Walks, behind}
 use Rattle.orig_tree.proofs.Telling as telling
 use Rattle.ortc.proofs.Alike.{half_answers}
 use Rattle.ortc.proofs.Falling.{leaf_agg}
-use Rattle.kept_pass.specs.declared.pass.Place.{Place}
+use Rattle.kept_pass.specs.declared.place.Place.{Place}
+use Rattle.kept_pass.specs.declared.place.Rerouted.{Rerouted}
+use Rattle.kept_pass.specs.declared.place.Rerouted.TheVariants.{Nowhere, Here, Above}
+use Rattle.kept_pass.specs.Places.{half_rerouted, IsSheltered, IsClear, IsBefore, IsHeld, IsPlace}
 use Rattle.kept_pass.specs.declared.pass.Differing.{Differing}
-use Rattle.kept_pass.specs.Passes.{IsPlace, IsPass}
+use Rattle.kept_pass.specs.Passes.{IsPass}
 
 none_at : (q : List Bool) → entry_at q [] ≡ None
 none_at q = ap root (cut_nil q)
@@ -38,33 +42,72 @@ neither : (a b : Bool) → (a || b) ≡ false → (a ≡ false) × (b ≡ false)
 neither true b e = cc
 neither false b e = (refl, e)
 
-is_none : (o : Option ℕ) → is_some o ≡ false → o ≡ None
-is_none None e = refl
-is_none (Some h) e = cc
-
 bits_down : (P : ℕ → Type 0) (m n : ℕ) → suc m ≡ n → P n → P (suc m)
 bits_down P m n e x = subst P (sym e) x
 
+-- the answers before in a half
+before_half : (r : Rerouted) (f : List Bool → ℕ) (s t : Spot) (R S : Table) (b : Bool) → t.routes ≡ half b s.routes → t.hop ≡ inherit (root s.routes) s.hop → S ≡ half b R → IsBefore r f s R → IsBefore (half_rerouted r) (side b f) t S
+before_half Nowhere f s t R S b u v e x = λ a. x (b ∷ a) ∙ sym (half_answers s t b u v a)
+before_half Here f s t R S b u v e (g, w, k, y) =
+    (g, λ a. w b a ∙ ap (λ T. lpm T a g) (sym e), inherit (root R) k, λ a. half_answers s t b u v a ∙ (y (b ∷ a) ∙ (lpm_cut R b a k ∙ ap (λ T. lpm T a (inherit (root R) k)) (sym e))))
+before_half Above f s t R S b u v e (g, w, k, y) =
+    (inherit (root R) g, λ a. w (b ∷ a) ∙ (lpm_cut R b a g ∙ ap (λ T. lpm T a (inherit (root R) g)) (sym e)), inherit (root R) k, λ a. half_answers s t b u v a ∙ (y (b ∷ a) ∙ (lpm_cut R b a k ∙ ap (λ T. lpm T a (inherit (root R) k)) (sym e))))
+
 module _ (p q : Place) (b : Bool) (h g : ℕ) (x : IsPlace p h) (bits : suc q.region.bits ≡ p.region.bits) (routes : q.region.routes ≡ half b p.region.routes) (entries : q.region.entries ≡ half b p.region.entries) (hop : q.region.hop ≡ inherit (root p.region.routes) p.region.hop)
-    (node : (behind q.node).entries ≡ half b (behind p.node).entries) (marks : (behind q.marks).entries ≡ half b (behind p.marks).entries) (marked : q.marked ≡ (p.marked || is_some (root (behind p.marks).entries))) (below : g ≡ inherit (root p.region.entries) h) where
-  known_half : q.marked ≡ false → Settled q.region.bits (answers_in q.region) q.region.entries g (behind q.marks).entries
-  known_half e =
-      let n = neither p.marked (is_some (root (behind p.marks).entries)) (sym marked ∙ e) in
-      let s : Settled (suc q.region.bits) (answers_in p.region) p.region.entries h (behind p.marks).entries =
-      bits_down (λ d. Settled d (answers_in p.region) p.region.entries h (behind p.marks).entries) q.region.bits p.region.bits bits (x.known n.0)
+    (paths : (behind q.node).routes ≡ half b (behind p.node).routes) (node : (behind q.node).entries ≡ half b (behind p.node).entries) (marks : (behind q.marks).entries ≡ half b (behind p.marks).entries)
+    (marked : q.marked ≡ (p.marked || is_wide (root (behind p.marks).entries))) (rerouted : q.rerouted ≡ half_rerouted p.rerouted) (below : g ≡ inherit (root p.region.entries) h) where
+  held_half : q.marked ≡ false → IsHeld q g
+  held_half e =
+      let n = neither p.marked (is_wide (root (behind p.marks).entries)) (sym marked ∙ e) in
+      let y = x.known n.0 in
+      let s : Settled (suc q.region.bits) y.before p.region.entries h (behind p.marks).entries =
+      bits_down (λ d. Settled d y.before p.region.entries h (behind p.marks).entries) q.region.bits p.region.bits bits y.settled
       in
-      let t = settled_half q.region.bits (answers_in p.region) p.region.entries h (behind p.marks).entries b s (is_none (root (behind p.marks).entries) n.1) in
-      let u = settled_alike q.region.bits (side b (answers_in p.region)) (answers_in q.region) (half b p.region.entries) (inherit (root p.region.entries) h) (half b (behind p.marks).entries) (λ a l. sym (half_answers p.region q.region b routes hop a)) t in
-      subst (λ (L : Table). Settled q.region.bits (answers_in q.region) L g (behind q.marks).entries) (sym entries)
-      (subst (λ (k : ℕ). Settled q.region.bits (answers_in q.region) (half b p.region.entries) k (behind q.marks).entries) (sym below)
-      (subst (λ (M : Table). Settled q.region.bits (answers_in q.region) (half b p.region.entries) (inherit (root p.region.entries) h) M) (sym marks) u))
+      let t = settled_half q.region.bits y.before p.region.entries h (behind p.marks).entries b s n.1 in
+      record {
+        before = side b y.before;
+        settled =
+            subst (λ (L : Table). Settled q.region.bits (side b y.before) L g (behind q.marks).entries) (sym entries)
+            (subst (λ (k : ℕ). Settled q.region.bits (side b y.before) (half b p.region.entries) k (behind q.marks).entries) (sym below)
+            (subst (λ (M : Table). Settled q.region.bits (side b y.before) (half b p.region.entries) (inherit (root p.region.entries) h) M) (sym marks) t));
+        was = subst (λ (r : Rerouted). IsBefore r (side b y.before) q.region (behind q.node).routes) (sym rerouted) (before_half p.rerouted y.before p.region q.region (behind p.node).routes (behind q.node).routes b routes hop paths y.was);
+      }
 
   pub place_half : IsPlace q g
   place_half = record {
     node = node ∙ (ap (half b) x.node ∙ sym entries);
     table = subst (λ (L : Table). IsTable q.region.bits L) (sym entries) (table_half b q.region.bits p.region.entries (bits_down (λ d. IsTable d p.region.entries) q.region.bits p.region.bits bits x.table));
-    known = known_half;
+    known = held_half;
   }
+
+-- ---- a region that is off the marks and sheltered
+
+same_inherit : (o : Option ℕ) (g k : ℕ) → is_some o ≡ true → inherit o g ≡ inherit o k
+same_inherit None g k i = cc
+same_inherit (Some h) g k i = refl
+
+-- what is inherited doesn't pass a route
+kept_out : (R : Table) (a : List Bool) (g k : ℕ) → is_some (root R) ≡ true → lpm R a g ≡ lpm R a k
+kept_out R [] g k i = lpm_nil R g ∙ (same_inherit (root R) g k i ∙ sym (lpm_nil R k))
+kept_out R (b ∷ a) g k i = lpm_cut R b a g ∙ (ap (lpm (half b R) a) (same_inherit (root R) g k i) ∙ sym (lpm_cut R b a k))
+
+sheltered_same : (r : Rerouted) (f : List Bool → ℕ) (s : Spot) (R : Table) → IsSheltered r R → IsBefore r f s R → (a : List Bool) → f a ≡ answers_in s a
+sheltered_same Nowhere f s R i x a = x a
+sheltered_same Here f s R i x a = absurd i
+sheltered_same Above f s R i (g, w, k, y) a = w a ∙ (kept_out R a g k i ∙ sym (y a))
+
+pub clear_stays : (p : Place) (h : ℕ) → IsPlace p h → IsClear p → Stays p.region.bits (answers_in p.region) p.region.entries h
+clear_stays p h x o = λ z.
+    ap (entry_at z) (agg_same s.bits (answers_in s) y.before s.entries s.entries h (λ a l. sym (sheltered_same p.rerouted y.before s (behind p.node).routes o.sheltered y.was a)) (λ q. refl)) ∙ was z
+  where
+    s : Spot
+    s = p.region
+
+    y : IsHeld p h
+    y = x.known o.within
+
+    was : Stays p.region.bits y.before p.region.entries h
+    was = settled_clean p.region.bits y.before p.region.entries h (behind p.marks).entries y.settled o.marks.wide (λ b r. ap (entry_at r) (o.marks.below b) ∙ none_at r)
 
 -- ---- what is told
 
@@ -76,7 +119,7 @@ here_table d None = (tt, tt)
 here_table d (Some h) = ((tt, tt), (omega arith, tt))
 
 -- a region that is left out
-pub pass_nothing : (p : Place) (q : Prefix) (h g : ℕ) (out : Differing) → IsPlace p h → (p.marked ≡ false) × ((behind p.marks).entries ≡ []) → h ≡ g → IsPass q p.region g out out
+pub pass_nothing : (p : Place) (q : Prefix) (h g : ℕ) (out : Differing) → IsPlace p h → IsClear p → h ≡ g → IsPass q p.region g out out
 pass_nothing p q h g out x o e = record {
   had = [];
   gets = [];
@@ -84,10 +127,7 @@ pass_nothing p q h g out x o e = record {
   new = sym (append-nil (map entry_as out.gets.items));
   had_table = no_table p.region.bits;
   gets_table = no_table p.region.bits;
-  part =
-      let none : (r : List Bool) → entry_at r (behind p.marks).entries ≡ None = λ r. ap (entry_at r) o.1 ∙ none_at r in
-      let s : Stays p.region.bits (answers_in p.region) p.region.entries h = settled_clean p.region.bits (answers_in p.region) p.region.entries h (behind p.marks).entries (x.known o.0) none in
-      part_none p.region.entries (agg p.region.bits (answers_in p.region) p.region.entries g) (subst (λ (k : ℕ). Stays p.region.bits (answers_in p.region) p.region.entries k) e s);
+  part = part_none p.region.entries (agg p.region.bits (answers_in p.region) p.region.entries g) (subst (λ (k : ℕ). Stays p.region.bits (answers_in p.region) p.region.entries k) e (clear_stays p h x o));
 }
 
 own_both : (s : Spot) (g : ℕ) (had gets o n : Option ℕ) → had ≡ root s.entries → gets ≡ own (set_of s.bits (answers_in s)) (root s.entries) g → BothOrNeither had gets o n → BothOrNeither (root s.entries) (root (agg s.bits (answers_in s) s.entries g)) o n

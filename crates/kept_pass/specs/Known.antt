@@ -1,8 +1,10 @@
 -- What is known of a table since its last snapshot.
-use Rattle.std.specs.Prelude.{◌≡◌, [], Option, Some, None}
+use Rattle.std.specs.Prelude.{◌≡◌, List, [], Bool, Option, Some, None}
+use Rattle.address_model.specs.Address.{Prefix}
 use Rattle.address_model.specs.Width.{width}
 use Rattle.address_model.specs.declared.family.Family.{Family}
 use Rattle.table_model.specs.Entries.{Entries, of_family}
+use Rattle.least_model.specs.Regions.{entry_at}
 use Rattle.least_model.specs.Sets.{answers}
 use Rattle.stays_model.specs.Stays.{Settled}
 use Rattle.orig_tree.specs.Views.{Labels}
@@ -15,3 +17,12 @@ IsSettled f R T marks = Settled (width f) (answers (of_family f R) []) (of_famil
 abbrev pub IsKnown : Labels → Option Labels → Type 0
 IsKnown kept None = Unit {0}
 IsKnown kept (Some m) = (m.family ≡ kept.family) × IsSettled kept.family kept.routes kept.entries m.entries
+
+-- the routes are the same in the family but at p
+abbrev pub SameElse : Prefix → Family → Entries → Entries → Type 0
+SameElse p f R S = (q : List Bool) → (q ≡ p.bits → ⊥) → entry_at q (of_family f R) ≡ entry_at q (of_family f S)
+
+-- the same is known for routes that may be other ones at p
+abbrev pub IsKnownBefore : Prefix → Labels → Option Labels → Type 0
+IsKnownBefore p kept None = Unit {0}
+IsKnownBefore p kept (Some m) = (m.family ≡ kept.family) × (R : Entries) × SameElse p kept.family R kept.routes × IsSettled kept.family R kept.entries m.entries

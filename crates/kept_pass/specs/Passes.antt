@@ -1,5 +1,5 @@
 -- What a snapshot's pass tells of a region, and of the whole table.
-use Rattle.std.specs.Prelude.{◌≡◌, ℕ, [], ◌++◌, false, map, Option, Some, None}
+use Rattle.std.specs.Prelude.{◌≡◌, ℕ, [], ◌++◌, map, Option, Some, None}
 use Rattle.std.specs.List.{AllByRecursion}
 use Rattle.std.specs.Map.{keys_of}
 use Rattle.address_model.specs.Address.{Prefix}
@@ -8,20 +8,14 @@ use Rattle.table_model.specs.Table.{Table, IsTable}
 use Rattle.table_model.specs.Entries.{of_family, of_table}
 use Rattle.least_model.specs.Regions.{lift}
 use Rattle.least_model.specs.Sets.{agg, answers}
-use Rattle.stays_model.specs.Stays.{Settled}
+use Rattle.delta_model.specs.Between.{AreEntries, between}
+use Rattle.kept_model.specs.Patched.{patch_of}
 use Rattle.stays_model.specs.Parts.{ArePart}
 use Rattle.fib_addr.specs.Views.{entry_as}
 use Rattle.orig_tree.specs.Spots.{Spot, answers_in}
 use Rattle.orig_tree.specs.Views.{Labels}
 use Rattle.orig_tree.specs.Walk.{Walks, behind}
-use Rattle.kept_pass.specs.declared.pass.Place.{Place}
 use Rattle.kept_pass.specs.declared.pass.Differing.{Differing}
-
--- the place's nodes are the region's, which inherits the hop h in the table; and what is off the marks there is settled
-pub record IsPlace (p : Place) (h : ℕ) : Type 0 where
-  pub node : (behind p.node).entries ≡ p.region.entries
-  pub table : IsTable p.region.bits p.region.entries
-  pub known : p.marked ≡ false → Settled p.region.bits (answers_in p.region) p.region.entries h (behind p.marks).entries
 
 -- at each prefix of the region at which the table and the pass under h differ both are told, behind those that there are
 pub record IsPass (p : Prefix) (s : Spot) (h : ℕ) (before after : Differing) : Type 0 where
@@ -48,3 +42,10 @@ pub record AreApart (kept : Labels) (d : Differing) : Type 0 where
   pub gets_table : IsTable (width kept.family) gets
   pub part : ArePart (of_family kept.family kept.entries) (agg (width kept.family) (answers (of_family kept.family kept.routes) []) (of_family kept.family kept.entries) 0) had gets
   pub all : AllByRecursion (λ (q : Prefix). q.family ≡ kept.family) (keys_of kept.entries)
+
+-- the changes between both lists are those between the tree's entries and the patch at p, for the tree's routes, there and back
+pub record IsRepair (kept : Labels) (p : Prefix) (d : Differing) : Type 0 where
+  pub had : AreEntries (map entry_as d.had.items)
+  pub gets : AreEntries (map entry_as d.gets.items)
+  pub there : between (map entry_as d.had.items) (map entry_as d.gets.items) ≡ between kept.entries (patch_of kept.routes p kept.entries)
+  pub back : between (map entry_as d.gets.items) (map entry_as d.had.items) ≡ between (patch_of kept.routes p kept.entries) kept.entries

@@ -1,40 +1,29 @@
-//! The pass of a snapshot.
+//! The pass of a snapshot, and that of a repair.
 //!
 //! It goes down the tree as `ortc`'s downward pass does, and tells the entries that the table has and would get at each prefix
-//! where these differ. It leaves out a region that is off all marks and that inherits the hop that it inherits in the table.
+//! where these differ. It leaves out a region that is off the marks, gets from the routes what it got, and inherits the hop that it
+//! inherits in the table.
 
-ghost use Rattle.std.specs.Prelude.{◌≡◌, ◌≢◌, ◌+◌, ◌||◌, suc, [], true, false, is_some, map, IfOk, OnOk};
+ghost use Rattle.std.specs.Prelude.{◌≡◌, ◌+◌, map, IfOk, OnOk};
 ghost use Rattle.least_model.specs.Both.{aggregate_in};
 ghost use Rattle.std.specs.List.{AllByRecursion};
 ghost use Rattle.delta_model.specs.Between.{between, place_of};
 ghost use Rattle.fib_delta.specs.Views.{change_as};
 ghost use Rattle.address_model.specs.Width.{width};
-ghost use Rattle.table_model.specs.Table.{IsTable, root, half, inherit};
-ghost use Rattle.stays_model.specs.Parts.{BothOrNeither, IsEnd};
+ghost use Rattle.table_model.specs.Table.{inherit};
+ghost use Rattle.stays_model.specs.Parts.{BothOrNeither};
 ghost use Rattle.fib_addr.specs.Views.{prefix_as};
-ghost use Rattle.orig_tree.specs.Spots.{answers_in};
 ghost use Rattle.orig_tree.specs.Views.{InPlace};
-ghost use Rattle.orig_tree.specs.Walk.{behind};
-ghost use Rattle.kept_pass.specs.Known.{IsKnown};
-ghost use Rattle.kept_pass.specs.Passes.{IsPlace, IsPass, IsRootOf, AreApart};
+ghost use Rattle.kept_pass.specs.Known.{IsKnown, IsKnownBefore};
+ghost use Rattle.kept_pass.specs.Places.{IsPlace};
+ghost use Rattle.kept_pass.specs.Passes.{IsPass, IsRootOf, AreApart, IsRepair};
 
+use crate::place::{Place, Rerouted, node_at, seek};
 use fib_addr::{Entry, Hop, Prefix, push_entry};
 use fib_delta::{Change, between};
-use orig_tree::{Label, NodeRef, Region, Tree};
+use orig_tree::{NodeRef, Tree, path_bits};
 use ortc::own_hop;
 use std::alloc::{AllocError, Global};
-
-/// A region on the way down.
-#[derive(Drop)]
-struct Place<'a> {
-    region: Region<'a>,
-    /// Its node in the tree, if it is one.
-    node: Option<NodeRef<'a>>,
-    /// Its node in the tree of the marks, if it is one.
-    marks: Option<NodeRef<'a>>,
-    /// Whether it may be within a mark.
-    marked: bool,
-}
 
 /// The hops that a region inherits from the table's entries and from those that it would get.
 #[derive(Clone, Copy)]
@@ -45,82 +34,11 @@ struct Inherited {
 
 /// The entries of two tables where these differ.
 #[derive(Drop)]
-struct Differing {
+pub struct Differing {
     /// Those that the table has.
-    had: Vec<Entry>,
+    pub had: Vec<Entry>,
     /// Those that it would get.
-    gets: Vec<Entry>,
-}
-
-/// The node of one half, if there is one.
-fn half_of<'a>(node: &Option<NodeRef<'a>>, bit: bool) -> Option<NodeRef<'a>>
-    ensures { (behind result).entries ≡ half bit (behind node.now).entries }
-{
-    match node {
-        Some(node) => node.half(bit),
-        None => None,
-    }
-}
-
-/// Whether there is an entry at the node, if it is one.
-fn has_entry(node: &Option<NodeRef<'_>>) -> bool
-    ensures { result ≡ is_some (root (behind node.now).entries) }
-{
-    match node {
-        Some(node) => node.hop(Label::Entry).is_some(),
-        None => false,
-    }
-}
-
-impl<'a> Place<'a> {
-    /// One half.
-    fn half(&self, bit: bool) -> Place<'a>
-        requires { self.now.region.bits ≢ 0 }
-        ensures bits { suc result.region.bits ≡ self.now.region.bits }
-        ensures routes { result.region.routes ≡ half bit self.now.region.routes }
-        ensures entries { result.region.entries ≡ half bit self.now.region.entries }
-        ensures hop { result.region.hop ≡ inherit (root self.now.region.routes) self.now.region.hop }
-        ensures node { (behind result.node).entries ≡ half bit (behind self.now.node).entries }
-        ensures marks { (behind result.marks).entries ≡ half bit (behind self.now.marks).entries }
-        ensures marked { result.marked ≡ (self.now.marked
-            || is_some (root (behind self.now.marks).entries)) }
-    {
-        Place {
-            region: self.region.half(bit),
-            node: half_of(&self.node, bit),
-            marks: half_of(&self.marks, bit),
-            marked: self.marked || has_entry(&self.marks),
-        }
-    }
-
-    /// Whether no mark meets the region.
-    fn is_off(&self) -> bool
-        ensures { result ≡ true → (self.now.marked ≡ false)
-            × ((behind self.now.marks).entries ≡ []) }
-    {
-        match self.marks {
-            Some(_) => false,
-            None => !self.marked,
-        }
-    }
-
-    /// Whether neither table has entries below the region's own.
-    fn is_end(&self, prefix: Prefix) -> bool
-        requires bits { self.now.region.bits + prefix.len ≡ width prefix.family }
-        requires node { (behind self.now.node).entries ≡ self.now.region.entries }
-        requires table { IsTable self.now.region.bits self.now.region.entries }
-        ensures end { result ≡ true
-            → IsEnd self.now.region.bits (answers_in self.now.region) self.now.region.entries }
-        ensures more { result ≡ false → self.now.region.bits ≢ 0 }
-    {
-        if prefix.len == prefix.family.width() {
-            return true;
-        }
-        match self.node {
-            Some(_) => false,
-            None => self.region.leaf().is_some(),
-        }
-    }
+    pub gets: Vec<Entry>,
 }
 
 /// Both hops where they differ, else none.
@@ -148,7 +66,7 @@ fn list_differing(
     requires place { IsPlace place.now inherited.had }
     ensures { OnOk result (IsPass (prefix_as prefix) place.now.region inherited.gets out.old out.new) }
 {
-    if place.is_off() && inherited.had == inherited.gets {
+    if inherited.had == inherited.gets && place.is_clear() {
         return Ok(());
     }
     let had = place.region.entry();
@@ -190,6 +108,7 @@ fn go_over(alloc: Global, tree: &Tree, marks: &Option<Tree>) -> Result<Differing
         node: Some(tree.root()),
         marks: root_of(marks),
         marked: marks.is_none(),
+        rerouted: Rerouted::Nowhere,
     };
     let mut out = Differing {
         had: Vec::new(alloc),
@@ -200,6 +119,48 @@ fn go_over(alloc: Global, tree: &Tree, marks: &Option<Tree>) -> Result<Differing
         gets: Hop::NONE.0,
     };
     list_differing(&place, whole, none, &mut out)?;
+    Ok(out)
+}
+
+/// The entries within a prefix that a tree has and would get by a repair there, where these differ. The tree's routes may differ at
+/// the prefix from those that are known for the marks. It costs the prefix's length, and the regions within it that a mark meets,
+/// that inherit another hop than in the table, or that no route of their own keeps from the prefix's route.
+///
+/// # Errors
+///
+/// No memory.
+pub fn differing_within(
+    alloc: Global,
+    tree: &Tree,
+    marks: &Option<Tree>,
+    prefix: &Prefix,
+) -> Result<Differing, AllocError>
+    requires family { prefix.now.family ≡ tree.now.family }
+    requires known { IsKnownBefore (prefix_as prefix.now) tree.now marks.now }
+    ensures order { InPlace tree.now.entries }
+    ensures tables { IfOk result (IsRepair tree.now (prefix_as prefix.now)) }
+{
+    // the entries stand in order
+    let _family = tree.family();
+    let q = path_bits(prefix);
+    let met = seek(root_of(marks), q, prefix.len, marks.is_none());
+    let place = Place {
+        region: tree.region(prefix),
+        node: node_at(tree, prefix),
+        marks: met.node,
+        marked: met.marked,
+        rerouted: Rerouted::Here,
+    };
+    let mut out = Differing {
+        had: Vec::new(alloc),
+        gets: Vec::new(alloc),
+    };
+    let hop = tree.inherited(prefix).0;
+    let inherited = Inherited {
+        had: hop,
+        gets: hop,
+    };
+    list_differing(&place, *prefix, inherited, &mut out)?;
     Ok(out)
 }
 

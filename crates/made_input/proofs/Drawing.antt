@@ -1,7 +1,7 @@
 -- States one after another, and what draws lead to.
 use Rattle.std.proofs.Common.{◌≡◌, ℕ, zero, suc, ◌+◌, ◌-◌, ◌*◌, ◌/◌, ◌%◌, ◌^◌, ◌<◌, ◌≤◌, take, refl, sym, ap, ◌∙◌, add-zero, mod-eq_of_lt, arith}
 use Rattle.std.proofs.Math.Nat.{mod-add-mod, mul_comm}
-use Rattle.std.proofs.lemmas.Nat.{shl-shr, shr_split, mod_below}
+use Rattle.std.proofs.lemmas.Nat.{shl-shr, shr_split, mod_below, mod-mul-add, pow_pos}
 use Rattle.address_model.specs.declared.family.Family.TheVariants.{V4}
 use Rattle.address_model.specs.Address.{first_bits}
 use Rattle.address_model.specs.Bits.{bits_of}
@@ -50,6 +50,26 @@ cleared_fits s a h =
     let below : a / 2 ^ s * 2 ^ s < 2 ^ 32 = omega (arith, shr_split a s) in
     mod-eq_of_lt below
 
+-- the length of a prefix that is drawn, and its peer
+pub few_bits : (d : ℕ) → 8 + d % 17 ≤ 24
+few_bits d = let len : d % 17 < 17 = mod_below d 17 (omega arith) in omega arith
+
+pub few_peers : (f : ℕ) → f % 8 < 8
+few_peers f = mod_below f 8 (omega arith)
+
+-- its address fits, and the bits past the length are 0
+address_below : (e : ℕ) → e % 2 ^ 24 * 256 < 2 ^ 32
+address_below e = let small : e % 2 ^ 24 < 2 ^ 24 = mod_below e (2 ^ 24) (omega arith) in omega arith
+
+pub cleared_below : (s e : ℕ) → (e % 2 ^ 24 * 256 / 2 ^ s * 2 ^ s) % 2 ^ 32 < 2 ^ 32
+cleared_below s e = mod_below (e % 2 ^ 24 * 256 / 2 ^ s * 2 ^ s) (2 ^ 32) (pow_pos 32)
+
+pub bits_cleared : (s e : ℕ) → (e % 2 ^ 24 * 256 / 2 ^ s * 2 ^ s) % 2 ^ 32 % 2 ^ s ≡ 0
+bits_cleared s e =
+    let a = e % 2 ^ 24 * 256 in
+    let none : (a / 2 ^ s * 2 ^ s + 0) % 2 ^ s ≡ 0 = mod-mul-add (a / 2 ^ s) (2 ^ s) 0 (pow_pos s) in
+    ap (λ (n : ℕ). n % 2 ^ s) (cleared_fits s a (address_below e) ∙ sym (add-zero (a / 2 ^ s * 2 ^ s))) ∙ none
+
 -- three draws are a route
 pub route_drawn : (x y z d e f : ℕ) → y ≡ state_after x 1 → z ≡ state_after y 1 → d ≡ draw x 0 → e ≡ draw y 0 → f ≡ draw z 0
     → (let r : Route = record { prefix = first_bits (8 + d % 17) (record { family = V4; bits = bits_of 32 ((e % 2 ^ 24 * 256 / 2 ^ (32 - (8 + d % 17)) * 2 ^ (32 - (8 + d % 17))) % 2 ^ 32) }); peer = f % 8 } in r ≡ route x)
@@ -58,7 +78,6 @@ route_drawn x y z d e f first second p q r =
     let both : z ≡ state_after x 2 = second ∙ (ap (λ (s : ℕ). state_after s 1) first ∙ state-add x 1 1) in
     let address : e ≡ draw x 1 = q ∙ (ap (λ (s : ℕ). draw s 0) first ∙ draw-add x 1 0) in
     let peer : f ≡ draw x 2 = r ∙ (ap (λ (s : ℕ). draw s 0) both ∙ draw-add x 2 0) in
-    let len : d % 17 < 17 = mod_below d 17 (omega arith) in
-    let small : e % 2 ^ 24 < 2 ^ 24 = mod_below e (2 ^ 24) (omega arith) in
-    let fits = cleared_fits (32 - (8 + d % 17)) (e % 2 ^ 24 * 256) (omega arith) in
+    let len = few_bits d in
+    let fits = cleared_fits (32 - (8 + d % 17)) (e % 2 ^ 24 * 256) (address_below e) in
     rw (fits, cleared_bits 32 (8 + d % 17) (e % 2 ^ 24 * 256) (omega arith), p, address, peer) refl

@@ -154,6 +154,7 @@ fn moves(
     alloc: Global,
     router: &str,
     printed: &str,
+    steady: bool,
 ) -> Result<Result<RouterMoves, SameError>, Fail> {
     let mut names = Vec::new(alloc);
     for (name, text) in [("router", router), ("printed", printed)] {
@@ -161,7 +162,7 @@ fn moves(
         names.push((name, Vec::from_slice(alloc, text.as_bytes())?))?;
     }
     let mut inputs = SureInputs::new(names);
-    Ok(moves_to_routes(alloc, &mut inputs, "router", "printed"))
+    Ok(moves_to_routes(alloc, &mut inputs, "router", "printed", steady))
 }
 
 /// Whether a family's changes and rows are these.
@@ -184,7 +185,7 @@ fn hop_addr(octet: u32) -> Option<Addr> {
 fn routers_get_the_fewest_changes(rt: HostRuntime) -> Result<(), Fail> {
     let alloc = rt.alloc();
     for case in &CASES {
-        let told = moves(alloc, case.router, case.printed)??;
+        let told = moves(alloc, case.router, case.printed, false)??;
         assert!(rt;
             are_due(alloc, Family::V4, &told.v4, &case.v4)?,
             "{}",
@@ -209,6 +210,27 @@ fn routers_get_the_fewest_changes(rt: HostRuntime) -> Result<(), Fail> {
         }
         assert_eq!(rt; told.hops.addr(Hop(number)), None, "{}", case.name);
     }
+    Ok(())
+}
+
+/// What sets an entry comes first, from the longest prefix to the shortest, and each family's own changes stay together.
+#[test]
+fn changes_may_be_told_in_steady_order(rt: HostRuntime) -> Result<(), Fail> {
+    let alloc = rt.alloc();
+    let router = "least,0.0.0.0/0,192.0.2.1\nleast,0.0.0.0/3,192.0.2.2\nleast,8000::/1,192.0.2.1\n";
+    let printed =
+        "route,0.0.0.0/1,192.0.2.3\nroute,128.0.0.0/1,192.0.2.2\nroute,8000::/1,192.0.2.2\nroute,::/0,192.0.2.1\n";
+    let told = moves(alloc, router, printed, true)??;
+    let four = [
+        Told::Add(0x00000000, 1, 3),
+        Told::Replace(0x00000000, 0, 2),
+        Told::Remove(0x00000000, 3),
+    ];
+    let six = [Told::Replace(0x80000000, 1, 2), Told::Add(0x00000000, 0, 1)];
+    let v4 = changes_of(alloc, Family::V4, &four)?;
+    let v6 = changes_of(alloc, Family::V6, &six)?;
+    assert!(rt; told.v4.changes.as_slice() == v4.as_slice());
+    assert!(rt; told.v6.changes.as_slice() == v6.as_slice());
     Ok(())
 }
 
@@ -248,7 +270,7 @@ fn texts_are_refused(rt: HostRuntime) -> Result<(), Fail> {
         ),
     ];
     for (case, router, printed, due) in cases {
-        match moves(alloc, router, printed)? {
+        match moves(alloc, router, printed, false)? {
             Ok(_) => assert!(rt; false, "{case}"),
             Err(error) => assert!(rt; error == due, "{case}"),
         }

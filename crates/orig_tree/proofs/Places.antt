@@ -1,5 +1,5 @@
 -- A family's table and its entries, in the order of prefixes.
-use Rattle.std.proofs.Common.{◌≡◌, ℕ, ◌≤◌, List, [], ◌∷◌, Bool, true, false, cond, refl, sym, ap, ◌∙◌, subst, length}
+use Rattle.std.proofs.Common.{◌≡◌, ℕ, ◌≤◌, List, [], ◌∷◌, Bool, true, false, Option, Some, None, cond, refl, sym, ap, ◌∙◌, subst, length}
 use Rattle.std.specs.List.{AllByRecursion}
 use Rattle.std.specs.List.Sorted.{IsStrictlySortedBy}
 use Rattle.std.specs.Map.{keys_of, remove_entry}
@@ -17,7 +17,7 @@ use Rattle.table_model.specs.Table.{Entry, Table, lpm}
 use Rattle.table_model.specs.Entries.{Entries, of_family, match_in, with_entry, of_table}
 use Rattle.table_model.proofs.Sums.{all_placed, sorted_placed}
 pub use Rattle.least_model.proofs.Both.{family_is}
-use Rattle.orig_tree.specs.Edits.{put, without}
+use Rattle.orig_tree.specs.Edits.{put, without, edit, routed}
 use Rattle.orig_tree.specs.Views.{InPlace, Labels}
 
 -- longest match among a family's entries
@@ -98,6 +98,15 @@ entries_put f g p h L M N E l s n e v i =
 pub entries_without : (f g : Family) (p : List Bool) (L M : Table) (E : Entries) → g ≡ f → M ≡ without p L → of_table f L ≡ E → of_table f M ≡ remove_entry (same_prefix (prefix_of g p)) E
 entries_without f g p L M E s e v =
     ap (of_table f) e ∙ (sym (without_is f p L) ∙ (ap (remove_entry (same_prefix (prefix_of f p))) v ∙ ap (λ k. remove_entry (same_prefix (prefix_of k p)) E) (sym s)))
+
+-- the same where either is done
+pub in_place_edit : (f : Family) (p : List Bool) (o : Option ℕ) (L M : Table) → length p ≤ width f → M ≡ edit p o L → InPlace (of_table f L) → InPlace (of_table f M)
+in_place_edit f p None L M l e i = in_place_without f p L M e i
+in_place_edit f p (Some h) L M l e i = in_place_put f p h L M l e i
+
+pub entries_edit : (f g : Family) (p : List Bool) (o : Option ℕ) (L M : Table) (E : Entries) → length p ≤ width f → g ≡ f → M ≡ edit p o L → of_table f L ≡ E → InPlace (of_table f L) → of_table f M ≡ routed (prefix_of g p) o E
+entries_edit f g p None L M E l s e v i = entries_without f g p L M E s e v
+entries_edit f g p (Some h) L M E l s e v i = entries_put f g p h L M L E l s refl e v i
 
 pub labels_are : (f g : Family) (R S E D B C : Entries) (m n : List (List Bool)) → f ≡ g → R ≡ S → E ≡ D → m ≡ n → B ≡ C →
     (let a : Labels = record { family = f; routes = R; entries = E; nodes = m; before = B } in a) ≡ record { family = g; routes = S; entries = D; nodes = n; before = C }

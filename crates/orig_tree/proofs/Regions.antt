@@ -11,13 +11,17 @@ use Rattle.orig_tree.specs.Walk.{Walks}
 use Rattle.orig_tree.specs.Arena.{Place, IsTree, IsArena, cover_of, node_at, half_place, from_half, IfHalf, walks_at, walks_by}
 use Rattle.orig_tree.specs.Bests.{Stands, AreBest}
 use Rattle.orig_tree.specs.Spots.{Spot, answers_in, spot_at, IsSpot, IsRooted, rows_in, EachFixed}
-use Rattle.orig_tree.specs.Cover.{Shows, Within, SomeGets, IsCover}
+use Rattle.orig_tree.specs.Cover.{Shows, Within, SomeGets, IsCover, only_of}
+use Rattle.orig_tree.specs.Uniform.{IsUniform}
+use Rattle.orig_tree.proofs.Kept.{uniform_only}
+use Rattle.orig_tree.proofs.Fitting.{walk_fits}
 use Rattle.orig_tree.specs.declared.cover.Cover.{Cover}
 use Rattle.orig_tree.specs.declared.node.Label.{Label}
 use Rattle.orig_tree.specs.Walk.{rows_of}
 use Rattle.orig_tree.specs.Views.{Fits}
 use Rattle.orig_tree.proofs.Arena.{cover_tree}
 use Rattle.std.proofs.Common.{replicate, not}
+use Rattle.std.specs.Prelude.{IfSome, IfNone}
 use Rattle.std.proofs.lemmas.List.{length-replicate}
 use Rattle.orig_tree.specs.declared.node.Node.{Node}
 use Rattle.orig_tree.specs.declared.best.Best.{Best}
@@ -77,11 +81,6 @@ filled_same (x ∷ S) T s f = refl
 
 pub least_is : (d : ℕ) (f : List Bool → ℕ) (x : Best) → Stands d f x → smallest x.hops ≡ smallest (set_of d f)
 least_is d f x s = same_smallest x.hops (set_of d f) (filled_same x.hops (set_of d f) s.hops (set_filled d f)) (set_filled d f) s.hops
-
-pub one_least : (d : ℕ) (f : List Bool → ℕ) (x : Best) → Stands d f x → x.k ≡ 0 → (a : List Bool) → length a ≡ d → f a ≡ smallest x.hops
-one_least d f x s z a l =
-    let one = costs_nothing d f (sym s.cost ∙ z) in
-    one.1 a l ∙ sym (least_is d f x s ∙ ap smallest (set_uniform d f one.0 one.1))
 
 -- ---- a region of the array
 
@@ -273,6 +272,35 @@ module _ (label : Label) (cells : List Node) (o : Option ℕ) (i bits hop : ℕ)
 
   pub spot_passed : b ≡ false → Fits bits (rows_in label (spot_at cells o bits hop)) → SomeGets bits (rows_in label (spot_at cells o bits hop)) None
   spot_passed t f = cover_passed bits (rows_in label (spot_at cells o bits hop)) c the_cover f (turned_back b c.passes v t)
+
+-- ---- the one hop of a region's addresses
+
+one_gets : (o : Option ℕ) (d : ℕ) (R : Table) (hop : ℕ) → IsUniform d R hop [] o → IfSome o (λ h. (a : List Bool) → length a ≡ d → lpm R a hop ≡ h)
+one_gets None d R hop u = tt
+one_gets (Some h) d R hop u = λ a l. u a l refl
+
+two_cost : (o : Option ℕ) (d : ℕ) (R : Table) (hop : ℕ) → IsUniform d R hop [] o → IfNone o (k_of d (λ a. lpm R a hop) ≢ 0)
+two_cost None d R hop (a, b, la, lb, pa, pb, n) = λ z. let one = costs_nothing d (λ a. lpm R a hop) z in n (one.1 a la ∙ sym (one.1 b lb))
+two_cost (Some h) d R hop u = tt
+
+pub where_none : (o : Option ℕ) (P : Type 0) → P → IfNone o P
+where_none None P p = p
+where_none (Some h) P p = tt
+
+module _ (cells : List Node) (o : Option ℕ) (i bits hop : ℕ) (n : Node) (c : Cover) (result : Option ℕ) (e : o ≡ Some i) (at : n ≡ node_at cells i) (k : c ≡ cover_of Route n) (v : result ≡ only_of c hop) (r : IsRooted cells o bits) where
+  -- as the cover of its node tells it
+  spot_uniform : IsUniform bits (spot_at cells o bits hop).routes hop [] result
+  spot_uniform =
+      let is : result ≡ only_of (cover_of Route (node_at cells i)) hop = v ∙ ap (λ (x : Cover). only_of x hop) (k ∙ ap (cover_of Route) at) in
+      let fits : Fits bits (spot_at cells o bits hop).routes = subst (λ (y : Option ℕ). Fits bits (spot_at cells y bits hop).routes) (sym e) (walk_fits bits cells i) in
+      subst (λ (x : Option ℕ). IsUniform bits (spot_at cells o bits hop).routes hop [] x) (sym is)
+      (uniform_only bits hop (spot_at cells o bits hop).routes (cover_of Route (node_at cells i)) (spot_cover Route cells o i bits hop e r) fits)
+
+  pub spot_one : IfSome result (λ h. (a : List Bool) → length a ≡ bits → answers_in (spot_at cells o bits hop) a ≡ h)
+  spot_one = one_gets result bits (spot_at cells o bits hop).routes hop spot_uniform
+
+  pub spot_two : IfNone result (k_of bits (answers_in (spot_at cells o bits hop)) ≢ 0)
+  spot_two = two_cost result bits (spot_at cells o bits hop).routes hop spot_uniform
 
 bare_rows : (label : Label) (cells : List Node) (bits hop : ℕ) → rows_in label (spot_at cells None bits hop) ≡ []
 bare_rows Route cells bits hop = refl

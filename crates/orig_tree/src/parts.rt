@@ -9,11 +9,19 @@ ghost use Rattle.least_model.specs.Regions.{entry_at, lift};
 ghost use Rattle.fib_addr.specs.Views.{prefix_as};
 ghost use Rattle.orig_tree.specs.Arena.{cells_of, walks_at};
 ghost use Rattle.orig_tree.specs.Views.{Fits};
+ghost use Rattle.orig_tree.specs.Walk.{has_node};
 
 use crate::node::{Label, Nodes, read, tell};
 use entry_rows::EntrySink;
 use fib_addr::{Prefix, bit_at};
 use std::alloc::AllocError;
+
+/// What a tree has at a path: whether it is a node, and the hop of its own route.
+#[derive(Clone, Copy)]
+pub(crate) struct OwnRoute {
+    pub(crate) is_node: bool,
+    pub(crate) hop: Option<u16>,
+}
 
 /// The hop of a path's own route.
 pub(crate) fn route_at(nodes: &Nodes, i: usize, q: u128, left: u8) -> Option<u16>
@@ -29,6 +37,31 @@ pub(crate) fn route_at(nodes: &Nodes, i: usize, q: u128, left: u8) -> Option<u16
     match node.half(bit_at(q, at)) {
         None => None,
         Some(j) => route_at(nodes, j, q, at),
+    }
+}
+
+/// What there is at a path, in one walk.
+pub(crate) fn seek(nodes: &Nodes, i: usize, q: u128, left: u8) -> OwnRoute
+    requires { left ≤ 128 }
+    ensures node { (d : ℕ) → left < d → result.is_node ≡ has_node (bits_of left q) (walks_at d (cells_of
+        nodes.now) i).nodes }
+    ensures route { (d : ℕ) → left < d → result.hop
+        ≡ entry_at (bits_of left q) (walks_at d (cells_of nodes.now) i).routes }
+{
+    let node = read(nodes, i);
+    if left == 0 {
+        return OwnRoute {
+            is_node: true,
+            hop: node.hop(Label::Route),
+        };
+    }
+    let at = left - 1;
+    match node.half(bit_at(q, at)) {
+        None => OwnRoute {
+            is_node: false,
+            hop: None,
+        },
+        Some(j) => seek(nodes, j, q, at),
     }
 }
 

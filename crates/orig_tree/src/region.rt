@@ -57,14 +57,7 @@ impl<'a> Region<'a> {
     {
         match self.place {
             None => Some(self.hop),
-            Some(i) => {
-                let none = Best::one(0);
-                let best = best_at(self.bests, i, &none);
-                if best.k == 0 {
-                    return Some(best.hops.least());
-                }
-                None
-            }
+            Some(i) => cover(read(self.nodes, i), Label::Route).only(self.hop),
         }
     }
 

@@ -13,7 +13,8 @@ ghost use Rattle.orig_tree.specs.Spots.{answers_in};
 ghost use Rattle.least_model.specs.Regions.{above};
 ghost use Rattle.fib_addr.specs.Views.{addr_as, prefix_as, entry_as};
 ghost use Rattle.address_model.specs.Width.{width};
-ghost use Rattle.orig_tree.specs.Walk.{AreMadeTo, has_node, rows_of};
+ghost use Rattle.orig_tree.specs.Walk.{AreMadeTo, Allowed, has_node, rows_of};
+ghost use Rattle.orig_tree.specs.Edits.{routed};
 ghost use Rattle.orig_tree.specs.Views.{InPlace, Fits};
 ghost use Rattle.orig_tree.specs.Arena.{cells_of, whole};
 ghost use Rattle.orig_tree.specs.Trims.{AreTrimmed};
@@ -23,9 +24,9 @@ use crate::best::{Bests, Change, root_best};
 use crate::count::count_within;
 use crate::counter::{Counter, Uncounted};
 use crate::load::{lay_all, load_all};
-use crate::node::{Label, Nodes, answer, inherited, is_node, tell, uniform};
+use crate::node::{Label, Nodes, answer, inherited, tell, uniform};
 use crate::node_ref::NodeRef;
-use crate::parts::{route_at, tell_within};
+use crate::parts::{OwnRoute, route_at, seek, tell_within};
 use crate::path::path_bits;
 use crate::region::{Region, below};
 use crate::undo::{Undo, keep_if, room_of};
@@ -63,6 +64,26 @@ impl Model for Tree {
     ghost view = { λ t. record { family = t.family; routes = of_table t.family (whole t.family (cells_of t.nodes)).routes; entries = of_table t.family (whole t.family (cells_of t.nodes)).entries; nodes = (whole t.family (cells_of t.nodes)).nodes; before = of_table t.family (routes_before t.undo (whole t.family (cells_of t.nodes)).routes) } };
 
     ghost invariant = { λ t. IsArena t.family (cells_of t.nodes) t.nodes.free × InPlace (of_table t.family (whole t.family (cells_of t.nodes)).routes) × InPlace (of_table t.family (whole t.family (cells_of t.nodes)).entries) × KeepsBest t.family (cells_of t.nodes) (best_in t.bests) × (vec_len t.nodes.halves ≤ vec_len t.bests.halves) × CanUndo t.family (cells_of t.nodes) (best_in t.bests) t.undo };
+}
+
+/// The number of a hop, if there is one.
+fn number_of(hop: Option<Hop>) -> Option<u16>
+    ensures { result ≡ option_map (λ h. h.0) hop }
+{
+    match hop {
+        Some(hop) => Some(hop.0),
+        None => None,
+    }
+}
+
+/// The hop of a number, if there is one.
+fn hop_of(number: Option<u16>) -> Option<Hop>
+    ensures { option_map (λ h. h.0) result ≡ number }
+{
+    match number {
+        Some(number) => Some(Hop(number)),
+        None => None,
+    }
 }
 
 /// Hands on the table of one label from the root on, in the order of prefixes.
@@ -396,6 +417,67 @@ impl Tree {
         Some(Hop(hop))
     }
 
+    /// What there is at the prefix, in one walk.
+    fn own_route(&self, prefix: &Prefix) -> OwnRoute
+        requires { prefix.now.family ≡ self.now.family }
+        ensures order { InPlace self.now.routes }
+        ensures node { result.is_node ≡ has_node (prefix_as prefix.now).bits self.now.nodes }
+        ensures route { result.hop ≡ lookup (same_prefix (prefix_as prefix.now)) self.now.routes }
+    {
+        seek(&self.nodes, 0, path_bits(prefix), prefix.len)
+    }
+
+    /// Sets the route of a prefix that is a node, or takes a prefix's route away, where it is known what there is at it.
+    ///
+    /// # Errors
+    ///
+    /// No memory; then nothing has changed.
+    fn alter_route<C: Counter>(
+        &mut self,
+        prefix: &Prefix,
+        own: OwnRoute,
+        set: Option<u16>,
+        steps: &mut C,
+    ) -> Result<(), AllocError>
+        requires family { prefix.now.family ≡ self.old.family }
+        requires node { own.is_node ≡ has_node (prefix_as prefix.now).bits self.old.nodes }
+        requires route { own.hop ≡ lookup (same_prefix (prefix_as prefix.now)) self.old.routes }
+        requires allowed { Allowed (prefix_as prefix.now).bits set self.old.nodes }
+        ensures family { self.new.family ≡ self.old.family }
+        ensures routes { OnOk result (self.new.routes ≡ routed (prefix_as prefix.now) set
+            self.old.routes) }
+        ensures entries { self.new.entries ≡ self.old.entries }
+        ensures nodes { self.new.nodes ≡ self.old.nodes }
+        ensures before { has_node (prefix_as prefix.now).bits self.old.nodes ≡ true
+            → OnOk result (self.new.before ≡ self.old.routes) }
+        ensures err { OnErr result (self.new ≡ self.old) }
+        ensures steps { C.count steps.new ≤ C.count steps.old + prefix.now.len + 1
+            + nodes_in (prefix_as prefix.now).bits self.old.nodes }
+    {
+        let q = path_bits(prefix);
+        let spare = mem::replace(&mut self.spare, Vec::new(self.alloc));
+        let changes = alter(
+            self.alloc,
+            self.family,
+            &mut self.nodes,
+            &mut self.bests,
+            q,
+            prefix.len,
+            set,
+            spare,
+            steps,
+        )?;
+        let undo = Undo {
+            q,
+            changes,
+            hop: own.hop,
+            len: prefix.len,
+        };
+        self.spare = room_of(self.alloc, self.undo.take());
+        self.undo = keep_if(own.is_node, undo);
+        Ok(())
+    }
+
     /// The entries within the prefix, its own among them, in the order of prefixes. It costs the prefix's length, and the
     /// nodes within it.
     ///
@@ -459,23 +541,74 @@ impl Tree {
         ensures steps { C.count steps.new ≤ C.count steps.old + prefix.now.len + 1
             + nodes_in (prefix_as prefix.now).bits self.old.nodes }
     {
-        let q = path_bits(prefix);
-        let was_node = is_node(&self.nodes, 0, q, prefix.len);
-        let spare = mem::replace(&mut self.spare, Vec::new(self.alloc));
-        let undo = alter(
-            self.alloc,
-            self.family,
-            &mut self.nodes,
-            &mut self.bests,
-            q,
-            prefix.len,
-            None,
-            spare,
-            steps,
-        )?;
-        self.spare = room_of(self.alloc, self.undo.take());
-        self.undo = keep_if(was_node, undo);
+        let own = self.own_route(prefix);
+        self.alter_route(prefix, own, None, steps)?;
         Ok(())
+    }
+
+    /// Makes the prefix a node, and returns the hop of its own route, if it has one. Where it is a node, one walk finds both.
+    ///
+    /// # Errors
+    ///
+    /// No memory; then nothing has changed.
+    fn node_route(&mut self, prefix: &Prefix) -> Result<Option<u16>, AllocError>
+        requires { prefix.now.family ≡ self.old.family }
+        ensures order { InPlace self.old.routes }
+        ensures family { self.new.family ≡ self.old.family }
+        ensures routes { self.new.routes ≡ self.old.routes }
+        ensures entries { self.new.entries ≡ self.old.entries }
+        ensures kept { (p : List Bool) → has_node p self.old.nodes ≡ true
+            → has_node p self.new.nodes ≡ true }
+        ensures made { AreMadeTo (prefix_as prefix.now).bits self.old.nodes self.new.nodes }
+        ensures ok { OnOk result (has_node (prefix_as prefix.now).bits self.new.nodes ≡ true) }
+        ensures route { IfOk result (λ hop. hop ≡ lookup (same_prefix (prefix_as prefix.now))
+            self.old.routes) }
+        ensures err { OnErr result (self.new ≡ self.old) }
+        ensures same { has_node (prefix_as prefix.now).bits self.old.nodes ≡ true → self.new ≡ self.old }
+    {
+        let own = self.own_route(prefix);
+        if own.is_node {
+            return Ok(own.hop);
+        }
+        self.room(prefix)?;
+        Ok(own.hop)
+    }
+
+    /// Makes the prefix a node, gives it this route or none, and returns the route that it had: what `room`, `route`, and then
+    /// `set_route` or `clear_route` come to, with one walk in search of the prefix where it is a node already. `put_back` takes
+    /// the change of the route back.
+    ///
+    /// # Errors
+    ///
+    /// No memory; then no route and no entry has changed, and where the prefix was a node nothing has.
+    pub fn replace_route(
+        &mut self,
+        prefix: &Prefix,
+        route: Option<Hop>,
+    ) -> Result<Option<Hop>, AllocError>
+        requires { prefix.now.family ≡ self.old.family }
+        ensures family { self.new.family ≡ self.old.family }
+        ensures order { InPlace self.old.routes }
+        ensures former { IfOk result (λ had. option_map (λ h. h.0) had
+            ≡ lookup (same_prefix (prefix_as prefix.now)) self.old.routes) }
+        ensures set { IfSome route (λ hop. OnOk result (self.new.routes
+            ≡ with_entry self.old.routes (prefix_as prefix.now, hop.0))) }
+        ensures cleared { IfNone route (OnOk result (self.new.routes
+            ≡ remove_entry (same_prefix (prefix_as prefix.now)) self.old.routes)) }
+        ensures entries { self.new.entries ≡ self.old.entries }
+        ensures kept { (p : List Bool) → has_node p self.old.nodes ≡ true
+            → has_node p self.new.nodes ≡ true }
+        ensures made { AreMadeTo (prefix_as prefix.now).bits self.old.nodes self.new.nodes }
+        ensures ok { OnOk result (has_node (prefix_as prefix.now).bits self.new.nodes ≡ true) }
+        ensures before { OnOk result (self.new.before ≡ self.old.routes) }
+        ensures err { OnErr result (self.new.routes ≡ self.old.routes) }
+        ensures same { has_node (prefix_as prefix.now).bits self.old.nodes ≡ true
+            → OnErr result (self.new ≡ self.old) }
+    {
+        let hop = self.node_route(prefix)?;
+        let own = OwnRoute { is_node: true, hop };
+        self.alter_route(prefix, own, number_of(route), &mut Uncounted)?;
+        Ok(hop_of(hop))
     }
 
     /// Puts the routes back as they were before the last call of `set_route` or `clear_route`, with all that nodes keep, where
@@ -566,24 +699,13 @@ impl Tree {
         ensures steps { C.count steps.new ≤ C.count steps.old + prefix.now.len + 1
             + nodes_in (prefix_as prefix.now).bits self.old.nodes }
     {
-        let q = path_bits(prefix);
-        let spare = mem::replace(&mut self.spare, Vec::new(self.alloc));
-        if is_node(&self.nodes, 0, q, prefix.len) {
-            let undo = alter(
-                self.alloc,
-                self.family,
-                &mut self.nodes,
-                &mut self.bests,
-                q,
-                prefix.len,
-                Some(hop.0),
-                spare,
-                steps,
-            )?;
-            self.spare = room_of(self.alloc, self.undo.take());
-            self.undo = Some(undo);
+        let own = self.own_route(prefix);
+        if own.is_node {
+            self.alter_route(prefix, own, Some(hop.0), steps)?;
             return Ok(());
         }
+        let q = path_bits(prefix);
+        let spare = mem::replace(&mut self.spare, Vec::new(self.alloc));
         let room = lay(
             self.alloc,
             self.family,

@@ -1,8 +1,9 @@
 //! The array as one tree from its root on.
 
-ghost use Rattle.std.specs.Prelude.{◌≡◌, ◌≤◌, ℕ, OnOk, OnErr, IsOk, IfOk, true, None, Some, vec_len, ◌+◌, ◌∷◌, []};
+ghost use Rattle.std.specs.Prelude.{◌≡◌, ◌≤◌, ℕ, OnOk, OnErr, IsOk, IfOk, true, Option, None, Some, vec_len, ◌+◌, ◌∷◌, []};
 ghost use Rattle.address_model.specs.Bits.{bits_of};
 ghost use Rattle.address_model.specs.Width.{width};
+ghost use Rattle.least_model.specs.Regions.{entry_at};
 ghost use Rattle.orig_tree.specs.Walk.{walks_of, no_walks, edited, Allowed, has_node};
 ghost use Rattle.orig_tree.specs.Trims.{IsTrimmed};
 ghost use Rattle.orig_tree.specs.Arena.{blank, cells_of, whole, IsArena, IsRoomier, HalvesStay};
@@ -19,7 +20,6 @@ use crate::mend::plan;
 use crate::node::{
     Label, Nodes, assign, grow, grow_label, is_node, reserve, root_alone, set_label,
 };
-use crate::parts::route_at;
 use crate::undo::Undo;
 use fib_addr::Family;
 use std::alloc::{AllocError, Global};
@@ -131,7 +131,7 @@ pub(crate) fn lay<C: Counter>(
 }
 
 /// Sets the route of a path that has a node, or takes the path's route away, with what is kept for the regions that it
-/// changes. How that is taken back is given; the list is room for it.
+/// changes. What was kept before is handed back, so that it can be taken back; the list is room for it.
 ///
 /// # Errors
 ///
@@ -146,7 +146,7 @@ pub(crate) fn alter<C: Counter>(
     set: Option<u16>,
     spare: Vec<Change>,
     steps: &mut C,
-) -> Result<Undo, AllocError>
+) -> Result<Vec<Change>, AllocError>
     requires few { len ≤ width family }
     requires arena { IsArena family (cells_of nodes.old) nodes.old.free }
     requires best { KeepsBest family (cells_of nodes.old) (best_in bests.old) }
@@ -157,15 +157,20 @@ pub(crate) fn alter<C: Counter>(
     ensures long { vec_len nodes.new.halves ≤ vec_len bests.new.halves }
     ensures walks { OnOk result (whole family (cells_of nodes.new) ≡ edited Route (bits_of len q) set
         (whole family (cells_of nodes.old))) }
-    ensures back { IfOk result (λ u. has_node (bits_of len q) (whole family (cells_of
+    ensures back { IfOk result (λ v. (hop : Option ℕ) → hop ≡ entry_at (bits_of len q) (whole family
+        (cells_of nodes.old)).routes → has_node (bits_of len q) (whole family (cells_of
         nodes.old)).nodes ≡ true → TakesBack family (whole family (cells_of nodes.old)).routes
-        (cells_of nodes.new) (best_in bests.new) u) }
+        (cells_of nodes.new) (best_in bests.new) (record {
+          q = q;
+          changes = v;
+          hop = hop;
+          len = len;
+        })) }
     ensures err { OnErr result ((cells_of nodes.new ≡ cells_of nodes.old)
         × ((j : ℕ) → best_in bests.new j ≡ best_in bests.old j)) }
     ensures steps { C.count steps.new ≤ C.count steps.old + len + 1 + nodes_in (bits_of len q) (whole
         family (cells_of nodes.old)).nodes }
 {
-    let hop = route_at(nodes, 0, q, len);
     let depth = family.width();
     let mut changes = no_changes(spare, depth)?;
     plan(
@@ -183,12 +188,7 @@ pub(crate) fn alter<C: Counter>(
     )?;
     commit(bests, &mut changes);
     assign(nodes, 0, Label::Route, q, len, set);
-    Ok(Undo {
-        q,
-        changes,
-        hop,
-        len,
-    })
+    Ok(changes)
 }
 
 /// Takes a change of a route back, with what was kept before, and hands back the room that it took. It takes no memory.

@@ -229,3 +229,7 @@ told_none n e = omega (arith, e)
 
 pub told_sum : (n a b x y : ℕ) → n ≡ a + b → x ≡ told a → y ≡ told b → min (x + y) 18446744073709551615 ≡ told n
 told_sum n a b x y e i j = omega (arith, e, i, j)
+
+-- a call that was refused says nothing of what stands
+pub never : {A : Type 0} → false ≡ true → A
+never e = absurd (let n : ⊥ = cc in n)

@@ -155,3 +155,6 @@ all_err (Err e) a b c g = g a b c
 -- a node a stride at most
 pub few_strides : (v d e : ℕ) → 6 * v ≤ d + 5 → d ≡ e → v ≤ strides e
 few_strides v d e h s = omega (arith, h, s)
+
+pub empty_again : {T : Type 0} (s : Space T) (n m : ℕ) (x y : T) → s ≡ empty n x → n ≡ m → x ≡ y → s ≡ empty m y
+empty_again s n m x y e o f = e ∙ ap (λ i. empty i x) o ∙ ap (empty m) f

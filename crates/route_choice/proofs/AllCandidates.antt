@@ -39,7 +39,7 @@ use Rattle.flat_base.specs.Ways.{Ways, way_offer, seat_by, AddsWays}
 use Rattle.flat_base.proofs.Orders.{place_as, is_place, via_is, via_same, prefix_same as prefix_test}
 use Rattle.flat_base.proofs.Views.{are_candidates, at_seat, held_seat, lookup_by_test}
 use Rattle.flat_base.proofs.Parts.{offer_over, offer_under}
-use Rattle.route_choice.specs.Walks.{by_way, by_ways, held_at, held_for, HasRanks, HasRows}
+use Rattle.route_choice.specs.Walks.{by_ways, held_at, held_for, HasRanks, HasRows}
 use Rattle.route_choice.specs.Seats.{IsIndexed}
 use Rattle.route_choice.proofs.AllRoutes.{Covers, covered}
 use Rattle.route_choice.proofs.Rooms.{any_by_test}

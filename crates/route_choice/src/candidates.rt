@@ -3,7 +3,7 @@
 ghost use Rattle.std.specs.Prelude.{◌≡◌, [], map, option_map, Some, None, IfOk, OnOk, OnErr};
 ghost use Rattle.fib_addr.specs.Views.{addr_as, prefix_as, route_as};
 ghost use Rattle.std.specs.List.{AllByRecursion};
-ghost use Rattle.fib_prefix.specs.Views.{IsOfOctets, peer_as, event_as, elem_as};
+ghost use Rattle.fib_prefix.specs.Views.{IsOfOctets, cand_as, peer_as, event_as, elem_as};
 ghost use Rattle.route_model.specs.Choice.{AreCandidates, after_elem, elems_of, chosen_for, routes_of};
 ghost use Rattle.cand_rows.specs.Taken.{Takes};
 ghost use Rattle.flat_base.specs.Seats.{held_in};
@@ -20,7 +20,7 @@ use crate::over::give_back;
 use crate::plan::{Plan, over_of};
 use crate::routes::routes_of as all_routes;
 use cand_rows::CandSink;
-use fib_prefix::{Addr, Elem, Event, Peer, Prefix};
+use fib_prefix::{Addr, Cand, Elem, Event, Peer, Prefix};
 use flat_base::{Flat, Offer, Rank, Seat};
 use std::alloc::{AllocError, Global};
 use std::collections::{BTreeMap, BTreeSet};
@@ -193,6 +193,21 @@ impl Candidates {
         ensures held { AreCandidates self.now.candidates }
     {
         all_routes(self.alloc, &self.flat, &self.seats, &self.ranks)
+    }
+
+    /// All candidates, in the order of prefixes, then of ways, in one list: 144 octets each. `hand_all` makes no list.
+    ///
+    /// # Errors
+    ///
+    /// No memory.
+    pub fn all(&self) -> Result<Vec<Cand>, AllocError>
+        ensures all { IfOk result (λ cands. map cand_as cands.items ≡ self.now.candidates) }
+        ensures octets { OnOk result (AllByRecursion IsOfOctets self.now.candidates) }
+        ensures held { AreCandidates self.now.candidates }
+    {
+        let mut cands = Vec::new(self.alloc);
+        self.hand_all(&mut cands)?;
+        Ok(cands)
     }
 
     /// Hands on all candidates one by one, in the order of prefixes, then of ways. No list of them is made, but one of their prefixes.

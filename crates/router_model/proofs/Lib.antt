@@ -1,2 +1,5 @@
 pub mod Parts
+pub mod Sides
 pub mod Both
+pub mod Told
+pub mod Claims

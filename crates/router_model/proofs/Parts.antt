@@ -1,7 +1,7 @@
 -- A table of both families in order, taken apart.
 use Rattle.std.proofs.Common.{◌≡◌, [], ◌∷◌, ◌++◌, Bool, true, false, cond, Some, refl, sym, ap, ◌∙◌, append-nil}
 use Rattle.std.specs.Prelude.{fold, ◌&&◌}
-use Rattle.std.specs.List.{AllByRecursion, filter}
+use Rattle.std.specs.List.{AllByRecursion}
 use Rattle.std.specs.Map.{keys_of}
 use Rattle.address_model.specs.Bits.{same_bits}
 use Rattle.address_model.specs.Address.{Prefix, IsPrefix, same_family, same_prefix}
@@ -17,32 +17,28 @@ use Rattle.route_model.proofs.Places.{prefix_key}
 use Rattle.delta_model.specs.Between.{hop_at}
 use Rattle.delta_model.proofs.Held.{Placed, all_folded, in_order_placed}
 use Rattle.kept_model.proofs.Families.{AllOf, hop_low, hop_high, placed_both}
-use Rattle.router_model.specs.Both.{family_table}
+use Rattle.router_model.specs.Both.{family_table, own_entries}
 
--- the entries that are of the family
-abbrev pub own : Family → Entries → Entries
-own f L = filter (λ e. same_family f e.0.family) L
-
-own_of : (f : Family) (L : Entries) → AllOf f (keys_of (own f L))
+pub own_of : (f : Family) (L : Entries) → AllOf f (keys_of (own_entries f L))
 own_of f [] = tt
 own_of f (e ∷ L) = by_test (same_family f e.0.family) refl (own_of f L)
   where
-    by_test : (b : Bool) → same_family f e.0.family ≡ b → AllOf f (keys_of (own f L)) → AllOf f (keys_of (cond b (e ∷ own f L) (own f L)))
+    by_test : (b : Bool) → same_family f e.0.family ≡ b → AllOf f (keys_of (own_entries f L)) → AllOf f (keys_of (cond b (e ∷ own_entries f L) (own_entries f L)))
     by_test true s more = (sym (same_family_is f e.0.family s), more)
     by_test false s more = more
 
 pub table_placed : (f : Family) (L : Entries) → AllByRecursion IsPrefix (keys_of L) → Placed (family_table f L)
-table_placed f L a = in_order_placed (own f L) (all_filter (λ e. same_family f e.0.family) IsPrefix L a)
+table_placed f L a = in_order_placed (own_entries f L) (all_filter (λ e. same_family f e.0.family) IsPrefix L a)
 
 pub table_all_of : (f : Family) (L : Entries) → AllOf f (keys_of (family_table f L))
-table_all_of f L = all_folded (λ p. p.family ≡ f) (own f L) [] (own_of f L) tt
+table_all_of f L = all_folded (λ p. p.family ≡ f) (own_entries f L) [] (own_of f L) tt
 
 apart : (f : Family) (q p : Prefix) → q.family ≡ f → same_family f p.family ≡ false → same_prefix q p ≡ false
 apart f q p e n = ap (λ b. b && same_bits q.bits p.bits) (ap (λ (g : Family). same_family g p.family) e ∙ n)
 
 -- at a prefix of the family stands what its own entries put there
 hop_folded_own : (f : Family) (q : Prefix) (L T S : Entries) → q.family ≡ f → AllByRecursion IsPrefix (keys_of L) → AllByRecursion IsPrefix (keys_of T) → AllByRecursion IsPrefix (keys_of S) → hop_at q T ≡ hop_at q S
-    → hop_at q (fold with_entry T L) ≡ hop_at q (fold with_entry S (own f L))
+    → hop_at q (fold with_entry T L) ≡ hop_at q (fold with_entry S (own_entries f L))
 hop_folded_own f q [] T S e l t s h = h
 hop_folded_own f q (x ∷ L) T S e l t s h = by_test (same_family f x.0.family) refl (λ T' S' t' s' h'. hop_folded_own f q L T' S' e l.1 t' s' h')
   where
@@ -50,8 +46,8 @@ hop_folded_own f q (x ∷ L) T S e l t s h = by_test (same_family f x.0.family) 
     t-more = all_placed IsPrefix T x.0 x.1 t l.0
 
     by_test : (b : Bool) → same_family f x.0.family ≡ b
-        → ((T' S' : Entries) → AllByRecursion IsPrefix (keys_of T') → AllByRecursion IsPrefix (keys_of S') → hop_at q T' ≡ hop_at q S' → hop_at q (fold with_entry T' L) ≡ hop_at q (fold with_entry S' (own f L)))
-        → hop_at q (fold with_entry (with_entry T x) L) ≡ hop_at q (fold with_entry S (cond b (x ∷ own f L) (own f L)))
+        → ((T' S' : Entries) → AllByRecursion IsPrefix (keys_of T') → AllByRecursion IsPrefix (keys_of S') → hop_at q T' ≡ hop_at q S' → hop_at q (fold with_entry T' L) ≡ hop_at q (fold with_entry S' (own_entries f L)))
+        → hop_at q (fold with_entry (with_entry T x) L) ≡ hop_at q (fold with_entry S (cond b (x ∷ own_entries f L) (own_entries f L)))
     by_test true n ih =
         ih (with_entry T x) (with_entry S x) t-more (all_placed IsPrefix S x.0 x.1 s l.0)
         (lookup-put prefix_key q T x.0 x.1 t l.0 ∙ (ap (cond (same_prefix q x.0) (Some x.1)) h ∙ sym (lookup-put prefix_key q S x.0 x.1 s l.0)))

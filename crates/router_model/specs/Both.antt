@@ -1,5 +1,5 @@
 -- What a router must change to forward as routes do, over both families: R are the routes, and T is the router's table.
-use Rattle.std.specs.Prelude.{◌≡◌, ℕ, ◌+◌, ◌≤◌, List, ◌++◌, Some, length}
+use Rattle.std.specs.Prelude.{◌≡◌, ℕ, ◌+◌, ◌≤◌, List, ◌++◌, Bool, true, false, Some, length}
 use Rattle.std.specs.List.{filter}
 use Rattle.address_model.specs.Address.{same_family}
 use Rattle.address_model.specs.declared.family.Family.{Family}
@@ -7,13 +7,18 @@ use Rattle.address_model.specs.declared.family.Family.TheVariants.{V4, V6}
 use Rattle.table_model.specs.Entries.{AlikeInBoth, Entries, in_order, of_family}
 use Rattle.table_model.specs.Changes.{Change, after_changes}
 use Rattle.delta_model.specs.Between.{between}
+use Rattle.steady_model.specs.Steady.{in_steady_order}
 use Rattle.cert_model.specs.Rows.{CertRow}
 use Rattle.moves_model.specs.Dist.{distance}
 use Rattle.moves_cert.specs.Rows.{near_in, near_rows}
 
--- the entries that are of the family, in the order of prefixes
+-- the entries that are of the family, as they stand
+abbrev pub own_entries : Family → Entries → Entries
+own_entries f L = filter (λ e. same_family f e.0.family) L
+
+-- and in the order of prefixes
 abbrev pub family_table : Family → Entries → Entries
-family_table f L = in_order (filter (λ e. same_family f e.0.family) L)
+family_table f L = in_order (own_entries f L)
 
 -- what makes of the router's table of the family the nearest one that answers as the routes
 abbrev pub family_changes : Family → Entries → Entries → List Change
@@ -22,6 +27,11 @@ family_changes f R T = between (family_table f T) (near_in f (family_table f R) 
 -- the rows that prove that no fewer changes would do
 abbrev pub proving_rows : Family → Entries → Entries → List CertRow
 proving_rows f R T = near_rows f (family_table f R) (family_table f T)
+
+-- changes that stand in the order of prefixes, as they are told: as they stand, or in steady order
+abbrev pub told_in : Bool → List Change → List Change
+told_in false cs = cs
+told_in true cs = in_steady_order cs
 
 -- those of both families, IPv4's first
 abbrev pub both_changes : Entries → Entries → List Change

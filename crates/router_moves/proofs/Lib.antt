@@ -1,2 +1,4 @@
-pub mod Both
+pub mod Asking
+pub mod Passing
 pub mod Found
+pub mod Judging

@@ -1,11 +1,11 @@
 -- What a router must change to forward as printed routes do, by what the inputs hold.
-use Rattle.std.specs.Prelude.{ℕ, List, [], ◌∷◌, Option, Result, Ok}
+use Rattle.std.specs.Prelude.{ℕ, List, [], ◌∷◌, Bool, Option, Result, Ok}
 use Rattle.octet_fields.specs.Field.{◌>>=◌}
 use Rattle.address_model.specs.Address.{Address}
 use Rattle.table_model.specs.Entries.{Entries}
 use Rattle.table_model.specs.Changes.{Change}
 use Rattle.cert_model.specs.Rows.{CertRow}
-use Rattle.router_model.specs.Both.{both_changes, both_proving_rows}
+use Rattle.router_model.specs.Both.{both_changes, both_proving_rows, told_in}
 use Rattle.printed_model.specs.declared.kind.Kind.TheVariants.{Least, Route}
 use Rattle.fib_same.specs.Due.{Stop, text_at}
 use Rattle.fib_same.specs.Gives.{names_after}
@@ -29,15 +29,15 @@ abbrev pub names_asked : (List ℕ → Option (List ℕ)) → List ℕ → List 
 names_asked content router printed = router ∷ names_after (text_at content Least [] 1 router) (printed ∷ []) (λ table. printed ∷ [])
 
 -- The changes of the router's table, the rows that prove that no fewer would do, and the hops that the numbers in both stand for.
--- IPv4's come before IPv6's.
+-- IPv4's come before IPv6's. Each family's changes stand in the order of prefixes, or in steady order if that is asked for.
 pub record ShortestMoves : Type 0 where
   pub changes : List Change
   pub rows : List CertRow
   pub hops : List Address
 
-abbrev pub moves_for : Asked → ShortestMoves
-moves_for t = record { changes = both_changes t.routes t.table; rows = both_proving_rows t.routes t.table; hops = t.hops }
+abbrev pub moves_for : Bool → Asked → ShortestMoves
+moves_for steady t = record { changes = told_in steady (both_changes t.routes t.table); rows = both_proving_rows t.routes t.table; hops = t.hops }
 
 -- the moves that are due
-abbrev pub moves_at : (List ℕ → Option (List ℕ)) → List ℕ → List ℕ → Result ShortestMoves Stop
-moves_at content router printed = asked_at content router printed >>= λ t. Ok (moves_for t)
+abbrev pub moves_at : (List ℕ → Option (List ℕ)) → List ℕ → List ℕ → Bool → Result ShortestMoves Stop
+moves_at content router printed steady = asked_at content router printed >>= λ t. Ok (moves_for steady t)

@@ -1,2 +1,5 @@
 pub mod Due
+pub mod Asking
+pub mod Checked
 pub mod Views
+pub mod Judged

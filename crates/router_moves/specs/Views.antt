@@ -1,9 +1,10 @@
 -- What a clause sees of this crate's values.
-use Rattle.std.specs.Prelude.{◌≡◌, ◌++◌, map, Result, Ok, length}
+use Rattle.std.specs.Prelude.{◌≡◌, ◌++◌, map, Bool, true, Result, Ok, length}
 use Rattle.address_model.specs.declared.family.Family.{Family}
 use Rattle.address_model.specs.declared.family.Family.TheVariants.{V4, V6}
 use Rattle.table_model.specs.Entries.{Entries, in_order}
 use Rattle.fib_delta.specs.Views.{change_as}
+use Rattle.steady_model.specs.Steady.{AnswerSteadily}
 use Rattle.cert_rows.specs.Views.{row_as}
 use Rattle.moves_cert.specs.Shortest.{AreProvedShortest, AreShortest}
 use Rattle.fib_moves.specs.declared.answer.Near.{Near}
@@ -27,12 +28,15 @@ pub record IsShortest (f : Family) (R T : Entries) (n : Near) : Type 0 where
   pub proved : AreProvedShortest f (family_table f R) (family_table f T) (map change_as n.changes.items) (map row_as n.rows.items)
   pub count : length n.changes.items ≡ n.bound
 
--- For some table and routes: the changes are shortest over both families, and each family's rows prove that its own are.
-pub record AreShortestFor (t : Asked) (m : RouterMoves) : Type 0 where
+-- For some table and routes: the changes as they are told are shortest over both families, and each family's rows prove that its own
+-- are. In steady order no packet goes astray: while a router that has the table makes them one by one, each address is answered as by the
+-- table or as by the routes, and once it is answered as by the routes it stays so.
+pub record AreShortestFor (steady : Bool) (t : Asked) (m : RouterMoves) : Type 0 where
   pub both : AreShortestInBoth (in_order t.routes) (in_order t.table) (moves_as m).changes
+  pub steadily : steady ≡ true → AnswerSteadily (moves_as m).changes (in_order t.table) (in_order t.table) (in_order t.routes)
   pub v4 : IsShortest V4 t.routes t.table m.v4
   pub v6 : IsShortest V6 t.routes t.table m.v6
 
 -- Whatever the texts hold: what is given is what is due of some table and routes, which are those of the texts if these are told, and is shortest for them.
-abbrev pub EndsShortest : Result Asked Stop → RouterMoves → Type 0
-EndsShortest due m = (t : Asked) × IsDueIfTold due (Ok t) × (moves_as m ≡ moves_for t) × AreShortestFor t m
+abbrev pub EndsShortest : Bool → Result Asked Stop → RouterMoves → Type 0
+EndsShortest steady due m = (t : Asked) × IsDueIfTold due (Ok t) × (moves_as m ≡ moves_for steady t) × AreShortestFor steady t m

@@ -8,16 +8,17 @@ ghost use Rattle.router_moves.specs.Due.{asked_at, moves_at, names_asked};
 ghost use Rattle.router_moves.specs.Views.{EndsShortest, moves_as};
 
 use crate::answer::RouterMoves;
+use crate::asked::read_asked;
 use crate::family::family_moves;
-use cost_cert::Kind;
 use fib_addr::{Family, HopTable};
 use fib_io::Inputs;
-use fib_same::{SameError, read_text};
+use fib_same::SameError;
 use std::alloc::Global;
 
 /// The shortest list of changes that makes a router forward as printed routes do: its table is that of the `least` rows in the text of
 /// the one name, and the routes are the `route` rows in the other. An entry that drops answers as no entry does, yet a change may add,
-/// replace or remove one.
+/// replace or remove one. Each family's changes stand in the order of prefixes, or, if `steady`, in an order in which no packet goes
+/// astray: while the router makes them one by one, each address keeps the answer that it had until it has that of the routes.
 ///
 /// The router's text is read to its end and judged before the other is read. It costs n log n in the octets of both texts.
 ///
@@ -30,10 +31,11 @@ pub fn moves_to_routes<I: Inputs>(
     inputs: &mut I,
     router: &str,
     printed: &str,
+    steady: bool,
 ) -> Result<RouterMoves, SameError>
     ensures due { GivesDue moves_as result
-        (moves_at (I.content inputs.old) router.now printed.now) }
-    ensures shortest { IfOk result (EndsShortest
+        (moves_at (I.content inputs.old) router.now printed.now steady) }
+    ensures shortest { IfOk result (EndsShortest steady
         (asked_at (I.content inputs.old) router.now printed.now)) }
     ensures same { I.content inputs.new ≡ I.content inputs.old }
     ensures cause { ReadsNames (names_asked (I.content inputs.old) router.now printed.now)
@@ -42,9 +44,8 @@ pub fn moves_to_routes<I: Inputs>(
         (ReadsOf (numbered 1 (router.now ∷ printed.now ∷ [])) result) }
 {
     let mut hops = HopTable::new(alloc);
-    let table = read_text(alloc, inputs, router, 1, Kind::Least, &mut hops)?;
-    let routes = read_text(alloc, inputs, printed, 2, Kind::Route, &mut hops)?;
-    let v4 = family_moves(alloc, Family::V4, &table, &routes)?;
-    let v6 = family_moves(alloc, Family::V6, &table, &routes)?;
+    let asked = read_asked(alloc, inputs, router, printed, &mut hops)?;
+    let v4 = family_moves(alloc, Family::V4, &asked, steady)?;
+    let v6 = family_moves(alloc, Family::V6, &asked, steady)?;
     Ok(RouterMoves { v4, v6, hops })
 }

@@ -1,6 +1,8 @@
-//! What a list of VRPs and writers of checkpoints offer, tested: of their own, since a crate with tests is proved twice.
+//! What a list of VRPs, candidates and writers of checkpoints offer, tested: of their own, since a crate with tests is proved twice.
 #![tactic(auto)]
 
+#[cfg(test)]
+mod candidates;
 #[cfg(test)]
 mod inputs;
 #[cfg(test)]

@@ -4,3 +4,4 @@ pub mod Knowing
 pub mod Planned
 pub mod Alike
 pub mod Near
+pub mod Settled

@@ -161,5 +161,6 @@ planned kept fewest at due r i h = record {
   repaired = repaired_table fewest kept at;
   beside = i.beside;
   makes = made_by kept fewest at due r i ∙ ap (λ b. Some (after_snapshot kept.family kept.routes b (repaired_table fewest kept at))) (sym i.is_due);
+  settled = λ e. i.settled (sym i.is_fewest ∙ e);
   former = h;
 }

@@ -1,19 +1,22 @@
 -- Marks of where the routes changed since the last snapshot, and what is known of the table beside them.
-use Rattle.std.specs.Prelude.{◌≡◌, List, Bool, true, false, Option, Some, None}
+use Rattle.std.specs.Prelude.{◌≡◌, ◌-◌, ◌⊎◌, [], Bool, true, false, Option, Some, None, length}
 use Rattle.address_model.specs.Address.{Prefix}
 use Rattle.address_model.specs.declared.family.Family.{Family}
+use Rattle.address_model.specs.Width.{width}
+use Rattle.table_model.specs.Table.{cut}
 use Rattle.table_model.specs.Entries.{Entries, of_family}
-use Rattle.least_model.specs.Regions.{entry_at, SameOutside}
-use Rattle.stays_model.specs.Stays.{IsMarked}
+use Rattle.least_model.specs.Regions.{above, entry_at, SameOutside}
+use Rattle.least_model.specs.Sets.{answers}
+use Rattle.stays_model.specs.Stays.{Stays, is_wide, HasMarks, IsMarked, IsMended}
 use Rattle.orig_tree.specs.Views.{Labels}
-use Rattle.kept_pass.specs.Known.{IsSettled, IsKnown}
+use Rattle.kept_pass.specs.Known.{IsSettled, IsKnown, IsKnownBefore}
 
 -- the marks, if there are any, are of the family
 abbrev pub IsOfFamily : Family → Option Labels → Type 0
 IsOfFamily f None = Unit {0}
 IsOfFamily f (Some m) = f ≡ m.family
 
--- the prefix is marked, and what was marked still is; without marks everything counts as marked
+-- the prefix is marked wide, and what was marked still is; without marks everything counts as marked wide
 abbrev pub IsTouched : Prefix → Option Labels → Option Labels → Type 0
 IsTouched p old None = Unit {0}
 IsTouched p None (Some n) = ⊥
@@ -24,22 +27,57 @@ abbrev pub IsTouchedAt : Option Prefix → Option Labels → Option Labels → T
 IsTouchedAt None old new = new ≡ old
 IsTouchedAt (Some p) old new = IsTouched p old new
 
+-- the prefix is marked, maybe wide no more, and the other marks are as they were
+abbrev pub IsEased : Prefix → Option Labels → Option Labels → Type 0
+IsEased p old None = Unit {0}
+IsEased p None (Some n) = ⊥
+IsEased p (Some m) (Some n) = (n.family ≡ m.family) × IsMended p.bits (of_family m.family m.entries) (of_family m.family n.entries)
+
+-- the same of a prefix, if there is one
+abbrev pub IsEasedAt : Option Prefix → Option Labels → Option Labels → Type 0
+IsEasedAt None old new = new ≡ old
+IsEasedAt (Some p) old new = IsEased p old new
+
 -- what was marked still is
 abbrev pub AreMore : Option Labels → Option Labels → Type 0
 AreMore old None = Unit {0}
 AreMore None (Some n) = ⊥
-AreMore (Some m) (Some n) = (n.family ≡ m.family) × ((r : List Bool) → entry_at r (of_family m.family n.entries) ≡ None → entry_at r (of_family m.family m.entries) ≡ None)
+AreMore (Some m) (Some n) = (n.family ≡ m.family) × HasMarks (of_family m.family m.entries) (of_family m.family n.entries)
 
--- after a snapshot the marks, if there are any, are of the family; else the plan's prefix, if it has one, is marked as well
-abbrev pub AreLeft : Bool → Family → Option Prefix → Option Labels → Option Labels → Type 0
-AreLeft true f at old new = IsOfFamily f new
-AreLeft false f at old new = IsTouchedAt at old new
+-- what was marked still is, and the prefix, if there is one, is marked wide
+abbrev pub AreWide : Option Prefix → Option Labels → Option Labels → Type 0
+AreWide None old new = AreMore old new
+AreWide (Some p) old new = IsTouched p old new
 
--- p is marked, and what is off the marks is settled; without p, the latter
+-- there is a prefix, and it is the whole space
+abbrev pub IsWhole : Option Prefix → Type 0
+IsWhole None = ⊥
+IsWhole (Some p) = p.bits ≡ []
+
+-- after a snapshot the marks, if there are any, are of the family; else the plan's prefix, if it has one, is marked as well, and wide
+-- where the repair was one of the fewest changes; after any other repair of the whole space it is as after a snapshot
+abbrev pub AreLeft : Bool → Bool → Family → Option Prefix → Option Labels → Option Labels → Type 0
+AreLeft true fewest f at old new = IsOfFamily f new
+AreLeft false true f at old new = IsTouchedAt at old new
+AreLeft false false f at old new = IsEasedAt at old new ⊎ (IsWhole at × IsOfFamily f new)
+
+-- p is marked wide, and what is off the marks is settled; without p, the latter
 abbrev pub KnownAt : Option Prefix → Labels → Option Labels → Type 0
 KnownAt None kept touched = IsKnown kept touched
 KnownAt (Some p) kept None = Unit {0}
-KnownAt (Some p) kept (Some n) = (n.family ≡ kept.family) × (entry_at p.bits (of_family kept.family n.entries) ≡ None → ⊥) × IsSettled kept.family kept.routes kept.entries n.entries
+KnownAt (Some p) kept (Some n) = (n.family ≡ kept.family) × (is_wide (entry_at p.bits (of_family kept.family n.entries)) ≡ true) × IsSettled kept.family kept.routes kept.entries n.entries
+
+-- where the repair at this prefix, if there is one, isn't to have the fewest changes, what is off the marks is settled for routes that
+-- differ at the prefix alone
+abbrev pub IsKnownToMend : Bool → Option Prefix → Labels → Option Labels → Type 0
+IsKnownToMend true at kept touched = Unit {0}
+IsKnownToMend false None kept touched = Unit {0}
+IsKnownToMend false (Some p) kept touched = IsKnownBefore p kept touched
+
+-- for the routes R a pass over the prefix, if there is one, leaves what T has there
+abbrev pub StaysAt : Option Prefix → Family → Entries → Entries → Type 0
+StaysAt None f R T = Unit {0}
+StaysAt (Some p) f R T = Stays (width f - length p.bits) (answers (of_family f R) p.bits) (cut p.bits (of_family f T)) (above p.bits (of_family f T) 0)
 
 -- the entries are the same but within this prefix, if there is one
 abbrev pub SameBeside : Option Prefix → Family → Entries → Entries → Type 0

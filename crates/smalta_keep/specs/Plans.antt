@@ -17,7 +17,7 @@ use Rattle.fib_delta.specs.Views.{change_as}
 use Rattle.orig_tree.specs.Views.{Labels, InPlace}
 use Rattle.smalta_keep.specs.Rooms.{AreOf, HaveRoom, IsNodeAt}
 use Rattle.smalta_keep.specs.Routes.{HasFormer, former_place, undone_in}
-use Rattle.smalta_keep.specs.Known.{SameBeside}
+use Rattle.smalta_keep.specs.Known.{SameBeside, StaysAt}
 use Rattle.smalta_keep.specs.Views.{repair_as, snapshot_as, with_planned, place_in}
 use Rattle.smalta_keep.specs.declared.routes.Former.{Former}
 use Rattle.smalta_keep.specs.declared.told.Mend.{Mend}
@@ -43,7 +43,8 @@ pub record Tells (kept : Labels) (fewest : Bool) (at : Option Prefix) (due : Boo
   pub makes : after_changes (repair_as m ++ snapshot_as m) kept.entries ≡ Some (planned_table fewest kept at due)
 
 -- Planned, and nothing changed since: there is room for the changes, which make the table of the repair and of the snapshot, if it is
--- due; the repair's are within its reach; and the former route can be put back.
+-- due; the repair's are within its reach, where, unless they are to be the fewest, a pass then leaves what there is; and the former
+-- route can be put back.
 pub record IsPlanned (kept : Labels) (r : Repair) : Type 0 where
   pub repair_of : AreOf kept.family (repair_as r.moved)
   pub snapshot_of : AreOf kept.family (snapshot_as r.moved)
@@ -53,6 +54,7 @@ pub record IsPlanned (kept : Labels) (r : Repair) : Type 0 where
   pub repaired : Entries
   pub beside : SameBeside (option_map prefix_as r.reach) kept.family kept.entries repaired
   pub makes : after_changes (repair_as r.moved ++ snapshot_as r.moved) kept.entries ≡ Some (after_snapshot kept.family kept.routes r.due repaired)
+  pub settled : r.fewest ≡ false → StaysAt (option_map prefix_as r.reach) kept.family kept.routes repaired
   pub former : HasFormer kept r.former
 
 -- ---- while a plan is made
@@ -101,12 +103,14 @@ pub record IsMend (f : Family) (back_too : Bool) (old new : Entries) (m : Mend) 
 -- the changes are those of a repair and a snapshot, and there is room for them
 pub record IsMoved (kept : Labels) (fewest : Bool) (at : Option Prefix) (due : Bool) (r : Repair) : Type 0 where
   pub is_due : r.due ≡ due
+  pub is_fewest : r.fewest ≡ fewest
   pub repair : repair_as r.moved ≡ between kept.entries (repaired_table fewest kept at)
   pub snapshot : snapshot_as r.moved ≡ between (repaired_table fewest kept at) (planned_table fewest kept at due)
   pub repair_of : AreOf kept.family (repair_as r.moved)
   pub snapshot_of : AreOf kept.family (snapshot_as r.moved)
   pub reach_of : ForSome r.reach (λ p. p.family ≡ kept.family)
   pub beside : SameBeside (option_map prefix_as r.reach) kept.family kept.entries (repaired_table fewest kept at)
+  pub settled : fewest ≡ false → StaysAt (option_map prefix_as r.reach) kept.family kept.routes (repaired_table fewest kept at)
   pub repair_room : HaveRoom kept.nodes (repair_as r.moved)
   pub snapshot_room : HaveRoom kept.nodes (snapshot_as r.moved)
   pub old_order : InPlace kept.entries

@@ -8,6 +8,7 @@ ghost use Rattle.smalta_keep.specs.Rooms.{AreOf, KeepsTables};
 
 use fib_addr::Prefix;
 use fib_delta::Change;
+use kept_pass::node_at;
 use orig_tree::Tree;
 
 /// The prefix of an entry that a change takes away where it was made, or would have added where it wasn't.
@@ -30,12 +31,34 @@ pub fn trim_at(tree: &mut Tree, prefix: Option<Prefix>)
     }
 }
 
+/// Whether a prefix is a node with none below it.
+fn is_last(tree: &Tree, prefix: &Prefix) -> bool
+    requires { prefix.now.family ≡ tree.now.family }
+{
+    match node_at(tree, prefix) {
+        Some(node) => node.half(false).is_none() && node.half(true).is_none(),
+        None => false,
+    }
+}
+
+/// Drops the node of a prefix, if there is one, and those on the way to it, as far as nothing uses them and nothing is below them.
+pub fn trim_last(tree: &mut Tree, prefix: Option<Prefix>)
+    requires { ForSome prefix (λ p. p.family ≡ tree.old.family) }
+    ensures { KeepsTables tree.old tree.new }
+{
+    if let Some(prefix) = prefix
+        && is_last(tree, &prefix)
+    {
+        tree.trim(&prefix);
+    }
+}
+
 /// Drops the nodes that nothing uses where changes took entries away, or where those that weren't made would have added them.
 pub fn trim_left(tree: &mut Tree, changes: &[Change], made: bool)
     requires { AreOf tree.old.family (map change_as changes.now) }
     ensures { KeepsTables tree.old tree.new }
 {
     for change in changes {
-        trim_at(tree, place_left(change, made));
+        trim_last(tree, place_left(change, made));
     }
 }

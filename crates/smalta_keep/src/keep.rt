@@ -20,7 +20,7 @@ ghost use Rattle.smalta_keep.specs.Plans.{IsPlanned, Tells};
 ghost use Rattle.smalta_keep.specs.Answers.{IsAlike, IsAlikeFor, IsLeast, IsFewestWithin};
 
 use crate::entries::apply_all;
-use crate::idle::{trim_at, trim_left};
+use crate::idle::{trim_at, trim_last, trim_left};
 use crate::marks::Marks;
 use crate::plan::{Due, plan_moves};
 use crate::repair::{Moved, Repair};
@@ -111,7 +111,7 @@ impl Keep {
         let least = least_table(self.alloc, &self.tree)?;
         let tree = self.tree.enter_all(&least)?;
         let mut marks = self.marks;
-        marks.leave(self.alloc, family, true, None);
+        marks.leave(self.alloc, family, true, false, None);
         let keep = Keep {
             alloc: self.alloc,
             tree,
@@ -169,7 +169,7 @@ impl Keep {
     {
         // the routes stand in order
         let _family = self.tree.family();
-        self.marks.mark_at(planned_prefix(route))?;
+        self.marks.expect(planned_prefix(route));
         let due = Due { fewest, snapshot };
         match plan_moves(self.alloc, &mut self.tree, &mut self.marks, route, due) {
             Ok(repair) => Ok(repair),
@@ -193,12 +193,14 @@ impl Keep {
         let at = former_prefix(&repair.former);
         let reach = repair.reach;
         let due = repair.due;
+        let fewest = repair.fewest;
         let moved = repair.moved;
         apply_all(&mut self.tree, &moved.repair);
         apply_all(&mut self.tree, &moved.snapshot);
-        trim_at(&mut self.tree, at);
+        trim_last(&mut self.tree, at);
+        trim_left(&mut self.tree, &moved.repair, true);
         trim_left(&mut self.tree, &moved.snapshot, true);
-        self.marks.leave(self.alloc, family, due, reach);
+        self.marks.leave(self.alloc, family, due, fewest, reach);
         moved
     }
 
@@ -213,7 +215,8 @@ impl Keep {
         // the routes stand in order
         let _family = self.tree.family();
         put_back_planned(&mut self.tree, &repair.former);
-        trim_at(&mut self.tree, former_prefix(&repair.former));
+        trim_last(&mut self.tree, former_prefix(&repair.former));
+        trim_left(&mut self.tree, &repair.moved.repair, false);
         trim_left(&mut self.tree, &repair.moved.snapshot, false);
         self.marks.keep(former_prefix(&repair.former));
     }

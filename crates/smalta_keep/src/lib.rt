@@ -9,8 +9,10 @@
 //! A plan may ask for the fewest changes instead: then the entries become those of the nearest table that answers as the routes
 //! (event_moves), of which one at most, above the prefix, isn't within it. Such a table is seldom least within the prefix.
 //!
-//! A repair costs the prefix's length, and the nodes within it with their sets of hops. Each prefix whose route changes is marked
-//! until the next snapshot, which goes over the marked prefixes and the way to them, and over the regions that come to inherit
+//! A repair costs the prefix's length, and the regions within it that may change: those that no route of their own keeps from the
+//! prefix's route, those that come to inherit another hop, and those with a mark strictly within them or a wide one around them.
+//! Each prefix whose route changes is marked until the next snapshot, wide until its repair is made, or until then where that is
+//! one of the fewest changes. The snapshot goes over the wide marks, the way to each mark, and the regions that come to inherit
 //! another hop (kept_pass). The first snapshot, and one that comes after more than 16,384 changes, goes over the whole tree.
 #![tactic(auto)]
 

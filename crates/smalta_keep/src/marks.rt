@@ -1,12 +1,14 @@
 //! Marks of where the routes changed since the last snapshot.
 //!
-//! They are entries of a tree of their own. What is off all of them has the entries that a snapshot would give it under the hop
-//! that it inherits. Without that tree everything counts as marked.
+//! They are entries of a tree of their own. A region that no mark is strictly within, and that is at no wide mark and within none,
+//! has the entries that a snapshot would give it under the hop that it inherits. A plan marks its prefix wide; once its repair is
+//! made the entries within the prefix are what a snapshot would give there, and the mark is wide no more. Without that tree
+//! everything counts as marked wide.
 
-ghost use Rattle.std.specs.Prelude.{◌≡◌, Some, None, OnOk, option_map};
+ghost use Rattle.std.specs.Prelude.{◌≡◌, true, Some, None, OnOk, option_map};
 ghost use Rattle.std.specs.Option.{ForSome};
 ghost use Rattle.fib_addr.specs.Views.{prefix_as};
-ghost use Rattle.smalta_keep.specs.Known.{IsOfFamily, IsTouched, IsTouchedAt, AreMore, AreLeft};
+ghost use Rattle.smalta_keep.specs.Known.{IsOfFamily, IsTouched, IsTouchedAt, IsEased, IsEasedAt, IsWhole, AreMore, AreLeft};
 
 use fib_addr::{Family, Hop, Prefix};
 use orig_tree::Tree;
@@ -19,13 +21,14 @@ const MOST: u32 = 16384;
 /// Where the routes changed since the last snapshot.
 #[derive(Drop)]
 pub struct Marks {
-    /// The marked prefixes, as a tree's entries; without it everything counts as marked.
+    /// The marked prefixes, as a tree's entries, wide ones with hop 1 and others with none; without it everything counts as marked
+    /// wide.
     pub tree: Option<Tree>,
     /// How often a prefix was marked.
     count: u32,
 }
 
-/// Marks a prefix in the tree of the marks. It takes no memory where the prefix is marked.
+/// Marks a prefix wide in the tree of the marks. It takes no memory where the prefix is marked.
 fn set_mark(marks: &mut Tree, prefix: &Prefix) -> Result<(), AllocError>
     requires { prefix.now.family ≡ marks.old.family }
     ensures marked { OnOk result (IsTouched (prefix_as prefix.now) (Some marks.old) (Some marks.new)) }
@@ -37,7 +40,29 @@ fn set_mark(marks: &mut Tree, prefix: &Prefix) -> Result<(), AllocError>
     Ok(())
 }
 
-/// Marks a prefix, where there is a tree of the marks.
+/// Makes a prefix's mark one that isn't wide. It takes no memory where the prefix is marked.
+fn ease_mark(marks: &mut Tree, prefix: &Prefix) -> Result<(), AllocError>
+    requires { prefix.now.family ≡ marks.old.family }
+    ensures { OnOk result (IsEased (prefix_as prefix.now) (Some marks.old) (Some marks.new)) }
+{
+    // the marks stand in order
+    let _family = marks.family();
+    marks.set_entry(prefix, Hop::NONE)?;
+    Ok(())
+}
+
+/// The same, where there is a tree of the marks.
+fn ease_in(marks: &mut Option<Tree>, prefix: &Prefix) -> Result<(), AllocError>
+    requires { IsOfFamily prefix.now.family marks.old }
+    ensures { OnOk result (IsEased (prefix_as prefix.now) marks.old marks.new) }
+{
+    match marks {
+        Some(marks) => ease_mark(marks, prefix),
+        None => Ok(()),
+    }
+}
+
+/// Marks a prefix wide, where there is a tree of the marks.
 fn mark_in(marks: &mut Option<Tree>, prefix: &Prefix) -> Result<(), AllocError>
     requires { IsOfFamily prefix.now.family marks.old }
     ensures marked { OnOk result (IsTouched (prefix_as prefix.now) marks.old marks.new) }
@@ -46,6 +71,16 @@ fn mark_in(marks: &mut Option<Tree>, prefix: &Prefix) -> Result<(), AllocError>
     match marks {
         Some(marks) => set_mark(marks, prefix),
         None => Ok(()),
+    }
+}
+
+/// Whether there is a prefix, and it is the whole space.
+fn is_whole(at: Option<Prefix>) -> bool
+    ensures { result ≡ true → IsWhole (option_map prefix_as at) }
+{
+    match at {
+        Some(prefix) => prefix.len == 0,
+        None => false,
     }
 }
 
@@ -71,7 +106,7 @@ impl Marks {
         }
     }
 
-    /// Marks a prefix.
+    /// Marks a prefix wide.
     ///
     /// # Errors
     ///
@@ -85,24 +120,16 @@ impl Marks {
         mark_in(&mut self.tree, prefix)
     }
 
-    /// Marks a prefix, if there is one.
-    ///
-    /// # Errors
-    ///
-    /// No memory; then what was marked still is.
-    pub fn mark_at(&mut self, at: Option<Prefix>) -> Result<(), AllocError>
-        requires { ForSome at (λ p. IsOfFamily p.family self.old.tree) }
-        ensures marked { OnOk result (IsTouchedAt (option_map prefix_as at) self.old.tree
-            self.new.tree) }
-        ensures more { AreMore self.old.tree self.new.tree }
+    /// Counts one more mark to come, if there is a prefix for it; where there would be too many, everything counts as marked.
+    pub fn expect(&mut self, at: Option<Prefix>)
+        ensures { AreMore self.old.tree self.new.tree }
     {
-        match at {
-            Some(prefix) => self.mark(&prefix),
-            None => Ok(()),
+        if at.is_some() {
+            self.count();
         }
     }
 
-    /// Sees to it that a prefix, if there is one, is marked. It takes no memory where it is.
+    /// Sees to it that a prefix, if there is one, is marked wide. Where there is no memory for it everything counts as marked.
     pub fn keep(&mut self, at: Option<Prefix>)
         requires { ForSome at (λ p. IsOfFamily p.family self.old.tree) }
         ensures { IsTouchedAt (option_map prefix_as at) self.old.tree self.new.tree }
@@ -112,7 +139,7 @@ impl Marks {
         }
     }
 
-    /// The same of one prefix. Where there is no memory for it everything counts as marked.
+    /// The same of one prefix.
     fn keep_one(&mut self, prefix: &Prefix)
         requires { IsOfFamily prefix.now.family self.old.tree }
         ensures { IsTouched (prefix_as prefix.now) self.old.tree self.new.tree }
@@ -122,16 +149,55 @@ impl Marks {
         }
     }
 
-    /// What is marked once a plan's changes are made: nothing after a snapshot, else the plan's prefix, if it has one, still is.
-    pub fn leave(&mut self, alloc: Global, family: Family, snapshot: bool, at: Option<Prefix>)
+    /// Makes the mark of a prefix, if there is one, a mark that isn't wide. It takes no memory where the prefix is marked.
+    fn ease(&mut self, at: Option<Prefix>)
         requires { ForSome at (λ p. IsOfFamily p.family self.old.tree) }
-        ensures { AreLeft snapshot family (option_map prefix_as at) self.old.tree self.new.tree }
+        ensures { IsEasedAt (option_map prefix_as at) self.old.tree self.new.tree }
+    {
+        if let Some(prefix) = at {
+            self.ease_one(&prefix);
+        }
+    }
+
+    /// The same of one prefix. Where there is no memory for it everything counts as marked.
+    fn ease_one(&mut self, prefix: &Prefix)
+        requires { IsOfFamily prefix.now.family self.old.tree }
+        ensures { IsEased (prefix_as prefix.now) self.old.tree self.new.tree }
+    {
+        if ease_in(&mut self.tree, prefix).is_err() {
+            self.tree = None;
+        }
+    }
+
+    /// Nothing is marked.
+    fn clear(&mut self, alloc: Global, family: Family)
+        ensures { IsOfFamily family self.new.tree }
+    {
+        self.tree = Some(Tree::new(alloc, family));
+        self.count = 0;
+    }
+
+    /// What is marked once a plan's changes are made: nothing after a snapshot, else the plan's prefix, if it has one, still is, and
+    /// wide after a repair of the fewest changes. Any other repair of the whole space is as good as a snapshot.
+    pub fn leave(
+        &mut self,
+        alloc: Global,
+        family: Family,
+        snapshot: bool,
+        fewest: bool,
+        at: Option<Prefix>,
+    )
+        requires { ForSome at (λ p. IsOfFamily p.family self.old.tree) }
+        ensures { AreLeft snapshot fewest family (option_map prefix_as at) self.old.tree self.new.tree }
     {
         if snapshot {
-            self.tree = Some(Tree::new(alloc, family));
-            self.count = 0;
-        } else {
+            self.clear(alloc, family);
+        } else if fewest {
             self.keep(at);
+        } else if is_whole(at) {
+            self.clear(alloc, family);
+        } else {
+            self.ease(at);
         }
     }
 }

@@ -4,7 +4,7 @@
 //! then, or is taken away. A node that is made for another change would end the putting back (orig_tree): before that the route is
 //! put back, and it is set again after it.
 
-ghost use Rattle.std.specs.Prelude.{◌≡◌, IfOk, OnOk, OnErr, map, true, option_map};
+ghost use Rattle.std.specs.Prelude.{◌≡◌, IfOk, OnOk, OnErr, map, true, false, option_map};
 ghost use Rattle.std.specs.Option.{ForSome};
 ghost use Rattle.least_model.specs.Both.{aggregate_in};
 ghost use Rattle.delta_model.specs.Between.{between};
@@ -12,7 +12,8 @@ ghost use Rattle.fib_addr.specs.Views.{prefix_as};
 ghost use Rattle.fib_delta.specs.Views.{change_as};
 ghost use Rattle.smalta_keep.specs.Rooms.{AreOf, HaveRoom, KeepsEntries};
 ghost use Rattle.smalta_keep.specs.Routes.{HasFormer, former_place, undone_in};
-ghost use Rattle.smalta_keep.specs.Known.{KnownAt, AreMore};
+ghost use Rattle.kept_pass.specs.Known.{IsKnown};
+ghost use Rattle.smalta_keep.specs.Known.{KnownAt, IsKnownToMend, AreMore, AreWide};
 ghost use Rattle.smalta_keep.specs.Answers.{IsAlikeFor};
 ghost use Rattle.smalta_keep.specs.Plans.{IsBeforeAt, IsMend, IsMoved, IsSet, IsStill, mended, repaired_table};
 ghost use Rattle.smalta_keep.specs.Views.{place_in};
@@ -20,7 +21,7 @@ ghost use Rattle.smalta_keep.specs.Views.{place_in};
 use crate::entries::{apply_all, are_at, make_room};
 use crate::marks::Marks;
 use crate::repair::{Moved, Repair};
-use crate::routes::{Former, former_prefix, put_back_planned, set_planned};
+use crate::routes::{Former, former_prefix, planned_prefix, put_back_planned, set_planned};
 use crate::told::{Mend, mend_at};
 use fib_addr::{Hop, Prefix};
 use fib_delta::Change;
@@ -45,19 +46,23 @@ pub struct Due {
 fn mend_set(
     alloc: Global,
     tree: &mut Tree,
+    marks: &Option<Tree>,
     former: Option<Former>,
     fewest: bool,
     back: bool,
 ) -> Result<Mend, AllocError>
     requires former { HasFormer tree.old former }
     requires before { IsBeforeAt fewest (former_place former) tree.old }
+    requires known { IsKnownToMend fewest (former_place former) tree.old marks.now }
     ensures keeps { KeepsEntries tree.old tree.new }
     ensures still { OnOk result (tree.new ≡ tree.old) }
     ensures mend { IfOk result (IsMend tree.old.family back tree.old.entries
         (repaired_table fewest tree.old (former_place former))) }
+    ensures reach { IfOk result (λ m. fewest ≡ false
+        → option_map prefix_as m.reach ≡ former_place former) }
     ensures err { OnErr result (tree.new.routes ≡ undone_in former tree.old.routes) }
 {
-    match mend_at(alloc, tree, former_prefix(&former), fewest, back) {
+    match mend_at(alloc, tree, marks, former_prefix(&former), fewest, back) {
         Ok(mend) => Ok(mend),
         Err(failed) => {
             put_back_planned(tree, &former);
@@ -132,7 +137,7 @@ fn snapshot_after(
 }
 
 /// Sets a plan's route, if it has one, and tells the changes of the repair at its prefix and of the snapshot after it, if one is
-/// due, with room for them. The entries stay. What the repair changes is marked.
+/// due, with room for them. The entries stay. The prefix and what the repair changes are marked wide.
 ///
 /// # Errors
 ///
@@ -145,10 +150,11 @@ pub fn plan_moves(
     due: Due,
 ) -> Result<Repair, AllocError>
     requires family { ForSome route (λ r. r.0.family ≡ tree.old.family) }
-    requires known { KnownAt (place_in route) tree.old marks.old.tree }
+    requires known { IsKnown tree.old marks.old.tree }
     requires alike { IsAlikeFor due.fewest route tree.old }
     ensures keeps { KeepsEntries tree.old tree.new }
     ensures marks { AreMore marks.old.tree marks.new.tree }
+    ensures marked { OnOk result (AreWide (place_in route) marks.old.tree marks.new.tree) }
     ensures set { IfOk result (λ r. IsSet route tree.old.routes tree.new r.former) }
     ensures moved { IfOk result (λ r. IsMoved tree.new due.fewest (place_in route) due.snapshot r) }
     ensures err { OnErr result (tree.new.routes ≡ tree.old.routes) }
@@ -156,7 +162,8 @@ pub fn plan_moves(
     // the routes stand in order
     let _family = tree.family();
     let former = set_planned(tree, route)?;
-    let mend = mend_set(alloc, tree, former, due.fewest, due.snapshot)?;
+    let mend = mend_set(alloc, tree, &marks.tree, former, due.fewest, due.snapshot)?;
+    marks.keep(planned_prefix(route));
     marks.keep(mend.reach);
     let former = with_room(tree, route, former, &mend.there)?;
     if !due.snapshot {
@@ -168,6 +175,7 @@ pub fn plan_moves(
             former,
             reach: mend.reach,
             due: due.snapshot,
+            fewest: due.fewest,
             moved,
         });
     }
@@ -182,6 +190,7 @@ pub fn plan_moves(
         former,
         reach: mend.reach,
         due: due.snapshot,
+        fewest: due.fewest,
         moved,
     })
 }

@@ -24,6 +24,8 @@ pub struct Repair {
     pub(crate) reach: Option<Prefix>,
     /// Whether a snapshot is due.
     pub(crate) due: bool,
+    /// Whether the changes of the repair are to be the fewest.
+    pub(crate) fewest: bool,
     pub(crate) moved: Moved,
 }
 

@@ -2,6 +2,9 @@
 
 ghost use Rattle.std.specs.Prelude.{◌≡◌, true, IfOk, OnOk, OnErr, option_map};
 ghost use Rattle.std.specs.Option.{ForSome};
+ghost use Rattle.std.specs.Map.{lookup};
+ghost use Rattle.address_model.specs.Address.{same_prefix};
+ghost use Rattle.orig_tree.specs.Views.{InPlace};
 ghost use Rattle.orig_tree.specs.Walk.{has_node};
 ghost use Rattle.fib_addr.specs.Views.{prefix_as};
 ghost use Rattle.kept_model.specs.Patched.{with_route};
@@ -40,6 +43,28 @@ pub fn set(tree: &mut Tree, prefix: &Prefix, hop: Hop) -> Result<(), AllocError>
     Ok(())
 }
 
+/// Gives a prefix this route, or with `Hop::NONE` none, and returns the hop of the route that it had, if any.
+fn exchange(tree: &mut Tree, prefix: &Prefix, hop: Hop) -> Result<Option<Hop>, AllocError>
+    requires { prefix.now.family ≡ tree.old.family }
+    ensures keeps { KeepsEntries tree.old tree.new }
+    ensures order { InPlace tree.old.routes }
+    ensures former { IfOk result (λ had. option_map (λ h. h.0) had
+        ≡ lookup (same_prefix (prefix_as prefix.now)) tree.old.routes) }
+    ensures routes { OnOk result (tree.new.routes
+        ≡ with_route (prefix_as prefix.now) hop.0 tree.old.routes) }
+    ensures before { OnOk result (tree.new.before ≡ tree.old.routes) }
+    ensures node { OnOk result (has_node (prefix_as prefix.now).bits tree.new.nodes ≡ true) }
+    ensures err { OnErr result (tree.new.routes ≡ tree.old.routes) }
+{
+    if hop == Hop::NONE {
+        let had = tree.replace_route(prefix, None)?;
+        Ok(had)
+    } else {
+        let had = tree.replace_route(prefix, Some(hop))?;
+        Ok(had)
+    }
+}
+
 /// The same; what the prefix had is told, and can be put back.
 fn replace(tree: &mut Tree, prefix: &Prefix, hop: Hop) -> Result<Former, AllocError>
     requires { prefix.now.family ≡ tree.old.family }
@@ -51,13 +76,11 @@ fn replace(tree: &mut Tree, prefix: &Prefix, hop: Hop) -> Result<Former, AllocEr
     ensures node { OnOk result (has_node (prefix_as prefix.now).bits tree.new.nodes ≡ true) }
     ensures err { OnErr result (tree.new.routes ≡ tree.old.routes) }
 {
-    tree.room(prefix)?;
-    let former = Former {
+    let had = exchange(tree, prefix, hop)?;
+    Ok(Former {
         prefix: *prefix,
-        hop: tree.route(prefix),
-    };
-    set(tree, prefix, hop)?;
-    Ok(former)
+        hop: had,
+    })
 }
 
 /// Sets a plan's route, if it has one.

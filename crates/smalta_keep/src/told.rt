@@ -1,17 +1,17 @@
 //! The changes of repairs and snapshots, told before they are made.
 
-ghost use Rattle.std.specs.Prelude.{◌≡◌, [], IfOk, cond, map, option_map};
+ghost use Rattle.std.specs.Prelude.{◌≡◌, [], false, Some, IfOk, cond, map, option_map};
 ghost use Rattle.std.specs.Option.{ForSome};
 ghost use Rattle.address_model.specs.Width.{width};
 ghost use Rattle.table_model.specs.Entries.{of_family};
-ghost use Rattle.least_model.specs.Both.{aggregate_in};
 ghost use Rattle.delta_model.specs.Between.{AreEntries, between};
 ghost use Rattle.kept_model.specs.Patched.{patch_of};
 ghost use Rattle.moves_cert.specs.Rows.{near_in};
 ghost use Rattle.event_moves.specs.Event.{AlikeBefore};
 ghost use Rattle.fib_addr.specs.Views.{prefix_as, entry_as};
 ghost use Rattle.fib_delta.specs.Views.{change_as};
-ghost use Rattle.orig_tree.specs.Views.{InPlace};
+ghost use Rattle.kept_pass.specs.Known.{IsKnownBefore};
+ghost use Rattle.smalta_keep.specs.Known.{IsKnownToMend};
 ghost use Rattle.smalta_keep.specs.Plans.{IsMend, IsBeforeAt, repaired_table};
 
 use crate::back::taken_back_if;
@@ -19,8 +19,8 @@ use crate::reach::reach_of;
 use event_moves::near_after;
 use fib_addr::{Entry, Prefix};
 use fib_delta::{Change, between};
+use kept_pass::differing_within;
 use orig_tree::Tree;
-use ortc::within;
 use std::alloc::{AllocError, Global};
 
 /// The changes of a repair, and those that take them back.
@@ -53,18 +53,26 @@ fn between_if(
     }
 }
 
-/// The changes of a repair within a prefix, and back.
-fn mend_within(alloc: Global, tree: &Tree, prefix: &Prefix, back: bool) -> Result<Mend, AllocError>
-    requires { prefix.now.family ≡ tree.now.family }
-    ensures order { InPlace tree.now.entries }
+/// The changes of a repair within a prefix, and back. It goes over the regions there that may change (kept_pass).
+fn mend_within(
+    alloc: Global,
+    tree: &Tree,
+    marks: &Option<Tree>,
+    prefix: &Prefix,
+    back: bool,
+) -> Result<Mend, AllocError>
+    requires family { prefix.now.family ≡ tree.now.family }
+    requires known { IsKnownBefore (prefix_as prefix.now) tree.now marks.now }
     ensures mend { IfOk result (IsMend tree.now.family back tree.now.entries
         (patch_of tree.now.routes (prefix_as prefix.now) tree.now.entries)) }
+    ensures reach { IfOk result (λ m. m.reach ≡ Some prefix.now) }
 {
-    let old = tree.entries_within(prefix)?;
-    let new = within(alloc, tree, prefix, tree.inherited(prefix))?;
+    // the entries are of the family
+    let _root = tree.root();
+    let tables = differing_within(alloc, tree, marks, prefix)?;
     Ok(Mend {
-        there: between(alloc, &old, &new)?,
-        back: between_if(alloc, back, &new, &old)?,
+        there: between(alloc, &tables.had, &tables.gets)?,
+        back: between_if(alloc, back, &tables.gets, &tables.had)?,
         reach: Some(*prefix),
     })
 }
@@ -90,14 +98,17 @@ fn mend_near(alloc: Global, tree: &Tree, prefix: &Prefix, back: bool) -> Result<
 pub fn mend_at(
     alloc: Global,
     tree: &Tree,
+    marks: &Option<Tree>,
     at: Option<Prefix>,
     fewest: bool,
     back: bool,
 ) -> Result<Mend, AllocError>
     requires family { ForSome at (λ p. p.family ≡ tree.now.family) }
     requires before { IsBeforeAt fewest (option_map prefix_as at) tree.now }
-    ensures { IfOk result (IsMend tree.now.family back tree.now.entries
+    requires known { IsKnownToMend fewest (option_map prefix_as at) tree.now marks.now }
+    ensures mend { IfOk result (IsMend tree.now.family back tree.now.entries
         (repaired_table fewest tree.now (option_map prefix_as at))) }
+    ensures reach { IfOk result (λ m. fewest ≡ false → m.reach ≡ at) }
 {
     // the entries stand in order
     let _family = tree.family();
@@ -106,7 +117,7 @@ pub fn mend_at(
             if fewest {
                 mend_near(alloc, tree, &prefix, back)
             } else {
-                mend_within(alloc, tree, &prefix, back)
+                mend_within(alloc, tree, marks, &prefix, back)
             }
         }
         None => Ok(Mend {

@@ -47,7 +47,7 @@ agg_same (suc d) f g L M h e s =
     (ap (λ x. agg d (side false f) (half false L) (inherit x h)) is ∙ agg_same d (side false f) (side false g) (half false L) (half false M) (inherit n h) (λ a l. e (false ∷ a) (ap suc l)) (λ q. s (false ∷ q)))
     (ap (λ x. agg d (side true f) (half true L) (inherit x h)) is ∙ agg_same d (side true f) (side true g) (half true L) (half true M) (inherit n h) (λ a l. e (true ∷ a) (ap suc l)) (λ q. s (true ∷ q)))
 
-agg_again : (d : ℕ) (f : List Bool → ℕ) (L : Table) (h : ℕ) → agg d f (agg d f L h) h ≡ agg d f L h
+pub agg_again : (d : ℕ) (f : List Bool → ℕ) (L : Table) (h : ℕ) → agg d f (agg d f L h) h ≡ agg d f L h
 unfolding agg
 agg_again zero f L h =
     let o = own (set_of zero f) (root L) h in

@@ -1,7 +1,7 @@
 -- Entries that a pass leaves as they are.
-use Rattle.std.specs.Prelude.{◌≡◌, ℕ, ◌-◌, ◌≤◌, List, ◌++◌, ◌||◌, Bool, true, None, length}
+use Rattle.std.specs.Prelude.{◌≡◌, ℕ, ◌-◌, ◌≤◌, List, [], ◌∷◌, ◌++◌, Bool, true, false, not, nat_eq, Option, None, Some, length}
 use Rattle.address_model.specs.Bits.{begins}
-use Rattle.table_model.specs.Table.{Table, cut}
+use Rattle.table_model.specs.Table.{Table, root, half, cut}
 use Rattle.least_model.specs.Regions.{above, entry_at, SameEntries}
 use Rattle.least_model.specs.Sets.{agg}
 
@@ -9,15 +9,36 @@ use Rattle.least_model.specs.Sets.{agg}
 abbrev pub Stays : ℕ → (List Bool → ℕ) → Table → ℕ → Type 0
 Stays d f L h = SameEntries (agg d f L h) L
 
--- no mark is within q or at it, and q is within none
-abbrev pub IsOff : List Bool → Table → Type 0
-IsOff q marks = (r : List Bool) → (begins r q || begins q r) ≡ true → entry_at r marks ≡ None
+-- Marks are entries. One with a hop other than none is wide.
+abbrev pub is_wide : Option ℕ → Bool
+is_wide None = false
+is_wide (Some h) = not (nat_eq h 0)
+
+-- no mark is strictly within q, and q is at no wide mark and within none
+pub record IsOff (q : List Bool) (marks : Table) : Type 0 where
+  pub below : (b : Bool) (r : List Bool) → entry_at (q ++ (b ∷ r)) marks ≡ None
+  pub around : (r : List Bool) → begins r q ≡ true → is_wide (entry_at r marks) ≡ false
 
 -- each region that is off the marks has entries that stay, under the hop that it inherits in L, or without an entry above it h
 abbrev pub Settled : ℕ → (List Bool → ℕ) → Table → ℕ → Table → Type 0
 Settled d f L h marks = (q : List Bool) → length q ≤ d → IsOff q marks → Stays (d - length q) (λ a. f (q ++ a)) (cut q L) (above q L h)
 
--- p is marked, and what was marked still is
+-- the marks that there were still are, and are wide where they were
+pub record HasMarks (old new : Table) : Type 0 where
+  pub there : (r : List Bool) → entry_at r new ≡ None → entry_at r old ≡ None
+  pub wide : (r : List Bool) → is_wide (entry_at r new) ≡ false → is_wide (entry_at r old) ≡ false
+
+-- p has a wide mark, and the marks that there were still are
 pub record IsMarked (p : List Bool) (old new : Table) : Type 0 where
-  pub kept : (r : List Bool) → entry_at r new ≡ None → entry_at r old ≡ None
+  pub kept : HasMarks old new
+  pub marked : is_wide (entry_at p new) ≡ true
+
+-- p has a mark, and the other marks are as they were
+pub record IsMended (p : List Bool) (old new : Table) : Type 0 where
   pub marked : entry_at p new ≡ None → ⊥
+  pub others : (r : List Bool) → (r ≡ p → ⊥) → entry_at r new ≡ entry_at r old
+
+-- no wide mark is at a prefix that p is strictly within
+abbrev pub NoneAround : List Bool → Table → Type 0
+NoneAround [] marks = Unit {0}
+NoneAround (b ∷ p) marks = (is_wide (root marks) ≡ false) × NoneAround p (half b marks)

@@ -9,7 +9,7 @@ ghost use Rattle.fib_engine.specs.Stands.{Stands};
 ghost use Rattle.fib_engine.specs.Turns.{AreTurnsOf};
 ghost use Rattle.step_script.specs.Steps.{step_as};
 ghost use Rattle.stepper.specs.Runs.{ArePrinted, EndsBy};
-ghost use Rattle.step_run.specs.Stepping.{IsTextOf, world_of};
+ghost use Rattle.step_world.specs.Stepping.{IsTextOf, world_of};
 
 use fib_engine::{Engine, Turns};
 use fib_prefix::Event;

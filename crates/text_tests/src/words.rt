@@ -28,8 +28,10 @@ enum Asked<'a> {
     Same(&'a str, &'a [&'a str], Kind),
     /// The names of the dump and the updates.
     Save(&'a str, Option<&'a str>),
-    /// The names of the router's text and of the printed one.
-    Moves(&'a str, &'a str),
+    /// The names of the router's text and of the printed one, and whether the changes are told in steady order.
+    Moves(&'a str, &'a str, bool),
+    /// The names of both texts and of the one with the changes.
+    CheckMoves(&'a str, &'a str, &'a str),
 }
 
 /// Words, and what they ask for.
@@ -282,16 +284,61 @@ const JUDGED_COMPARED_SAVED: &[Case<'static>] = &[
         Asked::Save("D", Some("U")),
     ),
     (&["fib", "save"], Asked::Nothing),
-    (&["fib", "moves", "R", "P"], Asked::Moves("R", "P")),
+    (&["fib", "save", "D", "U"], Asked::Nothing),
+    (&["fib", "save", "D", "--ask", "A"], Asked::Nothing),
+    (&["fib", "save", "D", "--vrps", "V"], Asked::Nothing),
+];
+
+/// What a router must change, and the check of such changes.
+const MOVES: &[Case<'static>] = &[
+    (&["fib", "moves", "R", "P"], Asked::Moves("R", "P", false)),
+    (
+        &["fib", "moves", "R", "P", "--steady"],
+        Asked::Moves("R", "P", true),
+    ),
+    (
+        &["fib", "moves", "--steady", "R", "P"],
+        Asked::Moves("R", "P", true),
+    ),
+    (
+        &["fib", "moves", "--check", "R", "P", "M"],
+        Asked::CheckMoves("R", "P", "M"),
+    ),
+    (
+        &["fib", "moves", "R", "P", "M", "--check"],
+        Asked::CheckMoves("R", "P", "M"),
+    ),
+    (
+        &["fib", "moves", "R", "--check", "P", "--", "-M"],
+        Asked::CheckMoves("R", "P", "-M"),
+    ),
+    (&["fib", "moves"], Asked::Nothing),
     (&["fib", "moves", "R"], Asked::Nothing),
-    (&["fib", "moves", "R", "P", "Q"], Asked::Nothing),
+    (&["fib", "moves", "R", "--steady"], Asked::Nothing),
+    (&["fib", "moves", "R", "P", "M"], Asked::Nothing),
+    (&["fib", "moves", "R", "P", "--check"], Asked::Nothing),
+    (&["fib", "moves", "R", "P", "M", "--steady"], Asked::Nothing),
+    (
+        &["fib", "moves", "R", "P", "--check", "--steady"],
+        Asked::Nothing,
+    ),
+    (
+        &["fib", "moves", "R", "P", "M", "--check", "--steady"],
+        Asked::Nothing,
+    ),
+    (
+        &["fib", "moves", "R", "P", "M", "N", "--check"],
+        Asked::Nothing,
+    ),
+    (
+        &["fib", "moves", "R", "P", "M", "--check", "--check"],
+        Asked::Nothing,
+    ),
+    (&["fib", "moves", "R", "P", "--check=M"], Asked::Nothing),
     (
         &["fib", "moves", "R", "P", "--rows", "least"],
         Asked::Nothing,
     ),
-    (&["fib", "save", "D", "U"], Asked::Nothing),
-    (&["fib", "save", "D", "--ask", "A"], Asked::Nothing),
-    (&["fib", "save", "D", "--vrps", "V"], Asked::Nothing),
 ];
 
 /// The words, in memory.
@@ -326,7 +373,10 @@ fn ask_for(alloc: Global, texts: &[&str], due: Asked<'_>) -> Result<bool, Fail> 
             return Ok(Asked::Same(same.first, &same.rest, same.rows) == due);
         }
         Ok(CommandWords::Save(save)) => Asked::Save(save.dump, save.updates),
-        Ok(CommandWords::Moves(moves)) => Asked::Moves(moves.router, moves.printed),
+        Ok(CommandWords::Moves(moves)) => Asked::Moves(moves.router, moves.printed, moves.steady),
+        Ok(CommandWords::CheckMoves(check)) => {
+            Asked::CheckMoves(check.router, check.printed, check.moves)
+        }
         Err(WordsError::Usage) => Asked::Nothing,
         Err(WordsError::NoMemory) => return Ok(false),
     };
@@ -341,6 +391,7 @@ fn takes_what_the_definition_takes(rt: HostRuntime) -> Result<(), Fail> {
         ("made", MADE),
         ("steps", IN_STEPS),
         ("judged, compared, saved", JUDGED_COMPARED_SAVED),
+        ("moves", MOVES),
     ] {
         for (place, (texts, due)) in cases.iter().enumerate() {
             assert!(rt; ask_for(rt.alloc(), texts, *due)?, "{table}, case {place}");

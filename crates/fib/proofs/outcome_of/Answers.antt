@@ -1,6 +1,6 @@
 use Rattle.std.proofs.Common.{◌≡◌, [], sym, subst, unwrap_or}
 use Rattle.std.specs.Prelude.{IfSome}
-use Rattle.fib_main.specs.Words.{texts_of}
+use Rattle.fib_due.specs.Words.{texts_of}
 use Rattle.fib.proofs.Ending.{are_told, no_memory}
 use Rattle.fib.proofs.outcome_of.Goals as goal
 

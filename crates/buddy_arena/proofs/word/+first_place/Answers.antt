@@ -19,7 +19,7 @@ first_place-requires t c =
     let o : nat_eq (bit_at c.orders.result c.args.m) 1 ≡ has_order c.args.m (low_blocks c.args.k c.args.w) = c.orders.ensures c.args.m ∙ ap (λ x. has_order c.args.m (blocks (c.args.k - 1) (word_free (c.args.k - 1) x))) c.low_half-low.ensures in
     let h : c.low_half-low.result < 2 ^ (2 ^ (c.args.k - 1)) = subst (λ (x : ℕ). x < 2 ^ (2 ^ (c.args.k - 1))) (sym c.low_half-low.ensures) (low_fits (c.args.k - 1) c.args.w) in
     let r : has_order c.args.m (blocks (c.args.k - 1) (word_free (c.args.k - 1) c.low_half-low.result)) ≡ true = ap (λ x. has_order c.args.m (blocks (c.args.k - 1) (word_free (c.args.k - 1) x))) c.low_half-low.ensures ∙ low_there c.args.k c.args.w c.args.m c.orders.result p c.requires.fits n o c.if-orders-m-eq1.true in
-    search (rules, h, r, p)
+    (search (rules, p), (omega arith, (h, (c.requires.small, r))))
 
 pub returns-then-orders-m-eq1-clause-place : goal.returns-then-orders-m-eq1-clause-place
 returns-then-orders-m-eq1-clause-place t c =
@@ -40,7 +40,7 @@ first_place-requires-2 t c =
     let o : nat_eq (bit_at c.orders.result c.args.m) 1 ≡ has_order c.args.m (low_blocks c.args.k c.args.w) = c.orders.ensures c.args.m ∙ ap (λ x. has_order c.args.m (blocks (c.args.k - 1) (word_free (c.args.k - 1) x))) c.low_half-low.ensures in
     let h : c.high_half.result < 2 ^ (2 ^ (c.args.k - 1)) = subst (λ (x : ℕ). x < 2 ^ (2 ^ (c.args.k - 1))) (sym c.high_half.ensures) (high_small c.args.k c.args.w p c.requires.fits) in
     let r : has_order c.args.m (blocks (c.args.k - 1) (word_free (c.args.k - 1) c.high_half.result)) ≡ true = ap (λ x. has_order c.args.m (blocks (c.args.k - 1) (word_free (c.args.k - 1) x))) c.high_half.ensures ∙ high_there c.args.k c.args.w c.args.m c.orders.result p c.requires.fits n o c.if-orders-m-eq1.false c.requires.there in
-    search (rules, h, r, p)
+    (search (rules, p), (omega arith, (h, (c.requires.small, r))))
 
 pub returns-clause-place : goal.returns-clause-place
 returns-clause-place t c =

@@ -1,4 +1,4 @@
-use Rattle.std.proofs.Common.{rules, ◌≢◌, ◌<◌, ◌^◌, ◌-◌, ◌∙◌, ap, sym, subst, nat_eq, ℕ}
+use Rattle.std.proofs.Common.{rules, ◌≢◌, ◌<◌, ◌^◌, ◌-◌, ◌∙◌, ap, sym, subst, arith, nat_eq, ℕ}
 use Rattle.std.specs.Int.{bit_at}
 use Rattle.buddy_arena.specs.Space.{blocks, has_order}
 use Rattle.buddy_arena.specs.Words.{word_free}
@@ -16,7 +16,7 @@ pub orders-requires-2 : goal.orders-requires-2
 orders-requires-2 t c =
     let p = some_place c.args.k c.args.w c.requires.fits c.if-w-eq0.false (λ e. c.if-w-ones.false (e ∙ sym c.ones.ensures)) in
     let h : c.high_half.result < 2 ^ (2 ^ (c.args.k - 1)) = subst (λ (x : ℕ). x < 2 ^ (2 ^ (c.args.k - 1))) (sym c.high_half.ensures) (high_small c.args.k c.args.w p c.requires.fits) in
-    search (rules, h)
+    (search (rules, p), (omega arith, h))
 
 pub returns : goal.returns
 returns t c =

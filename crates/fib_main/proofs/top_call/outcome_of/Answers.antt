@@ -1,6 +1,6 @@
-use Rattle.fib_main.specs.Words.{asked_by, texts_of}
-use Rattle.fib_main.proofs.Passes.{reads_unwritten}
-use Rattle.fib_main.proofs.Untold.{stop_meets}
+use Rattle.fib_due.specs.Words.{asked_by, texts_of}
+use Rattle.fib_due.proofs.Passes.{reads_unwritten}
+use Rattle.fib_due.proofs.Untold.{stop_meets}
 use Rattle.fib_main.proofs.top_call.outcome_of.Goals as goal
 
 pub returns-in-Ok-clause-reads : goal.returns-in-Ok-clause-reads

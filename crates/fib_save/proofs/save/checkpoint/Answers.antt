@@ -1,6 +1,6 @@
 use Rattle.std.proofs.Common.{refl}
 use Rattle.std.proofs.lemmas.Result.{err_from_is_err_and}
-use Rattle.fib_save.proofs.Writing.{all_written, none_written}
+use Rattle.mrt_write.proofs.Writing.{all_written, none_written}
 use Rattle.fib_save.proofs.save.checkpoint.Goals as goal
 
 pub returns-in_err-dump-clause-written : goal.returns-in_err-dump-clause-written

@@ -1,6 +1,6 @@
 use Rattle.std.proofs.Common.{◌≡◌, drop, map}
 use Rattle.fib_prefix.specs.Views.{event_as}
-use Rattle.fib_save.specs.Brings.{after_events}
+use Rattle.mrt_write.specs.Reads.{after_events}
 use Rattle.fib_save.proofs.take.take_events.Given as goal
 
 abbrev pub invariant-loop-event : goal.invariant-loop-event

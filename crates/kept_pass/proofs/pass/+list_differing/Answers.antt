@@ -7,8 +7,8 @@ use Rattle.orig_tree.proofs.Telling.{half_longer}
 use Rattle.kept_pass.proofs.Passing.{place_half, pass_nothing, pass_end, pass_join}
 use Rattle.kept_pass.proofs.pass.+list_differing.Goals as goal
 
-pub returns-then-inherited : goal.returns-then-inherited
-returns-then-inherited t c = pass_nothing c.args.place.now (prefix_as c.args.prefix) c.args.inherited.had c.args.inherited.gets c.args.out.now c.requires.place (c.is_off.ensures c.if-is_off.true) c.if-inherited.true
+pub returns-then-is_clear : goal.returns-then-is_clear
+returns-then-is_clear t c = pass_nothing c.args.place.now (prefix_as c.args.prefix) c.args.inherited.had c.args.inherited.gets c.args.out.now c.requires.place (c.is_clear.ensures c.if-is_clear.true) c.if-inherited.true
 
 pub returns-then-is_end : goal.returns-then-is_end
 returns-then-is_end t c =
@@ -19,13 +19,13 @@ pub list_differing-requires : goal.list_differing-requires
 list_differing-requires t c =
     let p = c.args.place.now in
     let e = c.half.ensures in
-    (omega (arith, e.bits), (omega (arith, c.requires.bits, e.bits, half_longer c.args.prefix c.half-2.result false c.half-2.ensures, ap (λ (x : Prefix). width x.family) c.half-2.ensures), place_half p c.half.result false c.args.inherited.had c.below.result c.requires.place e.bits e.routes e.entries e.hop e.node e.marks e.marked (c.below.ensures ∙ ap (λ o. inherit o c.args.inherited.had) c.entry-had.ensures)))
+    (omega (arith, e.bits), (omega (arith, c.requires.bits, e.bits, half_longer c.args.prefix c.half-2.result false c.half-2.ensures, ap (λ (x : Prefix). width x.family) c.half-2.ensures), place_half p c.half.result false c.args.inherited.had c.below.result c.requires.place e.bits e.routes e.entries e.hop e.paths e.node e.marks e.marked e.rerouted (c.below.ensures ∙ ap (λ o. inherit o c.args.inherited.had) c.entry-had.ensures)))
 
 pub list_differing-requires-2 : goal.list_differing-requires-2
 list_differing-requires-2 t c =
     let p = c.args.place.now in
     let e = c.half-3.ensures in
-    (omega (arith, e.bits), (omega (arith, c.requires.bits, e.bits, half_longer c.args.prefix c.half-4.result true c.half-4.ensures, ap (λ (x : Prefix). width x.family) c.half-4.ensures), place_half p c.half-3.result true c.args.inherited.had c.below.result c.requires.place e.bits e.routes e.entries e.hop e.node e.marks e.marked (c.below.ensures ∙ ap (λ o. inherit o c.args.inherited.had) c.entry-had.ensures)))
+    (omega (arith, e.bits), (omega (arith, c.requires.bits, e.bits, half_longer c.args.prefix c.half-4.result true c.half-4.ensures, ap (λ (x : Prefix). width x.family) c.half-4.ensures), place_half p c.half-3.result true c.args.inherited.had c.below.result c.requires.place e.bits e.routes e.entries e.hop e.paths e.node e.marks e.marked e.rerouted (c.below.ensures ∙ ap (λ o. inherit o c.args.inherited.had) c.entry-had.ensures)))
 
 pub returns : goal.returns
 returns t c =

@@ -10,7 +10,7 @@ list_differing-requires-clause-place c =
     let p = c.whole-whole.result in
     let e : prefix_as p ≡ record { family = k.family; bits = [] } = c.whole-whole.ensures ∙ ap (λ f. let q : Prefix = record { family = f; bits = [] } in q) c.family.ensures.family in
     whole_place k p c.region.result c.root.result e c.region.ensures.bits c.region.ensures.answers c.region.ensures.entries c.root.ensures.entries c.family.ensures.order.1
-    _ c.args.marks.now 0 refl refl c.root_of.ensures (none_if c.args.marks.now c.is_none.result c.is_none.ensures) refl c.requires
+    _ c.args.marks.now 0 refl refl c.root_of.ensures (none_if c.args.marks.now c.is_none.result c.is_none.ensures) refl refl c.requires
 
 pub returns-clause-tables : goal.returns-clause-tables
 returns-clause-tables c =

@@ -1,8 +1,10 @@
-use Rattle.std.proofs.Common.{rules, arith, ◌≡◌, ◌∙◌, ap, sym, subst, ◌+◌, ◌<◌, None, Some, ℕ, set, ◌*◌}
+use Rattle.std.proofs.Common.{rules, arith, refl, ◌≡◌, ◌∙◌, ap, sym, subst, ◌+◌, ◌<◌, None, Some, ℕ, set, ◌*◌}
 use Rattle.poptrie_build.specs.Strides.{slots, mixed}
 use Rattle.block_pool.specs.Powers.{up}
 use Rattle.poptrie_build.specs.Need.{children}
 use Rattle.poptrie_build.specs.Making.{kind_in}
+use Rattle.poptrie_build.specs.Stands.{blank}
+use Rattle.poptrie_build.proofs.Directing.{never, keeps_all, keeps_both}
 use Rattle.poptrie_build.proofs.Going.{child_none, child_less, leaf_room, node_room, leaf_written, node_written, at_end_stands, going_start, state}
 use Rattle.poptrie_build.proofs.Walk.{rank_more}
 use Rattle.poptrie_build.proofs.Parted.{parted_start, parted_leaf, parted_node, nodes_parted, leaves_parted, rank_fits}
@@ -44,7 +46,7 @@ overflow_add-base0 g t c =
     let r = leaf_room _ _ _ _ _ _ _ _ _ _ _ _ c.loop-slot-test.true some can c.rank.ensures c.loop-slot.invariant.0 in
     let rs = runs_same c.make_vectors-made.result.leaves (kind_in c.ask.new.slots) (slots (g.R.Region.bits c.args.region.now) (g.R.Region.answers c.args.region.now)) a c.make_vectors-made.ensures.leaves in
     let h : c.in_ok-base0.base0 + c.rank.result < 4294967296 = block_small c.in_ok-base0.base0 c.make_vectors-made.result.leaves c.rank.result _ _ _ _ c.in_ok-base0.ensures.takes c.take_places-2.ensures.sized.cells c.take_places-2.ensures.sized.small (omega (arith, r.most, rs)) in
-    search (rules, h)
+    omega (arith, h)
 
 pub overflow_sub-base0 : goal.overflow_sub-base0
 overflow_sub-base0 g t c =
@@ -93,7 +95,7 @@ returns-in_err-node-in-None-clause-fits g t c =
     λ k h fn fl n l.
     let q = child_fits (g.R.Region.bits c.args.region.now) (g.R.Region.answers c.args.region.now) _ _ _ _ c.loop-slot.slot (g.R.Region.bits c.descend-child.result) (g.R.Region.answers c.descend-child.result) c.loop-slot-test.true c.requires.mixed down.0 down.1 c.loop-slot.invariant.1 k h n l in
     let z = c.in_err-node-in-None.ensures.fits q.0 q.1 (c.loop-slot.invariant.1.nodes_fresh fn) (c.loop-slot.invariant.1.leaves_fresh fl) q.2 q.3 in
-    cc
+    never z
 
 pub overflow_add-base1 : goal.overflow_add-base1
 overflow_add-base1 g t c =
@@ -103,7 +105,7 @@ overflow_add-base1 g t c =
     let r = node_room _ _ _ _ _ _ _ _ _ _ _ _ _ c.loop-slot-test.true none can c.rank-in-None.ensures c.loop-slot.invariant.0 c.build_node.ensures.nodes in
     let cs = children_same c.make_vectors-made.result.nodes (kind_in c.ask.new.slots) (slots (g.R.Region.bits c.args.region.now) (g.R.Region.answers c.args.region.now)) a c.make_vectors-made.ensures.nodes in
     let h : c.in_ok-base1.base1 + c.rank-in-None.result < 4294967296 = block_small c.in_ok-base1.base1 c.make_vectors-made.result.nodes c.rank-in-None.result _ _ _ _ c.in_ok-base1.ensures.takes c.take_places.ensures.sized.cells c.take_places.ensures.sized.small (omega (arith, r.most, cs)) in
-    search (rules, h)
+    omega (arith, h)
 
 pub overflow_sub-base1 : goal.overflow_sub-base1
 overflow_sub-base1 g t c =
@@ -189,3 +191,79 @@ returns-clause-leaves_apart g t c =
     let can = canonical_same c.make_vectors-made.result.vector c.make_vectors-made.result.leafvec (kind_in c.ask.new.slots) (slots (g.R.Region.bits c.args.region.now) (g.R.Region.answers c.args.region.now)) a c.make_vectors-made.ensures.canonical in
     let rs = runs_same c.make_vectors-made.result.leaves (kind_in c.ask.new.slots) (slots (g.R.Region.bits c.args.region.now) (g.R.Region.answers c.args.region.now)) a c.make_vectors-made.ensures.leaves in
     λ k. leaves_parted _ _ _ _ _ c.loop-slot.slot _ _ _ _ c.loop-slot.auto.slot-end c.loop-slot-test.false can c.loop-slot.invariant.0 c.loop-slot.invariant.2 (c.in_ok-base0.ensures.aligned.0, c.in_ok-base0.ensures.aligned.1 ∙ ap (λ n. c.in_ok-base0.ensures.aligned.0 * up n) rs) k
+
+-- where the nodes' block is refused
+pub returns-in_err-base1-clause-nodes : goal.returns-in_err-base1-clause-nodes
+returns-in_err-base1-clause-nodes g t c = keeps_all blank _ _ _ _ c.take_places.ensures.cells c.take_places.ensures.still
+
+pub returns-in_err-base1-clause-leaves : goal.returns-in_err-base1-clause-leaves
+returns-in_err-base1-clause-leaves g t c = keeps_all 0 _ _ _ _ refl (λ i o. o)
+
+pub returns-in_err-base1-clause-orders : goal.returns-in_err-base1-clause-orders
+returns-in_err-base1-clause-orders g t c = (c.take_places.ensures.order, refl)
+
+pub returns-in_err-base1-clause-fills : goal.returns-in_err-base1-clause-fills
+returns-in_err-base1-clause-fills g t c = (c.take_places.ensures.fill, refl)
+
+-- where the leaves' block is refused
+pub returns-in_err-base0-clause-nodes : goal.returns-in_err-base0-clause-nodes
+returns-in_err-base0-clause-nodes g t c = keeps_all blank _ _ _ _ c.take_places.ensures.cells c.take_places.ensures.still
+
+pub returns-in_err-base0-clause-leaves : goal.returns-in_err-base0-clause-leaves
+returns-in_err-base0-clause-leaves g t c = keeps_all 0 _ _ _ _ c.take_places-2.ensures.cells c.take_places-2.ensures.still
+
+pub returns-in_err-base0-clause-orders : goal.returns-in_err-base0-clause-orders
+returns-in_err-base0-clause-orders g t c = (c.take_places.ensures.order, c.take_places-2.ensures.order)
+
+pub returns-in_err-base0-clause-fills : goal.returns-in_err-base0-clause-fills
+returns-in_err-base0-clause-fills g t c = (c.take_places.ensures.fill, c.take_places-2.ensures.fill)
+
+-- where a child's block is refused
+pub returns-in_err-node-in-None-clause-nodes : goal.returns-in_err-node-in-None-clause-nodes
+returns-in_err-node-in-None-clause-nodes g t c = keeps_both blank _ _ _ _ _ _ c.loop-slot.invariant.0.nodes_kept c.build_node.ensures.nodes
+
+pub returns-in_err-node-in-None-clause-leaves : goal.returns-in_err-node-in-None-clause-leaves
+returns-in_err-node-in-None-clause-leaves g t c = keeps_both 0 _ _ _ _ _ _ c.loop-slot.invariant.0.leaves_kept c.build_node.ensures.leaves
+
+pub returns-in_err-node-in-None-clause-orders : goal.returns-in_err-node-in-None-clause-orders
+returns-in_err-node-in-None-clause-orders g t c = (c.build_node.ensures.orders.0 ∙ c.loop-slot.invariant.1.orders.0, c.build_node.ensures.orders.1 ∙ c.loop-slot.invariant.1.orders.1)
+
+pub returns-in_err-node-in-None-clause-fills : goal.returns-in_err-node-in-None-clause-fills
+returns-in_err-node-in-None-clause-fills g t c = (c.build_node.ensures.fills.0 ∙ c.loop-slot.invariant.1.fills.0, c.build_node.ensures.fills.1 ∙ c.loop-slot.invariant.1.fills.1)
+
+pub returns-in_err-node-in-None-clause-nodes_fresh : goal.returns-in_err-node-in-None-clause-nodes_fresh
+returns-in_err-node-in-None-clause-nodes_fresh g t c = λ f. c.build_node.ensures.nodes_fresh (c.loop-slot.invariant.1.nodes_fresh f)
+
+pub returns-in_err-node-in-None-clause-leaves_fresh : goal.returns-in_err-node-in-None-clause-leaves_fresh
+returns-in_err-node-in-None-clause-leaves_fresh g t c = λ f. c.build_node.ensures.leaves_fresh (c.loop-slot.invariant.1.leaves_fresh f)
+
+-- where all slots are there
+pub returns-clause-nodes : goal.returns-clause-nodes
+returns-clause-nodes g t c = c.loop-slot.invariant.0.nodes_kept
+
+pub returns-clause-leaves : goal.returns-clause-leaves
+returns-clause-leaves g t c = c.loop-slot.invariant.0.leaves_kept
+
+pub returns-clause-orders : goal.returns-clause-orders
+returns-clause-orders g t c = c.loop-slot.invariant.1.orders
+
+pub returns-clause-fills : goal.returns-clause-fills
+returns-clause-fills g t c = c.loop-slot.invariant.1.fills
+
+pub returns-clause-nodes_sized : goal.returns-clause-nodes_sized
+returns-clause-nodes_sized g t c = c.loop-slot.invariant.1.nodes_sized
+
+pub returns-clause-leaves_sized : goal.returns-clause-leaves_sized
+returns-clause-leaves_sized g t c = c.loop-slot.invariant.1.leaves_sized
+
+pub returns-clause-nodes_fresh : goal.returns-clause-nodes_fresh
+returns-clause-nodes_fresh g t c = c.loop-slot.invariant.1.nodes_fresh
+
+pub returns-clause-leaves_fresh : goal.returns-clause-leaves_fresh
+returns-clause-leaves_fresh g t c = c.loop-slot.invariant.1.leaves_fresh
+
+pub put-requires-clause-sized : goal.put-requires-clause-sized
+put-requires-clause-sized g t c = c.loop-slot.invariant.1.leaves_sized
+
+pub put-requires-in-None-clause-sized : goal.put-requires-in-None-clause-sized
+put-requires-in-None-clause-sized g t c = c.build_node.ensures.nodes_sized

@@ -1,7 +1,8 @@
-use Rattle.std.proofs.Common.{rules, arith, ◌≡◌, ◌≤◌, ◌∙◌, ap, ℕ, suc, ◌-◌, ◌^◌, length}
+use Rattle.std.proofs.Common.{rules, arith, refl, ◌≡◌, ◌≤◌, ◌∙◌, ap, ℕ, suc, ◌-◌, ◌^◌, length}
 use Rattle.block_pool.specs.Places.{is_out, since}
+use Rattle.poptrie_build.specs.Stands.{blank}
 use Rattle.poptrie_build.proofs.Slotting.{double}
-use Rattle.poptrie_build.proofs.Directing.{word_zero, words_same, no_trie_nodes, no_trie_leaves, split_nodes, split_leaves, split_words, low_nodes, low_leaves}
+use Rattle.poptrie_build.proofs.Directing.{never, keeps_all, keeps_both, word_zero, words_same, no_trie_nodes, no_trie_leaves, split_nodes, split_leaves, split_words, low_nodes, low_leaves}
 use Rattle.poptrie_build.proofs.Wording.{one_apart, one_apart_leaves, none_apart, halves_apart, halves_apart_leaves}
 use Rattle.poptrie_build.proofs.direct.+fill_words.Goals as goal
 
@@ -86,3 +87,132 @@ returns-else-not-fill_words-clause-nodes_apart g t c = λ r k. halves_apart k c.
 
 pub returns-else-not-fill_words-clause-leaves_apart : goal.returns-else-not-fill_words-clause-leaves_apart
 returns-else-not-fill_words-clause-leaves_apart g t c = λ r k. halves_apart_leaves k c.fill_words.new.words c.fill_words-in-None.new.words c.fill_words.new.nodes.cells c.fill_words-in-None.new.nodes.cells (is_out c.args.nodes.now.free) (is_out c.fill_words.new.nodes.free) (is_out c.fill_words-in-None.new.nodes.free) (is_out c.args.leaves.now.free) (is_out c.fill_words.new.leaves.free) (is_out c.fill_words-in-None.new.leaves.free) c.fill_words.ensures.nodes.still c.fill_words.ensures.leaves.still c.fill_words-in-None.ensures.nodes c.fill_words-in-None.ensures.leaves.still (c.fill_words.ensures.nodes_apart c.if-not-fill_words.false k) (c.fill_words.ensures.leaves_apart c.if-not-fill_words.false k) (c.fill_words-in-None.ensures.leaves_apart r k)
+
+pub returns-after-loop-word-clause-nodes : goal.returns-after-loop-word-clause-nodes
+returns-after-loop-word-clause-nodes g t c = keeps_all blank _ _ _ _ refl (λ i o. o)
+
+pub returns-after-loop-word-clause-leaves : goal.returns-after-loop-word-clause-leaves
+returns-after-loop-word-clause-leaves g t c = keeps_all 0 _ _ _ _ refl (λ i o. o)
+
+pub returns-after-loop-word-clause-orders : goal.returns-after-loop-word-clause-orders
+returns-after-loop-word-clause-orders g t c = (refl, refl)
+
+pub returns-after-loop-word-clause-fills : goal.returns-after-loop-word-clause-fills
+returns-after-loop-word-clause-fills g t c = (refl, refl)
+
+pub returns-in-Some-node_word-clause-nodes : goal.returns-in-Some-node_word-clause-nodes
+returns-in-Some-node_word-clause-nodes g t c = c.node_word.ensures.nodes
+
+pub returns-in-Some-node_word-clause-leaves : goal.returns-in-Some-node_word-clause-leaves
+returns-in-Some-node_word-clause-leaves g t c = c.node_word.ensures.leaves
+
+pub returns-in-Some-node_word-clause-orders : goal.returns-in-Some-node_word-clause-orders
+returns-in-Some-node_word-clause-orders g t c = c.node_word.ensures.orders
+
+pub returns-in-Some-node_word-clause-fills : goal.returns-in-Some-node_word-clause-fills
+returns-in-Some-node_word-clause-fills g t c = c.node_word.ensures.fills
+
+pub returns-in-Some-node_word-clause-nodes_fresh : goal.returns-in-Some-node_word-clause-nodes_fresh
+returns-in-Some-node_word-clause-nodes_fresh g t c = c.node_word.ensures.nodes_fresh
+
+pub returns-in-Some-node_word-clause-leaves_fresh : goal.returns-in-Some-node_word-clause-leaves_fresh
+returns-in-Some-node_word-clause-leaves_fresh g t c = c.node_word.ensures.leaves_fresh
+
+pub returns-in-None-node_word-clause-nodes : goal.returns-in-None-node_word-clause-nodes
+returns-in-None-node_word-clause-nodes g t c = c.node_word.ensures.nodes
+
+pub returns-in-None-node_word-clause-leaves : goal.returns-in-None-node_word-clause-leaves
+returns-in-None-node_word-clause-leaves g t c = c.node_word.ensures.leaves
+
+pub returns-in-None-node_word-clause-orders : goal.returns-in-None-node_word-clause-orders
+returns-in-None-node_word-clause-orders g t c = c.node_word.ensures.orders
+
+pub returns-in-None-node_word-clause-fills : goal.returns-in-None-node_word-clause-fills
+returns-in-None-node_word-clause-fills g t c = c.node_word.ensures.fills
+
+pub returns-in-None-node_word-clause-nodes_fresh : goal.returns-in-None-node_word-clause-nodes_fresh
+returns-in-None-node_word-clause-nodes_fresh g t c = c.node_word.ensures.nodes_fresh
+
+pub returns-in-None-node_word-clause-leaves_fresh : goal.returns-in-None-node_word-clause-leaves_fresh
+returns-in-None-node_word-clause-leaves_fresh g t c = c.node_word.ensures.leaves_fresh
+
+pub returns-in-None-node_word-clause-stands : goal.returns-in-None-node_word-clause-stands
+returns-in-None-node_word-clause-stands g t c = never
+
+pub returns-in-None-node_word-clause-nodes_apart : goal.returns-in-None-node_word-clause-nodes_apart
+returns-in-None-node_word-clause-nodes_apart g t c = never
+
+pub returns-in-None-node_word-clause-leaves_apart : goal.returns-in-None-node_word-clause-leaves_apart
+returns-in-None-node_word-clause-leaves_apart g t c = never
+
+pub returns-in-None-node_word-clause-nodes_left : goal.returns-in-None-node_word-clause-nodes_left
+returns-in-None-node_word-clause-nodes_left g t c = never
+
+pub returns-in-None-node_word-clause-leaves_left : goal.returns-in-None-node_word-clause-leaves_left
+returns-in-None-node_word-clause-leaves_left g t c = never
+
+pub returns-then-not-fill_words-clause-nodes : goal.returns-then-not-fill_words-clause-nodes
+returns-then-not-fill_words-clause-nodes g t c = c.fill_words.ensures.nodes
+
+pub returns-then-not-fill_words-clause-leaves : goal.returns-then-not-fill_words-clause-leaves
+returns-then-not-fill_words-clause-leaves g t c = c.fill_words.ensures.leaves
+
+pub returns-then-not-fill_words-clause-orders : goal.returns-then-not-fill_words-clause-orders
+returns-then-not-fill_words-clause-orders g t c = c.fill_words.ensures.orders
+
+pub returns-then-not-fill_words-clause-fills : goal.returns-then-not-fill_words-clause-fills
+returns-then-not-fill_words-clause-fills g t c = c.fill_words.ensures.fills
+
+pub returns-then-not-fill_words-clause-nodes_fresh : goal.returns-then-not-fill_words-clause-nodes_fresh
+returns-then-not-fill_words-clause-nodes_fresh g t c = c.fill_words.ensures.nodes_fresh
+
+pub returns-then-not-fill_words-clause-leaves_fresh : goal.returns-then-not-fill_words-clause-leaves_fresh
+returns-then-not-fill_words-clause-leaves_fresh g t c = c.fill_words.ensures.leaves_fresh
+
+pub returns-then-not-fill_words-clause-stands : goal.returns-then-not-fill_words-clause-stands
+returns-then-not-fill_words-clause-stands g t c = never
+
+pub returns-then-not-fill_words-clause-nodes_apart : goal.returns-then-not-fill_words-clause-nodes_apart
+returns-then-not-fill_words-clause-nodes_apart g t c = never
+
+pub returns-then-not-fill_words-clause-leaves_apart : goal.returns-then-not-fill_words-clause-leaves_apart
+returns-then-not-fill_words-clause-leaves_apart g t c = never
+
+pub returns-then-not-fill_words-clause-nodes_left : goal.returns-then-not-fill_words-clause-nodes_left
+returns-then-not-fill_words-clause-nodes_left g t c = never
+
+pub returns-then-not-fill_words-clause-leaves_left : goal.returns-then-not-fill_words-clause-leaves_left
+returns-then-not-fill_words-clause-leaves_left g t c = never
+
+pub returns-else-not-fill_words-clause-nodes : goal.returns-else-not-fill_words-clause-nodes
+returns-else-not-fill_words-clause-nodes g t c = keeps_both blank _ _ _ _ _ _ c.fill_words.ensures.nodes c.fill_words-in-None.ensures.nodes
+
+pub returns-else-not-fill_words-clause-leaves : goal.returns-else-not-fill_words-clause-leaves
+returns-else-not-fill_words-clause-leaves g t c = keeps_both 0 _ _ _ _ _ _ c.fill_words.ensures.leaves c.fill_words-in-None.ensures.leaves
+
+pub returns-else-not-fill_words-clause-orders : goal.returns-else-not-fill_words-clause-orders
+returns-else-not-fill_words-clause-orders g t c = (c.fill_words-in-None.ensures.orders.0 ∙ c.fill_words.ensures.orders.0, c.fill_words-in-None.ensures.orders.1 ∙ c.fill_words.ensures.orders.1)
+
+pub returns-else-not-fill_words-clause-fills : goal.returns-else-not-fill_words-clause-fills
+returns-else-not-fill_words-clause-fills g t c = (c.fill_words-in-None.ensures.fills.0 ∙ c.fill_words.ensures.fills.0, c.fill_words-in-None.ensures.fills.1 ∙ c.fill_words.ensures.fills.1)
+
+pub returns-else-not-fill_words-clause-nodes_fresh : goal.returns-else-not-fill_words-clause-nodes_fresh
+returns-else-not-fill_words-clause-nodes_fresh g t c = λ f. c.fill_words-in-None.ensures.nodes_fresh (c.fill_words.ensures.nodes_fresh f)
+
+pub returns-else-not-fill_words-clause-leaves_fresh : goal.returns-else-not-fill_words-clause-leaves_fresh
+returns-else-not-fill_words-clause-leaves_fresh g t c = λ f. c.fill_words-in-None.ensures.leaves_fresh (c.fill_words.ensures.leaves_fresh f)
+
+pub returns-in-Some-node_word-clause-nodes_left : goal.returns-in-Some-node_word-clause-nodes_left
+returns-in-Some-node_word-clause-nodes_left g t c =
+    let e : g.R.Region.bits c.args.region.now - c.args.depth ≡ g.R.Region.bits c.args.region.now = omega (arith, c.if-depth-eq0.true) in
+    λ r k h. rw (e, c.if-depth-eq0.true) (c.in-Some-node_word.ensures.nodes_left k (omega (arith, e, h)))
+
+pub returns-in-Some-node_word-clause-leaves_left : goal.returns-in-Some-node_word-clause-leaves_left
+returns-in-Some-node_word-clause-leaves_left g t c =
+    let e : g.R.Region.bits c.args.region.now - c.args.depth ≡ g.R.Region.bits c.args.region.now = omega (arith, c.if-depth-eq0.true) in
+    λ r k h. rw (e, c.if-depth-eq0.true) (c.in-Some-node_word.ensures.leaves_left k (omega (arith, e, h)))
+
+pub returns-in-None-node_word-clause-fits : goal.returns-in-None-node_word-clause-fits
+returns-in-None-node_word-clause-fits g t c =
+    let e : g.R.Region.bits c.args.region.now - c.args.depth ≡ g.R.Region.bits c.args.region.now = omega (arith, c.if-depth-eq0.true) in
+    λ k h fn fl n l. c.in-None-node_word.ensures.fits k (omega (arith, e, h)) fn fl (rw (e, c.if-depth-eq0.true) at n) (rw (e, c.if-depth-eq0.true) at l)

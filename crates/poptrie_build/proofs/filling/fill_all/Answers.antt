@@ -1,9 +1,9 @@
-use Rattle.std.proofs.Common.{arith, ◌≡◌, ◌∙◌, ap, sym, ◌^◌, ◌≤◌, ◌-◌, ℕ, subst}
+use Rattle.std.proofs.Common.{arith, ◌≡◌, ◌∙◌, ap, sym, ◌^◌, ◌≤◌, ◌-◌, ℕ, subst, replicate}
 use Rattle.buddy_arena.specs.Space.{Space}
 use Rattle.poptrie_build.specs.Need.{trie_nodes, trie_leaves}
 use Rattle.block_pool.specs.Places.{is_out, since}
 use Rattle.poptrie_build.specs.declared.node.Node.{Node}
-use Rattle.poptrie_build.proofs.Filled.{words_stand, all_free, all_fresh, too_many_nodes, too_many_leaves}
+use Rattle.poptrie_build.proofs.Filled.{all_sized, empty_again, words_stand, all_free, all_fresh, too_many_nodes, too_many_leaves}
 use Rattle.block_pool.proofs.Parting.{apart_more, since_now}
 use Rattle.poptrie_build.proofs.filling.fill_all.Goals as goal
 
@@ -40,3 +40,48 @@ returns-then-fill_words-clause-nodes_apart g c = λ k. apart_more (since (is_out
 
 pub returns-then-fill_words-clause-leaves_apart : goal.returns-then-fill_words-clause-leaves_apart
 returns-then-fill_words-clause-leaves_apart g c = λ k. apart_more (since (is_out c.clear_all.new.leaves.free) (is_out c.fill_words.new.leaves.free)) (is_out c.fill_words.new.leaves.free) _ (λ i q. since_now (is_out c.clear_all.new.leaves.free i) (is_out c.fill_words.new.leaves.free i) q) (c.fill_words.ensures.leaves_apart c.if-fill_words.true k)
+
+pub fill_words-requires-clause-nodes_sized : goal.fill_words-requires-clause-nodes_sized
+fill_words-requires-clause-nodes_sized g c = all_sized _ _ _ c.clear_all.ensures.nodes c.requires.nodes_sized.small
+
+pub fill_words-requires-clause-leaves_sized : goal.fill_words-requires-clause-leaves_sized
+fill_words-requires-clause-leaves_sized g c = all_sized _ _ _ c.clear_all.ensures.leaves c.requires.leaves_sized.small
+
+pub returns-then-fill_words-clause-orders : goal.returns-then-fill_words-clause-orders
+returns-then-fill_words-clause-orders g c = (c.fill_words.ensures.orders.0 ∙ ap (λ (s : Space Node). s.order) c.clear_all.ensures.nodes, c.fill_words.ensures.orders.1 ∙ ap (λ (s : Space ℕ). s.order) c.clear_all.ensures.leaves)
+
+pub returns-then-needs-have-clause-orders : goal.returns-then-needs-have-clause-orders
+returns-then-needs-have-clause-orders g c = (ap (λ (s : Space Node). s.order) c.clear_all-2.ensures.nodes ∙ (c.fill_words.ensures.orders.0 ∙ ap (λ (s : Space Node). s.order) c.clear_all.ensures.nodes), ap (λ (s : Space ℕ). s.order) c.clear_all-2.ensures.leaves ∙ (c.fill_words.ensures.orders.1 ∙ ap (λ (s : Space ℕ). s.order) c.clear_all.ensures.leaves))
+
+pub returns-then-needs-have-clause-nodes_sized : goal.returns-then-needs-have-clause-nodes_sized
+returns-then-needs-have-clause-nodes_sized g c = all_sized _ _ _ c.clear_all-2.ensures.nodes c.fill_words.ensures.nodes_sized.small
+
+pub returns-then-needs-have-clause-leaves_sized : goal.returns-then-needs-have-clause-leaves_sized
+returns-then-needs-have-clause-leaves_sized g c = all_sized _ _ _ c.clear_all-2.ensures.leaves c.fill_words.ensures.leaves_sized.small
+
+pub returns-then-needs-have-clause-cleared_words : goal.returns-then-needs-have-clause-cleared_words
+returns-then-needs-have-clause-cleared_words g c = c.clear_all-2.ensures.words ∙ ap (λ n. replicate n 2147483648) (c.fill_words.auto.words ∙ c.clear_all.auto.words)
+
+pub returns-then-needs-have-clause-cleared_nodes : goal.returns-then-needs-have-clause-cleared_nodes
+returns-then-needs-have-clause-cleared_nodes g c = empty_again _ _ _ _ _ c.clear_all-2.ensures.nodes (c.fill_words.ensures.orders.0 ∙ ap (λ (s : Space Node). s.order) c.clear_all.ensures.nodes) (c.fill_words.ensures.fills.0 ∙ ap (λ (s : Space Node). s.fill) c.clear_all.ensures.nodes)
+
+pub returns-then-needs-have-clause-cleared_leaves : goal.returns-then-needs-have-clause-cleared_leaves
+returns-then-needs-have-clause-cleared_leaves g c = empty_again _ _ _ _ _ c.clear_all-2.ensures.leaves (c.fill_words.ensures.orders.1 ∙ ap (λ (s : Space ℕ). s.order) c.clear_all.ensures.leaves) (c.fill_words.ensures.fills.1 ∙ ap (λ (s : Space ℕ). s.fill) c.clear_all.ensures.leaves)
+
+pub returns-clause-orders : goal.returns-clause-orders
+returns-clause-orders g c = (ap (λ (s : Space Node). s.order) c.clear_all-2.ensures.nodes ∙ (c.fill_words.ensures.orders.0 ∙ ap (λ (s : Space Node). s.order) c.clear_all.ensures.nodes), ap (λ (s : Space ℕ). s.order) c.clear_all-2.ensures.leaves ∙ (c.fill_words.ensures.orders.1 ∙ ap (λ (s : Space ℕ). s.order) c.clear_all.ensures.leaves))
+
+pub returns-clause-nodes_sized : goal.returns-clause-nodes_sized
+returns-clause-nodes_sized g c = all_sized _ _ _ c.clear_all-2.ensures.nodes c.fill_words.ensures.nodes_sized.small
+
+pub returns-clause-leaves_sized : goal.returns-clause-leaves_sized
+returns-clause-leaves_sized g c = all_sized _ _ _ c.clear_all-2.ensures.leaves c.fill_words.ensures.leaves_sized.small
+
+pub returns-clause-cleared_words : goal.returns-clause-cleared_words
+returns-clause-cleared_words g c = c.clear_all-2.ensures.words ∙ ap (λ n. replicate n 2147483648) (c.fill_words.auto.words ∙ c.clear_all.auto.words)
+
+pub returns-clause-cleared_nodes : goal.returns-clause-cleared_nodes
+returns-clause-cleared_nodes g c = empty_again _ _ _ _ _ c.clear_all-2.ensures.nodes (c.fill_words.ensures.orders.0 ∙ ap (λ (s : Space Node). s.order) c.clear_all.ensures.nodes) (c.fill_words.ensures.fills.0 ∙ ap (λ (s : Space Node). s.fill) c.clear_all.ensures.nodes)
+
+pub returns-clause-cleared_leaves : goal.returns-clause-cleared_leaves
+returns-clause-cleared_leaves g c = empty_again _ _ _ _ _ c.clear_all-2.ensures.leaves (c.fill_words.ensures.orders.1 ∙ ap (λ (s : Space ℕ). s.order) c.clear_all.ensures.leaves) (c.fill_words.ensures.fills.1 ∙ ap (λ (s : Space ℕ). s.fill) c.clear_all.ensures.leaves)

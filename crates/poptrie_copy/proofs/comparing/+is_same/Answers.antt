@@ -1,3 +1,4 @@
+use borrow.Author.Tests.{clash}
 use Rattle.std.proofs.Common.{rules, ◌≡◌, ◌∙◌, ◌+◌, ◌<◌, ℕ, Some, None, sym, ap, subst, arith, refl}
 use Rattle.poptrie_build.specs.Strides.{slots, slot}
 use Rattle.poptrie_build.specs.Making.{kind_in}
@@ -19,7 +20,7 @@ returns-then-not-is_leaf g t c = record {
   alike = λ k N L h s.
       let some : slots (g.R.Region.bits c.args.region.now) (g.R.Region.answers c.args.region.now) c.loop-slot.slot ≡ Some c.in-Some.hop = sym (kinds_agree (g.R.Region.bits c.args.region.now) (g.R.Region.answers c.args.region.now) c.ask.new.slots c.ask.ensures c.loop-slot.slot c.loop-slot-test.true) ∙ (ap (kind_in c.ask.new.slots) (sym c.from.ensures) ∙ c.in-Some.is) in
       let at = node_at_slot c.args.nodes.now.cells N c.args.leaves.now.cells L c.args.node.now (g.R.Region.bits c.args.region.now) h c.loop-slot.slot c.loop-slot-test.true k (one_bit c.args.node.now.vector c.loop-slot.slot c.if-not-is_leaf.true) s in
-      ((λ e. cc), (λ al. absurd (differ_none (g.R.Region.bits c.args.region.now) c.loop-slot.slot c.in-Some.hop (g.R.Region.answers c.args.region.now) h some at.is al)));
+      ((λ e. absurd (clash e)), (λ al. absurd (differ_none (g.R.Region.bits c.args.region.now) c.loop-slot.slot c.in-Some.hop (g.R.Region.answers c.args.region.now) h some at.is al)));
 }
 
 pub overflow_add-node : goal.overflow_add-node
@@ -27,8 +28,7 @@ overflow_add-node g t c =
     let at = leaf_at c.args.nodes.now.cells c.requires.node.1 c.args.leaves.now.cells c.requires.node.2 c.args.node.now (g.R.Region.bits c.args.region.now) c.requires.node.3 c.loop-slot.slot c.loop-slot-test.true c.requires.node.0 (zero_bit c.args.node.now.vector c.loop-slot.slot c.if-not-is_leaf.false) c.requires.node.4 in
     let m = small_len c.args.leaves.now c.requires.leaves_sized in
     let b = at.leaf.0 in
-    let h : c.args.node.now.base0 + c.rank.result < 4294967296 = omega (arith, b, m, c.rank.ensures, at.some) in
-    search (rules, h)
+    omega (arith, b, m, c.rank.ensures, at.some)
 
 pub overflow_sub-node : goal.overflow_sub-node
 overflow_sub-node g t c =
@@ -47,7 +47,7 @@ returns-then-read-hop g t c = record {
       let some : slots (g.R.Region.bits c.args.region.now) (g.R.Region.answers c.args.region.now) c.loop-slot.slot ≡ Some c.in-Some.hop = sym (kinds_agree (g.R.Region.bits c.args.region.now) (g.R.Region.answers c.args.region.now) c.ask.new.slots c.ask.ensures c.loop-slot.slot c.loop-slot-test.true) ∙ (ap (kind_in c.ask.new.slots) (sym c.from.ensures) ∙ c.in-Some.is) in
       let at = leaf_at c.args.nodes.now.cells N c.args.leaves.now.cells L c.args.node.now (g.R.Region.bits c.args.region.now) h c.loop-slot.slot c.loop-slot-test.true k (zero_bit c.args.node.now.vector c.loop-slot.slot c.if-not-is_leaf.false) s in
       let read = leaf_read_is c.args.nodes.now.cells c.args.leaves.now.cells c.args.node.now (g.R.Region.bits c.args.region.now) h c.loop-slot.slot c.read.result c.rank.result c.args.leaves.now.fill at c.rank.ensures c.read.ensures in
-      ((λ e. cc), (λ al. absurd (differ_hop (g.R.Region.bits c.args.region.now) c.loop-slot.slot c.in-Some.hop at.hop (g.R.Region.answers c.args.region.now) h some at.is (λ e. c.if-read-hop.true (read ∙ e)) al)));
+      ((λ e. absurd (clash e)), (λ al. absurd (differ_hop (g.R.Region.bits c.args.region.now) c.loop-slot.slot c.in-Some.hop at.hop (g.R.Region.answers c.args.region.now) h some at.is (λ e. c.if-read-hop.true (read ∙ e)) al)));
 }
 
 pub returns-then-is_leaf : goal.returns-then-is_leaf
@@ -55,15 +55,14 @@ returns-then-is_leaf g t c = record {
   alike = λ k N L h s.
       let none : slots (g.R.Region.bits c.args.region.now) (g.R.Region.answers c.args.region.now) c.loop-slot.slot ≡ None = sym (kinds_agree (g.R.Region.bits c.args.region.now) (g.R.Region.answers c.args.region.now) c.ask.new.slots c.ask.ensures c.loop-slot.slot c.loop-slot-test.true) ∙ (ap (kind_in c.ask.new.slots) (sym c.from.ensures) ∙ c.in-None.is) in
       let at = leaf_at c.args.nodes.now.cells N c.args.leaves.now.cells L c.args.node.now (g.R.Region.bits c.args.region.now) h c.loop-slot.slot c.loop-slot-test.true k (zero_bit c.args.node.now.vector c.loop-slot.slot c.if-is_leaf.true) s in
-      ((λ e. cc), (λ al. absurd (differ_some (g.R.Region.bits c.args.region.now) c.loop-slot.slot at.hop (g.R.Region.answers c.args.region.now) h none at.is al)));
+      ((λ e. absurd (clash e)), (λ al. absurd (differ_some (g.R.Region.bits c.args.region.now) c.loop-slot.slot at.hop (g.R.Region.answers c.args.region.now) h none at.is al)));
 }
 
 pub overflow_add-node-in-None : goal.overflow_add-node-in-None
 overflow_add-node-in-None g t c =
     let at = node_at_slot c.args.nodes.now.cells c.requires.node.1 c.args.leaves.now.cells c.requires.node.2 c.args.node.now (g.R.Region.bits c.args.region.now) c.requires.node.3 c.loop-slot.slot c.loop-slot-test.true c.requires.node.0 (one_bit c.args.node.now.vector c.loop-slot.slot c.if-is_leaf.false) c.requires.node.4 in
     let m = small_len c.args.nodes.now c.requires.nodes_sized in
-    let h : c.args.node.now.base1 + c.rank-in-None.result < 4294967296 = omega (arith, at.within, m, c.rank-in-None.ensures, at.some) in
-    search (rules, h)
+    omega (arith, at.within, m, c.rank-in-None.ensures, at.some)
 
 pub overflow_sub-node-in-None : goal.overflow_sub-node-in-None
 overflow_sub-node-in-None g t c =
@@ -96,7 +95,7 @@ returns-then-not-is_same g t c = record {
       let at = node_at_slot c.args.nodes.now.cells N c.args.leaves.now.cells L c.args.node.now (g.R.Region.bits c.args.region.now) h c.loop-slot.slot c.loop-slot-test.true k (one_bit c.args.node.now.vector c.loop-slot.slot c.if-is_leaf.false) s in
       let stands = child_read c.args.nodes.now.cells N c.args.leaves.now.cells L c.args.node.now (g.R.Region.bits c.args.region.now) h c.loop-slot.slot c.rank-in-None.result c.read-child.result c.args.nodes.now.fill at c.rank-in-None.ensures c.read-child.ensures in
       let tells = c.is_same.ensures.alike at.strides N L (slot (g.R.Region.bits c.args.region.now) h c.loop-slot.slot) (subst (λ (b : ℕ). StandsIn at.strides c.args.nodes.now.cells N c.args.leaves.now.cells L c.read-child.result b (slot (g.R.Region.bits c.args.region.now) h c.loop-slot.slot)) (sym down.0) stands) in
-      ((λ e. cc), (λ al. let y = tells.1 (child_alike (g.R.Region.bits c.args.region.now) c.loop-slot.slot (g.R.Region.bits c.descend.result) (g.R.Region.answers c.args.region.now) (g.R.Region.answers c.descend.result) (slot (g.R.Region.bits c.args.region.now) h c.loop-slot.slot) down.0 down.1 (slot_alike (g.R.Region.bits c.args.region.now) c.loop-slot.slot (g.R.Region.answers c.args.region.now) h al)) in let z = c.if-not-is_same.true in cc));
+      ((λ e. absurd (clash e)), (λ al. let y = tells.1 (child_alike (g.R.Region.bits c.args.region.now) c.loop-slot.slot (g.R.Region.bits c.descend.result) (g.R.Region.answers c.args.region.now) (g.R.Region.answers c.descend.result) (slot (g.R.Region.bits c.args.region.now) h c.loop-slot.slot) down.0 down.1 (slot_alike (g.R.Region.bits c.args.region.now) c.loop-slot.slot (g.R.Region.answers c.args.region.now) h al)) in let z = c.if-not-is_same.true in cc));
 }
 
 pub loop-slot-preserved : goal.loop-slot-preserved

@@ -1,4 +1,4 @@
-use Rattle.std.proofs.Common.{List, Bool, map, refl, sym, ap, subst, ◌∙◌}
+use Rattle.std.proofs.Common.{List, Bool, Option, None, map, refl, sym, ap, subst, ◌∙◌}
 use Rattle.std.specs.Prelude.{option_map}
 use Rattle.address_model.specs.declared.family.Family.{Family}
 use Rattle.delta_model.proofs.Alike.{none_between}
@@ -13,8 +13,11 @@ use Rattle.smalta_keep.specs.Views.{place_in}
 use Rattle.smalta_keep.specs.declared.repair.Repair.{Repair}
 use Rattle.smalta_keep.proofs.Making.{kept_room}
 use Rattle.smalta_keep.proofs.Tables.{renewed_placed}
-use Rattle.smalta_keep.proofs.Planned.{is_off, is_on, set_over, set_room, set_still, mend_there, mended_is, repaired_there, renewed_there, before_set}
-use Rattle.smalta_keep.proofs.Knowing.{known_at, known_planned, reach_family}
+use Rattle.smalta_keep.proofs.Planned.{is_off, is_on, places, set_over, set_room, set_still, mend_there, mended_is, repaired_there, renewed_there, before_set}
+use Rattle.address_model.specs.Address.{Prefix}
+use Rattle.smalta_keep.specs.Known.{IsKnownToMend, IsTouchedAt}
+use Rattle.smalta_keep.proofs.Knowing.{known_at, known_more, known_planned, known_to_mend, reach_family, more_at, marked_twice}
+use Rattle.smalta_keep.proofs.Settled.{route_family, family_of, settled_moves}
 use Rattle.smalta_keep.proofs.plan.plan_moves.Goals as goal
 
 pub mend_set-requires-clause-before : goal.mend_set-requires-clause-before
@@ -23,10 +26,24 @@ mend_set-requires-clause-before c =
     let e = c.set_planned.ensures.keeps in
     before_set c.args.due.fewest c.args.route k0 c.set_planned.new.tree c.in_ok-former.former c.requires.family c.family-family.ensures.order.0 c.requires.alike e.family e.entries c.in_ok-former.ensures.set
 
+pub mend_set-requires-clause-known : goal.mend_set-requires-clause-known
+mend_set-requires-clause-known c =
+    let k0 = c.args.tree.now in
+    let k1 = c.set_planned.new.tree in
+    let e = c.set_planned.ensures.keeps in
+    let s = c.in_ok-former.ensures.set in
+    subst (λ (at : Option Prefix). IsKnownToMend c.args.due.fewest at k1 c.args.marks.now.tree) (sym s.place) (known_to_mend c.args.due.fewest c.args.route k0 k1 c.args.marks.now.tree c.family-family.ensures.order.0 c.requires.known e.family s.routes e.entries)
+
 pub keep-requires : goal.keep-requires
 keep-requires c =
     let k0 = c.args.tree.now in
-    reach_family c.in_ok-mend.mend.reach (place_in c.args.route) k0 c.args.marks.now.tree (λ p s. c.in_ok-mend.ensures.mend.of_reach p s ∙ c.set_planned.ensures.keeps.family) c.requires.known
+    reach_family c.planned_prefix.result None k0 c.args.marks.now.tree (route_family c.args.route c.planned_prefix.result k0.family c.planned_prefix.ensures c.requires.family) c.requires.known
+
+pub keep-requires-2 : goal.keep-requires-2
+keep-requires-2 c =
+    let k0 = c.args.tree.now in
+    reach_family c.in_ok-mend.mend.reach None k0 c.keep.new.self.tree (λ p s. c.in_ok-mend.ensures.mend.of_reach p s ∙ c.set_planned.ensures.keeps.family)
+    (known_more k0 c.args.marks.now.tree c.keep.new.self.tree (more_at (option_map prefix_as c.planned_prefix.result) c.args.marks.now.tree c.keep.new.self.tree c.keep.ensures) c.requires.known)
 
 pub returns-then-not-due-clause-moved : goal.returns-then-not-due-clause-moved
 returns-then-not-due-clause-moved c =
@@ -45,16 +62,18 @@ returns-then-not-due-clause-moved c =
     let entries = c.with_room.ensures.keeps.entries ∙ c.mend_set.ensures.keeps.entries in
     let same = ap (repaired_table fewest k1) s1.place ∙ repaired_there fewest k1 k3 at family (s3.routes ∙ sym s1.routes) entries in
     let m = mend_there k1.family k3.family k1.entries k3.entries (repaired_table fewest k1 (former_place f1)) (repaired_table fewest k3 at) c.args.due.snapshot mend (sym family) (sym entries) same c.in_ok-mend.ensures.mend in
-    let r : Repair = record { former = c.in_ok-former-2.former; reach = mend.reach; due = c.args.due.snapshot; moved = record { repair = mend.there; snapshot = c.new.result } } in
-    subst (λ (due : Bool). IsMoved k3 fewest at due (record { former = r.former; reach = r.reach; due = due; moved = r.moved })) (sym (is_off c.args.due.snapshot c.if-not-due.true))
+    let r : Repair = record { former = c.in_ok-former-2.former; reach = mend.reach; due = c.args.due.snapshot; fewest = fewest; moved = record { repair = mend.there; snapshot = c.new.result } } in
+    subst (λ (due : Bool). IsMoved k3 fewest at due (record { former = r.former; reach = r.reach; due = due; fewest = r.fewest; moved = r.moved })) (sym (is_off c.args.due.snapshot c.if-not-due.true))
     (record {
       is_due = refl;
+      is_fewest = refl;
       repair = m.there;
       snapshot = ap (map change_as) c.new.ensures.items ∙ sym (none_between (repaired_table fewest k3 at));
       repair_of = m.of_there;
       snapshot_of = subst (λ (cs : List code.Change). AreOf k3.family (map change_as cs)) (sym c.new.ensures.items) tt;
       reach_of = m.of_reach;
       beside = m.beside;
+      settled = settled_moves route fewest k3 mend.reach (former_place f1) s1.place c.in_ok-mend.ensures.reach (family_of route k3.family (λ q i. c.requires.family q i ∙ sym (family ∙ c.set_planned.ensures.keeps.family))) m.old_order;
       repair_room = subst (λ (cs : List code.Change). HaveRoom k3.nodes (map change_as cs)) c.deref.ensures.value c.in_ok-former-2.ensures.room;
       snapshot_room = subst (λ (cs : List code.Change). HaveRoom k3.nodes (map change_as cs)) (sym c.new.ensures.items) tt;
       old_order = m.old_order;
@@ -75,9 +94,10 @@ snapshot_after-requires-clause-known c =
     let s1 = c.in_ok-former.ensures.set in
     let s3 = set_over route (undone_in f1 k2.routes) k0.routes k3 f2 (ap (λ (k : Labels). undone_in f1 k.routes) c.in_ok-mend.ensures.still ∙ s1.undone) c.in_ok-former-2.ensures.set in
     let s4 = set_room route k0.routes k3 k4 f2 f3 s3 c.in_ok-former-3.ensures.set in
-    let t = c.args.marks.now.tree in
-    known_at (option_map prefix_as c.in_ok-mend.mend.reach) k4 t c.keep.new.self.tree c.keep.ensures
-    (known_planned route k0 k4 t c.family-family.ensures.order.0 c.requires.known (c.with_room-2.ensures.keeps.family ∙ (c.with_room.ensures.keeps.family ∙ (c.mend_set.ensures.keeps.family ∙ c.set_planned.ensures.keeps.family))) s4.routes
+    let t = c.keep.new.self.tree in
+    let touched = subst (λ (a : Option Prefix). IsTouchedAt a c.args.marks.now.tree t) (places route c.planned_prefix.result c.planned_prefix.ensures) c.keep.ensures in
+    known_at (option_map prefix_as c.in_ok-mend.mend.reach) k4 t c.keep-2.new.self.tree c.keep-2.ensures
+    (known_planned route k0 k4 t c.family-family.ensures.order.0 (known_at (place_in route) k0 c.args.marks.now.tree t touched c.requires.known) (c.with_room-2.ensures.keeps.family ∙ (c.with_room.ensures.keeps.family ∙ (c.mend_set.ensures.keeps.family ∙ c.set_planned.ensures.keeps.family))) s4.routes
     (c.with_room-2.ensures.keeps.entries ∙ (c.with_room.ensures.keeps.entries ∙ (c.mend_set.ensures.keeps.entries ∙ c.set_planned.ensures.keeps.entries))))
 
 pub snapshot_after-requires-clause-mend : goal.snapshot_after-requires-clause-mend
@@ -129,19 +149,27 @@ returns-clause-moved c =
     let m = mend_there k1.family k6.family k1.entries k6.entries (repaired_table fewest k1 (former_place f1)) (repaired_table fewest k6 at) c.args.due.snapshot mend (sym family) (sym entries) same i in
     let N = repaired_table fewest k6 at in
     let made = ap (mended mend) (sym (e.entries ∙ d.entries)) ∙ mended_is k6.family c.args.due.snapshot k6.entries N mend m in
-    let r : Repair = record { former = c.in_ok-former-4.former; reach = mend.reach; due = c.args.due.snapshot; moved = record { repair = mend.there; snapshot = c.in_ok-changes.changes } } in
-    subst (λ (due : Bool). IsMoved k6 fewest at due (record { former = r.former; reach = r.reach; due = due; moved = r.moved })) (sym (is_on c.args.due.snapshot c.if-not-due.false))
+    let r : Repair = record { former = c.in_ok-former-4.former; reach = mend.reach; due = c.args.due.snapshot; fewest = fewest; moved = record { repair = mend.there; snapshot = c.in_ok-changes.changes } } in
+    subst (λ (due : Bool). IsMoved k6 fewest at due (record { former = r.former; reach = r.reach; due = due; fewest = r.fewest; moved = r.moved })) (sym (is_on c.args.due.snapshot c.if-not-due.false))
     (record {
       is_due = refl;
+      is_fewest = refl;
       repair = m.there;
       snapshot = renewed_there k4.family k6.family k4.routes k6.routes (mended mend k4.entries) N (map change_as c.in_ok-changes.changes.items) (sym (e.family ∙ d.family)) (s4.routes ∙ sym s6.routes) made c.in_ok-changes.ensures.changes;
       repair_of = m.of_there;
       snapshot_of = subst (λ (f : Family). AreOf f (map change_as c.in_ok-changes.changes.items)) (sym (e.family ∙ d.family)) c.in_ok-changes.ensures.family;
       reach_of = m.of_reach;
       beside = m.beside;
+      settled = settled_moves route fewest k6 mend.reach (former_place f1) s1.place c.in_ok-mend.ensures.reach (family_of route k6.family (λ q i. c.requires.family q i ∙ sym (family ∙ c.set_planned.ensures.keeps.family))) m.old_order;
       repair_room = kept_room k3.nodes k6.nodes (map change_as mend.there.items) (λ p h. e.nodes p (d.nodes p (b.nodes p h))) (subst (λ (cs : List code.Change). HaveRoom k3.nodes (map change_as cs)) c.deref.ensures.value c.in_ok-former-2.ensures.room);
       snapshot_room = subst (λ (cs : List code.Change). HaveRoom k6.nodes (map change_as cs)) c.deref-3.ensures.value c.in_ok-former-4.ensures.room;
       old_order = m.old_order;
       repaired_order = m.order;
       planned_order = renewed_placed k6.family k6.routes N;
     })
+
+pub returns-then-not-due-clause-marked : goal.returns-then-not-due-clause-marked
+returns-then-not-due-clause-marked c = marked_twice c.args.route c.planned_prefix.result (option_map prefix_as c.in_ok-mend.mend.reach) c.args.marks.now.tree c.keep.new.self.tree c.keep-2.new.self.tree c.planned_prefix.ensures c.keep.ensures c.keep-2.ensures
+
+pub returns-clause-marked : goal.returns-clause-marked
+returns-clause-marked c = marked_twice c.args.route c.planned_prefix.result (option_map prefix_as c.in_ok-mend.mend.reach) c.args.marks.now.tree c.keep.new.self.tree c.keep-2.new.self.tree c.planned_prefix.ensures c.keep.ensures c.keep-2.ensures

@@ -6,7 +6,7 @@ use Rattle.smalta_keep.proofs.routes.replace.Goals as goal
 
 pub returns-clause-former : goal.returns-clause-former
 returns-clause-former c = record {
-  family = c.requires ∙ sym (c.set.ensures.keeps.family ∙ c.room.ensures.family);
-  routes = back_again (prefix_as c.args.prefix.now) c.args.hop.0 c.room.new.self.routes c.set.new.tree.routes _ (is_prefix c.args.prefix.now) c.route.ensures.order c.route.ensures.route c.in_ok-set.ensures.routes ∙ c.room.ensures.routes;
-  before = c.in_ok-set.ensures.before c.in_ok-room.ensures.ok ∙ c.room.ensures.routes;
+  family = c.requires ∙ sym c.exchange.ensures.keeps.family;
+  routes = back_again (prefix_as c.args.prefix.now) c.args.hop.0 _ c.exchange.new.tree.routes _ (is_prefix c.args.prefix.now) c.exchange.ensures.order c.in_ok-had.ensures.former c.in_ok-had.ensures.routes;
+  before = c.in_ok-had.ensures.before;
 }

@@ -14,8 +14,8 @@ use Rattle.smalta_keep.proofs.Tables.{if_none}
 use Rattle.delta_model.specs.Between.{between}
 use Rattle.smalta_keep.proofs.told.mend_at.Goals as goal
 
-pub returns-in-None : goal.returns-in-None
-returns-in-None c =
+pub returns-in-None-clause-mend : goal.returns-in-None-clause-mend
+returns-in-None-clause-mend c =
     let T = c.args.tree.now.entries in
     let f = c.args.tree.now.family in
     let t = c.family-family.ensures.order.1 in

@@ -10,7 +10,7 @@ use Rattle.fib_engine.specs.Held.{routes_in}
 use Rattle.step_model.specs.Rows.{rows_text}
 use Rattle.step_rows.specs.Views.{row_as}
 use Rattle.step_script.specs.Steps.{step_as}
-use Rattle.step_run.specs.Stepping.{world_of}
+use Rattle.step_world.specs.Stepping.{world_of}
 use Rattle.step_run.proofs.Running.{in_place, somewhere, starts_so}
 use Rattle.step_run.proofs.run.run_steps.Goals as goal
 

@@ -15,62 +15,8 @@ use Rattle.orig_tree.proofs.Places.{in_place_put, same_rows, entries_put}
 use Rattle.orig_tree.proofs.Undoing.{can_same, can_undo, few_bits, true_not}
 use Rattle.orig_tree.proofs.tree.Tree.set_route_counted.Goals as goal
 
-pub alter-requires-clause-allowed : goal.alter-requires-clause-allowed
-alter-requires-clause-allowed g c =
-    let f = c.self.inside.family in
-    let few = few_bits c.args.prefix.now f (c.requires ∙ sym (ap (λ (s : Labels). s.family) c.self.view_is)) in
-    sym (c.is_node.ensures (suc (width f)) (omega (arith, few))) ∙ c.if-is_node.true
-
 pub invariant_of-self : goal.invariant_of-self
 invariant_of-self g c =
-    let f = c.self.inside.family in
-    let old = cells_of c.self.inside.nodes in
-    let new = cells_of c.alter.new.nodes in
-    let e = c.in_err-undo.ensures.err in (
-      c.alter.ensures.arena,
-      same_rows f (whole f old).routes (whole f new).routes (ap (λ (cs : List Node). (whole f cs).routes) e.0) c.self.invariant.1,
-      same_rows f (whole f old).entries (whole f new).entries (ap (λ (cs : List Node). (whole f cs).entries) e.0) c.self.invariant.2,
-      c.alter.ensures.best,
-      c.alter.ensures.long,
-      can_same f old new (best_in c.self.inside.bests) (best_in c.alter.new.bests) c.self.inside.undo e.0 e.1 c.self.invariant.5,
-    )
-
-pub invariant_of-self-then-is_node : goal.invariant_of-self-then-is_node
-invariant_of-self-then-is_node g c =
-    let f = c.self.inside.family in
-    let p = c.args.prefix.now in
-    let fam : p.family ≡ f = c.requires ∙ sym (ap (λ (s : Labels). s.family) c.self.view_is) in
-    let few = few_bits p f fam in
-    let l : length (bits_of p.len c.path_bits-q.result) ≤ width f = omega (arith, length-bits_of p.len c.path_bits-q.result, few) in
-    let old = whole f (cells_of c.self.inside.nodes) in
-    let new = whole f (cells_of c.alter.new.nodes) in
-    let w = c.in_ok-undo.ensures.walks in
-    let has = sym (c.is_node.ensures (suc (width f)) (omega (arith, few))) ∙ c.if-is_node.true in (
-      c.alter.ensures.arena,
-      in_place_put f (bits_of p.len c.path_bits-q.result) c.args.hop.0 old.routes new.routes l (ap (λ (n : Walks). n.routes) w) c.self.invariant.1,
-      same_rows f old.entries new.entries (ap (λ (n : Walks). n.entries) w) c.self.invariant.2,
-      c.alter.ensures.best,
-      c.alter.ensures.long,
-      can_undo f old.routes (cells_of c.alter.new.nodes) (best_in c.alter.new.bests) c.in_ok-undo.undo (c.in_ok-undo.ensures.back has) c.self.invariant.1,
-    )
-
-pub returns-then-is_node-clause-routes : goal.returns-then-is_node-clause-routes
-returns-then-is_node-clause-routes g c =
-    let p = c.args.prefix.now in
-    let f = c.self.inside.family in
-    let fam : p.family ≡ f = c.requires ∙ sym (ap (λ (s : Labels). s.family) c.self.view_is) in
-    let l : length (bits_of p.len c.path_bits-q.result) ≤ width f = omega (arith, length-bits_of p.len c.path_bits-q.result, few_bits p f fam) in
-    entries_put f p.family (bits_of p.len c.path_bits-q.result) c.args.hop.0 (whole f (cells_of c.self.inside.nodes)).routes (whole f (cells_of c.alter.new.nodes)).routes (whole f (cells_of c.self.inside.nodes)).routes c.args.self.now.routes l fam refl (ap (λ (n : Walks). n.routes) c.in_ok-undo.ensures.walks) (ap (λ (s : Labels). s.routes) c.self.view_is) c.self.invariant.1
-    ∙ ap (λ b. with_entry c.args.self.now.routes ((let x : Prefix = record { family = p.family; bits = b } in x), c.args.hop.0)) c.path_bits-q.ensures
-
-pub returns-then-is_node-clause-before : goal.returns-then-is_node-clause-before
-returns-then-is_node-clause-before g c = λ there.
-    let f = c.self.inside.family in
-    let few = few_bits c.args.prefix.now f (c.requires ∙ sym (ap (λ (s : Labels). s.family) c.self.view_is)) in
-    ap (of_table f) (c.in_ok-undo.ensures.back (sym (c.is_node.ensures (suc (width f)) (omega (arith, few))) ∙ c.if-is_node.true)).routes ∙ ap (λ (s : Labels). s.routes) c.self.view_is
-
-pub invariant_of-self-in_err-room : goal.invariant_of-self-in_err-room
-invariant_of-self-in_err-room g c =
     let f = c.self.inside.family in
     let old = cells_of c.self.inside.nodes in
     let new = cells_of c.lay.new.nodes in
@@ -109,27 +55,7 @@ returns-clause-routes g c =
     ∙ ap (λ b. with_entry c.args.self.now.routes ((let x : Prefix = record { family = p.family; bits = b } in x), c.args.hop.0)) c.path_bits-q.ensures
 
 pub returns-clause-before : goal.returns-clause-before
-returns-clause-before g c = λ there.
-    let f = c.self.inside.family in
-    let few = few_bits c.args.prefix.now f (c.requires ∙ sym (ap (λ (s : Labels). s.family) c.self.view_is)) in
-    let has = ap (λ b. has_node b (whole f (cells_of c.self.inside.nodes)).nodes) c.path_bits-q.ensures ∙ (ap (λ (s : Labels). has_node (prefix_as c.args.prefix.now).bits s.nodes) c.self.view_is ∙ there) in
-    absurd (true_not (sym (c.is_node.ensures (suc (width f)) (omega (arith, few)) ∙ has) ∙ c.if-is_node.false))
-
-pub returns-in_err-undo-clause-steps : goal.returns-in_err-undo-clause-steps
-returns-in_err-undo-clause-steps g c =
-    let f = c.self.inside.family in
-    let p = c.args.prefix.now in
-    let same : nodes_in (bits_of p.len c.path_bits-q.result) (whole f (cells_of c.self.inside.nodes)).nodes ≡ nodes_in (prefix_as p).bits c.args.self.now.nodes =
-    ap (λ b. nodes_in b (whole f (cells_of c.self.inside.nodes)).nodes) c.path_bits-q.ensures ∙ ap (λ (s : Labels). nodes_in (prefix_as p).bits s.nodes) c.self.view_is in
-    omega (arith, c.alter.ensures.steps, same)
-
-pub returns-then-is_node-clause-steps : goal.returns-then-is_node-clause-steps
-returns-then-is_node-clause-steps g c =
-    let f = c.self.inside.family in
-    let p = c.args.prefix.now in
-    let same : nodes_in (bits_of p.len c.path_bits-q.result) (whole f (cells_of c.self.inside.nodes)).nodes ≡ nodes_in (prefix_as p).bits c.args.self.now.nodes =
-    ap (λ b. nodes_in b (whole f (cells_of c.self.inside.nodes)).nodes) c.path_bits-q.ensures ∙ ap (λ (s : Labels). nodes_in (prefix_as p).bits s.nodes) c.self.view_is in
-    omega (arith, c.alter.ensures.steps, same)
+returns-clause-before g c = λ there. absurd (true_not (sym (c.own_route-own.ensures.node ∙ there) ∙ c.if-own.false))
 
 pub returns-in_err-room-clause-steps : goal.returns-in_err-room-clause-steps
 returns-in_err-room-clause-steps g c =

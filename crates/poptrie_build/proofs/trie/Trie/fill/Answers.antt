@@ -23,3 +23,17 @@ returns-clause-none g c =
     rw same
     (all_err c.fill_all.result c.fill_all.ensures.cleared_words c.fill_all.ensures.cleared_nodes c.fill_all.ensures.cleared_leaves
     (λ w x y. stands_none (record { family = c.self.inside.family; direct_bits = c.self.inside.direct_bits; words = c.fill_all.new.words; nodes = c.fill_all.new.nodes; leaves = c.fill_all.new.leaves }) _ _ _ _ c.self.invariant.few (w ∙ ap (λ m. replicate m 2147483648) n) x y))
+
+pub invariant_of-self : goal.invariant_of-self
+invariant_of-self g c =
+    let same : take c.self.inside.words.len (c.fill_all.new.words ++ drop (length c.fill_all.new.words) c.self.inside.words.items) ≡ c.fill_all.new.words =
+    take_at c.fill_all.new.words (drop (length c.fill_all.new.words) c.self.inside.words.items) c.self.inside.words.len (c.fill_all.auto.words ∙ c.deref_mut.ensures.len) in
+    record {
+      few = c.self.invariant.few;
+      words = rw same (c.fill_all.auto.words ∙ (ap length c.deref_mut.ensures.value ∙ c.self.invariant.words));
+      nodes = c.fill_all.ensures.nodes_sized;
+      leaves = c.fill_all.ensures.leaves_sized;
+    }
+
+pub returns-clause-orders : goal.returns-clause-orders
+returns-clause-orders g c = (c.fill_all.ensures.orders.0 ∙ ap (λ (s : Shown). s.nodes.order) c.self.view_is, c.fill_all.ensures.orders.1 ∙ ap (λ (s : Shown). s.leaves.order) c.self.view_is)

@@ -52,12 +52,12 @@ returns-clause-table c =
     let e : c.self.inside.tree.entries ≡ T = ap (λ (s : Labels). s.entries) c.self.view_is in
     let went : after_changes (repair_as m) T ≡ Some N = ap (after_changes (repair_as m)) (sym e) ∙ (ap (λ (cs : List code.Change). after_changes (map change_as cs) c.self.inside.tree.entries) (sym c.deref.ensures.value) ∙ c.apply_all.ensures.entries) in
     second_run (repair_as m) (snapshot_as m) T N fits went
-    ∙ (ap (λ (cs : List code.Change). after_changes (map change_as cs) N) (sym c.deref-2.ensures.value) ∙ (c.apply_all-2.ensures.entries ∙ ap Some (sym (c.trim_left.ensures.entries ∙ c.trim_at.ensures.entries))))
+    ∙ (ap (λ (cs : List code.Change). after_changes (map change_as cs) N) (sym c.deref-2.ensures.value) ∙ (c.apply_all-2.ensures.entries ∙ ap Some (sym (c.trim_left-2.ensures.entries ∙ (c.trim_left.ensures.entries ∙ c.trim_last.ensures.entries)))))
 
 pub invariant_of-self : goal.invariant_of-self
 invariant_of-self c =
     let k = c.self.inside.tree in
-    let l = c.trim_left.new.tree in
+    let l = c.trim_left-2.new.tree in
     let N = c.apply_all.new.tree.entries in
     let due = c.args.repair.due in
     let m = c.args.repair.moved in
@@ -65,12 +65,12 @@ invariant_of-self c =
     let went : after_changes (repair_as m) k.entries ≡ Some N = ap (λ (cs : List code.Change). after_changes (map change_as cs) k.entries) (sym c.deref.ensures.value) ∙ c.apply_all.ensures.entries in
     let made : after_changes (repair_as m ++ snapshot_as m) k.entries ≡ Some l.entries =
     second_run (repair_as m) (snapshot_as m) k.entries N (ap is_some q.makes) went
-    ∙ (ap (λ (cs : List code.Change). after_changes (map change_as cs) N) (sym c.deref-2.ensures.value) ∙ (c.apply_all-2.ensures.entries ∙ ap Some (sym (c.trim_left.ensures.entries ∙ c.trim_at.ensures.entries))))
+    ∙ (ap (λ (cs : List code.Change). after_changes (map change_as cs) N) (sym c.deref-2.ensures.value) ∙ (c.apply_all-2.ensures.entries ∙ ap Some (sym (c.trim_left-2.ensures.entries ∙ (c.trim_left.ensures.entries ∙ c.trim_last.ensures.entries)))))
     in
-    known_made due (option_map prefix_as c.args.repair.reach) k l q.repaired c.self.inside.marks.tree c.leave.new.self.tree
-    (subst (λ (f : Family). AreLeft due f (option_map prefix_as c.args.repair.reach) c.self.inside.marks.tree c.leave.new.self.tree) c.family-family.ensures.family c.leave.ensures)
-    c.self.invariant (c.trim_left.ensures.family ∙ (c.trim_at.ensures.family ∙ (c.apply_all-2.ensures.keeps.family ∙ c.apply_all.ensures.keeps.family)))
-    (c.trim_left.ensures.routes ∙ (c.trim_at.ensures.routes ∙ (c.apply_all-2.ensures.keeps.routes ∙ c.apply_all.ensures.keeps.routes))) q.beside (some_is l.entries (after_snapshot k.family k.routes due q.repaired) (sym made ∙ q.makes))
+    known_made due c.args.repair.fewest (option_map prefix_as c.args.repair.reach) k l q.repaired c.self.inside.marks.tree c.leave.new.self.tree
+    (subst (λ (f : Family). AreLeft due c.args.repair.fewest f (option_map prefix_as c.args.repair.reach) c.self.inside.marks.tree c.leave.new.self.tree) c.family-family.ensures.family c.leave.ensures)
+    c.self.invariant (c.trim_left-2.ensures.family ∙ (c.trim_left.ensures.family ∙ (c.trim_last.ensures.family ∙ (c.apply_all-2.ensures.keeps.family ∙ c.apply_all.ensures.keeps.family))))
+    (c.trim_left-2.ensures.routes ∙ (c.trim_left.ensures.routes ∙ (c.trim_last.ensures.routes ∙ (c.apply_all-2.ensures.keeps.routes ∙ c.apply_all.ensures.keeps.routes)))) q.beside q.settled (some_is l.entries (after_snapshot k.family k.routes due q.repaired) (sym made ∙ q.makes))
 
 pub leave-requires : goal.leave-requires
 leave-requires c =

@@ -1,0 +1,15 @@
+pub mod Addressed
+pub mod Certifying
+pub mod Completing
+pub mod Due
+pub mod Fitting
+pub mod Judges
+pub mod Keeping
+pub mod Moving
+pub mod Outputs
+pub mod Passes
+pub mod Replies
+pub mod Rerouting
+pub mod Running
+pub mod Untold
+pub mod Whole

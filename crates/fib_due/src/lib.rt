@@ -1,0 +1,17 @@
+//! What a command is due to come to, and its outcome.
+//!
+//! The outcomes with their lines and statuses; what is due of the words and of what the inputs hold, as definitions over them; and
+//! laws of what is due: that a run's table sends every address where its routes send it and is least, that a check decides, that
+//! texts that are compared are told apart where they differ, and that a router's changes are the fewest.
+#![tactic(auto)]
+
+mod outcome;
+mod reading;
+mod reply;
+
+pub use cert_check::No;
+pub use fib_same::Difference;
+pub use outcome::{MOST_LINE, MrtInput, Outcome, Which};
+pub use reading::{octets_of, outcome_of_whole};
+pub use reply::{Reply, Wrong};
+pub use router_moves::WrongMoves;

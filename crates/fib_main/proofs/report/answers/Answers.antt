@@ -1,6 +1,0 @@
-use Rattle.fib_main.proofs.report.answers.Goals as goal
-
-pub returns : goal.returns
-returns c =
-    let s = c.args.settled.now in
-    c.look_up_all.ensures s.sizes.direct s.routes c.in_ok-tries.ensures

@@ -1,4 +1,0 @@
-use Rattle.fib_main.proofs.report.answers.Given as goal
-
-abbrev pub ghosts-look_up_all : goal.ghosts-look_up_all
-ghosts-look_up_all a = record { name = a.blank.name; parts = a.blank.parts }

@@ -1,0 +1,318 @@
+//! What the inputs bring: candidates, the numbers of next hops, and the kept table with its changes.
+
+ghost use Rattle.std.specs.Prelude.{◌≡◌, ◌≤◌, ◌<◌, ◌+◌, ◌-◌, ◌^◌, ◌++◌, ◌∷◌, [], ℕ, List, length, map, IfErr, IfOk, IfSome, OnOk};
+ghost use Rattle.fib_delta.specs.Views.{change_as};
+ghost use Rattle.fib_prefix.specs.Views.{elem_as, event_as};
+ghost use Rattle.route_model.specs.Events.{Elem as model_elem, Event as model_event};
+ghost use Rattle.route_model.specs.Choice.{Candidates, after_elem, elems_of};
+ghost use Rattle.feed_model.specs.Feed.{at_event};
+ghost use Rattle.fib_run.specs.Counts.{CountsFit, CountsOn};
+ghost use Rattle.fib_run.specs.Feeds.{IsNumbered};
+ghost use Rattle.fib_due.specs.Refusals.{Limits as ends};
+ghost use Rattle.fib_run.specs.Standing.{EndsShort, IsOfLoad, IsReady, of_input, of_read, refusal_at, StateStands, StateTakes, StateTakesAll};
+ghost use Rattle.fib_report.specs.Views.{moves_as};
+ghost use Rattle.fib_run.specs.Told.{changes_as, limits_as, moves_told};
+ghost use Rattle.fib_run.specs.declared.state.FeedError.TheVariants.{Malformed as IsMalformed, NoMemory as IsNoMemory};
+
+use crate::order::{order_event, order_load};
+use fib_delta::Change;
+use fib_due::MrtInput;
+use fib_engine::{Engine, EngineError, Limits, TrieFull};
+use fib_io::ReadError;
+use fib_prefix::{Elem, Entry, Event};
+use fib_report::Moves;
+use mrt_read::{EventsError, Malformed};
+use std::alloc::{AllocError, AllocFailed, Global};
+use std::slice;
+use thiserror::Error;
+
+/// The event of the load.
+const LOAD: u64 = 0;
+
+/// Why an input brought nothing.
+#[derive(Clone, Copy, Debug, PartialEq, Eq, Error)]
+pub enum FeedError {
+    /// A record breaks a rule.
+    #[error("{0}")]
+    Malformed(Malformed),
+    /// The elementary event of this number brings one hop too many.
+    #[error("event {0} brings one hop too many")]
+    HopsFull(u64),
+    /// Tries of the routes after the elementary event of this number need more places than an arena has; 0 is the load's end.
+    #[error("{1} at event {0}")]
+    TrieFull(u64, TrieFull),
+    /// Memory ran out.
+    #[error("no memory")]
+    NoMemory,
+    /// A read failed.
+    #[error("a read failed")]
+    Fault,
+    /// The input has more than 2^36 octets.
+    #[error("too large")]
+    TooLarge,
+}
+
+impl From<ReadError> for FeedError {
+    ghost from_gives = { λ error e. e ≡ of_input error };
+
+    fn from(error: ReadError) -> FeedError {
+        match error {
+            ReadError::Fault => FeedError::Fault,
+            ReadError::TooLarge => FeedError::TooLarge,
+            ReadError::NoMemory => FeedError::NoMemory,
+        }
+    }
+}
+
+impl From<Malformed> for FeedError {
+    ghost from_gives = { λ malformed e. e ≡ IsMalformed malformed };
+
+    fn from(malformed: Malformed) -> FeedError {
+        FeedError::Malformed(malformed)
+    }
+}
+
+impl From<EventsError> for FeedError {
+    ghost from_gives = { λ error e. e ≡ of_read error };
+
+    fn from(error: EventsError) -> FeedError {
+        match error {
+            EventsError::Malformed(malformed) => FeedError::Malformed(malformed),
+            EventsError::NoMemory => FeedError::NoMemory,
+        }
+    }
+}
+
+impl From<AllocError> for FeedError {
+    ghost from_gives = { λ _ e. e ≡ IsNoMemory };
+
+    fn from(_e: AllocError) -> FeedError {
+        FeedError::NoMemory
+    }
+}
+
+impl<T: Drop> From<AllocFailed<T>> for FeedError {
+    ghost from_gives = { λ _ e. e ≡ IsNoMemory };
+
+    fn from(_e: AllocFailed<T>) -> FeedError {
+        FeedError::NoMemory
+    }
+}
+
+/// What was brought so far.
+#[derive(Drop)]
+pub struct State {
+    /// The candidates of all peers, the numbers of next hops, and the kept table.
+    pub engine: Engine,
+    /// The entries of the kept table after the load: what the load adds to it.
+    pub added: Vec<Entry>,
+    /// The changes of the kept table that updates make, each with its event's number.
+    pub changes: Vec<(u64, Change)>,
+    /// How many changes each event of updates needed that changed a chosen hop, if the fewest are asked for.
+    pub moves: Vec<Moves>,
+    /// Whether each event makes the fewest changes.
+    pub fewest: bool,
+    /// Whether the changes of the load and of updates are told in steady order.
+    pub steady: bool,
+}
+
+/// Adds the changes of the event of this number.
+fn push_changes(
+    all: &mut Vec<(u64, Change)>,
+    event: u64,
+    changes: &[Change],
+) -> Result<(), AllocError>
+    ensures { OnOk result (changes_as all.new.items
+        ≡ changes_as all.old.items ++ at_event event (map change_as changes.now)) }
+{
+    all.reserve(changes.len())?;
+    for change in changes {
+        all.push((event, *change))?;
+    }
+    Ok(())
+}
+
+/// Adds how many changes the event of this number needed, if it changed a chosen hop and that is told.
+fn push_moves(
+    all: &mut Vec<Moves>,
+    event: u64,
+    moves: Option<u64>,
+    fewest: bool,
+) -> Result<(), AllocError>
+    ensures { OnOk result (map moves_as all.new.items
+        ≡ map moves_as all.old.items ++ moves_told fewest event moves) }
+{
+    match moves {
+        Some(count) if fewest => all.push(Moves { event, count })?,
+        _ => {}
+    }
+    Ok(())
+}
+
+impl State {
+    /// Nothing was brought; snapshots and tries are within these limits, and changes are told in steady order or in that of
+    /// prefixes.
+    pub fn new(alloc: Global, limits: Limits, steady: bool) -> State
+        ensures stands { StateStands MrtInput.Dump (limits_as limits steady) [] [] result }
+        ensures ready { IsReady MrtInput.Dump 0 result.engine }
+        ensures none { result.engine.candidates ≡ [] }
+    {
+        State {
+            engine: Engine::new(alloc, limits),
+            added: Vec::new(alloc),
+            changes: Vec::new(alloc),
+            moves: Vec::new(alloc),
+            fewest: limits.fewest,
+            steady,
+        }
+    }
+
+    /// Ends the load: the kept table is made, and its entries are what the load adds.
+    pub fn finish_load(&mut self) -> Result<(), FeedError>
+        requires { IsReady MrtInput.Dump 0 self.old.engine }
+        ensures stands { OnOk result ((limits : ends) (load : List model_elem)
+            → StateStands MrtInput.Dump limits [] load self.old
+            → StateStands MrtInput.Updates limits load [] self.new) }
+        ensures short { IfErr result (λ error. (limits : ends) (load : List model_elem)
+            → StateStands MrtInput.Dump limits [] load self.old → EndsShort limits load error) }
+        ensures kinds { IfErr result IsOfLoad }
+        ensures candidates { OnOk result (self.new.engine.candidates
+            ≡ self.old.engine.candidates) }
+        ensures ready { OnOk result (IsReady MrtInput.Updates 0 self.new.engine) }
+    {
+        match self.engine.finish_load() {
+            Ok(mut added) => {
+                order_load(&mut added, self.steady);
+                self.added = added;
+            }
+            Err(error) => return Err(refusal_at(LOAD, error)),
+        }
+        Ok(())
+    }
+}
+
+/// Why an elementary event of this number wasn't taken.
+fn refusal_at(event: u64, error: EngineError) -> FeedError
+    ensures { result ≡ refusal_at event error }
+{
+    match error {
+        EngineError::HopsFull => FeedError::HopsFull(event),
+        EngineError::TrieFull(full) => FeedError::TrieFull(event, full),
+        EngineError::NoMemory => FeedError::NoMemory,
+    }
+}
+
+/// Takes the elementary event of this number: its hop gets a number, and the candidates change. One of updates changes the kept
+/// table, and its changes are added.
+fn step(state: &mut State, which: MrtInput, event: u64, elem: &Elem) -> Result<(), FeedError>
+    requires ready { IsReady which (event - 1) state.old.engine }
+    requires first { 1 ≤ event }
+    ensures takes { StateTakes which event (elem_as elem.now ∷ []) state.old result state.new }
+    ensures candidates { OnOk result (state.new.engine.candidates
+        ≡ after_elem state.old.engine.candidates (elem_as elem.now)) }
+    ensures ready { OnOk result (IsReady which event state.new.engine) }
+    ensures numbered { IfErr result (IsNumbered which) }
+{
+    match which {
+        MrtInput::Dump => match state.engine.load(elem) {
+            Ok(()) => Ok(()),
+            Err(error) => Err(refusal_at(event, error)),
+        },
+        MrtInput::Updates => match state.engine.apply(elem) {
+            Ok(mut told) => {
+                order_event(&mut told.changes, told.first, state.steady);
+                push_changes(&mut state.changes, event, &told.changes)?;
+                let moves = state.engine.last_moves();
+                push_moves(&mut state.moves, event, moves, state.fewest)?;
+                Ok(())
+            }
+            Err(error) => Err(refusal_at(event, error)),
+        },
+    }
+}
+
+/// The one elementary event that an event is whatever is held. A lost session is none: it is one for each route of the peer.
+fn elem_of(event: &Event) -> Option<Elem>
+    ensures { IfSome result (λ elem. (held : Candidates)
+        → elem_as elem ∷ [] ≡ elems_of held (event_as event.now)) }
+{
+    match *event {
+        Event::Announce(via, prefix, path, hop, _) => Some(Elem::Put(via, prefix, path, hop)),
+        Event::Withdraw(via, prefix) => Some(Elem::Cut(via, prefix)),
+        Event::Down(_) => None,
+    }
+}
+
+/// Takes the elementary events of an event after so many others, and gives how many there are then.
+fn take_elems(
+    state: &mut State,
+    which: MrtInput,
+    before: u64,
+    elems: &[Elem],
+) -> Result<u64, FeedError>
+    requires ready { IsReady which before state.old.engine }
+    requires few { before + length elems.now < 2 ^ 64 }
+    ensures takes { (event : model_event) → map elem_as elems.now
+        ≡ elems_of state.old.engine.candidates event
+        → StateTakesAll which before (event ∷ []) state.old result state.new }
+    ensures ready { IfOk result (λ after. IsReady which after state.new.engine) }
+    ensures numbered { IfErr result (IsNumbered which) }
+    ensures counts { IfOk result (λ after. (event : model_event) → map elem_as elems.now
+        ≡ elems_of state.old.engine.candidates event
+        → CountsOn state.old.engine.candidates (event ∷ []) before after state.new.engine.candidates) }
+{
+    let mut count = before;
+    for elem in elems {
+        count += 1;
+        step(state, which, count, elem)?;
+    }
+    Ok(count)
+}
+
+/// Takes an event after so many elementary events, and gives how many there are then. Only a lost session takes a list.
+fn take_event(
+    state: &mut State,
+    which: MrtInput,
+    before: u64,
+    event: &Event,
+) -> Result<u64, FeedError>
+    requires ready { IsReady which before state.old.engine }
+    requires few { CountsFit state.old.engine.candidates (event_as event.now ∷ []) before }
+    ensures takes { StateTakesAll which before (event_as event.now ∷ [])
+        state.old result state.new }
+    ensures ready { IfOk result (λ after. IsReady which after state.new.engine) }
+    ensures numbered { IfErr result (IsNumbered which) }
+    ensures counts { IfOk result (λ after. CountsOn state.old.engine.candidates
+        (event_as event.now ∷ []) before after state.new.engine.candidates) }
+{
+    match elem_of(event) {
+        Some(elem) => take_elems(state, which, before, slice::from_ref(&elem)),
+        None => {
+            let elems = state.engine.elementary(event)?;
+            take_elems(state, which, before, &elems)
+        }
+    }
+}
+
+/// Takes events after so many elementary events, and gives how many there are then.
+pub fn take_events(
+    state: &mut State,
+    which: MrtInput,
+    before: u64,
+    events: &[Event],
+) -> Result<u64, FeedError>
+    requires ready { IsReady which before state.old.engine }
+    requires few { CountsFit state.old.engine.candidates (map event_as events.now) before }
+    ensures takes { StateTakesAll which before (map event_as events.now)
+        state.old result state.new }
+    ensures ready { IfOk result (λ after. IsReady which after state.new.engine) }
+    ensures numbered { IfErr result (IsNumbered which) }
+    ensures counts { IfOk result (λ after. CountsOn state.old.engine.candidates
+        (map event_as events.now) before after state.new.engine.candidates) }
+{
+    let mut count = before;
+    for event in events {
+        count = take_event(state, which, count, event)?;
+    }
+    Ok(count)
+}
