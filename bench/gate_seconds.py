@@ -1,9 +1,9 @@
 #!/usr/bin/env python3
 """Counts the processor seconds of the gate, crate by crate.
 
-Usage:  gate_seconds.py [WORD..]
+Usage:  gate_seconds.py
 
-Runs `rt ci` with the words in the folder that it is run in, as `gate_seconds.py --anew`, looks twice a second at the provers that
+Runs `rt ci` in the folder that it is run in, looks twice a second at the provers that
 it starts, and prints Markdown at the end: the processor seconds of each crate's proof, of its tests, and of its wrong bodies with
 the proof that they begin with.  What a prover takes after the last look isn't counted, half a second at most.  Other runs of `rt`
 on the machine aren't counted, but make these slower.  The status is the gate's.
@@ -79,9 +79,9 @@ def edits_of(crate):
 
 
 def main(words):
-    if words[:1] in (["-h"], ["--help"]):
+    if words:
         sys.exit(__doc__)
-    process = subprocess.Popen(["rt", "ci", *words])
+    process = subprocess.Popen(["rt", "ci"])
     sums = count(process)
     crates = sorted({crate for crate, _ in sums}, key=lambda crate: -sum(sums[crate, kind] for kind in KINDS))
     print("| Crate | Proof | Tests | Wrong bodies | Their seconds | All |")
