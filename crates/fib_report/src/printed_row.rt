@@ -16,8 +16,8 @@ use itoa::Buffer;
 use std::alloc::AllocError;
 use std::io::Write;
 
-/// Writes the row of these fields, two or more: commas between them, and a line feed. An `Err` of a writer into memory means that
-/// memory ran out.
+/// Writes the row of these fields, two or more: commas between them, and a line feed. Fields that are the same in many rows may come as
+/// one, with their comma, since nothing is quoted. An `Err` of a writer into memory means that memory ran out.
 pub fn put_fields<W: Write + Drop>(out: &mut Writer<W>, fields: &[&[u8]]) -> Result<(), AllocError>
     requires at { IsAtRow out.old }
     requires fields { 2 ≤ length fields.now }
@@ -214,7 +214,7 @@ fn put_leaf<W: Write + Drop>(
     let mut hop_text = [0; MOST_TEXT];
     let prefix = prefix_text(&mut text, prefix);
     let hop = hop_field(&mut hop_text, hop, b"none");
-    put_fields(out, &[b"cert", b"leaf", prefix, hop])
+    put_fields(out, &[b"cert,leaf", prefix, hop])
 }
 
 /// Writes the k of a region that is put together from its halves.
@@ -228,7 +228,7 @@ fn put_join<W: Write + Drop>(out: &mut Writer<W>, prefix: &Prefix, k: u64) -> Re
     let mut text = [0; MOST_TEXT];
     let k = digits.format(k).as_bytes();
     let prefix = prefix_text(&mut text, prefix);
-    put_fields(out, &[b"cert", b"join", prefix, k])
+    put_fields(out, &[b"cert,join", prefix, k])
 }
 
 /// Writes how many entries a least table of a family has.
