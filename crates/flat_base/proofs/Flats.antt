@@ -412,6 +412,11 @@ pub no_seat : (b : Flat) (q : Seat) → HasNoSeat b q → (o : Option ℕ) → o
 no_seat b q h None e = h
 no_seat b q h (Some i) e = absurd cc
 
+-- a seat whose slot wasn't found
+pub no_seat_there : (b : Flat) (q : Seat) (r n : ℕ) (o : Option ℕ) → IsFlat b → IsRow b.rows.items q.prefix r → IsNumber b.peers.keys q.via.peer n → MatchOption o (HasNoSlot b.slots.items r n q.via.id) (IsSlot b.slots.items r n q.via.id) → o ≡ None → HasNoSeat b q
+no_seat_there b q r n None f row number h e = no_slot_seat b q r n f row number h
+no_seat_there b q r n (Some i) f row number h e = absurd cc
+
 peer_back : (p q : Peer) → peer_test p q ≡ peer_test q p
 peer_back p q = peer_eq p q ∙ (ap is_eq (peer_total.antisymm p q) ∙ (turned (code_peer_cmp q p) ∙ sym (peer_eq q p)))
   where

@@ -96,7 +96,7 @@ under_apart xs new ys e a = subst (λ zs. AreApart zs ys) (sym e) a
 
 -- ---- behind all others
 
-pub nothing : (o : Option Offer) (b : Bool) → b ≡ is_some o → b ≡ false → o ≡ None
+pub nothing : {X : Type 0} (o : Option X) (b : Bool) → b ≡ is_some o → b ≡ false → o ≡ None
 nothing None b e f = refl
 nothing (Some o) b e f = let x : false ≡ true = sym f ∙ e in absurd cc
 

@@ -194,6 +194,13 @@ pub record IsNext (b : Flat) (s : Slot) : Type 0 where
   pub new : HasNoSlot b.slots.items s.row s.peer s.id
   pub link : s.link ≡ end_of b.ends.items s.peer
 
+-- a seat that has no slot yet and may get one in the last row, by the numbers of its row and its peer and its path identifier
+pub record IsSeatAt (b : Flat) (q : Seat) (r n id : ℕ) : Type 0 where
+  pub row : IsLastRow b.rows.items q.prefix r
+  pub peer : IsNumber b.peers.keys q.via.peer n
+  pub id_is : id ≡ q.via.id
+  pub new : HasNoSeat b q
+
 -- a hop's number, or none
 abbrev pub IsHop : List Addr → ℕ → Type 0
 IsHop hops n = ((h : Addr) × (slice_get hops n ≡ Some h)) ⊎ (n ≡ no_hop)

@@ -10,7 +10,7 @@ ghost use Rattle.fib_prefix.specs.declared.event.Via as code;
 ghost use Rattle.flat_base.specs.Orders.{seat_cmp};
 ghost use Rattle.flat_base.specs.Seats.{Seats};
 ghost use Rattle.flat_base.specs.Chains.{no_peer, end_of as chain_end};
-ghost use Rattle.flat_base.specs.Flat.{IsFlat, IsRow, HasNoRow, IsSlot, HasNoSlot, HasNoSeat, IsNumber, HasNoNumber, HasNumbers, IsGrown, IsRun, IsBehind, IsLastRow, IsNext, IsHop, HasHop, Puts, AreNumbers, AreApart, Offers, Thins, NoSeatComes, IsLastFree, Grows, IsSlotOf, live_on, is_seat, is_among, is_offered_by, with_offer, emptied, offer_by, seats_on, no_slot, flat_seats, offer_on, via_on, no_hop, both};
+ghost use Rattle.flat_base.specs.Flat.{IsFlat, IsRow, HasNoRow, IsSlot, HasNoSlot, HasNoSeat, IsNumber, HasNoNumber, HasNumbers, IsGrown, IsRun, IsBehind, IsLastRow, IsNext, IsSeatAt, IsHop, HasHop, Puts, AreNumbers, AreApart, Offers, Thins, NoSeatComes, IsLastFree, Grows, IsSlotOf, live_on, is_seat, is_among, is_offered_by, with_offer, emptied, offer_by, seats_on, no_slot, flat_seats, offer_on, via_on, no_hop, both};
 ghost use Rattle.flat_base.specs.Bests.{IsBest, IsLive, is_out, candidate_on, comes_before, better_on, best_step, better_one as better};
 ghost use Rattle.flat_base.specs.Ways.{AddsWays, way_offer, way_put, way_step};
 
@@ -354,23 +354,26 @@ impl Flat {
         }
     }
 
-    /// Puts an offer behind all others, in the last row.
-    fn append_to(&mut self, row: u32, seat: &Seat, offer: &Offer) -> Result<(), AllocError>
+    /// Puts a route behind all others, in the last row, by the numbers of its row and its peer.
+    fn push_route(
+        &mut self,
+        row: u32,
+        peer: u32,
+        id: u32,
+        path: u32,
+        hop: &Addr,
+    ) -> Result<(), AllocError>
         requires flat { IsFlat self.old }
-        requires row { IsLastRow self.old.rows.items seat.now.prefix row }
-        requires new { HasNoSeat self.old seat.now }
-        requires peers { length self.old.peers.keys < no_peer }
+        requires seat { (q : Seat) × IsSeatAt self.old q row peer id }
         requires slots { length self.old.slots.items < 2 ^ 32 - 1 }
         ensures flat { IsFlat self.new }
-        ensures ok { OnOk result (Puts (flat_seats self.old) (flat_seats self.new) seat.now (Some offer.now)) }
+        ensures ok { OnOk result ((q : Seat) → IsSeatAt self.old q row peer id
+            → Puts (flat_seats self.old) (flat_seats self.new) q (Some (record { path = path; hop = hop.now }))) }
         ensures err { OnErr result (flat_seats self.new ≡ flat_seats self.old) }
         ensures grows { Grows self.old self.new }
     {
-        let peer = self.number_peer(&seat.peer())?;
-        let hop = self.number_hop_of(peer, &offer.hop())?;
+        let hop = self.number_hop_of(peer, hop)?;
         let link = self.end_of(peer as usize);
-        let id = seat.id();
-        let path = offer.path();
         self.push_slot(Slot {
             path,
             peer,
@@ -423,12 +426,24 @@ impl Flat {
             && self.hops.len() < NO_HOP as usize
     }
 
-    /// Puts an offer behind all others, if its place is there and numbers are left.
-    pub fn append(&mut self, seat: &Seat, offer: &Offer) -> Result<bool, AllocError>
-        requires flat { IsFlat self.old }
-        requires new { HasNoSeat self.old seat.now }
+    /// Puts a route behind all others, if its place is there, its way has no slot for the prefix yet, and numbers are left; and
+    /// tells whether it did. A dump's routes come so, one after the other: it compares the last row's prefix once, and neither
+    /// makes a seat nor searches.
+    ///
+    /// # Errors
+    ///
+    /// No memory; then nothing is offered that wasn't before.
+    pub fn put_behind(
+        &mut self,
+        via: &Via,
+        prefix: &Prefix,
+        path: u32,
+        hop: &Addr,
+    ) -> Result<bool, AllocError>
+        requires { IsFlat self.old }
         ensures flat { IsFlat self.new }
-        ensures yes { IfOk result (λ b. b ≡ true → Puts (flat_seats self.old) (flat_seats self.new) seat.now (Some offer.now)) }
+        ensures yes { IfOk result (λ b. b ≡ true → Puts (flat_seats self.old) (flat_seats self.new)
+            (record { via = via.now; prefix = prefix.now }) (Some (record { path = path; hop = hop.now }))) }
         ensures no { IfOk result (λ b. b ≡ false → flat_seats self.new ≡ flat_seats self.old) }
         ensures err { OnErr result (flat_seats self.new ≡ flat_seats self.old) }
         ensures grows { Grows self.old self.new }
@@ -436,13 +451,35 @@ impl Flat {
         if !self.has_numbers() {
             return Ok(false);
         }
-        match self.row_behind(&seat.prefix())? {
+        match self.row_behind(prefix)? {
             Some(row) => {
-                self.append_to(row, seat, offer)?;
-                Ok(true)
+                let put = self.put_last(row, via, path, hop)?;
+                Ok(put)
             }
             None => Ok(false),
         }
+    }
+
+    /// Puts a route behind all others, in the last row, if its way has no slot there yet; and tells whether it did.
+    fn put_last(&mut self, row: u32, via: &Via, path: u32, hop: &Addr) -> Result<bool, AllocError>
+        requires flat { IsFlat self.old }
+        requires row { (p : Prefix) × IsLastRow self.old.rows.items p row }
+        requires peers { length self.old.peers.keys < no_peer }
+        requires slots { length self.old.slots.items < 2 ^ 32 - 1 }
+        ensures flat { IsFlat self.new }
+        ensures yes { IfOk result (λ b. b ≡ true → (p : Prefix) → IsLastRow self.old.rows.items p row
+            → Puts (flat_seats self.old) (flat_seats self.new) (record { via = via.now; prefix = p })
+            (Some (record { path = path; hop = hop.now }))) }
+        ensures no { IfOk result (λ b. b ≡ false → flat_seats self.new ≡ flat_seats self.old) }
+        ensures err { OnErr result (flat_seats self.new ≡ flat_seats self.old) }
+        ensures grows { Grows self.old self.new }
+    {
+        let peer = self.number_peer(&via.peer)?;
+        if self.slot_of(row as usize, peer as usize, via.id).is_some() {
+            return Ok(false);
+        }
+        self.push_route(row, peer, via.id, path, hop)?;
+        Ok(true)
     }
 
     /// Sets what is offered at a seat, by the place of its slot: a path and a hop's number, or none.

@@ -7,6 +7,7 @@ pub mod Kept
 pub mod Spaces
 pub mod Downs
 pub mod AllRoutes
+pub mod AllEntries
 pub mod AllPrefixes
 pub mod RankWays
 pub mod ListWays

@@ -1,5 +1,5 @@
 -- The room for a plan stays.
-use Rattle.std.proofs.Common.{◌≡◌, ℕ, List, Bool, true, false, Option, Some, None, refl, sym, ap, subst, ◌∙◌}
+use Rattle.std.proofs.Common.{◌≡◌, ◌++◌, ℕ, List, Bool, true, false, Option, Some, None, refl, sym, ap, subst, ◌∙◌}
 use Rattle.std.specs.Prelude.{◌||◌, MatchOption, is_some, option_map}
 use Rattle.std.proofs.lemmas.Option.{MatchOption-at_some, MatchOption-at_none}
 use Rattle.fib_prefix.specs.Views.{elem_as}
@@ -62,6 +62,10 @@ no_slot_there b p e h = MatchOption-at_none _ _ e h
 
 pub offers_as : (xs new : Seats) (s t : Seat) (o p : Option Offer) → s ≡ t → o ≡ p → Offers xs new s o → Offers xs new t p
 offers_as xs new s t o p e a h = subst (λ r. Offers xs new r p) e (subst (Offers xs new s) a h)
+
+-- the same after a step of the base that changes nothing
+pub offers_later : (xs mid ys new : Seats) (s t : Seat) (o p : Option Offer) → mid ≡ xs → s ≡ t → o ≡ p → Offers (mid ++ ys) new s o → Offers (xs ++ ys) new t p
+offers_later xs mid ys new s t o p same e a h = offers_as (xs ++ ys) new s t o p e a (subst (λ zs. Offers (zs ++ ys) new s o) same h)
 
 -- the planned event is the pick's
 pub planned_is : (room : Option Plan) (p : Plan) (e : model.Elem) → room ≡ Some p → option_map planned_elem room ≡ Some e → elem_as p.elem ≡ e

@@ -1,7 +1,11 @@
 -- What clauses see of candidates.
-use Rattle.std.specs.Prelude.{◌≡◌, Option, Some, option_map}
+use Rattle.std.specs.Prelude.{◌≡◌, ℕ, Option, Some, option_map}
 use Rattle.fib_addr.specs.Views.{addr_as, prefix_as}
+use Rattle.fib_addr.specs.declared.addr.Addr.{Addr}
+use Rattle.fib_addr.specs.declared.prefix.Prefix as code
 use Rattle.fib_prefix.specs.Views.{elem_as}
+use Rattle.fib_prefix.specs.declared.event.Via.{Via}
+use Rattle.fib_prefix.specs.declared.event.Elem.TheVariants.{Put}
 use Rattle.route_model.specs.Events.{Elem, elem_prefix}
 use Rattle.route_model.specs.Choice.{Candidates, after_elem, chosen_for}
 use Rattle.route_choice.specs.declared.choice.Choice.{Choice}
@@ -11,6 +15,10 @@ use Rattle.route_choice.specs.declared.choice.Pick.{Pick}
 pub record Held : Type 0 where
   pub candidates : Candidates
   pub room : Option Elem
+
+-- the elementary event that puts a route
+abbrev pub put_as : Via → code.Prefix → ℕ → Addr → Elem
+put_as via prefix path hop = elem_as (Put via prefix path hop)
 
 -- the chosen hop of the prefix that an elementary event is about, before the event and after it
 pub record IsChoice (held : Candidates) (elem : Elem) (choice : Choice) : Type 0 where

@@ -3,6 +3,8 @@ use Rattle.std.specs.Prelude.{◌≡◌, ◌==◌, ◌&&◌, ◌||◌, nat_lt, �
 use Rattle.std.specs.List.{AllByRecursion, list_any}
 use Rattle.std.specs.BTreeMap.{is_at}
 use Rattle.address_model.specs.Address.{Address, Prefix, same_prefix}
+use Rattle.table_model.specs.Entries.{Entries}
+use Rattle.feed_model.specs.Feed.{number_in}
 use Rattle.fib_addr.specs.Views.{prefix_as}
 use Rattle.route_model.specs.Choice as model
 use Rattle.route_model.specs.Choice.{Place, Candidates, chosen_for}
@@ -78,6 +80,17 @@ route_or p (Some hop) routes = (p, hop) ∷ routes
 unfoldable pub routes_at : Seats → List code.Prefix → List (Prefix × Address)
 routes_at seats [] = []
 routes_at seats (p ∷ ps) = route_or (prefix_as p) (chosen_for (held_in seats) (prefix_as p)) (routes_at seats ps)
+
+-- the same with the numbers of hops
+abbrev pub with_number : List Address → Prefix × Address → Prefix × ℕ
+with_number hops r = (r.0, number_in hops r.1)
+
+abbrev pub entries_at : List Address → Seats → List code.Prefix → Entries
+entries_at hops seats ps = map (with_number hops) (routes_at seats ps)
+
+-- nothing is offered at any seat
+abbrev pub OffersNothing : Seats → Type 0
+OffersNothing seats = (s : Seat) (offer : Offer) → offer_at seats s ≡ Some offer → ⊥
 
 -- whether a prefix is among these, and whether those of all rows and ranks are
 abbrev pub has_prefix : List code.Prefix → code.Prefix → Bool

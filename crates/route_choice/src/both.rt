@@ -15,7 +15,7 @@ use crate::over::{
     seat_of,
 };
 use crate::plan::Plan;
-use fib_prefix::{Elem, Prefix, Via};
+use fib_prefix::{Addr, Elem, Prefix, Via};
 use flat_base::{Candidate, Flat, Offer, Rank, Seat};
 use std::alloc::AllocError;
 use std::collections::{BTreeMap, BTreeSet};
@@ -236,11 +236,51 @@ pub fn load_elem(
     ensures err { OnErr result (StaysKept seats.old.entries ranks.old.keys seats.new.entries
         ranks.new.keys) }
 {
-    let seat = seat_of(elem);
-    match offer_of(elem) {
-        Some(offer) => put_one(flat, seats, ranks, &seat, offer)?,
-        None => cut_one(flat, seats, ranks, &seat),
+    match elem {
+        Elem::Put(via, prefix, path, hop) => {
+            put_route(flat, seats, ranks, via, prefix, *path, hop)?
+        }
+        Elem::Cut(via, prefix) => cut_one(flat, seats, ranks, &Seat::new(via, prefix)),
     }
+    Ok(())
+}
+
+/// Offers a route, beside the room of the plan: behind all others of the base, where its place is, without a search. An `Err`
+/// leaves all as it was.
+pub fn put_route(
+    flat: &mut Flat,
+    seats: &mut BTreeMap<Seat, Option<Offer>>,
+    ranks: &mut BTreeSet<Rank>,
+    via: &Via,
+    prefix: &Prefix,
+    path: u32,
+    hop: &Addr,
+) -> Result<(), AllocError>
+    requires flat { IsFlat flat.old }
+    requires apart { AreApart (flat_seats flat.old) seats.old.entries }
+    ensures flat { IsFlat flat.new }
+    ensures apart { AreApart (flat_seats flat.new) seats.new.entries }
+    ensures ok { OnOk result (Offers (both flat.old seats.old.entries)
+        (both flat.new seats.new.entries) (record { via = via.now; prefix = prefix.now })
+        (Some (record { path = path; hop = hop.now }))) }
+    ensures kept { OnOk result (KeepsBeside seats.old.entries ranks.old.keys seats.new.entries
+        ranks.new.keys None) }
+    ensures err_base { OnErr result (flat_seats flat.new ≡ flat_seats flat.old) }
+    ensures err_grows { OnErr result (Grows flat.old flat.new) }
+    ensures err_offers { OnErr result (SameOffers seats.old.entries seats.new.entries) }
+    ensures err { OnErr result (StaysKept seats.old.entries ranks.old.keys seats.new.entries
+        ranks.new.keys) }
+{
+    if put_behind(flat, seats, via, prefix, path, hop)? {
+        return Ok(());
+    }
+    put_one(
+        flat,
+        seats,
+        ranks,
+        &Seat::new(via, prefix),
+        Offer::new(path, hop),
+    )?;
     Ok(())
 }
 
@@ -271,63 +311,49 @@ fn put_one(
             flat.offer_to(at, seat, &offer)?;
             Ok(())
         }
-        None => put_new(flat, seats, ranks, seat, offer),
+        None => {
+            put_offer(seats, ranks, seat, offer)?;
+            Ok(())
+        }
     }
 }
 
-/// Offers something at a seat that has no slot.
-fn put_new(
-    flat: &mut Flat,
-    seats: &mut BTreeMap<Seat, Option<Offer>>,
-    ranks: &mut BTreeSet<Rank>,
-    seat: &Seat,
-    offer: Offer,
-) -> Result<(), AllocError>
-    requires flat { IsFlat flat.old }
-    requires apart { AreApart (flat_seats flat.old) seats.old.entries }
-    requires new { HasNoSeat flat.old seat.now }
-    ensures flat { IsFlat flat.new }
-    ensures apart { AreApart (flat_seats flat.new) seats.new.entries }
-    ensures ok { OnOk result (Offers (both flat.old seats.old.entries)
-        (both flat.new seats.new.entries) seat.now (Some offer)) }
-    ensures kept { OnOk result (KeepsBeside seats.old.entries ranks.old.keys seats.new.entries
-        ranks.new.keys None) }
-    ensures err_base { OnErr result (flat_seats flat.new ≡ flat_seats flat.old) }
-    ensures err_grows { OnErr result (Grows flat.old flat.new) }
-    ensures err_offers { OnErr result (SameOffers seats.old.entries seats.new.entries) }
-    ensures err { OnErr result (StaysKept seats.old.entries ranks.old.keys seats.new.entries
-        ranks.new.keys) }
-{
-    if put_behind(flat, seats, seat, &offer)? {
-        return Ok(());
-    }
-    put_offer(seats, ranks, seat, offer)?;
-    Ok(())
-}
-
-/// Offers something at a seat that has no slot behind all slots, if its place is there and the maps have no offer for it.
+/// Offers a route behind all slots, if its place is there and the maps have no offer of its way for its prefix; and tells whether it
+/// did.
 fn put_behind(
     flat: &mut Flat,
     seats: &BTreeMap<Seat, Option<Offer>>,
-    seat: &Seat,
-    offer: &Offer,
+    via: &Via,
+    prefix: &Prefix,
+    path: u32,
+    hop: &Addr,
 ) -> Result<bool, AllocError>
     requires flat { IsFlat flat.old }
     requires apart { AreApart (flat_seats flat.old) seats.now.entries }
-    requires new { HasNoSeat flat.old seat.now }
     ensures flat { IsFlat flat.new }
     ensures apart { AreApart (flat_seats flat.new) seats.now.entries }
     ensures yes { IfOk result (λ b. b ≡ true → Offers (both flat.old seats.now.entries)
-        (both flat.new seats.now.entries) seat.now (Some offer.now)) }
+        (both flat.new seats.now.entries) (record { via = via.now; prefix = prefix.now })
+        (Some (record { path = path; hop = hop.now }))) }
     ensures no { IfOk result (λ b. b ≡ false → flat_seats flat.new ≡ flat_seats flat.old) }
     ensures err { OnErr result (flat_seats flat.new ≡ flat_seats flat.old) }
     ensures grows { Grows flat.old flat.new }
 {
-    if offer_at(seats, seat).is_some() {
+    if has_offer(seats, via, prefix) {
         return Ok(false);
     }
-    let put = flat.append(seat, offer)?;
+    let put = flat.put_behind(via, prefix, path, hop)?;
     Ok(put)
+}
+
+/// Whether the maps have an offer of a way for a prefix. Where they are empty no seat is made.
+fn has_offer(seats: &BTreeMap<Seat, Option<Offer>>, via: &Via, prefix: &Prefix) -> bool
+    ensures { result ≡ false → offered seats.now.entries (record { via = via.now; prefix = prefix.now }) ≡ None }
+{
+    if seats.is_empty() {
+        return false;
+    }
+    offer_at(seats, &Seat::new(via, prefix)).is_some()
 }
 
 /// Ends what is offered at a seat, beside the room of the plan.

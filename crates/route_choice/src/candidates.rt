@@ -1,26 +1,28 @@
 //! The candidates: the routes among which one is chosen for each prefix.
 
 ghost use Rattle.std.specs.Prelude.{◌≡◌, [], map, option_map, Some, None, IfOk, OnOk, OnErr};
-ghost use Rattle.fib_addr.specs.Views.{addr_as, prefix_as, route_as};
+ghost use Rattle.fib_addr.specs.Views.{addr_as, entry_as, prefix_as, route_as};
 ghost use Rattle.std.specs.List.{AllByRecursion};
 ghost use Rattle.fib_prefix.specs.Views.{IsOfOctets, cand_as, peer_as, event_as, elem_as};
 ghost use Rattle.route_model.specs.Choice.{AreCandidates, after_elem, elems_of, chosen_for, routes_of};
+ghost use Rattle.feed_model.specs.Feed.{entries_of};
 ghost use Rattle.cand_rows.specs.Taken.{Takes};
 ghost use Rattle.flat_base.specs.Seats.{held_in};
 ghost use Rattle.flat_base.specs.Flat.{IsFlat, AreApart, flat_seats, both};
-ghost use Rattle.route_choice.specs.Held.{Held, IsChoice, IsPlanned, pick_elem};
+ghost use Rattle.route_choice.specs.Held.{Held, IsChoice, IsPlanned, pick_elem, put_as};
 ghost use Rattle.route_choice.specs.Kept.{IsKept};
 ghost use Rattle.route_choice.specs.Space.{HasSpace, planned_elem, over_of as over};
 
 use crate::all::hand_candidates;
-use crate::both::{best_of, carry_one, choice_of, load_elem, make_space, plan_of};
+use crate::both::{best_of, carry_one, choice_of, load_elem, make_space, plan_of, put_route};
 use crate::choice::{Choice, Pick};
 use crate::down::cuts_of;
+use crate::entries::entries_of as all_entries;
 use crate::over::give_back;
 use crate::plan::{Plan, over_of};
 use crate::routes::routes_of as all_routes;
 use cand_rows::CandSink;
-use fib_prefix::{Addr, Cand, Elem, Event, Peer, Prefix};
+use fib_prefix::{Addr, Cand, Elem, Entry, Event, HopTable, Peer, Prefix, Via};
 use flat_base::{Flat, Offer, Rank, Seat};
 use std::alloc::{AllocError, Global};
 use std::collections::{BTreeMap, BTreeSet};
@@ -173,6 +175,39 @@ impl Candidates {
         Ok(())
     }
 
+    /// Carries out the elementary event that puts a route, as `load` does, at a fraction of what that costs where the route comes in
+    /// the order of prefixes. An earlier plan is void.
+    ///
+    /// # Errors
+    ///
+    /// No memory; then nothing has changed, and an earlier plan still holds.
+    pub fn load_put(
+        &mut self,
+        via: &Via,
+        prefix: &Prefix,
+        path: u32,
+        hop: &Addr,
+    ) -> Result<(), AllocError>
+        ensures candidates { OnOk result (self.new.candidates
+            ≡ after_elem self.old.candidates (put_as via.now prefix.now path hop.now)) }
+        ensures room { OnOk result (self.new.room ≡ None) }
+        ensures err { OnErr result (self.new ≡ self.old) }
+    {
+        put_route(
+            &mut self.flat,
+            &mut self.seats,
+            &mut self.ranks,
+            via,
+            prefix,
+            path,
+            hop,
+        )?;
+        let earlier = over_of(&self.room);
+        self.room = None;
+        give_back(&mut self.seats, &mut self.ranks, earlier, &None);
+        Ok(())
+    }
+
     /// The next hop of the chosen route for a prefix, if a peer offers one.
     pub fn chosen(&self, prefix: &Prefix) -> Option<Addr>
         ensures { option_map addr_as result ≡ chosen_for self.now.candidates
@@ -193,6 +228,19 @@ impl Candidates {
         ensures held { AreCandidates self.now.candidates }
     {
         all_routes(self.alloc, &self.flat, &self.seats, &self.ranks)
+    }
+
+    /// The same with the numbers of next hops, 0 of one that has none, in one list.
+    ///
+    /// # Errors
+    ///
+    /// No memory.
+    pub fn route_entries(&self, hops: &HopTable) -> Result<Vec<Entry>, AllocError>
+        ensures entries { IfOk result (λ entries. map entry_as entries.items
+            ≡ entries_of hops.now.list self.now.candidates) }
+        ensures held { AreCandidates self.now.candidates }
+    {
+        all_entries(self.alloc, &self.flat, &self.seats, &self.ranks, hops)
     }
 
     /// All candidates, in the order of prefixes, then of ways, in one list: 144 octets each. `hand_all` makes no list.

@@ -26,6 +26,7 @@ mod both;
 mod candidates;
 mod choice;
 mod down;
+mod entries;
 mod over;
 mod plan;
 mod prefixes;

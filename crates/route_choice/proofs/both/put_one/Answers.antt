@@ -1,5 +1,5 @@
-use Rattle.std.proofs.Common.{Some}
-use Rattle.flat_base.proofs.Parts.{flat_offers, flat_apart, no_other}
+use Rattle.std.proofs.Common.{Some, refl}
+use Rattle.flat_base.proofs.Parts.{flat_offers, flat_apart, no_other, over_apart, over_offers_from}
 use Rattle.flat_base.proofs.Flats.{offer_found}
 use Rattle.route_choice.proofs.Spaces.{kept_beside}
 use Rattle.route_choice.proofs.both.put_one.Goals as goal
@@ -12,3 +12,9 @@ returns-in_ok-offer_to-in-Some-clause-ok c = flat_offers _ _ c.args.seats.now.en
 
 pub returns-in_ok-offer_to-in-Some-clause-kept : goal.returns-in_ok-offer_to-in-Some-clause-kept
 returns-in_ok-offer_to-in-Some-clause-kept c = kept_beside c.args.seats.now.entries c.args.ranks.now.keys
+
+pub returns-in_ok-put_offer-in-None-clause-apart : goal.returns-in_ok-put_offer-in-None-clause-apart
+returns-in_ok-put_offer-in-None-clause-apart c = over_apart _ c.args.seats.now.entries c.put_offer.new.seats.entries c.args.seat.now (Some c.args.offer) c.requires.apart c.in-None.ensures c.in_ok-put_offer-in-None.ensures.ok
+
+pub returns-in_ok-put_offer-in-None-clause-ok : goal.returns-in_ok-put_offer-in-None-clause-ok
+returns-in_ok-put_offer-in-None-clause-ok c = over_offers_from _ _ c.args.seats.now.entries c.put_offer.new.seats.entries c.args.seat.now (Some c.args.offer) refl c.in-None.ensures c.in_ok-put_offer-in-None.ensures.ok
