@@ -24,10 +24,10 @@ use Rattle.fib_engine.specs.Numbers.{IsNewNumber, IsOwnNumber, numbered}
 grown : (hops : List Address) (a : Address) → number_of hops a ≡ None → with_hop hops a ≡ hops ++ a ∷ []
 grown hops a none = ap (λ t. cond t hops (hops ++ a ∷ [])) (new_is_not hops a (sym none))
 
-full_hop : (hops : List Address) (a : Address) → length hops ≡ most_hops → number_of hops a ≡ None → most_hops < length (with_hop hops a)
+pub full_hop : (hops : List Address) (a : Address) → length hops ≡ most_hops → number_of hops a ≡ None → most_hops < length (with_hop hops a)
 full_hop hops a len none = omega (arith, len, ap length (grown hops a none), length-append hops (a ∷ []))
 
-fits_hop : (hops : List Address) (a : Address) → length hops ≤ most_hops → most_hops < length (with_hop hops a) → (length hops ≡ most_hops) × (number_of hops a ≡ None)
+pub fits_hop : (hops : List Address) (a : Address) → length hops ≤ most_hops → most_hops < length (with_hop hops a) → (length hops ≡ most_hops) × (number_of hops a ≡ None)
 fits_hop hops a few over = by_number (number_of hops a) refl
   where
     by_number : (o : Option ℕ) → number_of hops a ≡ o → (length hops ≡ most_hops) × (number_of hops a ≡ None)

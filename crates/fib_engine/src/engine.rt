@@ -9,16 +9,17 @@ ghost use Rattle.route_model.specs.Choice.{elems_of};
 ghost use Rattle.feed_model.specs.Feed.{hops_after, number_in};
 ghost use Rattle.kept_feed.specs.Kept.{changed_at, is_due as due_at, is_other};
 ghost use Rattle.moves_cert.specs.Shortest.{AreShortest};
-ghost use Rattle.fib_addr.specs.Hops.{most_hops, number_of};
-ghost use Rattle.fib_addr.specs.Views.{addr_as, entry_as, route_as};
+ghost use Rattle.fib_addr.specs.Hops.{most_hops, number_of, with_hop};
+ghost use Rattle.fib_addr.specs.Views.{addr_as, entry_as};
 ghost use Rattle.fib_prefix.specs.Views.{elem_as, event_as};
+ghost use Rattle.route_choice.specs.Held.{put_as};
 ghost use Rattle.fib_delta.specs.Views.{change_as};
 ghost use Rattle.cert_rows.specs.Views.{row_as};
 ghost use Rattle.route_tries.specs.Sizes.{AreFew, needs_of, shortage, sizes_as};
 ghost use Rattle.route_tries.specs.Tries.{AreTriesOf};
 ghost use Rattle.route_tries.specs.declared.sizes.TrieFull.{TrieFull};
 ghost use Rattle.fib_engine.specs.Held.{routes_in, routes_told};
-ghost use Rattle.fib_engine.specs.Numbers.{HasNumber, IsNewNumber, IsOwnNumber, IsRouteOf, numbered};
+ghost use Rattle.fib_engine.specs.Numbers.{HasNumber, IsNewNumber, IsOwnNumber, IsRouteOf};
 ghost use Rattle.fib_engine.specs.Tables.{AreOfRoutes};
 ghost use Rattle.fib_engine.specs.Turns.{AreTurnsOf};
 ghost use Rattle.fib_engine.specs.Stands.{EndsLoad, IsLoading, IsShortFor, IsTooMany, Loads, Stands, Takes, changes_of, first_of, routes_after};
@@ -28,7 +29,7 @@ use crate::fitting::plan_fitting;
 use crate::settled::Settled;
 use crate::tables::{EventChanges, Tables};
 use crate::turns::Turns;
-use fib_prefix::{Addr, Elem, Entry, Event, Family, Hop, HopTable, HopsFull, Prefix};
+use fib_prefix::{Addr, Elem, Entry, Event, Family, Hop, HopTable, HopsFull, Prefix, Via};
 use ortc::Fresh;
 use route_choice::{Candidates, Choice};
 use route_tries::{FamilyNeeds, Sizes, Tries, TriesError};
@@ -125,6 +126,29 @@ pub(crate) fn number_hop(hops: &mut HopTable, own: Option<Hop>, elem: &Elem)
     }
 }
 
+/// The number that the hop of a route has or gets.
+fn number_next(hops: &HopTable, hop: &Addr) -> Result<Hop, HopsFull>
+    requires { length hops.now.list ≤ most_hops }
+    ensures full { IsErr result ↔ (most_hops < length (with_hop hops.now.list (addr_as hop.now))) }
+    ensures own { IfOk result (λ n. Some n.0 ≡ number_of (with_hop hops.now.list (addr_as hop.now)) (addr_as hop.now)) }
+{
+    let own = hops.next(hop)?;
+    Ok(own)
+}
+
+/// Numbers the hop of a route, if it has no number yet; `own` is the number that it has or gets. There is room for it, so it takes
+/// no memory.
+fn number_route(hops: &mut HopTable, own: Hop, hop: &Addr)
+    requires room { 1 ≤ hops.old.spare }
+    requires few { length (with_hop hops.old.list (addr_as hop.now)) ≤ most_hops }
+    requires own { Some own.0 ≡ number_of (with_hop hops.old.list (addr_as hop.now)) (addr_as hop.now) }
+    ensures { hops.new.list ≡ with_hop hops.old.list (addr_as hop.now) }
+{
+    if is_new(hops, Some(own)) {
+        let _number = hops.number(hop);
+    }
+}
+
 /// The number of a hop once an elementary event was taken: the one that it has, or the one that the event gives.
 fn number_after(hops: &HopTable, own: Option<Hop>, hop: &Addr) -> Hop
     ensures { (after : List Address) (elem : model_elem)
@@ -175,32 +199,6 @@ fn moves_made(route: Option<(Prefix, Hop)>, changes: &EventChanges) -> Option<u6
         Some(_) => Some(changes.first as u64),
         None => None,
     }
-}
-
-/// Routes as entries, with the numbers of their hops.
-fn number_routes(
-    alloc: Global,
-    hops: &HopTable,
-    routes: &[(Prefix, Addr)],
-) -> Result<Vec<Entry>, AllocError>
-    ensures { IfOk result (λ entries. map entry_as entries.items
-        ≡ numbered hops.now.list (map route_as routes.now)) }
-{
-    let mut entries = Vec::with_capacity(alloc, routes.len())?;
-    for (prefix, hop) in routes {
-        entries.push(Entry {
-            prefix: *prefix,
-            hop: number(hops, hop),
-        })?;
-    }
-    Ok(entries)
-}
-
-/// The number of a hop, none's where it has no number.
-fn number(hops: &HopTable, hop: &Addr) -> Hop
-    ensures { result.0 ≡ number_in hops.now.list (addr_as hop.now) }
-{
-    hops.find(hop).unwrap_or(Hop::NONE)
 }
 
 impl Engine {
@@ -279,6 +277,34 @@ impl Engine {
         Ok(())
     }
 
+    /// Takes the elementary event of the load that puts a route, as `load` does, at less cost.
+    ///
+    /// # Errors
+    ///
+    /// `HopsFull` exactly where the route brings one different hop too many, or no memory. Then the engine is as it was.
+    pub fn load_put(
+        &mut self,
+        via: &Via,
+        prefix: &Prefix,
+        path: u32,
+        hop: &Addr,
+    ) -> Result<(), EngineError>
+        requires { self.old.loaded ≡ false }
+        ensures loads { OnOk result (Loads (put_as via.now prefix.now path hop.now) self.old self.new) }
+        ensures loading { OnOk result ((load : List model_elem) → IsLoading load self.old
+            → IsLoading (load ++ put_as via.now prefix.now path hop.now ∷ []) self.new) }
+        ensures full { IsErrOf result EngineError.HopsFull ↔ IsTooMany
+            (put_as via.now prefix.now path hop.now) self.old }
+        ensures fits { (t : TrieFull) → ¬ (IsErrOf result (EngineError.TrieFull t)) }
+        ensures err { OnErr result (self.new ≡ self.old) }
+    {
+        let own = number_next(&self.hops, hop)?;
+        self.hops.room()?;
+        self.candidates.load_put(via, prefix, path, hop)?;
+        number_route(&mut self.hops, own, hop);
+        Ok(())
+    }
+
     /// Takes an elementary event after the load, counts it, and gives its changes: where it changes the chosen hop, first those
     /// of the repair at its prefix, or with `fewest` those to the nearest table, which are the fewest that any table of the routes
     /// needs; then those of a snapshot of both families, where one is due; and how many are the first step's. Its hop gets a
@@ -350,7 +376,7 @@ impl Engine {
     pub fn routes(&self) -> Result<Vec<Entry>, AllocError>
         ensures { IfOk result (λ v. map entry_as v.items ≡ routes_in self.now) }
     {
-        number_routes(self.alloc, &self.hops, &self.candidates.routes()?)
+        self.candidates.route_entries(&self.hops)
     }
 
     /// The tables of the routes, before their first snapshot.
