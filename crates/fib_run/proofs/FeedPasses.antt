@@ -1,7 +1,7 @@
 -- The reads of asks, of records and of steps.
 use Rattle.std.specs.Prelude.{IfErr, IsErrAnd, IsErrOf, MatchResult}
 use Rattle.std.proofs.lemmas.Result.{err_from_is_err_and}
-use Rattle.std.proofs.Common.{◌≡◌, ◌∙◌, ℕ, zero, suc, ◌≤◌, List, [], ◌∷◌, ◌++◌, Option, Result, Ok, Err, refl, sym, subst, append-nil, arith}
+use Rattle.std.proofs.Common.{◌≡◌, ℕ, zero, suc, ◌≤◌, List, [], ◌∷◌, Option, Result, Ok, Err, refl, sym, subst, arith}
 use Rattle.fib_io.specs.Reads.{Anywhere, Makes, PassInTime, Read}
 use Rattle.fib_io.specs.declared.pieces.ReadError.{ReadError}
 use Rattle.fib_io.specs.declared.pieces.ReadError.TheVariants as pieces
@@ -26,12 +26,11 @@ use Rattle.fib_run.specs.declared.asks.AskError.TheVariants as ask
 use Rattle.fib_due.specs.declared.outcome.MrtInput.{MrtInput}
 use Rattle.fib_due.specs.declared.outcome.MrtInput.TheVariants as mrt
 use Rattle.fib_due.specs.declared.outcome.Outcome.{Outcome}
-use Rattle.fib_due.specs.declared.outcome.Outcome.TheVariants.{NoMemory, TooLarge, Malformed, HopsFull, TrieFull, BadLine}
+use Rattle.fib_due.specs.declared.outcome.Outcome.TheVariants.{HopsFull, TrieFull}
 use Rattle.fib_due.specs.declared.outcome.Which.TheVariants.{Asks, Dump, Updates}
 use Rattle.fib_run.specs.declared.state.State.{State}
 use Rattle.fib_run.specs.declared.state.FeedError.{FeedError}
 use Rattle.fib_run.specs.declared.state.FeedError.TheVariants as feed
-use Rattle.fib_due.specs.Ends.{EndsBy}
 use Rattle.fib_run.specs.Asking.{ask_of_input, ask_refusal}
 use Rattle.fib_run.specs.Loaded.{of_step}
 use Rattle.fib_due.specs.Passes.{AllRead, Content, Judge, ReadUpTo, ReadsOf, StopsReading}

@@ -383,3 +383,19 @@ taken_push which limits before done front all elem count old new so_far takes ne
     let at : count + 1 ≡ length ((done ++ front) ++ elem ∷ []) = next_counted (done ++ front) elem (count + 1) count so_far.0 refl in
     let same : (done ++ front) ++ elem ∷ [] ≡ done ++ all = append_assoc done front (elem ∷ []) ∙ ap (λ es. done ++ es) (sym next) in
     (at ∙ ap length same, subst (λ es. StateStands which limits before es new) same (takes limits before (done ++ front) at so_far.1))
+
+-- an event that is one elementary event was taken, or wasn't
+pub event_taken : (which : MrtInput) (event : Event) (elem : Elem) (count : ℕ) (old new : State) → elem ∷ [] ≡ elems_of old.engine.candidates event → StateTakes {T = Unit {0}} which (count + 1) (elem ∷ []) old (Ok tt) new → StateTakesAll which count (event ∷ []) old (Ok (count + 1)) new
+event_taken which event elem count old new is takes = λ limits before done counted s.
+    let at : count + 1 ≡ length (done ++ elem ∷ []) = next_counted done elem (count + 1) count counted refl in
+    let all : done ++ elem ∷ [] ≡ done ++ next_elems before done (event ∷ []) = ap (λ es. done ++ es) (is ∙ sym (next_one which limits before done event old s)) in
+    (at ∙ ap length all, subst (λ es. StateStands which limits before es new) all (takes limits before done at s))
+
+pub event_refused : (which : MrtInput) (event : Event) (elem : Elem) (count : ℕ) (old new after : State) (error : FeedError) → elem ∷ [] ≡ elems_of old.engine.candidates event → StateTakes {T = Unit {0}} which (count + 1) (elem ∷ []) old (Err error) new → StateTakesAll which count (event ∷ []) old (Err error) after
+event_refused which event elem count old new after error is takes = refused_step which count (count + 1) (event ∷ []) elem old old new after error takes (λ limits before done counted s. record {
+  front = done;
+  rest = [];
+  counted = next_counted done elem (count + 1) count counted refl;
+  stands = s;
+  same = append-nil (done ++ elem ∷ []) ∙ ap (λ es. done ++ es) (is ∙ sym (next_one which limits before done event old s));
+})

@@ -1,11 +1,10 @@
 -- Where a pass over asks or records ends.
-use Rattle.std.specs.Prelude.{◌≡◌, ◌≤◌, ◌+◌, ℕ, [], ◌∷◌, ◌++◌, Result, Ok, Err, ◌⊎◌}
+use Rattle.std.specs.Prelude.{◌≡◌, ◌≤◌, Result, Ok, Err}
 use Rattle.fib_io.specs.Reads.{Anywhere, AtEnd, AtFault, PassEnd, PastMost}
 use Rattle.fib_run.specs.declared.asks.AskError.{AskError}
 use Rattle.fib_run.specs.declared.asks.AskError.TheVariants as ask
 use Rattle.fib_due.specs.declared.outcome.MrtInput.{MrtInput}
 use Rattle.fib_due.specs.declared.outcome.MrtInput.TheVariants.{Updates as OfUpdates}
-use Rattle.fib_due.specs.declared.outcome.Outcome.TheVariants.{NoMemory, TooLarge, Malformed, HopsFull, TrieFull, BadLine}
 use Rattle.fib_run.specs.declared.state.FeedError.{FeedError}
 use Rattle.fib_run.specs.declared.state.FeedError.TheVariants as feed
 

@@ -3,6 +3,7 @@
 ghost use Rattle.std.specs.Prelude.{◌≡◌, ◌≤◌, ◌<◌, ◌+◌, ◌-◌, ◌^◌, ◌++◌, ◌∷◌, [], ℕ, List, length, map, IfErr, IfOk, IfSome, OnOk};
 ghost use Rattle.fib_delta.specs.Views.{change_as};
 ghost use Rattle.fib_prefix.specs.Views.{elem_as, event_as};
+ghost use Rattle.fib_prefix.specs.declared.event.Elem.TheVariants.{Put};
 ghost use Rattle.route_model.specs.Events.{Elem as model_elem, Event as model_event};
 ghost use Rattle.route_model.specs.Choice.{Candidates, after_elem, elems_of};
 ghost use Rattle.feed_model.specs.Feed.{at_event};
@@ -19,7 +20,7 @@ use fib_delta::Change;
 use fib_due::MrtInput;
 use fib_engine::{Engine, EngineError, Limits, TrieFull};
 use fib_io::ReadError;
-use fib_prefix::{Elem, Entry, Event};
+use fib_prefix::{Addr, Elem, Entry, Event, Prefix, Via};
 use fib_report::Moves;
 use mrt_read::{EventsError, Malformed};
 use std::alloc::{AllocError, AllocFailed, Global};
@@ -269,8 +270,75 @@ fn take_elems(
     Ok(count)
 }
 
-/// Takes an event after so many elementary events, and gives how many there are then. Only a lost session takes a list.
+/// Takes the elementary event of this number that puts a route of a dump: its hop gets a number, and the candidates change.
+fn load_step(
+    state: &mut State,
+    event: u64,
+    via: &Via,
+    prefix: &Prefix,
+    path: u32,
+    hop: &Addr,
+) -> Result<(), FeedError>
+    requires ready { IsReady MrtInput.Dump (event - 1) state.old.engine }
+    requires first { 1 ≤ event }
+    ensures takes { StateTakes MrtInput.Dump event
+        (elem_as (Put via.now prefix.now path hop.now) ∷ []) state.old result state.new }
+    ensures candidates { OnOk result (state.new.engine.candidates
+        ≡ after_elem state.old.engine.candidates (elem_as (Put via.now prefix.now path hop.now))) }
+    ensures ready { OnOk result (IsReady MrtInput.Dump event state.new.engine) }
+    ensures numbered { IfErr result (IsNumbered MrtInput.Dump) }
+{
+    match state.engine.load_put(via, prefix, path, hop) {
+        Ok(()) => Ok(()),
+        Err(error) => Err(refusal_at(event, error)),
+    }
+}
+
+/// Takes an event of a dump after so many elementary events, and gives how many there are then. A route is taken as it lies there.
+fn take_dumped(state: &mut State, before: u64, event: &Event) -> Result<u64, FeedError>
+    requires ready { IsReady MrtInput.Dump before state.old.engine }
+    requires few { CountsFit state.old.engine.candidates (event_as event.now ∷ []) before }
+    ensures takes { StateTakesAll MrtInput.Dump before (event_as event.now ∷ [])
+        state.old result state.new }
+    ensures ready { IfOk result (λ after. IsReady MrtInput.Dump after state.new.engine) }
+    ensures numbered { IfErr result (IsNumbered MrtInput.Dump) }
+    ensures counts { IfOk result (λ after. CountsOn state.old.engine.candidates
+        (event_as event.now ∷ []) before after state.new.engine.candidates) }
+{
+    match event {
+        Event::Announce(via, prefix, path, hop, _) => {
+            let count = before + 1;
+            load_step(state, count, via, prefix, *path, hop)?;
+            Ok(count)
+        }
+        _ => take_one(state, MrtInput::Dump, before, event),
+    }
+}
+
+/// Takes an event after so many elementary events, and gives how many there are then.
 fn take_event(
+    state: &mut State,
+    which: MrtInput,
+    before: u64,
+    event: &Event,
+) -> Result<u64, FeedError>
+    requires ready { IsReady which before state.old.engine }
+    requires few { CountsFit state.old.engine.candidates (event_as event.now ∷ []) before }
+    ensures takes { StateTakesAll which before (event_as event.now ∷ [])
+        state.old result state.new }
+    ensures ready { IfOk result (λ after. IsReady which after state.new.engine) }
+    ensures numbered { IfErr result (IsNumbered which) }
+    ensures counts { IfOk result (λ after. CountsOn state.old.engine.candidates
+        (event_as event.now ∷ []) before after state.new.engine.candidates) }
+{
+    match which {
+        MrtInput::Dump => take_dumped(state, before, event),
+        MrtInput::Updates => take_one(state, which, before, event),
+    }
+}
+
+/// Takes an event after so many elementary events, and gives how many there are then. Only a lost session takes a list.
+fn take_one(
     state: &mut State,
     which: MrtInput,
     before: u64,

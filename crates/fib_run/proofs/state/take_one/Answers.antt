@@ -1,7 +1,7 @@
 use Rattle.std.proofs.Common.{map, ap, ◌∙◌}
 use Rattle.fib_prefix.specs.Views.{elem_as, event_as}
 use Rattle.fib_run.proofs.Counting.{fits_elems}
-use Rattle.fib_run.proofs.state.take_event.Goals as goal
+use Rattle.fib_run.proofs.state.take_one.Goals as goal
 
 pub take_elems-requires-clause-few : goal.take_elems-requires-clause-few
 take_elems-requires-clause-few c =
