@@ -69,14 +69,16 @@ first_of j m d key =
     ∙ ap (λ l. take j (take d l)) (sym (bits_cat j m key)))
 
 -- the key moved up by j bits
-pub shl_shr : (j m key : ℕ) → key * 2 ^ j % 2 ^ (m + j) / 2 ^ j ≡ key % 2 ^ m
-shl_shr j m key =
+pub shl_mod : (j m key : ℕ) → key * 2 ^ j % 2 ^ (m + j) ≡ key % 2 ^ m * 2 ^ j
+shl_mod j m key =
     let n = key * 2 ^ j in
     let e : n % 2 ^ (m + j) ≡ n / 2 ^ j % 2 ^ m * 2 ^ j + n % 2 ^ j = mod-pow-add n m j in
     let z : n % 2 ^ j ≡ 0 = mul-mod_left key (2 ^ j) in
     let q : n / 2 ^ j ≡ key = shl-shr key j in
-    let s : n % 2 ^ (m + j) ≡ key % 2 ^ m * 2 ^ j = e ∙ (ap (λ x. x % 2 ^ m * 2 ^ j + n % 2 ^ j) q ∙ omega (arith, z)) in
-    ap (λ x. x / 2 ^ j) s ∙ shl-shr (key % 2 ^ m) j
+    e ∙ (ap (λ x. x % 2 ^ m * 2 ^ j + n % 2 ^ j) q ∙ omega (arith, z))
+
+pub shl_shr : (j m key : ℕ) → key * 2 ^ j % 2 ^ (m + j) / 2 ^ j ≡ key % 2 ^ m
+shl_shr j m key = ap (λ x. x / 2 ^ j) (shl_mod j m key) ∙ shl-shr (key % 2 ^ m) j
 
 rest_of : (j m d key : ℕ) → d ≤ j + m → drop j (take d (bits_of (j + m) key)) ≡ take (d - j) (bits_of (m + j) (key * 2 ^ j % 2 ^ (m + j)))
 rest_of j m d key h =

@@ -15,6 +15,9 @@ use Rattle.buddy_arena.proofs.Others.{one_whole}
 use Rattle.buddy_arena.proofs.Totals.{total_whole, total_le}
 use Rattle.fib_regions.specs.Answers.{one_answer, part, all_answers}
 use Rattle.poptrie_build.specs.Strides.{Region, strides, address}
+use Rattle.fib_addr.specs.Views.{addr_as}
+use Rattle.fib_addr.specs.declared.addr.Addr.{Addr}
+use Rattle.poptrie_build.specs.Keys.{widened}
 use Rattle.poptrie_build.specs.Need.{told, trie_nodes, trie_leaves}
 use Rattle.poptrie_build.specs.Stands.{BySlot, Stands, TrieStands}
 use Rattle.block_pool.specs.Places.{count_free, is_out, IsFresh}
@@ -107,6 +110,11 @@ key_is w b h =
     bits_take 128 w (b * 2 ^ j % 2 ^ 128) h
     ∙ (ap (λ n. bits_of w (b * 2 ^ j % 2 ^ n / 2 ^ j)) (sym e)
     ∙ (ap (bits_of w) (shl_shr j w b) ∙ bits_mod w b w (omega arith)))
+
+pub address_is : (a : Addr) (w n : ℕ) → width a.family ≡ w → w ≤ 128 → n ≡ width a.family → address n (widened w a.bits) ≡ (addr_as a).bits
+address_is a w n f h e =
+    ap (λ m. address m (widened w a.bits)) (e ∙ f)
+    ∙ (key_is w a.bits h ∙ ap (λ m. bits_of m a.bits) (sym f))
 
 pub wide_enough : (f : Family) (s : ℕ) → s ≤ 18 → s + rest f s ≡ width f
 wide_enough f s h = omega (arith, h, wide f)

@@ -14,5 +14,6 @@ pub mod So_far
 pub mod Tallying
 pub mod Visits
 pub mod Walk
+pub mod Widened
 pub mod OneRoute
 mod Rows

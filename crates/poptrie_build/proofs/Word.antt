@@ -59,18 +59,22 @@ direct_node s direct nodes leaves region key h l t small =
       | inr (g, e, (b, w)) ↦ absurd (omega arith)
     ]
 
+-- ---- at the slot that i is
+pub within_at : (i s : ℕ) (direct : List ℕ) (k : ℕ) (nodes : List Node) (leaves : List ℕ) (d : ℕ) (f : List Bool → ℕ) (key : ℕ) → i ≡ key / 2 ^ (128 - s) → s + d ≤ 128 → key < 2 ^ 128 → TrieStands s direct k nodes leaves d f → i < length direct
+within_at i s direct k nodes leaves d f key e h l t = subst (λ (j : ℕ). j < length direct) (sym e) (slot_within s direct k nodes leaves d f key h l t)
+
+pub small_at : (i s key : ℕ) → i ≡ key / 2 ^ (128 - s) → s < 32 → key < 2 ^ 128 → i < 2 ^ 31
+small_at i s key e h l = subst (λ (j : ℕ). j < 2 ^ 31) (sym e) (slot_small s key h l)
+
+pub hop_at : (i s : ℕ) (direct : List ℕ) (nodes : List Node) (leaves : List ℕ) (region : Region) (key : ℕ) → i ≡ key / 2 ^ (128 - s) → s + region.bits ≤ 128 → key < 2 ^ 128 → TrieStands s direct region.strides nodes leaves region.bits region.answers → 2 ^ 31 ≤ get_or direct i 0 → Hop (get_or direct i 0) s region.strides region.bits region.answers key
+hop_at i s direct nodes leaves region key e h l t = subst (λ (j : ℕ). 2 ^ 31 ≤ get_or direct j 0 → Hop (get_or direct j 0) s region.strides region.bits region.answers key) (sym e) (direct_hop s direct nodes leaves region key h l t)
+
+pub stands_at_word : (i s : ℕ) (direct : List ℕ) (nodes : List Node) (leaves : List ℕ) (region : Region) (key : ℕ) → i ≡ key / 2 ^ (128 - s) → s + region.bits ≤ 128 → key < 2 ^ 128 → TrieStands s direct region.strides nodes leaves region.bits region.answers → get_or direct i 0 < 2 ^ 31 → Stands region.strides nodes leaves (get_or direct i 0) region.bits (part (address s key) region.answers)
+stands_at_word i s direct nodes leaves region key e h l t = subst (λ (j : ℕ). get_or direct j 0 < 2 ^ 31 → Stands region.strides nodes leaves (get_or direct j 0) region.bits (part (address s key) region.answers)) (sym e) (direct_node s direct nodes leaves region key h l t)
+
 -- the slot by two shifts, which serves for no direct bits too
 pub slot_by : (s key : ℕ) → s < 128 → key / 2 / 2 ^ (127 - s) ≡ key / 2 ^ (128 - s)
 slot_by s key h = let e : 1 + (127 - s) ≡ 128 - s = omega arith in shr-shr key 1 (127 - s) ∙ ap (λ n. key / 2 ^ n) e
 
-pub within_by : (s : ℕ) (direct : List ℕ) (k : ℕ) (nodes : List Node) (leaves : List ℕ) (d : ℕ) (f : List Bool → ℕ) (key : ℕ) → s < 32 → s + d ≤ 128 → key < 2 ^ 128 → TrieStands s direct k nodes leaves d f → key / 2 / 2 ^ (127 - s) < length direct
-within_by s direct k nodes leaves d f key m h l t = subst (λ (i : ℕ). i < length direct) (sym (slot_by s key (omega arith))) (slot_within s direct k nodes leaves d f key h l t)
-
 pub small_by : (s key : ℕ) → s < 32 → key < 2 ^ 128 → key / 2 / 2 ^ (127 - s) < 2 ^ 31
 small_by s key h l = subst (λ (i : ℕ). i < 2 ^ 31) (sym (slot_by s key (omega arith))) (slot_small s key h l)
-
-pub hop_by : (s : ℕ) (direct : List ℕ) (nodes : List Node) (leaves : List ℕ) (region : Region) (key : ℕ) → s < 32 → s + region.bits ≤ 128 → key < 2 ^ 128 → TrieStands s direct region.strides nodes leaves region.bits region.answers → 2 ^ 31 ≤ get_or direct (key / 2 / 2 ^ (127 - s)) 0 → Hop (get_or direct (key / 2 / 2 ^ (127 - s)) 0) s region.strides region.bits region.answers key
-hop_by s direct nodes leaves region key m h l t = subst (λ (i : ℕ). 2 ^ 31 ≤ get_or direct i 0 → Hop (get_or direct i 0) s region.strides region.bits region.answers key) (sym (slot_by s key (omega arith))) (direct_hop s direct nodes leaves region key h l t)
-
-pub node_by : (s : ℕ) (direct : List ℕ) (nodes : List Node) (leaves : List ℕ) (region : Region) (key : ℕ) → s < 32 → s + region.bits ≤ 128 → key < 2 ^ 128 → TrieStands s direct region.strides nodes leaves region.bits region.answers → get_or direct (key / 2 / 2 ^ (127 - s)) 0 < 2 ^ 31 → Stands region.strides nodes leaves (get_or direct (key / 2 / 2 ^ (127 - s)) 0) region.bits (part (address s key) region.answers)
-node_by s direct nodes leaves region key m h l t = subst (λ (i : ℕ). get_or direct i 0 < 2 ^ 31 → Stands region.strides nodes leaves (get_or direct i 0) region.bits (part (address s key) region.answers)) (sym (slot_by s key (omega arith))) (direct_node s direct nodes leaves region key h l t)

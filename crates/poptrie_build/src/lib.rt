@@ -14,6 +14,7 @@ mod building;
 mod counts;
 mod direct;
 mod filling;
+mod key;
 mod lookup;
 mod making;
 mod node;

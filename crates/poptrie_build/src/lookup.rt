@@ -10,9 +10,10 @@ ghost use Rattle.poptrie_build.specs.Stands.{Stands, TrieStands};
 ghost use Rattle.poptrie_build.specs.Keys.{key_as};
 
 use crate::direct::HOP;
+use crate::key::Key;
 use crate::node::{Node, rank};
 use buddy_arena::Arena;
-use fib_addr::{Addr, Hop};
+use fib_addr::{Addr, Family, Hop};
 use std::sync::ledger::Ledger;
 use step_count::Steps;
 
@@ -27,35 +28,35 @@ pub struct Found {
 
 /// The answer at the address that the key's bits begin with, from the node that stands for what the key's first `start` bits
 /// leave of the answers.
-fn find_below<L: Ledger>(
+fn find_below<K: Key, L: Ledger>(
     nodes: &Arena<Node>,
     leaves: &Arena<u16>,
     root: u32,
-    key: u128,
+    key: K,
     start: u8,
     steps: &mut Steps<L>,
 ) -> Found
     ghost region: { Region }
-    requires start { start < 128 }
+    requires start { start < 32 }
     requires bits { start + region.bits ≤ 128 }
     requires stands { Stands region.strides nodes.now.cells leaves.now.cells root region.bits
-        (part (address start key) region.answers) }
+        (part (address start (K.wide key)) region.answers) }
     requires nodes_sized { IsSized nodes.now }
     requires leaves_sized { IsSized leaves.now }
-    ensures hop { result.hop.0 ≡ region.answers (address (start + region.bits) key) }
+    ensures hop { result.hop.0 ≡ region.answers (address (start + region.bits) (K.wide key)) }
     ensures visits { result.visits ≡ trie_visits start region.strides region.bits region.answers
-        (address (start + region.bits) key) }
+        (address (start + region.bits) (K.wide key)) }
     ensures few { 6 * result.visits ≤ region.bits + 5 }
     ensures steps { steps.new ≡ steps.old + result.visits }
 {
     let mut index = root;
-    let mut left = key << start;
+    let mut left = key.rest(start);
     let mut visits = 0;
     'walk: loop {
         let node = nodes.read(index);
         steps.tick();
         visits += 1;
-        let slot = (left >> 122) as u8;
+        let slot = left.slot();
         if (node.vector >> slot) & 1 == 0 {
             let hop = leaves.read(node.base0 + rank(node.leafvec, slot) - 1);
             return Found {
@@ -64,17 +65,17 @@ fn find_below<L: Ledger>(
             };
         }
         index = node.base1 + rank(node.vector, slot) - 1;
-        left <<= 6;
+        left = left.rest(6);
     }
 }
 
 /// The answer at the address that the key's bits begin with, by the direct words.
-fn find<L: Ledger>(
+fn find<K: Key, L: Ledger>(
     words: &[u32],
     nodes: &Arena<Node>,
     leaves: &Arena<u16>,
     direct_bits: u8,
-    key: u128,
+    key: K,
     steps: &mut Steps<L>,
 ) -> Found
     ghost region: { Region }
@@ -83,12 +84,12 @@ fn find<L: Ledger>(
     requires stands { TrieStands direct_bits words.now region.strides nodes.now.cells leaves.now.cells region.bits region.answers }
     requires nodes_sized { IsSized nodes.now }
     requires leaves_sized { IsSized leaves.now }
-    ensures hop { result.hop.0 ≡ region.answers (address (direct_bits + region.bits) key) }
-    ensures visits { result.visits ≡ trie_visits direct_bits region.strides region.bits region.answers (address (direct_bits + region.bits) key) }
+    ensures hop { result.hop.0 ≡ region.answers (address (direct_bits + region.bits) (K.wide key)) }
+    ensures visits { result.visits ≡ trie_visits direct_bits region.strides region.bits region.answers (address (direct_bits + region.bits) (K.wide key)) }
     ensures few { 6 * result.visits ≤ region.bits + 5 }
     ensures steps { steps.new ≡ steps.old + result.visits }
 {
-    let word = words[(key >> 1 >> (127 - direct_bits)) as usize];
+    let word = words[key.head(direct_bits)];
     if word >= HOP {
         return Found {
             hop: Hop((word - HOP) as u16),
@@ -127,5 +128,8 @@ pub(crate) fn find_addr<L: Ledger>(
     ensures few { 6 * result.visits ≤ region.bits + 5 }
     ensures steps { steps.new ≡ steps.old + result.visits }
 {
-    find(words, nodes, leaves, direct_bits, key_of(addr), steps)
+    match addr.family {
+        Family::V4 => find(words, nodes, leaves, direct_bits, addr.bits as u32, steps),
+        Family::V6 => find(words, nodes, leaves, direct_bits, addr.bits, steps),
+    }
 }

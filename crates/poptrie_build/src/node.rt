@@ -28,12 +28,11 @@ impl Node {
     }
 }
 
-#[tactic(auto, using(crate::proofs::Bits::rank_mask))]
+#[tactic(auto, using(crate::proofs::Bits::rank_shl))]
 /// How many of the slots up to this one have their bit set.
 pub fn rank(vector: u64, slot: u8) -> u32
     requires { slot < 64 }
     ensures { result ≡ rank_of vector (slot + 1) }
 {
-    let mask = u64::MAX >> (63 - slot);
-    (vector & mask).count_ones()
+    (vector << (63 - slot)).count_ones()
 }
