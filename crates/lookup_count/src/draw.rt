@@ -1,6 +1,7 @@
 //! Addresses that are drawn within routes.
 
-use fib_prefix::{Addr, Entry, Family};
+use crate::key::Key;
+use fib_prefix::{Entry, Family};
 use std::alloc::Global;
 
 /// Draws of a linear congruential generator modulo 2^64, with the multiplier and the increment of Knuth's MMIX (*The Art of Computer
@@ -31,41 +32,27 @@ impl Draws {
     }
 }
 
-/// An address of a route: its bits, and then drawn ones.
-fn addr_in(route: &Entry, draws: &mut Draws) -> Addr {
-    let len = u32::from(route.prefix.len);
-    let drawn = draws.bits();
-    match route.prefix.family {
-        Family::V4 => {
-            let first = u32::try_from(route.prefix.bits).unwrap_or(0);
-            let drawn = (drawn & u128::from(u32::MAX)) as u32;
-            Addr::v4(first | drawn.checked_shr(len).unwrap_or(0))
-        }
-        Family::V6 => Addr::v6(route.prefix.bits | drawn.checked_shr(len).unwrap_or(0)),
-    }
-}
-
 /// So many addresses within the routes of the family, of which there must be some.
-pub fn draw_addrs(
+pub fn draw_keys<K: Key>(
     alloc: Global,
     routes: &[Entry],
     family: Family,
     count: usize,
-) -> anyhow::Result<Vec<Addr>> {
+) -> anyhow::Result<Vec<K>> {
     let mut of_family = Vec::new(alloc);
     for route in routes {
         if route.prefix.family == family {
             of_family.push(*route)?;
         }
     }
-    let mut addrs = Vec::with_capacity(alloc, count)?;
+    let mut keys = Vec::with_capacity(alloc, count)?;
     let mut draws = Draws { state: 1 };
     for _ in 0..count {
         let Some(route) = of_family.get((draws.next() % (of_family.len() as u64).max(1)) as usize)
         else {
             anyhow::bail!("no route of the family");
         };
-        addrs.push(addr_in(route, &mut draws))?;
+        keys.push(K::within(&route.prefix, draws.bits()))?;
     }
-    Ok(addrs)
+    Ok(keys)
 }

@@ -8,12 +8,14 @@ use fib_prefix::Event;
 use mrt_read::Reader;
 use std::alloc::Global;
 
-/// Room for a whole table of today.
-const SIZES: Sizes = Sizes {
-    direct: 16,
-    nodes: 22,
-    leaves: 24,
-};
+/// Room for a whole table of today, behind so many direct bits.
+fn sizes_of(direct: u8) -> Sizes {
+    Sizes {
+        direct,
+        nodes: 22,
+        leaves: 24,
+    }
+}
 
 /// Loads what an event says.
 fn load_event(engine: &mut Engine, event: &Event) -> anyhow::Result<()>
@@ -82,8 +84,13 @@ fn load_all<I: Inputs>(
     Ok(())
 }
 
-/// An engine that has loaded a dump.
-pub fn load<I: Inputs>(alloc: Global, inputs: &mut I, name: &str) -> anyhow::Result<Engine>
+/// An engine that has loaded a dump, whose tries have so many direct bits.
+pub fn load<I: Inputs>(
+    alloc: Global,
+    inputs: &mut I,
+    name: &str,
+    direct: u8,
+) -> anyhow::Result<Engine>
     ensures { IfOk result (λ engine. engine.loaded ≡ true) }
 {
     let mut engine = Engine::new(
@@ -91,7 +98,7 @@ pub fn load<I: Inputs>(alloc: Global, inputs: &mut I, name: &str) -> anyhow::Res
         Limits {
             every: 0,
             fewest: false,
-            sizes: SIZES,
+            sizes: sizes_of(direct),
         },
     );
     load_all(alloc, inputs, name, &mut engine)?;

@@ -2,12 +2,22 @@
 
 ghost use Rattle.std.specs.Prelude.{◌≡◌};
 
-use fib_engine::{Engine, Tries};
-use fib_prefix::Addr;
+use crate::key::Key;
+use fib_engine::{Engine, Found, Tries};
+use fib_prefix::Hop;
 use std::alloc::AllocError;
 use std::marker::Brand;
 use std::sync::ledger::{Blank, Ledger};
 use step_count::Steps;
+
+/// How often all addresses are looked up, in each way.
+#[derive(Clone, Copy, Debug, PartialEq, Eq)]
+pub struct Rounds {
+    /// Each by itself, so that a processor may begin one before the last one ends.
+    pub apart: u64,
+    /// Each changed by the answer before it, for which it has to wait.
+    pub chained: u64,
+}
 
 /// What look-ups came to.
 #[derive(Clone, Copy, Debug, PartialEq, Eq)]
@@ -18,25 +28,78 @@ pub struct Told {
     pub hops: u64,
 }
 
-/// Looks each address up, once a round.
-fn look_through<L: Ledger>(tries: &Tries, addrs: &[Addr], rounds: u64, blank: Blank) -> Told
-    requires name { blank.name ≡ L.name }
-    requires parts { (blank.parts ≡ L.parts) × (blank.parts ≡ 1) }
-{
-    let mut steps = Steps::<L>::start(blank);
+/// What the look-ups of each way came to.
+#[derive(Clone, Copy, Debug, PartialEq, Eq)]
+pub struct Looked {
+    /// Those by themselves.
+    pub apart: Told,
+    /// Those that wait for each other.
+    pub chained: Told,
+}
+
+impl Told {
+    /// One look-up more.
+    fn add(&mut self, found: Found) {
+        self.visits = self.visits.wrapping_add(u64::from(found.visits));
+        self.hops = self.hops.wrapping_add(u64::from(found.hop.0));
+    }
+}
+
+/// Looks each address up by itself, once a round.
+#[inline(never)]
+fn look_apart<K: Key, L: Ledger>(
+    tries: &Tries,
+    keys: &[K],
+    rounds: u64,
+    steps: &mut Steps<L>,
+) -> Told {
     let mut told = Told { visits: 0, hops: 0 };
     for _ in 0..rounds {
-        for addr in addrs {
-            let found = tries.lookup(addr, &mut steps);
-            told.visits = told.visits.wrapping_add(u64::from(found.visits));
-            told.hops = told.hops.wrapping_add(u64::from(found.hop.0));
+        for key in keys {
+            told.add(tries.lookup(&key.addr(), steps));
         }
     }
     told
 }
 
-/// Looks each address up in the tries of an engine's routes, once a round.
-pub fn look_up(engine: &Engine, addrs: &[Addr], rounds: u64) -> Result<Told, AllocError> {
+/// Looks each address up, changed by the answer before it, once a round.
+#[inline(never)]
+fn look_chained<K: Key, L: Ledger>(
+    tries: &Tries,
+    keys: &[K],
+    rounds: u64,
+    steps: &mut Steps<L>,
+) -> Told {
+    let mut told = Told { visits: 0, hops: 0 };
+    let mut last = Hop::NONE;
+    for _ in 0..rounds {
+        for key in keys {
+            let found = tries.lookup(&key.changed_by(last).addr(), steps);
+            last = found.hop;
+            told.add(found);
+        }
+    }
+    told
+}
+
+/// Looks addresses up in both ways.
+fn look_through<K: Key, L: Ledger>(
+    tries: &Tries,
+    keys: &[K],
+    rounds: &Rounds,
+    blank: Blank,
+) -> Looked
+    requires name { blank.name ≡ L.name }
+    requires parts { (blank.parts ≡ L.parts) × (blank.parts ≡ 1) }
+{
+    let mut steps = Steps::<L>::start(blank);
+    let apart = look_apart(tries, keys, rounds.apart, &mut steps);
+    let chained = look_chained(tries, keys, rounds.chained, &mut steps);
+    Looked { apart, chained }
+}
+
+/// Looks addresses up in the tries of an engine's routes, in both ways.
+pub fn look_up<K: Key>(engine: &Engine, keys: &[K], rounds: &Rounds) -> Result<Looked, AllocError> {
     let tries = engine.tries()?;
-    Ok(look_through::<Brand>(&tries, addrs, rounds, Blank::new(1)))
+    Ok(look_through::<K, Brand>(&tries, keys, rounds, Blank::new(1)))
 }
