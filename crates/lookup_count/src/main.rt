@@ -19,7 +19,8 @@ use key::Key;
 use load::load;
 use look::{Looked, Rounds, look_up};
 use std::alloc::Global;
-use std::env;
+use std::env::{self, Args};
+use std::iter::Skip;
 
 /// What is measured.
 #[derive(Drop)]
@@ -38,32 +39,62 @@ struct Figures {
     looked: Looked,
 }
 
-/// The words of the command line.
-fn words_of(rt: &HostRuntime) -> anyhow::Result<Words> {
+/// The words of the command line that follow the program's name.
+type Rest = Skip<Args>;
+
+/// The next word.
+fn word(words: &mut Rest) -> anyhow::Result<String> {
+    match words.next() {
+        Some(word) => Ok(word),
+        None => anyhow::bail!("usage: lookup_count FILE 4|6 COUNT APART CHAINED DIRECT"),
+    }
+}
+
+/// The next word as a family: 4, or else IPv6.
+fn family(words: &mut Rest) -> anyhow::Result<Family> {
+    let word = word(words)?;
+    Ok(if word.as_str() == "4" {
+        Family::V4
+    } else {
+        Family::V6
+    })
+}
+
+/// The next word as a number.
+fn number(words: &mut Rest) -> anyhow::Result<u64> {
+    let word = word(words)?;
+    Ok(word.parse()?)
+}
+
+/// The next two words as the rounds.
+fn rounds(words: &mut Rest) -> anyhow::Result<Rounds> {
+    let apart = number(words)?;
+    let chained = number(words)?;
+    Ok(Rounds { apart, chained })
+}
+
+/// The next word as a number of direct bits, up to 18.
+fn direct_bits(words: &mut Rest) -> anyhow::Result<u8> {
+    match number(words)? {
+        bits @ 0..=18 => Ok(bits as u8),
+        _ => anyhow::bail!("more than 18 direct bits"),
+    }
+}
+
+/// What the command line says.
+fn read_words(rt: &HostRuntime) -> anyhow::Result<Words> {
     let mut words = env::args(rt)?.skip(1);
-    let (Some(file), Some(family), Some(count), Some(apart), Some(chained), Some(direct)) = (
-        words.next(),
-        words.next(),
-        words.next(),
-        words.next(),
-        words.next(),
-        words.next(),
-    ) else {
-        anyhow::bail!("usage: lookup_count FILE 4|6 COUNT APART CHAINED DIRECT");
-    };
+    let file = word(&mut words)?;
+    let family = family(&mut words)?;
+    let count = number(&mut words)?;
+    let rounds = rounds(&mut words)?;
+    let direct = direct_bits(&mut words)?;
     Ok(Words {
         file,
-        family: if family.as_str() == "4" {
-            Family::V4
-        } else {
-            Family::V6
-        },
-        count: count.parse()?,
-        rounds: Rounds {
-            apart: apart.parse()?,
-            chained: chained.parse()?,
-        },
-        direct: direct.parse()?,
+        family,
+        count: count as usize,
+        rounds,
+        direct,
     })
 }
 
@@ -76,9 +107,6 @@ fn look_up_drawn<K: Key>(alloc: Global, engine: &Engine, words: &Words) -> anyho
 
 /// Loads the dump and looks addresses up.
 fn measure<I: Inputs>(alloc: Global, inputs: &mut I, words: &Words) -> anyhow::Result<Figures> {
-    if words.direct > 18 {
-        anyhow::bail!("more than 18 direct bits");
-    }
     let engine = load(alloc, inputs, &words.file, words.direct)?;
     let looked = match words.family {
         Family::V4 => look_up_drawn::<u32>(alloc, &engine, words)?,
@@ -92,7 +120,7 @@ fn measure<I: Inputs>(alloc: Global, inputs: &mut I, words: &Words) -> anyhow::R
 
 fn main(rt: HostRuntime) -> anyhow::Result<()> {
     let alloc = rt.alloc();
-    let words = words_of(&rt)?;
+    let words = read_words(&rt)?;
     let mut inputs = FileInputs::new(alloc, &rt);
     let Figures { needs, looked } = measure(alloc, &mut inputs, &words)?;
     println!(rt; "nodes,{},{}", needs.v4.nodes, needs.v6.nodes)?;
