@@ -33,6 +33,10 @@ impl Draws {
 }
 
 /// So many addresses within the routes of the family, of which there must be some.
+///
+/// # Errors
+///
+/// The family has no route; or no memory.
 pub fn draw_keys<K: Key>(
     alloc: Global,
     routes: &[Entry],

@@ -85,6 +85,10 @@ fn load_all<I: Inputs>(
 }
 
 /// An engine that has loaded a dump, whose tries have so many direct bits.
+///
+/// # Errors
+///
+/// The dump can't be opened or read, breaks a rule of reading, has more next hops than have numbers, or needs larger arenas; or no memory.
 pub fn load<I: Inputs>(
     alloc: Global,
     inputs: &mut I,
