@@ -8,15 +8,6 @@ use fib_prefix::Event;
 use mrt_read::Reader;
 use std::alloc::Global;
 
-/// Room for a whole table of today, behind so many direct bits.
-fn sizes_of(direct: u8) -> Sizes {
-    Sizes {
-        direct,
-        nodes: 22,
-        leaves: 24,
-    }
-}
-
 /// Loads what an event says.
 fn load_event(engine: &mut Engine, event: &Event) -> anyhow::Result<()>
     requires { engine.old.loaded ≡ false }
@@ -84,16 +75,16 @@ fn load_all<I: Inputs>(
     Ok(())
 }
 
-/// An engine that has loaded a dump, whose tries have so many direct bits.
+/// An engine that has loaded a dump, with tries of these sizes.
 ///
 /// # Errors
 ///
-/// The dump can't be opened or read, breaks a rule of reading, has more next hops than have numbers, or needs larger arenas; or no memory.
+/// The dump can't be opened or read, breaks a rule of reading, has more next hops than have numbers, or needs larger tries; or no memory.
 pub fn load<I: Inputs>(
     alloc: Global,
     inputs: &mut I,
     name: &str,
-    direct: u8,
+    sizes: Sizes,
 ) -> anyhow::Result<Engine>
     ensures { IfOk result (λ engine. engine.loaded ≡ true) }
 {
@@ -102,7 +93,7 @@ pub fn load<I: Inputs>(
         Limits {
             every: 0,
             fewest: false,
-            sizes: sizes_of(direct),
+            sizes,
         },
     );
     load_all(alloc, inputs, name, &mut engine)?;

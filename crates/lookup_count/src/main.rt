@@ -12,7 +12,7 @@ mod load;
 mod look;
 
 use draw::draw_keys;
-use fib_engine::{Engine, FamilyNeeds};
+use fib_engine::{Engine, FamilyNeeds, Sizes};
 use fib_io::{FileInputs, Inputs};
 use fib_prefix::Family;
 use key::Key;
@@ -29,7 +29,7 @@ struct Words {
     family: Family,
     count: usize,
     rounds: Rounds,
-    direct: u8,
+    sizes: Sizes,
 }
 
 /// What is told of them.
@@ -73,12 +73,17 @@ fn rounds(words: &mut Rest) -> anyhow::Result<Rounds> {
     Ok(Rounds { apart, chained })
 }
 
-/// The next word as a number of direct bits, up to 18.
-fn direct_bits(words: &mut Rest) -> anyhow::Result<u8> {
-    match number(words)? {
-        bits @ 0..=18 => Ok(bits as u8),
-        _ => anyhow::bail!("more than 18 direct bits"),
+/// Room for a whole table of today, behind as many direct bits as the next word says, 18 at most.
+fn sizes(words: &mut Rest) -> anyhow::Result<Sizes> {
+    let direct = number(words)?;
+    if direct > 18 {
+        anyhow::bail!("more than 18 direct bits");
     }
+    Ok(Sizes {
+        direct: direct as u8,
+        nodes: 22,
+        leaves: 24,
+    })
 }
 
 /// What the command line says.
@@ -88,13 +93,13 @@ fn read_words(rt: &HostRuntime) -> anyhow::Result<Words> {
     let family = family(&mut words)?;
     let count = number(&mut words)?;
     let rounds = rounds(&mut words)?;
-    let direct = direct_bits(&mut words)?;
+    let sizes = sizes(&mut words)?;
     Ok(Words {
         file,
         family,
         count: count as usize,
         rounds,
-        direct,
+        sizes,
     })
 }
 
@@ -107,7 +112,7 @@ fn look_up_drawn<K: Key>(alloc: Global, engine: &Engine, words: &Words) -> anyho
 
 /// Loads the dump and looks addresses up.
 fn measure<I: Inputs>(alloc: Global, inputs: &mut I, words: &Words) -> anyhow::Result<Figures> {
-    let engine = load(alloc, inputs, &words.file, words.direct)?;
+    let engine = load(alloc, inputs, &words.file, words.sizes)?;
     let looked = match words.family {
         Family::V4 => look_up_drawn::<u32>(alloc, &engine, words)?,
         Family::V6 => look_up_drawn::<u128>(alloc, &engine, words)?,
