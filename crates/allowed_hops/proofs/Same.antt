@@ -1,6 +1,6 @@
 -- The same hops allowed.
 use Rattle.std.proofs.Common.{◌≡◌, ℕ, List, [], ◌∷◌, true, false, refl, ◌∙◌}
-use Rattle.least_model.proofs.Sets.{filled, in_first, same_smallest, same_joint}
+use Rattle.table_model.proofs.Sets.{filled, in_first, same_smallest, same_joint}
 use Rattle.hop_sets.specs.Hops.{SameHops}
 use Rattle.moves_model.specs.Sets.{Allowed, any, these, is_allowed, allowed_by_both, gap, least_allowed}
 use Rattle.moves_model.proofs.Allowed.{has_hop}

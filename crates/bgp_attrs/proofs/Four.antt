@@ -2,9 +2,9 @@
 use Rattle.std.proofs.Common.{◌≡◌, refl, sym, ap, ◌∙◌, eq-eqb, ℕ, List, length, true, Ok, arith}
 use Rattle.std.specs.Prelude.{◌==◌}
 use Rattle.byteorder.specs.Endian.{big_number}
-use Rattle.address_model.specs.declared.family.Family.TheVariants.{V4}
-use Rattle.address_model.specs.Bits.{bits_of, octet_bits}
-use Rattle.address_model.proofs.BitLaws.{AreOctets}
+use Rattle.table_model.specs.declared.family.Family.TheVariants.{V4}
+use Rattle.table_model.specs.Bits.{bits_of, octet_bits}
+use Rattle.table_model.proofs.BitLaws.{AreOctets}
 use Rattle.fib_addr.proofs.Fronts.{bits_of_octets}
 use Rattle.wire_model.specs.Attribute.{hop_of, next_hop_in}
 

@@ -1,7 +1,7 @@
 -- One octet is a number.
 use Rattle.std.proofs.Common.{ltb, false, ◌≡◌, ℕ, List, [], ◌∷◌, length, take, Ok, ◌∙◌, arith}
 use Rattle.std.proofs.lemmas.Bool.{le-ltb}
-use Rattle.address_model.specs.Bits.{number}
+use Rattle.table_model.specs.Bits.{number}
 use Rattle.octet_fields.specs.Field.{octet_at, number_at}
 use Rattle.octet_fields.proofs.Numbers.{number_of_front}
 

@@ -4,7 +4,7 @@ use Rattle.std.specs.Prelude.{◌==◌}
 use Rattle.std.proofs.lemmas.Bool.{ne_eqb}
 use Rattle.std.proofs.lemmas.List.{take_all, length-drop}
 use Rattle.byteorder.specs.Endian.{big_number}
-use Rattle.address_model.specs.Bits.{number}
+use Rattle.table_model.specs.Bits.{number}
 use Rattle.octet_fields.proofs.Numbers.{number_of_all}
 use Rattle.wire_model.specs.Path.{as_size, segment_origin}
 

@@ -1,10 +1,10 @@
 -- What a clause sees of attribute lists: their values, without where they lie in memory.
 use Rattle.std.specs.Prelude.{ℕ, Bool, List, [], Option, option_map}
 use Rattle.std.specs.Result.{result_unwrap_or}
-use Rattle.address_model.specs.declared.family.Family.{Family}
-use Rattle.address_model.specs.declared.family.Family.TheVariants.{V4}
-use Rattle.address_model.specs.Address.{Address}
-use Rattle.address_model.specs.Bits.{bits_of}
+use Rattle.table_model.specs.declared.family.Family.{Family}
+use Rattle.table_model.specs.declared.family.Family.TheVariants.{V4}
+use Rattle.table_model.specs.Address.{Address}
+use Rattle.table_model.specs.Bits.{bits_of}
 use Rattle.fib_addr.specs.Views.{addr_as}
 use Rattle.wire_model.specs.declared.rule.Rule.TheVariants.{AttributeValue}
 use Rattle.wire_model.specs.Wire.{Nlri, nlris}

@@ -1,7 +1,7 @@
 //! Next hops.
 
 ghost use Rattle.std.specs.Prelude.{◌≡◌, IsTrue, length};
-ghost use Rattle.address_model.specs.declared.family.Family.TheVariants.{V4};
+ghost use Rattle.table_model.specs.declared.family.Family.TheVariants.{V4};
 ghost use Rattle.octet_fields.specs.Gives.{Gives};
 ghost use Rattle.wire_model.specs.Attribute.{full_hop, hop_of, is_hop_length, next_hop_at, rib_hop};
 ghost use Rattle.fib_addr.specs.Views.{addr_as};

@@ -1,6 +1,6 @@
 -- What a reader adds behind the events that there are: what the definition gives, unless it refuses or memory runs out.
 use Rattle.std.specs.Prelude.{◌≡◌, List, ◌++◌, Option, Result, Ok, Err, Bool}
-use Rattle.address_model.specs.Address.{Address}
+use Rattle.table_model.specs.Address.{Address}
 use Rattle.route_model.specs.Events.{Peer, Event}
 use Rattle.wire_model.specs.declared.rule.Rule.{Rule}
 use Rattle.wire_model.specs.Path.{Path}

@@ -2,7 +2,7 @@
 
 ghost use Rattle.std.specs.Prelude.{◌≡◌, ◌++◌, ◌∷◌, [], OnOk, option_map, map};
 ghost use Rattle.reading_model.specs.Rib as model;
-ghost use Rattle.address_model.specs.declared.family.Family.TheVariants.{V4};
+ghost use Rattle.table_model.specs.declared.family.Family.TheVariants.{V4};
 ghost use Rattle.wire_model.specs.declared.rule.Rule.TheVariants.{UpdateLengths};
 ghost use Rattle.wire_model.specs.Wire.{nlris};
 ghost use Rattle.fib_addr.specs.Views.{addr_as, prefix_as};

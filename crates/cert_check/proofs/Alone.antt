@@ -1,7 +1,7 @@
 -- The runs of a region with one entry.
 use Rattle.std.proofs.Common.{◌≡◌, ◌≢◌, ℕ, ◌+◌, ◌-◌, ◌^◌, List, [], ◌∷◌, true, false, None, length, take, get_or, nat_eq, refl, sym, ap, arith, subst}
 use Rattle.std.specs.Int.{bit_at}
-use Rattle.address_model.specs.Bits.{bits_of}
+use Rattle.table_model.specs.Bits.{bits_of}
 use Rattle.table_model.specs.Table.{Entry as ModelEntry}
 use Rattle.cert_check.specs.declared.runs.Run.{Run}
 use Rattle.cert_check.specs.declared.runs.Part.{Part}

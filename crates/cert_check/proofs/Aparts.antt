@@ -5,14 +5,14 @@ use Rattle.std.specs.List.{AllByRecursion}
 use Rattle.std.proofs.lemmas.Bool.{cases_order, cond-true, cond-false, lt-ltb, le-ltb, le-leb, and_from, and_parts, eq-eqb, eqb-true}
 use Rattle.std.proofs.lemmas.List.{take-append-drop}
 use Rattle.std.proofs.Common.{drop-cons}
-use Rattle.address_model.specs.Bits.{bits_of, value_of}
-use Rattle.address_model.specs.Width.{width}
-use Rattle.address_model.specs.declared.family.Family.{Family}
-use Rattle.address_model.proofs.BitLaws.{value-bits_of, value-lt, bits_from_value, length-bits_of}
+use Rattle.table_model.specs.Bits.{bits_of, value_of}
+use Rattle.table_model.specs.Width.{width}
+use Rattle.table_model.specs.declared.family.Family.{Family}
+use Rattle.table_model.proofs.BitLaws.{value-bits_of, value-lt, bits_from_value, length-bits_of}
 use Rattle.std.specs.Option.{IfSome}
 use Rattle.table_model.specs.Table.{lpm}
 use Rattle.table_model.specs.Entries.{Entries, of_family}
-use Rattle.least_model.specs.Sets.{answers}
+use Rattle.table_model.specs.Sets.{answers}
 use Rattle.cert_model.specs.Verdict.{NotSame, least_differing, not_same_at, not_same_in}
 use Rattle.cert_model.proofs.Differing.{IsLeastAt, none_differs, none_from, some_differs}
 use Rattle.cert_check.specs.declared.runs.Run.{Run}

@@ -4,10 +4,10 @@ use Rattle.std.specs.List.{AllByRecursion}
 use Rattle.std.proofs.lemmas.Bool.{cond-true, cond-false}
 use Rattle.std.proofs.lemmas.List.{length-map, length-take}
 use denote.Enum.Bare.{sameb}
-use Rattle.address_model.specs.Address.{same_family}
-use Rattle.address_model.specs.contracts.family.Family.{the_type}
-use Rattle.address_model.specs.declared.family.Family.{Family}
-use Rattle.address_model.specs.declared.family.Family.TheVariants.{V4, V6}
+use Rattle.table_model.specs.Address.{same_family}
+use Rattle.table_model.specs.contracts.family.Family.{the_type}
+use Rattle.table_model.specs.declared.family.Family.{Family}
+use Rattle.table_model.specs.declared.family.Family.TheVariants.{V4, V6}
 use Rattle.table_model.specs.Entries.{Entries, of_family}
 use Rattle.cert_model.specs.Verdict.{No, RowFits}
 use Rattle.fib_addr.specs.declared.entry.Entry.{Entry}

@@ -3,15 +3,15 @@ use Rattle.std.proofs.Common.{◌≡◌, ◌≢◌, ℕ, zero, suc, ◌+◌, ◌
 use Rattle.std.specs.Int.{bit_at}
 use Rattle.std.proofs.lemmas.Bool.{cond-true, cond-false}
 use Rattle.std.specs.Option.{option_or}
-use Rattle.address_model.specs.Bits.{bits_of}
-use Rattle.address_model.specs.Width.{width}
-use Rattle.address_model.specs.Address.{same_family}
-use Rattle.address_model.specs.declared.family.Family.{Family}
-use Rattle.address_model.proofs.Same.{same_family_is}
+use Rattle.table_model.specs.Bits.{bits_of}
+use Rattle.table_model.specs.Width.{width}
+use Rattle.table_model.specs.Address.{same_family}
+use Rattle.table_model.specs.declared.family.Family.{Family}
+use Rattle.table_model.proofs.SamePrefix.{same_family_is}
 use Rattle.table_model.specs.Table.{Table, root, root_of, half, half_of}
 use Rattle.table_model.specs.Table.{Entry as ModelEntry}
 use Rattle.table_model.specs.Entries.{Entries, of_family}
-use Rattle.least_model.proofs.Join.{half_append}
+use Rattle.table_model.proofs.Join.{half_append}
 use Rattle.fib_addr.specs.Views.{entry_as}
 use Rattle.fib_addr.specs.declared.entry.Entry as code
 use Rattle.cert_check.specs.declared.runs.Part.{Part}

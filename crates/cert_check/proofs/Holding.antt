@@ -8,13 +8,13 @@ use Rattle.std.proofs.lemmas.List.{length-replicate, take-append-drop}
 use Rattle.std.proofs.Common.{drop-cons}
 use Rattle.std.proofs.lemmas.Nat.{shr_high, shr_below, mul-add-lt, pow-add, pow_pos}
 use Rattle.std.proofs.Math.Nat.{le-div_iff_mul-le}
-use Rattle.address_model.specs.Bits.{bits_of, value_of}
-use Rattle.address_model.specs.Width.{width}
-use Rattle.address_model.specs.Address.{IsPrefix}
-use Rattle.address_model.proofs.BitLaws.{bits_take, bits_split, bits_low, length-bits_of, value-bits_of}
+use Rattle.table_model.specs.Bits.{bits_of, value_of}
+use Rattle.table_model.specs.Width.{width}
+use Rattle.table_model.specs.Address.{IsPrefix}
+use Rattle.table_model.proofs.BitLaws.{bits_take, bits_split, bits_low, length-bits_of, value-bits_of}
 use Rattle.table_model.specs.Table.{lpm}
 use Rattle.table_model.specs.Entries.{Entries, of_family}
-use Rattle.least_model.specs.Sets.{answers}
+use Rattle.table_model.specs.Sets.{answers}
 use Rattle.cert_model.specs.Verdict.{all_get}
 use Rattle.cert_model.proofs.Regions.{get_bits, get_all}
 use Rattle.cert_model.proofs.Reading.{all_get_is, all_get_from}

@@ -13,10 +13,10 @@ use Rattle.std.proofs.lemmas.Map.Keys.{sorted_from_all_adjacent}
 use Rattle.std.proofs.Math.ListN.{get_or-map}
 use Rattle.table_model.specs.Entries.{Entries}
 use Rattle.cert_model.proofs.Verdicts.{once_from}
-use Rattle.address_model.specs.Address.{Prefix, same_prefix}
-use Rattle.address_model.specs.Order.{prefix_cmp}
-use Rattle.address_model.proofs.Same.{same_prefix_is, same_prefix_itself}
-use Rattle.address_model.proofs.Ordered.{equal_are_same, prefix_total}
+use Rattle.table_model.specs.Address.{Prefix, same_prefix}
+use Rattle.table_model.specs.Order.{prefix_cmp}
+use Rattle.table_model.proofs.SamePrefix.{same_prefix_is, same_prefix_itself}
+use Rattle.table_model.proofs.Ordered.{equal_are_same, prefix_total}
 use Rattle.cert_model.specs.Verdict.{twice}
 use Rattle.fib_addr.specs.declared.prefix.Prefix as code
 use Rattle.fib_addr.specs.declared.entry.Entry.{Entry}

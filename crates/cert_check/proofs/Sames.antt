@@ -2,8 +2,8 @@
 use Rattle.std.proofs.Common.{◌≡◌, ℕ, Option, Some, None, refl, sym, ap, ◌∙◌, subst, ◌↔◌}
 use Rattle.std.specs.Prelude.{option_map}
 use Rattle.std.specs.Option.{IfSome, option_or}
-use Rattle.address_model.specs.Address.{Address}
-use Rattle.address_model.specs.declared.family.Family.TheVariants.{V4, V6}
+use Rattle.table_model.specs.Address.{Address}
+use Rattle.table_model.specs.declared.family.Family.TheVariants.{V4, V6}
 use Rattle.table_model.specs.Entries.{Entries, match_in, AlikeInBoth}
 use Rattle.cert_model.specs.Verdict.{NotSame, IsLeastDiffering, not_same, not_same_in}
 use Rattle.cert_model.proofs.Differing.{same_law, says}

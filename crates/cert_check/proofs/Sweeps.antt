@@ -6,14 +6,14 @@ use Rattle.std.specs.Int.{bit_at}
 use Rattle.std.specs.List.{AllByRecursion}
 use Rattle.std.proofs.lemmas.Bool.{eqb-true, cases_lt, cond-true, cond-false, eq-eqb, le-leb, lt-leb}
 use Rattle.std.proofs.lemmas.Nat.{pow-add, pow_pos, shr_high}
-use Rattle.address_model.specs.Bits.{bits_of}
-use Rattle.address_model.specs.Width.{width}
-use Rattle.address_model.specs.declared.family.Family.{Family}
-use Rattle.address_model.proofs.BitLaws.{bits_low}
+use Rattle.table_model.specs.Bits.{bits_of}
+use Rattle.table_model.specs.Width.{width}
+use Rattle.table_model.specs.declared.family.Family.{Family}
+use Rattle.table_model.proofs.BitLaws.{bits_low}
 use Rattle.table_model.specs.Table.{Table, lpm, root, root_of, half, inherit}
 use Rattle.table_model.specs.Entries.{Entries, of_family}
 use Rattle.table_model.proofs.Cut.{lpm_cut, lpm_nil}
-use Rattle.least_model.proofs.Join.{all_append, all_weaker}
+use Rattle.table_model.proofs.Join.{all_append, all_weaker}
 use Rattle.cert_check.specs.declared.runs.Run.{Run}
 use Rattle.cert_check.specs.declared.runs.Part.{Part}
 use Rattle.cert_check.specs.Runs.{table_of, run_hop_at, last_hop, AreRuns, Below, Noted, Swept, RunsTell}

@@ -1,10 +1,10 @@
 -- What runs and the entries of a region stand for.
 use Rattle.std.specs.Prelude.{◌≡◌, ◌≢◌, ℕ, ◌+◌, ◌<◌, ◌≤◌, ◌^◌, List, [], ◌∷◌, ◌++◌, cond, fold, map, take, drop, nat_le, nat_eq}
 use Rattle.std.specs.List.{AllByRecursion}
-use Rattle.address_model.specs.Bits.{bits_of}
-use Rattle.address_model.specs.Width.{width}
-use Rattle.address_model.specs.declared.family.Family.{Family}
-use Rattle.address_model.specs.declared.family.Family.TheVariants.{V4, V6}
+use Rattle.table_model.specs.Bits.{bits_of}
+use Rattle.table_model.specs.Width.{width}
+use Rattle.table_model.specs.declared.family.Family.{Family}
+use Rattle.table_model.specs.declared.family.Family.TheVariants.{V4, V6}
 use Rattle.table_model.specs.Table.{Table, lpm}
 use Rattle.table_model.specs.Table.{Entry as ModelEntry}
 use Rattle.table_model.specs.Entries.{Entries, of_family}

@@ -1,12 +1,12 @@
 -- How far the rows of a certificate are read.
 use Rattle.std.specs.Prelude.{◌≡◌, ℕ, ◌+◌, ◌≤◌, List, [], ◌∷◌, true, false, Option, Some, None, fold, nat_eq}
 use Rattle.std.specs.List.{AllByRecursion}
-use Rattle.address_model.specs.Width.{width}
-use Rattle.address_model.specs.Address.{Prefix, same_prefix}
-use Rattle.address_model.specs.declared.family.Family.{Family}
-use Rattle.address_model.specs.declared.family.Family.TheVariants.{V4, V6}
+use Rattle.table_model.specs.Width.{width}
+use Rattle.table_model.specs.Address.{Prefix, same_prefix}
+use Rattle.table_model.specs.declared.family.Family.{Family}
+use Rattle.table_model.specs.declared.family.Family.TheVariants.{V4, V6}
 use Rattle.table_model.specs.Entries.{Entries, of_family}
-use Rattle.least_model.specs.Least.{bound}
+use Rattle.table_model.specs.Least.{bound}
 use Rattle.cert_model.specs.Rows.{CertRow, join_row, bound_row, whole_prefix}
 use Rattle.cert_model.specs.Right.{IsRight, leaf_item, join_item, joint_k}
 use Rattle.cert_model.specs.Right.{Item as ModelItem}

@@ -1,7 +1,7 @@
 //! Where two tables first answer differently.
 
 ghost use Rattle.std.specs.Prelude.{◌≡◌, ◌↔◌, ◌<◌, ◌^◌, None, IfOk, IfSome, map, option_map};
-ghost use Rattle.address_model.specs.Width.{width};
+ghost use Rattle.table_model.specs.Width.{width};
 ghost use Rattle.table_model.specs.Entries.{Entries, match_in, AlikeInBoth};
 ghost use Rattle.cert_model.specs.Verdict.{IsLeastDiffering, not_same, not_same_in};
 ghost use Rattle.fib_addr.specs.Views.{addr_as, entry_as};

@@ -6,7 +6,7 @@
 ghost use Rattle.std.specs.Prelude.{◌≡◌, map, option_map, true, IfOk};
 ghost use Rattle.std.specs.List.Sorted.{IsStrictlySortedBy};
 ghost use Rattle.std.specs.Map.{keys_of};
-ghost use Rattle.address_model.specs.Order.{prefix_cmp};
+ghost use Rattle.table_model.specs.Order.{prefix_cmp};
 ghost use Rattle.cert_model.specs.Verdict.{twice};
 ghost use Rattle.fib_addr.specs.Views.{entry_as, prefix_as};
 

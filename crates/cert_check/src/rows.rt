@@ -4,9 +4,9 @@
 //! region. Each region stands there with its set of hops and its k, the entries that it costs under a hop of its set.
 
 ghost use Rattle.std.specs.Prelude.{◌≡◌, ◌+◌, ◌^◌, ◌<◌, ◌≤◌, ◌&&◌, IfOk, map, option_map, Some, None, [], ◌∷◌, false, true};
-ghost use Rattle.address_model.specs.Address.{same_prefix};
-ghost use Rattle.address_model.specs.Regions.{half_at};
-ghost use Rattle.address_model.specs.declared.family.Family.TheVariants.{V4, V6};
+ghost use Rattle.table_model.specs.Address.{same_prefix};
+ghost use Rattle.table_model.specs.Halves.{half_at};
+ghost use Rattle.table_model.specs.declared.family.Family.TheVariants.{V4, V6};
 ghost use Rattle.table_model.specs.Entries.{Entries};
 ghost use Rattle.cert_model.specs.Rows.{bound_row, whole_prefix};
 ghost use Rattle.cert_model.specs.Right.{bound_by};

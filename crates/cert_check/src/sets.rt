@@ -4,7 +4,7 @@
 //! gone through. That takes one step for each hop. Most sets hold one to three hops: up to eight are kept in place.
 
 ghost use Rattle.std.specs.Prelude.{◌≡◌, ◌+◌, ◌^◌, ◌++◌, ◌<◌, ℕ, get_or, replicate, nat_eq, IfOk};
-ghost use Rattle.least_model.specs.Sets.{is_in, common, one_if_empty, or_else};
+ghost use Rattle.table_model.specs.Sets.{is_in, common, one_if_empty, or_else};
 ghost use Rattle.cert_check.specs.Marks.{AreMarks};
 
 use smallvec::SmallVec;

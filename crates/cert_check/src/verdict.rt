@@ -2,9 +2,9 @@
 
 ghost use Rattle.std.specs.Prelude.{◌≡◌, ◌∷◌, [], IfOk, IfErr, OnOk, Some, length, map, option_map};
 ghost use Rattle.std.specs.Option.{option_or};
-ghost use Rattle.address_model.specs.declared.family.Family.TheVariants.{V4, V6};
+ghost use Rattle.table_model.specs.declared.family.Family.TheVariants.{V4, V6};
 ghost use Rattle.table_model.specs.Entries.{Entries, of_family};
-ghost use Rattle.least_model.specs.Both.{LeastInBoth};
+ghost use Rattle.table_model.specs.Both.{LeastInBoth};
 ghost use Rattle.cert_model.specs.Right.{IsCertificate};
 ghost use Rattle.cert_model.specs.Verdict.{Twice, twice, wrong_row, too_many_in, verdict};
 ghost use Rattle.cert_model.specs.Verdict.{not_same as model_not_same};

@@ -1,7 +1,7 @@
 -- The one answer of a region.
 use Rattle.std.proofs.Common.{◌≡◌, ℕ, zero, suc, List, [], ◌∷◌, Bool, true, false, cond, Option, Some, None, length, nat_eq, refl, sym, ap, ◌∙◌, arith, ◌↔◌}
 use Rattle.std.proofs.lemmas.Bool.{eqb-true, eq-eqb}
-use Rattle.least_model.specs.Sets.{side}
+use Rattle.table_model.specs.Sets.{side}
 use Rattle.cert_model.specs.Rows.{same_hop, one_answer}
 
 same_some : (x y : Option ℕ) (h : ℕ) → same_hop x y ≡ Some h → (x ≡ Some h) × (y ≡ Some h)

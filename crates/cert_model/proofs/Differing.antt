@@ -5,14 +5,14 @@ use Rattle.std.specs.declared.cmp.Ordering.TheVariants.{Less}
 use Rattle.std.proofs.lemmas.Bool.{eqb-true, eq-eqb}
 use Rattle.std.proofs.lemmas.Cmp.{ranked}
 use Rattle.std.specs.Option.{option_or}
-use Rattle.address_model.specs.Bits.{value_of}
-use Rattle.address_model.specs.Width.{width}
-use Rattle.address_model.specs.Address.{Address}
-use Rattle.address_model.specs.declared.family.Family.{Family}
-use Rattle.address_model.specs.declared.family.Family.TheVariants.{V4, V6}
-use Rattle.address_model.proofs.BitLaws.{value-lt}
+use Rattle.table_model.specs.Bits.{value_of}
+use Rattle.table_model.specs.Width.{width}
+use Rattle.table_model.specs.Address.{Address}
+use Rattle.table_model.specs.declared.family.Family.{Family}
+use Rattle.table_model.specs.declared.family.Family.TheVariants.{V4, V6}
+use Rattle.table_model.proofs.BitLaws.{value-lt}
 use Rattle.table_model.specs.Entries.{Entries, of_family, match_in, AlikeInBoth}
-use Rattle.least_model.specs.Sets.{side, answers}
+use Rattle.table_model.specs.Sets.{side, answers}
 use Rattle.cert_model.specs.Verdict.{No, NotSame, address_cmp, IsLeastDiffering, least_differing, not_same_at, not_same_in, not_same}
 
 none_of_both : (x y : Option (List Bool)) → option_or (option_map (λ a. false ∷ a) x) (option_map (λ a. true ∷ a) y) ≡ None → (x ≡ None) × (y ≡ None)

@@ -2,18 +2,18 @@
 use Rattle.std.proofs.Common.{◌≡◌, ℕ, zero, suc, ◌+◌, ◌-◌, ◌<◌, ◌≤◌, List, [], ◌∷◌, ◌++◌, Bool, true, false, Option, Some, None, length, refl, sym, ap, ◌∙◌, arith, subst, append_assoc, length-append, append-nil}
 use Rattle.std.specs.List.{IsDistinct}
 use Rattle.std.specs.Map.{keys_of}
-use Rattle.address_model.specs.Width.{width}
-use Rattle.address_model.specs.Address.{Prefix, IsPrefix, same_prefix}
-use Rattle.address_model.specs.Regions.{half_at}
-use Rattle.address_model.specs.declared.family.Family.{Family}
-use Rattle.address_model.specs.declared.family.Family.TheVariants.{V4, V6}
+use Rattle.table_model.specs.Width.{width}
+use Rattle.table_model.specs.Address.{Prefix, IsPrefix, same_prefix}
+use Rattle.table_model.specs.Halves.{half_at}
+use Rattle.table_model.specs.declared.family.Family.{Family}
+use Rattle.table_model.specs.declared.family.Family.TheVariants.{V4, V6}
 use Rattle.table_model.specs.Table.{lpm}
 use Rattle.table_model.specs.Entries.{Entries, of_family, AlikeInBoth}
-use Rattle.least_model.specs.Sets.{side, k_of, answers}
-use Rattle.least_model.specs.Least.{Least, set_at, k_at, bound}
-use Rattle.least_model.specs.Both.{LeastInBoth}
-use Rattle.least_model.proofs.Laws.{set_join, k_join, set_leaf, k_leaf, fresh_law}
-use Rattle.least_model.proofs.Cost.{k_alike}
+use Rattle.table_model.specs.Sets.{side, k_of, answers}
+use Rattle.table_model.specs.Least.{Least, set_at, k_at, bound}
+use Rattle.table_model.specs.Both.{LeastInBoth}
+use Rattle.table_model.proofs.Laws.{set_join, k_join, set_leaf, k_leaf, fresh_law}
+use Rattle.table_model.proofs.Cost.{k_alike}
 use Rattle.cert_model.specs.Rows.{CertRow, leaf_row, join_row, bound_row, whole_prefix, one_answer, leaf_or, region_rows, certificate_of}
 use Rattle.cert_model.specs.Right.{Item, leaf_item, join_item, StackReads, HaveBound, IsCertificate}
 use Rattle.cert_model.proofs.Regions.{get_all}

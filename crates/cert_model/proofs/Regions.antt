@@ -1,10 +1,10 @@
 -- Addresses of a region, and tests of prefixes.
 use Rattle.std.proofs.Common.{◌≡◌, ℕ, List, [], ◌∷◌, ◌++◌, Bool, true, false, length, refl, sym, ap, ◌∙◌, subst}
 use Rattle.std.proofs.lemmas.Bool.{and_parts, and_from}
-use Rattle.address_model.specs.Bits.{begins}
-use Rattle.address_model.specs.Width.{width}
-use Rattle.address_model.specs.Address.{Address, Prefix, IsAddress, same_family}
-use Rattle.address_model.proofs.Same.{same_family_is, same_family_itself}
+use Rattle.table_model.specs.Bits.{begins}
+use Rattle.table_model.specs.Width.{width}
+use Rattle.table_model.specs.Address.{Address, Prefix, IsAddress, same_family}
+use Rattle.table_model.proofs.SamePrefix.{same_family_is, same_family_itself}
 use Rattle.table_model.specs.Table.{lpm}
 use Rattle.table_model.specs.Entries.{Entries, of_family, match_in}
 use Rattle.table_model.specs.Uniform.{AllGet}

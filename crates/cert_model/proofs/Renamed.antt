@@ -5,17 +5,17 @@ use Rattle.std.specs.List.{AllByRecursion, IsDistinct}
 use Rattle.std.specs.Map.{keys_of}
 use Rattle.std.proofs.lemmas.Bool.{eqb-true, eq-eqb, ne_eqb}
 use Rattle.std.proofs.lemmas.List.{map-append, length-map, length-replicate}
-use Rattle.address_model.specs.Bits.{begins}
-use Rattle.address_model.specs.Width.{width}
-use Rattle.address_model.specs.Address.{Address, Prefix, IsPrefix, same_family, same_prefix}
-use Rattle.address_model.specs.declared.family.Family.{Family}
-use Rattle.address_model.specs.declared.family.Family.TheVariants.{V4, V6}
+use Rattle.table_model.specs.Bits.{begins}
+use Rattle.table_model.specs.Width.{width}
+use Rattle.table_model.specs.Address.{Address, Prefix, IsPrefix, same_family, same_prefix}
+use Rattle.table_model.specs.declared.family.Family.{Family}
+use Rattle.table_model.specs.declared.family.Family.TheVariants.{V4, V6}
 use Rattle.table_model.specs.Table.{Entry, Table, longer, longest, hop_or, containing, lpm}
 use Rattle.table_model.specs.Entries.{Entries, of_family, match_in}
 use Rattle.table_model.specs.Uniform.{AllGet}
-use Rattle.least_model.specs.Least.{candidates}
-use Rattle.least_model.proofs.Laws.{lpm_candidate}
-use Rattle.least_model.specs.Sets.{is_in, common, or_else, joint, one_if_empty, apart}
+use Rattle.table_model.specs.Least.{candidates}
+use Rattle.table_model.proofs.Laws.{lpm_candidate}
+use Rattle.table_model.specs.Sets.{is_in, common, or_else, joint, one_if_empty, apart}
 use Rattle.cert_model.specs.Rows.{CertRow, leaf_row, join_row, bound_row, whole_prefix}
 use Rattle.cert_model.specs.Right.{Item, leaf_item, join_item, joint_k, StackReads, HaveBound, IsCertificate}
 use Rattle.cert_model.specs.Renamed.{renamed, renamed_row, renamed_rows, hops_of_entries, KeepsApart}

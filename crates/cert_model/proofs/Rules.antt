@@ -1,17 +1,17 @@
 -- Right rows have the sets and the k of their regions, so their bound is the least.
 use Rattle.std.proofs.Common.{◌≡◌, ℕ, ◌≤◌, List, [], ◌∷◌, true, false, length, sym, ap, ◌∙◌, arith, subst}
 use Rattle.std.specs.List.{AllByRecursion}
-use Rattle.address_model.specs.Width.{width}
-use Rattle.address_model.specs.Address.{Address, Prefix}
-use Rattle.address_model.specs.Regions.{half_at}
-use Rattle.address_model.specs.declared.family.Family.{Family}
-use Rattle.address_model.specs.declared.family.Family.TheVariants.{V4, V6}
+use Rattle.table_model.specs.Width.{width}
+use Rattle.table_model.specs.Address.{Address, Prefix}
+use Rattle.table_model.specs.Halves.{half_at}
+use Rattle.table_model.specs.declared.family.Family.{Family}
+use Rattle.table_model.specs.declared.family.Family.TheVariants.{V4, V6}
 use Rattle.table_model.specs.Table.{Alike}
 use Rattle.table_model.specs.Entries.{Entries, of_family, AlikeInBoth}
-use Rattle.least_model.specs.Sets.{joint, apart}
-use Rattle.least_model.specs.Least.{Least, set_at, k_at, bound}
-use Rattle.least_model.specs.Both.{LeastInBoth}
-use Rattle.least_model.proofs.Laws.{set_join, k_join, set_leaf, k_leaf, bound_law}
+use Rattle.table_model.specs.Sets.{joint, apart}
+use Rattle.table_model.specs.Least.{Least, set_at, k_at, bound}
+use Rattle.table_model.specs.Both.{LeastInBoth}
+use Rattle.table_model.proofs.Laws.{set_join, k_join, set_leaf, k_leaf, bound_law}
 use Rattle.cert_model.specs.Rows.{CertRow, leaf_row, join_row, bound_row, whole_prefix}
 use Rattle.cert_model.specs.Right.{IsRight, leaf, join, bound_by, Item, leaf_item, join_item, StackReads, HaveBound, IsCertificate}
 use Rattle.cert_model.proofs.Regions.{get_bits}

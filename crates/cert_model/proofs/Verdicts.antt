@@ -5,14 +5,14 @@ use Rattle.std.specs.List.{AllByRecursion, IsDistinct, list_any}
 use Rattle.std.specs.Map.{keys_of}
 use Rattle.std.proofs.lemmas.Bool.{cond-true, cond-false, lt-ltb, le-ltb, cases_lt}
 use Rattle.std.specs.Option.{option_or}
-use Rattle.address_model.specs.Width.{width}
-use Rattle.address_model.specs.Address.{Prefix, same_prefix}
-use Rattle.address_model.specs.declared.family.Family.{Family}
-use Rattle.address_model.specs.declared.family.Family.TheVariants.{V4, V6}
+use Rattle.table_model.specs.Width.{width}
+use Rattle.table_model.specs.Address.{Prefix, same_prefix}
+use Rattle.table_model.specs.declared.family.Family.{Family}
+use Rattle.table_model.specs.declared.family.Family.TheVariants.{V4, V6}
 use Rattle.table_model.specs.Table.{Table, IsTable, Alike}
 use Rattle.table_model.specs.Entries.{Entries, of_family}
-use Rattle.least_model.specs.Least.{bound}
-use Rattle.least_model.proofs.Laws.{not_least}
+use Rattle.table_model.specs.Least.{bound}
+use Rattle.table_model.proofs.Laws.{not_least}
 use Rattle.cert_model.specs.Rows.{CertRow, bound_row}
 use Rattle.cert_model.specs.Right.{HaveBound, IsCertificate}
 use Rattle.cert_model.specs.Verdict.{No, Twice, NotLeast, twice, not_same, wrong_row, RowFits, too_many_in, verdict}

@@ -1,7 +1,7 @@
 -- The same tables and rows with other numbers for their hops.
 use Rattle.std.specs.Prelude.{◌≡◌, ℕ, List, ◌∷◌, map, IsTrue}
 use Rattle.table_model.specs.Entries.{Entries}
-use Rattle.least_model.specs.Sets.{is_in}
+use Rattle.table_model.specs.Sets.{is_in}
 use Rattle.cert_model.specs.Rows.{CertRow, leaf_row, join_row, bound_row}
 
 -- the entries, each hop with its new number

@@ -1,13 +1,13 @@
 -- The rows of a certificate, and those that a table of routes has.
 use Rattle.std.specs.Prelude.{ℕ, zero, suc, List, [], ◌∷◌, ◌++◌, Bool, true, false, cond, Option, Some, None, nat_eq}
-use Rattle.address_model.specs.Width.{width}
-use Rattle.address_model.specs.Address.{Prefix}
-use Rattle.address_model.specs.Regions.{half_at}
-use Rattle.address_model.specs.declared.family.Family.{Family}
-use Rattle.address_model.specs.declared.family.Family.TheVariants.{V4, V6}
+use Rattle.table_model.specs.Width.{width}
+use Rattle.table_model.specs.Address.{Prefix}
+use Rattle.table_model.specs.Halves.{half_at}
+use Rattle.table_model.specs.declared.family.Family.{Family}
+use Rattle.table_model.specs.declared.family.Family.TheVariants.{V4, V6}
 use Rattle.table_model.specs.Entries.{Entries, of_family}
-use Rattle.least_model.specs.Sets.{side, k_of, answers}
-use Rattle.least_model.specs.Least.{bound}
+use Rattle.table_model.specs.Sets.{side, k_of, answers}
+use Rattle.table_model.specs.Least.{bound}
 
 -- A leaf row says that every address of the prefix gets the hop. A join row puts a region together from its halves, and
 -- says its k. A bound row says how many entries a least table of the family has.

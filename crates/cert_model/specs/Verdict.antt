@@ -6,16 +6,16 @@ use Rattle.std.specs.Option.{option_or}
 use Rattle.std.specs.Ordering.{nat_cmp, ordering_then}
 use Rattle.std.specs.declared.cmp.Ordering.{Ordering}
 use Rattle.std.specs.declared.cmp.Ordering.TheVariants.{Less}
-use Rattle.address_model.specs.Bits.{value_of}
-use Rattle.address_model.specs.Width.{width}
-use Rattle.address_model.specs.Address.{Address, Prefix, IsAddress, IsPrefix, same_family, same_prefix}
-use Rattle.address_model.specs.Order.{family_cmp}
-use Rattle.address_model.specs.Regions.{half_at}
-use Rattle.address_model.specs.declared.family.Family.{Family}
-use Rattle.address_model.specs.declared.family.Family.TheVariants.{V4, V6}
+use Rattle.table_model.specs.Bits.{value_of}
+use Rattle.table_model.specs.Width.{width}
+use Rattle.table_model.specs.Address.{Address, Prefix, IsAddress, IsPrefix, same_family, same_prefix}
+use Rattle.table_model.specs.Order.{family_cmp}
+use Rattle.table_model.specs.Halves.{half_at}
+use Rattle.table_model.specs.declared.family.Family.{Family}
+use Rattle.table_model.specs.declared.family.Family.TheVariants.{V4, V6}
 use Rattle.table_model.specs.Entries.{Entries, of_family, match_in}
-use Rattle.least_model.specs.Sets.{side, answers}
-use Rattle.least_model.specs.Least.{bound}
+use Rattle.table_model.specs.Sets.{side, answers}
+use Rattle.table_model.specs.Least.{bound}
 use Rattle.cert_model.specs.Rows.{CertRow, leaf_row, join_row, bound_row, whole_prefix, one_answer}
 use Rattle.cert_model.specs.Right.{Item, leaf_item, join_item, joint_k, bound_by}
 

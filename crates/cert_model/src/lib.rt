@@ -6,13 +6,13 @@
 ghost use Rattle.std.specs.Prelude.{◌≡◌, ◌≢◌, ◌<◌, ◌≤◌, ℕ, ◌↔◌, List, Bool, Some, None, length};
 ghost use Rattle.std.specs.List.{AllByRecursion, IsDistinct};
 ghost use Rattle.std.specs.Map.{keys_of};
-ghost use Rattle.address_model.specs.Width.{width};
-ghost use Rattle.address_model.specs.Address.{Address, same_prefix};
-ghost use Rattle.address_model.specs.declared.family.Family.{Family};
+ghost use Rattle.table_model.specs.Width.{width};
+ghost use Rattle.table_model.specs.Address.{Address, same_prefix};
+ghost use Rattle.table_model.specs.declared.family.Family.{Family};
 ghost use Rattle.table_model.specs.Table.{Table, IsTable, Alike};
 ghost use Rattle.table_model.specs.Entries.{Entries, of_family, match_in, AlikeInBoth};
-ghost use Rattle.least_model.specs.Least.{Least};
-ghost use Rattle.least_model.specs.Both.{LeastInBoth};
+ghost use Rattle.table_model.specs.Least.{Least};
+ghost use Rattle.table_model.specs.Both.{LeastInBoth};
 ghost use Rattle.cert_model.specs.Rows.{CertRow, whole_prefix, one_answer, certificate_of};
 ghost use Rattle.cert_model.specs.Right.{IsRight, bound_by, IsCertificate};
 ghost use Rattle.cert_model.specs.Renamed.{renamed, renamed_rows, hops_of_entries, KeepsApart};

@@ -2,7 +2,7 @@
 use Rattle.std.proofs.Common.{◌≡◌, ◌≤◌, List, [], ◌∷◌, ◌++◌, Some, None, Result, Ok, Err, length, refl, sym, ap, subst, arith, length-append}
 use Rattle.std.specs.Prelude.{◌↔◌, unwrap_or, IfOk, OnOk, IsErrOf}
 use Rattle.std.proofs.lemmas.Bool.{cond-false}
-use Rattle.address_model.specs.Address.{Address}
+use Rattle.table_model.specs.Address.{Address}
 use Rattle.fib_addr.specs.Hops.{number_of, with_hop, most_hops}
 use Rattle.fib_addr.specs.declared.entry.Hop.{Hop}
 use Rattle.fib_addr.specs.declared.hops.HopError.{HopError}

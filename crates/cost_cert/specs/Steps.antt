@@ -1,6 +1,6 @@
 -- What one more row or line makes of what was read.
 use Rattle.std.specs.Prelude.{◌≡◌, ◌<◌, ◌≤◌, ℕ, List, ◌++◌, Option, Result, Ok, Err, fold, length, option_to_list}
-use Rattle.address_model.specs.Address.{Address}
+use Rattle.table_model.specs.Address.{Address}
 use Rattle.fib_addr.specs.Hops.{with_hop, most_hops}
 use Rattle.fib_addr.specs.declared.hops.HopError.{HopError}
 use Rattle.fib_addr.specs.declared.hops.HopError.TheVariants as hop_error

@@ -8,7 +8,7 @@ use Rattle.buddy_arena.proofs.Blocks.{marked_len}
 use Rattle.block_pool.specs.Powers.{up}
 use Rattle.block_pool.proofs.Powers.{up_least, up_zero}
 use Rattle.fib_regions.specs.Answers.{one_answer, part}
-use Rattle.address_model.specs.Bits.{bits_of}
+use Rattle.table_model.specs.Bits.{bits_of}
 use Rattle.poptrie_build.specs.Strides.{slots, slot, mixed, starts, run_start}
 use Rattle.poptrie_build.specs.Strides as strides
 use Rattle.poptrie_build.specs.Need.{children, runs}

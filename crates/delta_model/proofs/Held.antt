@@ -4,8 +4,8 @@ use Rattle.std.specs.Prelude.{is_some, fold, ◌||◌}
 use Rattle.std.specs.List.{AllByRecursion, IsDistinct, list_any}
 use Rattle.std.specs.List.Sorted.{IsStrictlySortedBy}
 use Rattle.std.specs.Map.{keys_of}
-use Rattle.address_model.specs.Address.{Prefix, IsPrefix, same_prefix}
-use Rattle.address_model.specs.Order.{prefix_cmp}
+use Rattle.table_model.specs.Address.{Prefix, IsPrefix, same_prefix}
+use Rattle.table_model.specs.Order.{prefix_cmp}
 use Rattle.table_model.specs.Entries.{Entries, with_entry, in_order}
 use Rattle.table_model.specs.Changes.{is_held}
 use Rattle.table_model.proofs.Sums.{in_order_sorted, all_placed}

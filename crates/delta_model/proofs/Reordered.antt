@@ -3,7 +3,7 @@ use Rattle.std.proofs.Common.{◌≡◌, List, [], ◌∷◌, ◌++◌, refl, sy
 use Rattle.std.specs.List.{AllByRecursion}
 use Rattle.std.specs.Map.{keys_of}
 use Rattle.std.proofs.lemmas.List.Sums.{fold-append}
-use Rattle.address_model.specs.Address.{Prefix, IsPrefix}
+use Rattle.table_model.specs.Address.{Prefix, IsPrefix}
 use Rattle.table_model.specs.Entries.{Entries, with_entry, in_order}
 use Rattle.table_model.proofs.Once.{once_sorted}
 use Rattle.route_model.proofs.Keyed.{same_entries}

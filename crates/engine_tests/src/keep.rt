@@ -1,7 +1,7 @@
 //! Kept tables: routes change, the table is repaired or made least, and plans are taken back.
 
 ghost use Rattle.std.specs.Prelude.{◌≡◌};
-ghost use Rattle.address_model.specs.declared.family.Family.TheVariants.{V4};
+ghost use Rattle.table_model.specs.declared.family.Family.TheVariants.{V4};
 
 use fib_addr::{Addr, Entry, Family, Hop, Prefix};
 use fib_delta::Change;

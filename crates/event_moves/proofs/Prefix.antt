@@ -1,12 +1,12 @@
 -- The event's prefix, where the table answered as the routes before the event.
 use Rattle.std.proofs.Common.{◌≡◌, ℕ, ◌+◌, List, Bool, true, false, sym, ap, subst, ◌∙◌, length, arith}
-use Rattle.address_model.specs.Bits.{begins}
-use Rattle.address_model.specs.Address.{Prefix}
-use Rattle.address_model.specs.Width.{width}
+use Rattle.table_model.specs.Bits.{begins}
+use Rattle.table_model.specs.Address.{Prefix}
+use Rattle.table_model.specs.Width.{width}
 use Rattle.table_model.specs.Table.{Table, IsTable, cut}
 use Rattle.table_model.specs.Entries.{of_family}
-use Rattle.least_model.specs.Regions.{SameOutside, above}
-use Rattle.least_model.specs.Sets.{answers}
+use Rattle.table_model.specs.Regions.{SameOutside, above}
+use Rattle.table_model.specs.Sets.{answers}
 use Rattle.fib_addr.specs.Views.{prefix_as}
 use Rattle.fib_addr.specs.declared.prefix.Prefix as code
 use Rattle.orig_tree.specs.Views.{Labels}

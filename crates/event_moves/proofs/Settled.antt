@@ -3,11 +3,11 @@ use Rattle.std.proofs.Common.{◌≡◌, ◌≢◌, ℕ, zero, suc, List, [], �
 use Rattle.std.specs.Option.{option_to_list}
 use Rattle.std.proofs.lemmas.Bool.{eq-eqb, eqb-true}
 use Rattle.std.proofs.lemmas.List.{append-nil}
-use Rattle.address_model.specs.Address.{Prefix}
+use Rattle.table_model.specs.Address.{Prefix}
 use Rattle.table_model.specs.Table.{Table, IsTable, root, half, here, inherit}
-use Rattle.least_model.specs.Regions.{entry_at}
-use Rattle.least_model.specs.Sets.{side}
-use Rattle.least_model.proofs.Same.{cut_nil}
+use Rattle.table_model.specs.Regions.{entry_at}
+use Rattle.table_model.specs.Sets.{side}
+use Rattle.table_model.proofs.Same.{cut_nil}
 use Rattle.stays_model.specs.Parts.{ArePart}
 use Rattle.fib_addr.specs.Views.{entry_as}
 use Rattle.orig_tree.specs.Spots.{Spot, answers_in}

@@ -3,7 +3,7 @@ use Rattle.std.specs.Prelude.{◌≡◌, ℕ, zero, suc, List, [], Bool, true, f
 use Rattle.std.specs.Box.{box_value}
 use Rattle.std.specs.declared.alloc.Global.{Global}
 use Rattle.table_model.specs.Table.{Table, root, half, inherit}
-use Rattle.least_model.specs.Sets.{side}
+use Rattle.table_model.specs.Sets.{side}
 use Rattle.orig_tree.specs.Spots.{answers_in}
 use Rattle.orig_tree.specs.Walk.{behind}
 use Rattle.moves_model.specs.Sets.{is_allowed, allowed_by_both, inner_set, near_set}

@@ -1,8 +1,8 @@
 //! The table before an event.
 
 ghost use Rattle.std.specs.Prelude.{◌≡◌, ℕ};
-ghost use Rattle.address_model.specs.Address.{Prefix, IsPrefix};
-ghost use Rattle.address_model.specs.Width.{width};
+ghost use Rattle.table_model.specs.Address.{Prefix, IsPrefix};
+ghost use Rattle.table_model.specs.Width.{width};
 ghost use Rattle.table_model.specs.Table.{Alike};
 ghost use Rattle.table_model.specs.Entries.{Entries, of_family};
 ghost use Rattle.kept_model.specs.Patched.{with_route};

@@ -1,7 +1,7 @@
 //! The shortest list of changes after one event.
 
 ghost use Rattle.std.specs.Prelude.{◌≡◌, ◌≤◌, ◌+◌, map, IfOk};
-ghost use Rattle.address_model.specs.Width.{width};
+ghost use Rattle.table_model.specs.Width.{width};
 ghost use Rattle.table_model.specs.Entries.{of_family};
 ghost use Rattle.delta_model.specs.Between.{between};
 ghost use Rattle.fib_addr.specs.Views.{prefix_as};

@@ -5,7 +5,7 @@
 
 ghost use Rattle.std.specs.Prelude.{◌≡◌, ◌+◌, ◌≢◌, [], true, ℕ, List, Bool, Some, IfOk, is_some};
 ghost use Rattle.std.specs.Option.{option_copied};
-ghost use Rattle.address_model.specs.Width.{width};
+ghost use Rattle.table_model.specs.Width.{width};
 ghost use Rattle.table_model.specs.Table.{Table, IsTable, root};
 ghost use Rattle.orig_tree.specs.Spots.{answers_in};
 ghost use Rattle.orig_tree.specs.Walk.{behind};

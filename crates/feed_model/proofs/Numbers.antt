@@ -11,7 +11,7 @@ use Rattle.std.specs.declared.cmp.Ordering.TheVariants.{Less, Equal, Greater}
 use Rattle.std.proofs.lemmas.Bool.{ltb-false}
 use Rattle.std.proofs.lemmas.Grind.{flat_map-append}
 use Rattle.std.proofs.lemmas.List.Sums.{fold-append}
-use Rattle.address_model.specs.Address.{Address, Prefix, same_address, same_prefix}
+use Rattle.table_model.specs.Address.{Address, Prefix, same_address, same_prefix}
 use Rattle.table_model.specs.Changes.{Add, Replace}
 use Rattle.route_model.specs.Events.{Elem, Put, Cut, elem_prefix}
 use Rattle.route_model.specs.Choice.{Place, Offer, Candidates, same_place, place_cmp, after_elem, after_elems, is_chosen, chosen_in, routes_of, chosen_for}

@@ -7,9 +7,9 @@ use Rattle.std.specs.List.{AllByRecursion}
 use Rattle.std.specs.List.Sorted.{IsStrictlySortedBy}
 use Rattle.std.specs.Map.{lookup, keys_of, remove_entry}
 use Rattle.std.proofs.lemmas.Map.Made.{lookup-map_values}
-use Rattle.address_model.specs.Address.{Address, Prefix, IsPrefix, same_address, same_prefix}
-use Rattle.address_model.specs.Order.{prefix_cmp}
-use Rattle.address_model.proofs.Same.{same_address_is, same_prefix_is, same_prefix_itself}
+use Rattle.table_model.specs.Address.{Address, Prefix, IsPrefix, same_address, same_prefix}
+use Rattle.table_model.specs.Order.{prefix_cmp}
+use Rattle.table_model.proofs.SamePrefix.{same_address_is, same_prefix_is, same_prefix_itself}
 use Rattle.table_model.specs.Entries.{Entries, with_entry}
 use Rattle.table_model.specs.Changes.{Change, Replace, additions, is_held, after_change, after_changes, sum_of}
 use Rattle.table_model.proofs.Sums.{sum_of-additions}

@@ -1,7 +1,7 @@
 -- What elementary events come to: the numbers of their next hops, the table of routes, and its changes event by event.
 use Rattle.std.specs.Prelude.{◌≡◌, ◌≤◌, ℕ, suc, ◌+◌, List, [], ◌∷◌, ◌++◌, Option, Some, None, option_map, unwrap_or, nat_lt, length, map, flat_map, fold, if◌then◌else◌}
 use Rattle.std.specs.List.{AllByRecursion}
-use Rattle.address_model.specs.Address.{Address, Prefix, same_address}
+use Rattle.table_model.specs.Address.{Address, Prefix, same_address}
 use Rattle.table_model.specs.Entries.{Entries}
 use Rattle.table_model.specs.Changes.{Change, Add, Replace, Remove, additions}
 use Rattle.route_model.specs.Events.{Elem, Put, Cut, elem_prefix}

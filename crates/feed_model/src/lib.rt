@@ -5,7 +5,7 @@
 
 ghost use Rattle.std.specs.Prelude.{◌≡◌, ◌≤◌, ℕ, ◌+◌, List, [], ◌∷◌, ◌++◌, Some, None, length, option_map};
 ghost use Rattle.std.specs.List.{AllByRecursion, IsDistinct};
-ghost use Rattle.address_model.specs.Address.{Address, Prefix, same_address};
+ghost use Rattle.table_model.specs.Address.{Address, Prefix, same_address};
 ghost use Rattle.table_model.specs.Changes.{after_changes, sum_of};
 ghost use Rattle.route_model.specs.Events.{Elem};
 ghost use Rattle.route_model.specs.Choice.{Candidates, AreCandidates, IsElem, after_elem, after_elems, chosen_for, routes_of};

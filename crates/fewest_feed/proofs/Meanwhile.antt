@@ -1,7 +1,7 @@
 -- What a router answers while it makes the changes in steady order.
 use Rattle.std.proofs.Common.{◌≡◌, ℕ, suc, ◌+◌, ◌<◌, List, [], ◌∷◌, ◌++◌, Bool, true, length, take, refl, sym, ap, subst, ◌∙◌, arith, append_assoc}
 use Rattle.std.specs.List.{AllByRecursion}
-use Rattle.address_model.specs.Address.{Address}
+use Rattle.table_model.specs.Address.{Address}
 use Rattle.table_model.specs.Entries.{Entries, AlikeInBoth, in_order}
 use Rattle.table_model.specs.Changes.{Change}
 use Rattle.table_model.proofs.Sums.{in_order_again}

@@ -2,14 +2,14 @@
 use Rattle.std.proofs.Common.{◌≡◌, ℕ, ◌+◌, List, [], ◌∷◌, Bool, true, false, Option, Some, None, refl, sym, subst, ◌∙◌}
 use Rattle.std.specs.Prelude.{if◌then◌else◌}
 use Rattle.std.specs.List.{AllByRecursion}
-use Rattle.address_model.specs.Width.{width}
-use Rattle.address_model.specs.Address.{Address, Prefix, IsAddress, IsPrefix, same_family}
-use Rattle.address_model.specs.declared.family.Family.{Family}
-use Rattle.address_model.proofs.Same.{same_family_is}
+use Rattle.table_model.specs.Width.{width}
+use Rattle.table_model.specs.Address.{Address, Prefix, IsAddress, IsPrefix, same_family}
+use Rattle.table_model.specs.declared.family.Family.{Family}
+use Rattle.table_model.proofs.SamePrefix.{same_family_is}
 use Rattle.table_model.specs.Table.{Alike}
 use Rattle.table_model.specs.Entries.{Entries, of_family, AlikeInBoth, match_in}
-use Rattle.least_model.specs.Both.{LeastInBoth}
-use Rattle.least_model.proofs.Same.{same_answers}
+use Rattle.table_model.specs.Both.{LeastInBoth}
+use Rattle.table_model.proofs.Same.{same_answers}
 use Rattle.route_model.specs.Events.{Elem, elem_prefix}
 use Rattle.route_model.specs.Choice.{Candidates, AreCandidates, IsElem, after_elem, after_elems, chosen_for}
 use Rattle.route_model.proofs.Said.{candidates_after}

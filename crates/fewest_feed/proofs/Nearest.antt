@@ -2,20 +2,20 @@
 use Rattle.std.proofs.Common.{◌≡◌, [], ◌∷◌, Bool, true, false, cond, Some, length, refl, sym, ap, ◌∙◌, arith}
 use Rattle.std.specs.List.{AllByRecursion, filter}
 use Rattle.std.specs.Map.{keys_of}
-use Rattle.address_model.specs.Width.{width}
-use Rattle.address_model.specs.Address.{Prefix, IsPrefix, same_family}
-use Rattle.address_model.specs.declared.family.Family.{Family}
-use Rattle.address_model.proofs.Same.{same_family_is, same_family_itself}
+use Rattle.table_model.specs.Width.{width}
+use Rattle.table_model.specs.Address.{Prefix, IsPrefix, same_family}
+use Rattle.table_model.specs.declared.family.Family.{Family}
+use Rattle.table_model.proofs.SamePrefix.{same_family_is, same_family_itself}
 use Rattle.table_model.specs.Table.{Table, Alike}
 use Rattle.table_model.specs.Entries.{Entries, in_order, of_family, of_table}
 use Rattle.table_model.specs.Changes.{after_changes}
 use Rattle.table_model.proofs.Cut.{entry}
 use Rattle.table_model.proofs.Sums.{in_order_again}
-use Rattle.least_model.specs.Regions.{SameEntries}
-use Rattle.least_model.specs.Sets.{answers}
-use Rattle.least_model.proofs.Same.{same_answers}
+use Rattle.table_model.specs.Regions.{SameEntries}
+use Rattle.table_model.specs.Sets.{answers}
+use Rattle.table_model.proofs.Same.{same_answers}
 use Rattle.route_model.proofs.Keyed.{all_filter, sorted_filter}
-use Rattle.address_model.specs.Order.{prefix_cmp}
+use Rattle.table_model.specs.Order.{prefix_cmp}
 use Rattle.delta_model.specs.Between.{AreEntries, hop_at, between}
 use Rattle.delta_model.proofs.Held.{Placed}
 use Rattle.delta_model.proofs.Alike.{hop_in_replaced, made_placed, part_changes, placed_are, replaced_placed}

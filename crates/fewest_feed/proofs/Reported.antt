@@ -3,7 +3,7 @@ use Rattle.std.proofs.Common.{◌≡◌, ℕ, ◌+◌, List, [], ◌∷◌, ◌+
 use Rattle.std.specs.Prelude.{map}
 use Rattle.std.specs.List.{AllByRecursion}
 use Rattle.std.proofs.lemmas.List.Sorted.{length_permutation}
-use Rattle.address_model.specs.Address.{Address, IsPrefix}
+use Rattle.table_model.specs.Address.{Address, IsPrefix}
 use Rattle.table_model.specs.Entries.{Entries}
 use Rattle.table_model.specs.Changes.{Change, after_changes, sum_of}
 use Rattle.route_model.specs.Events.{Elem}

@@ -1,7 +1,7 @@
 -- What the number in the row of an event is.
 use Rattle.std.specs.Prelude.{◌≡◌, ◌≤◌, ℕ, ◌+◌, List, ◌∷◌, ◌++◌, true, Some, length}
-use Rattle.address_model.specs.Width.{width}
-use Rattle.address_model.specs.Address.{Address, Prefix}
+use Rattle.table_model.specs.Width.{width}
+use Rattle.table_model.specs.Address.{Address, Prefix}
 use Rattle.table_model.specs.Table.{Table, Alike}
 use Rattle.table_model.specs.Entries.{of_family}
 use Rattle.route_model.specs.Events.{Elem}

@@ -2,8 +2,8 @@
 -- doesn't repair the table at its prefix: the table becomes the nearest to the one before that answers as the routes.
 use Rattle.std.specs.Prelude.{ℕ, ◌+◌, List, [], ◌∷◌, ◌++◌, Bool, true, false, not, Option, Some, None}
 use Rattle.std.specs.List.{filter}
-use Rattle.address_model.specs.Address.{Address, Prefix, same_family}
-use Rattle.address_model.specs.declared.family.Family.{Family}
+use Rattle.table_model.specs.Address.{Address, Prefix, same_family}
+use Rattle.table_model.specs.declared.family.Family.{Family}
 use Rattle.table_model.specs.Entries.{Entries, in_order}
 use Rattle.route_model.specs.Events.{Elem}
 use Rattle.route_model.specs.Choice.{Candidates, after_elem}

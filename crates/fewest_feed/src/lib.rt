@@ -8,13 +8,13 @@ ghost use Rattle.std.specs.Prelude.{◌≡◌, ℕ, ◌+◌, [], ◌∷◌, ◌+
 ghost use Rattle.std.specs.List.{AllByRecursion};
 ghost use Rattle.std.specs.List.Sorted.{IsStrictlySortedBy};
 ghost use Rattle.std.specs.Map.{keys_of};
-ghost use Rattle.address_model.specs.Address.{Address, Prefix, IsPrefix};
-ghost use Rattle.address_model.specs.Order.{prefix_cmp};
-ghost use Rattle.address_model.specs.declared.family.Family.{Family};
-ghost use Rattle.address_model.specs.declared.family.Family.TheVariants.{V4, V6};
+ghost use Rattle.table_model.specs.Address.{Address, Prefix, IsPrefix};
+ghost use Rattle.table_model.specs.Order.{prefix_cmp};
+ghost use Rattle.table_model.specs.declared.family.Family.{Family};
+ghost use Rattle.table_model.specs.declared.family.Family.TheVariants.{V4, V6};
 ghost use Rattle.table_model.specs.Entries.{Entries, AlikeInBoth, in_order, of_family};
 ghost use Rattle.table_model.specs.Changes.{after_changes, sum_of};
-ghost use Rattle.least_model.specs.Both.{LeastInBoth};
+ghost use Rattle.table_model.specs.Both.{LeastInBoth};
 ghost use Rattle.route_model.specs.Events.{Elem};
 ghost use Rattle.route_model.specs.Choice.{Candidates, AreCandidates, IsElem, after_elem, after_elems};
 ghost use Rattle.delta_model.specs.Between.{between};

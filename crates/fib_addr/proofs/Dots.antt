@@ -8,8 +8,8 @@ use Rattle.std.proofs.Math.Seq.{take-append_seam}
 use Rattle.std.proofs.lemmas.Bool.{cond-true, eqb-true, lt-ltb, ltb-true}
 use Rattle.std.proofs.lemmas.List.Folds.{list_any_none}
 use Rattle.std.proofs.lemmas.List.Splits.{slice_split_at, join_with_byte-slice_split}
-use Rattle.address_model.specs.Bits.{bits_of}
-use Rattle.address_model.specs.declared.family.Family.TheVariants.{V4}
+use Rattle.table_model.specs.Bits.{bits_of}
+use Rattle.table_model.specs.declared.family.Family.TheVariants.{V4}
 use Rattle.fib_addr.specs.Text.{ipv4_in, is_dot, number_below}
 use Rattle.fib_addr.proofs.HopLemmas.{none_passes}
 use Rattle.fib_addr.proofs.Numbers.{number_is, number_read}

@@ -3,8 +3,8 @@ use Rattle.std.proofs.Common.{◌≡◌, ℕ, ◌+◌, ◌-◌, ◌*◌, ◌/◌
 use Rattle.std.proofs.lemmas.Nat.{shl_whole, shr_below, shl_below, shl-shr}
 use Rattle.std.proofs.Math.Nat.{mul-mod_left}
 use Rattle.byteorder.specs.Endian.{big_number}
-use Rattle.address_model.specs.Bits.{bits_of, number, octet_bits}
-use Rattle.address_model.proofs.BitLaws.{AreOctets, bits_take, bits_of-number, number-lt}
+use Rattle.table_model.specs.Bits.{bits_of, number, octet_bits}
+use Rattle.table_model.proofs.BitLaws.{AreOctets, bits_take, bits_of-number, number-lt}
 use Rattle.octet_fields.proofs.Numbers.{number_of_all}
 
 -- what byteorder read of all octets has their bits

@@ -6,8 +6,8 @@ use Rattle.std.specs.Int.{w128, to_be_bytes, from_be_bytes}
 use Rattle.std.specs.Net.Addr.{segments_of, octets_of, ipv6_bits, ipv6_segments, IsIpv6OfBits}
 use Rattle.std.specs.declared.net.ipv6_addr.Ipv6Addr.{Ipv6Addr}
 use Rattle.std.proofs.NetLemmas.Arrays.{eight_items}
-use Rattle.address_model.specs.Bits.{bits_of, value_of, number, octet_bits}
-use Rattle.address_model.proofs.BitLaws.{value-bits_of, bits_split, bits_take, bits_of-number, bits_low, AreOctets}
+use Rattle.table_model.specs.Bits.{bits_of, value_of, number, octet_bits}
+use Rattle.table_model.proofs.BitLaws.{value-bits_of, bits_split, bits_take, bits_of-number, bits_low, AreOctets}
 use Rattle.std.specs.Prelude.{codes, nat_lt}
 use Rattle.std.proofs.Common.{◌≤◌, true, false}
 use Rattle.std.proofs.lemmas.Bool.{lt-ltb, le-ltb, cond-true, cond-false}

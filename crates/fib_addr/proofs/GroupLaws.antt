@@ -10,11 +10,11 @@ use Rattle.std.proofs.Math.Pow.{pow_mono}
 use Rattle.std.proofs.lemmas.Bool.{ne_eqb, cond-false}
 use Rattle.std.proofs.lemmas.List.{take-append-drop, length-take, length-drop}
 use Rattle.std.proofs.lemmas.List.Folds.{list_any-append}
-use Rattle.address_model.specs.Width.{width}
-use Rattle.address_model.specs.Bits.{bits_of, value_of}
-use Rattle.address_model.specs.Address.{Address, IsAddress}
-use Rattle.address_model.specs.declared.family.Family.TheVariants.{V6}
-use Rattle.address_model.proofs.BitLaws.{length-bits_of, value-bits_of, bits_from_value, value-lt}
+use Rattle.table_model.specs.Width.{width}
+use Rattle.table_model.specs.Bits.{bits_of, value_of}
+use Rattle.table_model.specs.Address.{Address, IsAddress}
+use Rattle.table_model.specs.declared.family.Family.TheVariants.{V6}
+use Rattle.table_model.proofs.BitLaws.{length-bits_of, value-bits_of, bits_from_value, value-lt}
 use Rattle.fib_addr.specs.Groups.{group_of, groups_of, group_bits, shortened, ipv6_text, groups_in, IsLongestZeroRun}
 use Rattle.fib_addr.specs.Text.{bits_text, address_in, ipv6_in, is_dot}
 use Rattle.fib_addr.proofs.Texts.{some_map}

@@ -21,9 +21,9 @@ use Rattle.std.proofs.lemmas.Int.Digits.{digits_value-lt}
 use Rattle.std.specs.declared.net.ipv6_addr.Ipv6Addr.{Ipv6Addr}
 use Rattle.std.specs.Net.Addr.{ipv6_bits}
 use Rattle.std.specs.Net.Grammar.{IsIpv6Text}
-use Rattle.address_model.specs.Bits.{bits_of}
-use Rattle.address_model.specs.Address.{Address}
-use Rattle.address_model.specs.declared.family.Family.TheVariants.{V6}
+use Rattle.table_model.specs.Bits.{bits_of}
+use Rattle.table_model.specs.Address.{Address}
+use Rattle.table_model.specs.declared.family.Family.TheVariants.{V6}
 use Rattle.fib_addr.specs.Groups.{group_bits, is_colon}
 use Rattle.fib_addr.specs.Text.{ipv6_in, is_dot}
 use Rattle.fib_addr.proofs.GroupBits.{AreGroups, ipv6_bits_are}

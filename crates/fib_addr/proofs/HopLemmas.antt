@@ -6,13 +6,13 @@ use Rattle.std.proofs.lemmas.List.{map_push}
 use Rattle.std.proofs.lemmas.Option.{slice_get-map}
 use Rattle.std.specs.List.{IsDistinct, list_any, position_or_len}
 use Rattle.std.proofs.lemmas.Bool.{lt-ltb, le-ltb, cases_lt, cond-true, cond-false}
-use Rattle.address_model.specs.Bits.{bits_of, same_bits}
-use Rattle.address_model.specs.Width.{width}
-use Rattle.address_model.specs.Address.{Address, same_family, same_address}
-use Rattle.address_model.specs.declared.family.Family.{Family}
-use Rattle.address_model.specs.declared.family.Family.TheVariants.{V4, V6}
-use Rattle.address_model.specs.contracts.family.Family.{the_type}
-use Rattle.address_model.proofs.Same.{same_address_itself}
+use Rattle.table_model.specs.Bits.{bits_of, same_bits}
+use Rattle.table_model.specs.Width.{width}
+use Rattle.table_model.specs.Address.{Address, same_family, same_address}
+use Rattle.table_model.specs.declared.family.Family.{Family}
+use Rattle.table_model.specs.declared.family.Family.TheVariants.{V4, V6}
+use Rattle.table_model.specs.contracts.family.Family.{the_type}
+use Rattle.table_model.proofs.SamePrefix.{same_address_itself}
 use Rattle.std.proofs.Common.{Result, Ok, Err}
 use Rattle.std.specs.Prelude.{◌↔◌, IfOk, IfSome, IsErr, IsSome, if◌then◌else◌}
 use Rattle.fib_addr.specs.declared.addr.Addr.{Addr}

@@ -6,8 +6,8 @@ use Rattle.std.specs.List.{AllByRecursion, IsDistinct, list_any, position_or_len
 use Rattle.std.proofs.lemmas.Bool.{ltb-true, lt-ltb, ne_eqb, cond-false}
 use Rattle.std.proofs.lemmas.List.Folds.{list_any-append, position_or_len_push}
 use Rattle.std.proofs.lemmas.Map.Keys.{IsDistinct-push}
-use Rattle.address_model.specs.Address.{Address, same_address}
-use Rattle.address_model.proofs.Same.{same_address_is, same_address_itself}
+use Rattle.table_model.specs.Address.{Address, same_address}
+use Rattle.table_model.proofs.SamePrefix.{same_address_is, same_address_itself}
 use Rattle.fib_addr.specs.Hops.{number_of, hop_at, with_hop}
 
 -- ---- a number is a place from 1

@@ -5,12 +5,12 @@ use Rattle.std.specs.Net.Text.{dotted_text, ipv4_text}
 use Rattle.std.specs.Net.Grammar.{IsDotted, IsIpv4Text}
 use Rattle.std.specs.declared.net.ipv4_addr.Ipv4Addr.{Ipv4Addr}
 use Rattle.std.proofs.Math.Seq.{drop-append-add}
-use Rattle.address_model.specs.Bits.{bits_of, value_of, number, octet_bits}
-use Rattle.address_model.specs.Width.{width}
-use Rattle.address_model.specs.Address.{Address}
-use Rattle.address_model.specs.declared.family.Family.{Family}
-use Rattle.address_model.specs.declared.family.Family.TheVariants.{V4}
-use Rattle.address_model.proofs.BitLaws.{length-bits_of, value-bits_of, bits_split, bits_take, bits_of-number}
+use Rattle.table_model.specs.Bits.{bits_of, value_of, number, octet_bits}
+use Rattle.table_model.specs.Width.{width}
+use Rattle.table_model.specs.Address.{Address}
+use Rattle.table_model.specs.declared.family.Family.{Family}
+use Rattle.table_model.specs.declared.family.Family.TheVariants.{V4}
+use Rattle.table_model.proofs.BitLaws.{length-bits_of, value-bits_of, bits_split, bits_take, bits_of-number}
 use Rattle.fib_addr.specs.Text.{octet_of, bits_text, ipv4_in}
 use Rattle.fib_addr.proofs.Texts.{ipv4_in-dotted, address_read, IsDottedText}
 

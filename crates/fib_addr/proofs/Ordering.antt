@@ -1,10 +1,10 @@
 -- The code's order of prefixes is the model's.
 use Rattle.std.proofs.Common.{◌≡◌, length, take, sym, ap, ◌∙◌, mod-eq_of_lt}
 use Rattle.std.specs.Ordering.{nat_cmp, ordering_then}
-use Rattle.address_model.specs.Bits.{bits_of, value_of}
-use Rattle.address_model.specs.Width.{width}
-use Rattle.address_model.specs.Order.{family_cmp, filled, prefix_cmp}
-use Rattle.address_model.proofs.BitLaws.{value-bits_of}
+use Rattle.table_model.specs.Bits.{bits_of, value_of}
+use Rattle.table_model.specs.Width.{width}
+use Rattle.table_model.specs.Order.{family_cmp, filled, prefix_cmp}
+use Rattle.table_model.proofs.BitLaws.{value-bits_of}
 use Rattle.fib_addr.specs.declared.prefix.Prefix.{Prefix}
 use Rattle.fib_addr.specs.Views.{prefix_as}
 use Rattle.fib_addr.specs.Order.{code_cmp}

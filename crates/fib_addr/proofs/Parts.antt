@@ -3,14 +3,14 @@ use Rattle.std.proofs.Common.{◌≡◌, ℕ, ◌+◌, ◌-◌, ◌*◌, ◌/◌
 use Rattle.std.specs.Prelude.{◌&&◌}
 use Rattle.std.proofs.lemmas.Bool.{ne_eqb, cases_eq}
 use Rattle.std.proofs.lemmas.Nat.{shl-shr, shr_below}
-use Rattle.address_model.specs.Bits.{bits_of, begins, same_bits}
-use Rattle.address_model.specs.Width.{width}
-use Rattle.address_model.specs.Address.{contains, same_family}
-use Rattle.address_model.specs.declared.family.Family.{Family}
+use Rattle.table_model.specs.Bits.{bits_of, begins, same_bits}
+use Rattle.table_model.specs.Width.{width}
+use Rattle.table_model.specs.Address.{contains, same_family}
+use Rattle.table_model.specs.declared.family.Family.{Family}
 use Rattle.std.proofs.Common.{◌++◌, replicate}
 use Rattle.std.proofs.lemmas.List.{length-replicate}
-use Rattle.address_model.proofs.BitLaws.{bits_take, bits_split, bits_from_value, length-bits_of, value-bits_of, value-zeros, same_from_bits}
-use Rattle.address_model.proofs.Same.{same_bits_are, same_bits_itself, same_family_itself}
+use Rattle.table_model.proofs.BitLaws.{bits_take, bits_split, bits_from_value, length-bits_of, value-bits_of, value-zeros, same_from_bits}
+use Rattle.table_model.proofs.SamePrefix.{same_bits_are, same_bits_itself, same_family_itself}
 
 -- filling with zeros keeps the first bits
 pub filled_bits : (w len n : ℕ) → len ≤ w → take len (bits_of w (n / 2 ^ (w - len) * 2 ^ (w - len))) ≡ take len (bits_of w n)

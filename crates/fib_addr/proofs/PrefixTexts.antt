@@ -7,12 +7,12 @@ use Rattle.std.specs.List.{list_any, position_or_len}
 use Rattle.std.proofs.lemmas.Bool.{cond-true, cond-false, false≢true}
 use Rattle.std.proofs.lemmas.Option.{none-some, same_Some}
 use Rattle.std.proofs.lemmas.List.{take_rest, take-append-drop, length-take, length-drop}
-use Rattle.address_model.specs.Bits.{same_bits}
-use Rattle.address_model.specs.Width.{width}
-use Rattle.address_model.specs.Address.{Prefix, first_bits, same_address}
-use Rattle.address_model.specs.declared.family.Family.{Family}
-use Rattle.address_model.proofs.BitLaws.{length-bits_of}
-use Rattle.address_model.proofs.Same.{same_family_itself}
+use Rattle.table_model.specs.Bits.{same_bits}
+use Rattle.table_model.specs.Width.{width}
+use Rattle.table_model.specs.Address.{Prefix, first_bits, same_address}
+use Rattle.table_model.specs.declared.family.Family.{Family}
+use Rattle.table_model.proofs.BitLaws.{length-bits_of}
+use Rattle.table_model.proofs.SamePrefix.{same_family_itself}
 use Rattle.fib_addr.specs.declared.addr.Addr.{Addr}
 use Rattle.fib_addr.specs.declared.prefix.Prefix as code_prefix
 use Rattle.fib_addr.specs.Views.{addr_as, prefix_as}

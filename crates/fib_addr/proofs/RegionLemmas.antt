@@ -4,12 +4,12 @@ use Rattle.std.specs.Prelude.{◌&&◌}
 use Rattle.std.specs.Int.{bit_at}
 use Rattle.std.proofs.lemmas.Nat.{shl-shr, shr_below, mul-add-lt, pow-add, pow_pos}
 use Rattle.std.proofs.Math.Pow.{pow-lt}
-use Rattle.address_model.specs.Bits.{bits_of, begins}
-use Rattle.address_model.specs.Width.{width}
-use Rattle.address_model.specs.Address.{Prefix, contains, first_bits, same_family}
-use Rattle.address_model.specs.Regions.{is_within, half_at}
-use Rattle.address_model.specs.declared.family.Family.{Family}
-use Rattle.address_model.proofs.BitLaws.{bits_take, bits_split}
+use Rattle.table_model.specs.Bits.{bits_of, begins}
+use Rattle.table_model.specs.Width.{width}
+use Rattle.table_model.specs.Address.{Prefix, contains, first_bits, same_family}
+use Rattle.table_model.specs.Halves.{is_within, half_at}
+use Rattle.table_model.specs.declared.family.Family.{Family}
+use Rattle.table_model.proofs.BitLaws.{bits_take, bits_split}
 use Rattle.fib_addr.specs.Text.{first_address}
 
 -- ---- halves

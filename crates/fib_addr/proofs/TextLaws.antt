@@ -3,12 +3,12 @@ use Rattle.std.proofs.Common.{◌≡◌, ℕ, ◌*◌, ◌^◌, ◌<◌, ◌≤�
 use Rattle.std.proofs.lemmas.List.{take-append-drop, length-take, length-drop}
 use Rattle.std.proofs.Common.{length-append}
 use Rattle.std.proofs.Math.Pow.{pow_mono}
-use Rattle.address_model.specs.Width.{width}
-use Rattle.address_model.specs.Bits.{bits_of, octet_bits}
-use Rattle.address_model.specs.Address.{Address, IsAddress}
-use Rattle.address_model.specs.declared.family.Family.{Family}
-use Rattle.address_model.specs.declared.family.Family.TheVariants.{V4, V6}
-use Rattle.address_model.proofs.BitLaws.{length-bits_of, value-lt}
+use Rattle.table_model.specs.Width.{width}
+use Rattle.table_model.specs.Bits.{bits_of, octet_bits}
+use Rattle.table_model.specs.Address.{Address, IsAddress}
+use Rattle.table_model.specs.declared.family.Family.{Family}
+use Rattle.table_model.specs.declared.family.Family.TheVariants.{V4, V6}
+use Rattle.table_model.proofs.BitLaws.{length-bits_of, value-lt}
 use Rattle.std.proofs.Common.{true, false, cond}
 use Rattle.std.specs.List.{list_any}
 use Rattle.std.proofs.lemmas.Bool.{cond-true}

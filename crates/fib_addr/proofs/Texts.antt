@@ -12,10 +12,10 @@ use Rattle.std.proofs.lemmas.Fmt.{decimal_is_IsNumeral}
 use Rattle.std.proofs.lemmas.Str.Parse.{digit_from_value}
 use Rattle.std.proofs.lemmas.List.Elements.{All-from_recursion}
 use Rattle.std.proofs.lemmas.List.Splits.{slice_split_at, slice_split_none, join_with_byte-slice_split}
-use Rattle.address_model.specs.Bits.{bits_of, value_of, octet_bits}
-use Rattle.address_model.specs.Address.{Address}
-use Rattle.address_model.specs.declared.family.Family.TheVariants.{V4}
-use Rattle.address_model.proofs.BitLaws.{length-bits_of, value-bits_of}
+use Rattle.table_model.specs.Bits.{bits_of, value_of, octet_bits}
+use Rattle.table_model.specs.Address.{Address}
+use Rattle.table_model.specs.declared.family.Family.TheVariants.{V4}
+use Rattle.table_model.proofs.BitLaws.{length-bits_of, value-bits_of}
 use Rattle.fib_addr.specs.Text.{octet_of, bits_text, number_below, octets_in, ipv4_in, is_dot}
 
 digits_no_dot : (cs : List ℕ) → AllDigits 10 cs → AllByRecursion (λ b. is_dot b ≡ false) cs

@@ -5,7 +5,7 @@ use Rattle.std.specs.Option.{option_and_then}
 use Rattle.std.specs.Char.{is_digit}
 use Rattle.std.specs.Str.Parse.{digits_value}
 use Rattle.std.specs.Net.Text.{groups_text, longest_zero_run}
-use Rattle.address_model.specs.Bits.{bits_of, value_of}
+use Rattle.table_model.specs.Bits.{bits_of, value_of}
 
 -- the number of the group at this place
 abbrev pub group_of : List Bool → ℕ → ℕ

@@ -1,7 +1,7 @@
 -- Next hops and their numbers.
 use Rattle.std.specs.Prelude.{ℕ, zero, suc, ◌+◌, List, [], ◌∷◌, ◌++◌, cond, Option, None, option_map, slice_get, position, fold}
 use Rattle.std.specs.List.{list_any}
-use Rattle.address_model.specs.Address.{Address, same_address}
+use Rattle.table_model.specs.Address.{Address, same_address}
 
 -- next hops in the order of their numbers, and how many more get a number without memory
 pub record Hops : Type 0 where

@@ -1,7 +1,7 @@
 -- The orders that the code gives prefixes.
 use Rattle.std.specs.Ordering.{nat_cmp, on, then_cmp}
 use Rattle.std.specs.declared.cmp.Ordering.{Ordering}
-use Rattle.address_model.specs.Order.{family_cmp}
+use Rattle.table_model.specs.Order.{family_cmp}
 use Rattle.fib_addr.specs.declared.prefix.Prefix.{Prefix}
 
 -- what `cmp` answers; by the order law it is the order of prefixes

@@ -4,11 +4,11 @@ use Rattle.std.specs.List.{slice_split, list_any, before_first, after_first}
 use Rattle.std.specs.Option.{option_and_then}
 use Rattle.std.specs.Net.Text.{dotted_text}
 use Rattle.std.specs.Str.Parse.{digits_value}
-use Rattle.address_model.specs.Bits.{value_of, octet_bits}
-use Rattle.address_model.specs.Width.{width}
-use Rattle.address_model.specs.Address.{Address, Prefix, first_bits}
-use Rattle.address_model.specs.declared.family.Family.{Family}
-use Rattle.address_model.specs.declared.family.Family.TheVariants.{V4, V6}
+use Rattle.table_model.specs.Bits.{value_of, octet_bits}
+use Rattle.table_model.specs.Width.{width}
+use Rattle.table_model.specs.Address.{Address, Prefix, first_bits}
+use Rattle.table_model.specs.declared.family.Family.{Family}
+use Rattle.table_model.specs.declared.family.Family.TheVariants.{V4, V6}
 use Rattle.fib_addr.specs.Groups.{groups_of, group_bits, ipv6_text, groups_in}
 
 -- the number of the octet at this place

@@ -1,8 +1,8 @@
 -- What a clause sees of addresses, prefixes and entries: their bits, without what their types keep.
 use Rattle.std.specs.Prelude.{ℕ, take}
-use Rattle.address_model.specs.Bits.{bits_of}
-use Rattle.address_model.specs.Width.{width}
-use Rattle.address_model.specs.Address.{Address, Prefix}
+use Rattle.table_model.specs.Bits.{bits_of}
+use Rattle.table_model.specs.Width.{width}
+use Rattle.table_model.specs.Address.{Address, Prefix}
 use Rattle.fib_addr.specs.declared.addr.Addr as code_addr
 use Rattle.fib_addr.specs.declared.prefix.Prefix as code_prefix
 use Rattle.fib_addr.specs.declared.entry.Entry as code_entry

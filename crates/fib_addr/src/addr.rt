@@ -1,9 +1,9 @@
 //! Addresses.
 
 ghost use Rattle.std.specs.Prelude.{◌≡◌, ◌^◌, ◌*◌, ◌<◌, length};
-ghost use Rattle.address_model.specs.Width.{width};
+ghost use Rattle.table_model.specs.Width.{width};
 
-use address_model::Family;
+use table_model::Family;
 use byteorder::{BigEndian, ByteOrder};
 
 /// An address: the number of its bits, below 2 to the family's width.
@@ -17,8 +17,8 @@ pub struct Addr {
 }
 
 impl Addr {
-    ghost use Rattle.address_model.specs.Bits.{bits_of, octet_bits};
-    ghost use Rattle.address_model.specs.declared.family.Family.TheVariants.{V4, V6};
+    ghost use Rattle.table_model.specs.Bits.{bits_of, octet_bits};
+    ghost use Rattle.table_model.specs.declared.family.Family.TheVariants.{V4, V6};
     ghost use Rattle.fib_addr.specs.Views.{addr_as};
 
     /// The IPv4 address of these bits.

@@ -3,15 +3,15 @@
 ghost use Rattle.std.specs.Prelude.{◌≡◌, IfSome, IfNone};
 ghost use Rattle.std.specs.List.{IsDistinct};
 ghost use Rattle.std.specs.Map.{keys_of};
-ghost use Rattle.address_model.specs.Address.{same_prefix};
-ghost use Rattle.address_model.specs.declared.family.Family.{Family};
+ghost use Rattle.table_model.specs.Address.{same_prefix};
+ghost use Rattle.table_model.specs.declared.family.Family.{Family};
 ghost use Rattle.table_model.specs.Entries.{Entries};
 ghost use Rattle.table_model.specs.Uniform.{AllGet, TwoDiffer};
 ghost use Rattle.fib_addr.specs.Views.{prefix_as};
 
 use crate::entry::Hop;
 use crate::prefix::Prefix;
-use address_model::Family;
+use table_model::Family;
 
 /// A table of one family, which tells whether the addresses of a prefix all get one answer.
 ///

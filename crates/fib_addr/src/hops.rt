@@ -6,7 +6,7 @@
 
 ghost use Rattle.std.specs.Prelude.{◌≡◌, ◌↔◌, ◌+◌, ◌<◌, ◌≤◌, [], length, map, option_map, Some, None, IsOk, IsErr, IsSome, IfSome, IfOk, OnOk, OnErr, IsErrOf};
 ghost use Rattle.std.specs.List.{IsDistinct};
-ghost use Rattle.address_model.specs.Address.{same_address};
+ghost use Rattle.table_model.specs.Address.{same_address};
 ghost use Rattle.indexmap.specs.IndexSet.{spare};
 ghost use Rattle.fib_addr.specs.Hops.{Hops, most_hops, number_of, hop_at, with_hop};
 ghost use Rattle.fib_addr.specs.Views.{addr_as};

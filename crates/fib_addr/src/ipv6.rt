@@ -4,7 +4,7 @@ ghost use Rattle.std.specs.Prelude.{◌≡◌, ◌+◌, ◌-◌, ◌*◌, ◌<�
 ghost use Rattle.std.specs.Char.{digit_char};
 ghost use Rattle.std.specs.List.{list_any};
 ghost use Rattle.std.specs.Net.Text as Text;
-ghost use Rattle.address_model.specs.Bits.{bits_of};
+ghost use Rattle.table_model.specs.Bits.{bits_of};
 ghost use Rattle.fib_addr.specs.Groups.{groups_of, ipv6_text};
 ghost use Rattle.fib_addr.specs.Views.{addr_as};
 ghost use Rattle.fib_addr.specs.Text.{ipv6_in, is_dot};

@@ -2,11 +2,11 @@
 
 ghost use Rattle.std.specs.Prelude.{◌≡◌, ◌<◌, ◌≤◌, List, ℕ, Some, IsSome, false, true, fold, length};
 ghost use Rattle.std.specs.List.{IsDistinct};
-ghost use Rattle.address_model.specs.Address.{Address, IsAddress, Prefix, IsPrefix, same_address};
-ghost use Rattle.address_model.specs.Order.{prefix_cmp};
-ghost use Rattle.address_model.specs.Width.{width};
-ghost use Rattle.address_model.specs.Regions.{half_at};
-ghost use Rattle.address_model.specs.declared.family.Family.TheVariants.{V4};
+ghost use Rattle.table_model.specs.Address.{Address, IsAddress, Prefix, IsPrefix, same_address};
+ghost use Rattle.table_model.specs.Order.{prefix_cmp};
+ghost use Rattle.table_model.specs.Width.{width};
+ghost use Rattle.table_model.specs.Halves.{half_at};
+ghost use Rattle.table_model.specs.declared.family.Family.TheVariants.{V4};
 ghost use Rattle.std.specs.Net.Text.{longest_zero_run};
 ghost use Rattle.fib_addr.specs.Groups.{IsLongestZeroRun};
 ghost use Rattle.table_model.specs.Entries.{Entries};

@@ -15,7 +15,7 @@ mod prefix;
 mod text;
 
 pub use addr::Addr;
-pub use address_model::Family;
+pub use table_model::Family;
 pub use answers::Answers;
 pub use entry::{Entry, Hop, push_entry};
 pub use hops::{HopError, HopTable, HopsFull, MOST_HOPS};

@@ -2,11 +2,11 @@
 
 ghost use Rattle.std.specs.Prelude.{◌≡◌, ◌==◌, ◌≤◌, ◌+◌, ◌-◌, ◌*◌, ◌/◌, ◌%◌, ◌^◌, ◌<◌, [], if◌then◌else◌, length, take};
 ghost use Rattle.std.specs.Int as Int;
-ghost use Rattle.address_model.specs.Bits.{bits_of, octet_bits};
-ghost use Rattle.address_model.specs.Width.{width};
+ghost use Rattle.table_model.specs.Bits.{bits_of, octet_bits};
+ghost use Rattle.table_model.specs.Width.{width};
 
 use crate::addr::Addr;
-use address_model::Family;
+use table_model::Family;
 use byteorder::{BigEndian, ByteOrder};
 use std::cmp::Ordering;
 
@@ -38,7 +38,7 @@ impl Ord for Prefix {
 
     ghost matches_eq = { tied };
 
-    #[tactic(auto, using(address_model::proofs::Families::family_order))]
+    #[tactic(auto, using(table_model::proofs::Families::family_order))]
     fn cmp(&self, other: &Prefix) -> Ordering {
         match self.family.cmp(&other.family) {
             Ordering::Equal => match self.bits.cmp(&other.bits) {
@@ -116,8 +116,8 @@ pub fn bit_at(bits: u128, place: u8) -> bool
 }
 
 impl Prefix {
-    ghost use Rattle.address_model.specs.Address.{contains, first_bits};
-    ghost use Rattle.address_model.specs.Regions.{half_at, is_within};
+    ghost use Rattle.table_model.specs.Address.{contains, first_bits};
+    ghost use Rattle.table_model.specs.Halves.{half_at, is_within};
     ghost use Rattle.fib_addr.specs.Views.{addr_as, prefix_as};
     ghost use Rattle.fib_addr.specs.Text.{first_address};
 

@@ -6,9 +6,9 @@ use Rattle.std.proofs.lemmas.List.{map-append, drop_more, drop_all, take_rest}
 use Rattle.std.specs.List.Sorted.{IsStrictlySortedBy}
 use Rattle.std.specs.Map.{keys_of}
 use Rattle.std.specs.declared.cmp.Ordering.TheVariants.{Less}
-use Rattle.address_model.specs.Address.{Prefix}
-use Rattle.address_model.specs.Order.{prefix_cmp}
-use Rattle.address_model.proofs.Ordered.{prefix_total}
+use Rattle.table_model.specs.Address.{Prefix}
+use Rattle.table_model.specs.Order.{prefix_cmp}
+use Rattle.table_model.proofs.Ordered.{prefix_total}
 use Rattle.table_model.specs.Entries.{Entries}
 use Rattle.table_model.specs.Changes.{Change, Add, Remove}
 use Rattle.fib_addr.specs.declared.prefix.Prefix as code

@@ -3,8 +3,8 @@ use Rattle.std.specs.Prelude.{List, map}
 use Rattle.std.specs.List.{AllByRecursion}
 use Rattle.std.specs.List.Sorted.{IsStrictlySortedBy}
 use Rattle.std.specs.Map.{keys_of}
-use Rattle.address_model.specs.Address.{IsPrefix}
-use Rattle.address_model.specs.Order.{prefix_cmp}
+use Rattle.table_model.specs.Address.{IsPrefix}
+use Rattle.table_model.specs.Order.{prefix_cmp}
 use Rattle.table_model.specs.Entries.{Entries}
 use Rattle.table_model.specs.Changes.{Change, Add, Replace, Remove}
 use Rattle.fib_addr.specs.declared.prefix.Prefix as code_prefix

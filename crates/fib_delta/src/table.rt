@@ -4,7 +4,7 @@
 
 ghost use Rattle.std.specs.Prelude.{◌≡◌, ◌↔◌, [], map, true, IfOk, OnOk, OnErr, IsOk, Some, IsErrOf};
 ghost use Rattle.std.specs.Map.{remove_entry};
-ghost use Rattle.address_model.specs.Address.{same_prefix};
+ghost use Rattle.table_model.specs.Address.{same_prefix};
 ghost use Rattle.table_model.specs.Entries.{with_entry};
 ghost use Rattle.table_model.specs.Changes.{is_held, after_change};
 ghost use Rattle.fib_addr.specs.Views.{prefix_as, entry_as};

@@ -8,21 +8,21 @@ use Rattle.std.specs.declared.cmp.Ordering.TheVariants.{Less, Equal, Greater}
 use Rattle.std.proofs.lemmas.List.{map-append}
 use Rattle.std.specs.Ordering.{match_ordering}
 use Rattle.std.proofs.lemmas.Bool.{eqb-true, ltb-true}
-use Rattle.address_model.specs.Width.{width}
-use Rattle.address_model.specs.Address.{Address, Prefix, same_address, same_family}
-use Rattle.address_model.specs.Regions.{half_at, is_within}
-use Rattle.address_model.specs.declared.family.Family.{Family}
-use Rattle.address_model.specs.declared.family.Family.TheVariants.{V4, V6}
+use Rattle.table_model.specs.Width.{width}
+use Rattle.table_model.specs.Address.{Address, Prefix, same_address, same_family}
+use Rattle.table_model.specs.Halves.{half_at, is_within}
+use Rattle.table_model.specs.declared.family.Family.{Family}
+use Rattle.table_model.specs.declared.family.Family.TheVariants.{V4, V6}
 use Rattle.table_model.specs.Table.{Table, lpm, cut, half, half_of, inherit, root, root_of, here}
-use Rattle.address_model.specs.Address.{same_prefix}
-use Rattle.address_model.specs.Order.{prefix_cmp}
+use Rattle.table_model.specs.Address.{same_prefix}
+use Rattle.table_model.specs.Order.{prefix_cmp}
 use Rattle.table_model.specs.Entries.{Entries, in_order, of_family, of_table, with_entry}
 use Rattle.table_model.specs.Changes.{Change, Replace}
-use Rattle.least_model.specs.Least.{aggregate, candidates}
-use Rattle.least_model.specs.Regions.{above, lift, join}
-use Rattle.least_model.specs.Sets.{is_in, common, joint, or_else, side, set_of, smallest, pick, own, agg, answers}
-use Rattle.least_model.specs.Both.{aggregate_in, aggregate_in_both}
-use Rattle.least_model.proofs.Laws.{lpm_candidate}
+use Rattle.table_model.specs.Least.{aggregate, candidates}
+use Rattle.table_model.specs.Regions.{above, lift, join}
+use Rattle.table_model.specs.Sets.{is_in, common, joint, or_else, side, set_of, smallest, pick, own, agg, answers}
+use Rattle.table_model.specs.Both.{aggregate_in, aggregate_in_both}
+use Rattle.table_model.proofs.Laws.{lpm_candidate}
 use Rattle.cert_model.specs.Rows.{CertRow, same_hop, one_answer, leaf_or, region_rows, family_rows, certificate_of}
 use Rattle.route_model.specs.Events.{Elem}
 use Rattle.route_model.specs.Choice.{Candidates, after_elem, after_elems, routes_of}

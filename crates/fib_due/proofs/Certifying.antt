@@ -3,19 +3,19 @@ use Rattle.std.proofs.Common.{◌≡◌, ◌≢◌, List, [], ◌∷◌, ◌++�
 use Rattle.std.specs.List.{AllByRecursion, IsDistinct}
 use Rattle.std.specs.List.Sorted.{IsStrictlySortedBy}
 use Rattle.std.specs.Map.{keys_of}
-use Rattle.address_model.specs.Address.{Prefix, same_prefix}
-use Rattle.address_model.specs.Order.{prefix_cmp}
-use Rattle.address_model.specs.Width.{width}
-use Rattle.address_model.specs.declared.family.Family.{Family}
-use Rattle.address_model.specs.declared.family.Family.TheVariants.{V4, V6}
-use Rattle.address_model.proofs.Same.{same_prefix_is}
+use Rattle.table_model.specs.Address.{Prefix, same_prefix}
+use Rattle.table_model.specs.Order.{prefix_cmp}
+use Rattle.table_model.specs.Width.{width}
+use Rattle.table_model.specs.declared.family.Family.{Family}
+use Rattle.table_model.specs.declared.family.Family.TheVariants.{V4, V6}
+use Rattle.table_model.proofs.SamePrefix.{same_prefix_is}
 use Rattle.table_model.specs.Table.{Entry as Row, Table, Distinct}
 use Rattle.table_model.specs.Entries.{Entries, of_family, of_table}
 use Rattle.table_model.proofs.Once.{once_sorted}
-use Rattle.least_model.specs.Both.{LeastInBoth, aggregate_in_both}
-use Rattle.least_model.specs.Least.{Least, aggregate}
-use Rattle.least_model.proofs.Both.{own_table}
-use Rattle.least_model.proofs.Laws.{fresh_law}
+use Rattle.table_model.specs.Both.{LeastInBoth, aggregate_in_both}
+use Rattle.table_model.specs.Least.{Least, aggregate}
+use Rattle.table_model.proofs.Both.{own_table}
+use Rattle.table_model.proofs.Laws.{fresh_law}
 use Rattle.cert_model.specs.Rows.{certificate_of}
 use Rattle.cert_model.specs.Right.{IsCertificate}
 use Rattle.cert_model.proofs.Postorder.{completeness_law}

@@ -2,7 +2,7 @@
 use Rattle.std.proofs.Common.{◌≡◌, ℕ, List, [], ◌∷◌, ◌++◌, Option, Some, None, Result, Ok, Err, inl, inr, refl, sym, ap, ◌∙◌, subst, append-nil}
 use Rattle.std.specs.Prelude.{option_to_list}
 use Rattle.octet_fields.specs.Field.{◌>>=◌}
-use Rattle.address_model.specs.Address.{Address, Prefix}
+use Rattle.table_model.specs.Address.{Address, Prefix}
 use Rattle.printed_model.specs.Rows.{Vrp}
 use Rattle.fib_words.specs.Commands.{Named}
 use Rattle.fib_due.specs.declared.outcome.Outcome.{Outcome}

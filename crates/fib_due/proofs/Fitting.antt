@@ -3,7 +3,7 @@ use Rattle.std.proofs.Common.{◌≡◌, ℕ, List, [], ◌∷◌, ◌++◌, Boo
 use Rattle.std.specs.Prelude.{flat_map, bytes_eq}
 use Rattle.std.specs.List.{AllByRecursion, filter}
 use Rattle.octet_fields.specs.Field.{◌>>=◌}
-use Rattle.address_model.specs.Address.{Address, Prefix, IsPrefix}
+use Rattle.table_model.specs.Address.{Address, Prefix, IsPrefix}
 use Rattle.cert_model.specs.Verdict.{RowFits}
 use Rattle.fib_addr.specs.Text.{prefix_in}
 use Rattle.fib_addr.proofs.PrefixLaws.{read_is_prefix}

@@ -5,15 +5,15 @@ use Rattle.std.specs.List.{AllByRecursion, filter}
 use Rattle.std.specs.List.Sorted.{IsNonDecreasingBy}
 use Rattle.std.specs.Option.{option_and_then}
 use Rattle.std.proofs.lemmas.Bool.{le-leb, lt-leb}
-use Rattle.address_model.specs.Address.{Address, Prefix, IsPrefix}
-use Rattle.address_model.specs.Order.{prefix_cmp}
-use Rattle.address_model.specs.Regions.{is_within}
-use Rattle.address_model.specs.Width.{width}
+use Rattle.table_model.specs.Address.{Address, Prefix, IsPrefix}
+use Rattle.table_model.specs.Order.{prefix_cmp}
+use Rattle.table_model.specs.Halves.{is_within}
+use Rattle.table_model.specs.Width.{width}
 use Rattle.table_model.specs.Entries.{Entries, AlikeInBoth, of_family}
 use Rattle.table_model.specs.Changes.{Change, sum_of}
 use Rattle.table_model.specs.Table.{Alike}
-use Rattle.least_model.specs.Regions.{SameOutside}
-use Rattle.least_model.specs.Both.{LeastInBoth}
+use Rattle.table_model.specs.Regions.{SameOutside}
+use Rattle.table_model.specs.Both.{LeastInBoth}
 use Rattle.delta_model.specs.Between.{AreEntries, hop_at}
 use Rattle.delta_model.proofs.Held.{Placed}
 use Rattle.kept_model.specs.Patched.{after_repair, entries_outside, patch_of, region_aggregate}

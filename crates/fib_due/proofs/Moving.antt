@@ -6,8 +6,8 @@ use Rattle.std.proofs.Math.Seq.{take-append_seam}
 use Rattle.std.proofs.lemmas.Bool.{eq-eqb, ne_eqb}
 use Rattle.std.proofs.lemmas.List.Sums.{fold-append}
 use Rattle.std.proofs.lemmas.List.Sorted.{length_permutation}
-use Rattle.address_model.specs.Address.{Address, Prefix, IsPrefix}
-use Rattle.address_model.specs.Width.{width}
+use Rattle.table_model.specs.Address.{Address, Prefix, IsPrefix}
+use Rattle.table_model.specs.Width.{width}
 use Rattle.table_model.specs.Table.{Alike}
 use Rattle.table_model.specs.Entries.{AlikeInBoth, Entries, of_family}
 use Rattle.table_model.specs.Changes.{Change, after_changes, sum_of}

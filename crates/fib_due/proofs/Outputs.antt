@@ -1,7 +1,7 @@
 -- What holds of whatever is due.
 use Rattle.std.proofs.Common.{◌≡◌, List, Result, Ok, Err, refl}
 use Rattle.octet_fields.specs.Field.{◌>>=◌}
-use Rattle.address_model.specs.Address.{Prefix}
+use Rattle.table_model.specs.Address.{Prefix}
 use Rattle.route_model.specs.Events.{Event}
 use Rattle.step_world.specs.Stepping.{Stepping}
 use Rattle.fib_same.specs.Due as same

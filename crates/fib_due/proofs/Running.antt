@@ -4,7 +4,7 @@ use Rattle.std.proofs.lemmas.List.{length-take-le, take-append-drop}
 use Rattle.std.proofs.lemmas.List.Sums.{fold-append}
 use Rattle.std.specs.List.{AllByRecursion}
 use Rattle.octet_fields.specs.Field.{◌>>=◌}
-use Rattle.address_model.specs.Address.{Address}
+use Rattle.table_model.specs.Address.{Address}
 use Rattle.table_model.specs.Changes.{Change, sum_of}
 use Rattle.table_model.specs.Entries.{AlikeInBoth, Entries, match_in, of_family}
 use Rattle.route_model.specs.Events.{Elem, Event, Announce, Withdraw, Down, IsEvent}
@@ -17,10 +17,10 @@ use Rattle.route_model.proofs.Elems.{candidates_stay, elems_of_events}
 use Rattle.route_model.proofs.Said.{none_yet}
 use Rattle.reading_model.specs.Input.{Progress, Stopped, input}
 use Rattle.reading_model.proofs.Told.{read_events}
-use Rattle.least_model.proofs.Both.{aggregates_are, aggregates_sorted}
-use Rattle.address_model.specs.Width.{width}
+use Rattle.table_model.proofs.Both.{aggregates_are, aggregates_sorted}
+use Rattle.table_model.specs.Width.{width}
 use Rattle.table_model.specs.Table.{Alike}
-use Rattle.least_model.specs.Both.{LeastInBoth}
+use Rattle.table_model.specs.Both.{LeastInBoth}
 use Rattle.delta_model.proofs.Held.{Placed}
 use Rattle.feed_model.specs.Feed.{hops_after, entries_of}
 use Rattle.feed_model.proofs.Tables.{entries_sorted}

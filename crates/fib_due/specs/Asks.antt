@@ -3,7 +3,7 @@ use Rattle.std.specs.Prelude.{ℕ, ◌+◌, List, [], ◌∷◌, Bool, Option, S
 use Rattle.std.specs.List.{list_any}
 use Rattle.bstr.specs.Text.{without_terminator}
 use Rattle.octet_fields.specs.Field.{◌>>=◌}
-use Rattle.address_model.specs.Address.{Address}
+use Rattle.table_model.specs.Address.{Address}
 use Rattle.fib_addr.specs.Text.{address_in}
 use Rattle.printed_model.specs.Texts.{lines_of, line_texts}
 

@@ -1,6 +1,6 @@
 -- The check of a printed text: what it finds wrong, and the row that it prints.
 use Rattle.std.specs.Prelude.{List, ℕ, [], ◌∷◌, codes, decimal, Option, Some, None}
-use Rattle.address_model.specs.Address.{Address}
+use Rattle.table_model.specs.Address.{Address}
 use Rattle.cert_model.specs.Verdict.{No, Twice, NotSame, Shape, LeafWrong, JoinWrong, NotLeast, verdict}
 use Rattle.fib_addr.specs.Hops.{hop_at}
 use Rattle.fib_addr.specs.Text.{address_text, prefix_text}

@@ -1,10 +1,10 @@
 -- What a run and a check are to come to.
 use Rattle.std.specs.Prelude.{Bool, true, false, ℕ, ◌+◌, List, [], ◌∷◌, ◌++◌, bytes_eq, codes, decimal, length, nat_lt, Option, Some, None, Result, Ok, Err, map, option_map, if◌then◌else◌}
 use Rattle.octet_fields.specs.Field.{◌>>=◌}
-use Rattle.address_model.specs.Address.{Address, Prefix}
+use Rattle.table_model.specs.Address.{Address, Prefix}
 use Rattle.table_model.specs.Entries.{Entries, match_in}
 use Rattle.table_model.specs.Changes.{Change}
-use Rattle.least_model.specs.Both.{aggregate_in_both}
+use Rattle.table_model.specs.Both.{aggregate_in_both}
 use Rattle.cert_model.specs.Rows.{certificate_of}
 use Rattle.route_model.specs.Events.{Elem, Event}
 use Rattle.route_model.specs.Choice.{Candidates, Offer, Place, after_elems, elems_after}

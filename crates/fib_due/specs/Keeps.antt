@@ -2,13 +2,13 @@
 use Rattle.std.specs.Prelude.{◌≡◌, ◌≤◌, ℕ, zero, suc, ◌+◌, List, [], ◌∷◌, ◌++◌, Bool, true, false, Option, Some, None, length, nat_eq, nat_le, take}
 use Rattle.std.specs.List.{AllByRecursion, filter}
 use Rattle.std.specs.List.Sorted.{IsNonDecreasingBy}
-use Rattle.address_model.specs.Address.{Prefix}
-use Rattle.address_model.specs.Width.{width}
+use Rattle.table_model.specs.Address.{Prefix}
+use Rattle.table_model.specs.Width.{width}
 use Rattle.table_model.specs.Table.{Alike, Table}
 use Rattle.table_model.specs.Entries.{Entries, AlikeInBoth, of_family}
 use Rattle.table_model.specs.Changes.{Change, sum_of}
-use Rattle.least_model.specs.Regions.{SameOutside}
-use Rattle.least_model.specs.Both.{LeastInBoth}
+use Rattle.table_model.specs.Regions.{SameOutside}
+use Rattle.table_model.specs.Both.{LeastInBoth}
 use Rattle.delta_model.specs.Between.{AreEntries}
 use Rattle.kept_model.specs.Patched.{entries_outside}
 use Rattle.route_model.specs.Events.{Elem}

@@ -1,7 +1,7 @@
 -- The check of what a router was told to change: the row that it prints.
 use Rattle.std.specs.Prelude.{List, ℕ, [], ◌∷◌, codes, decimal, Option, Some, None}
-use Rattle.address_model.specs.Address.{Address}
-use Rattle.address_model.specs.declared.family.Family.{Family}
+use Rattle.table_model.specs.Address.{Address}
+use Rattle.table_model.specs.declared.family.Family.{Family}
 use Rattle.fib_addr.specs.Text.{address_text, prefix_text}
 use Rattle.moves_cert.specs.Verdict.{NoMoves, Twice, Apply, NotSame, Shape, LeafWrong, JoinWrong, NotShortest}
 use Rattle.printed_model.specs.Rows.{family_name, line}

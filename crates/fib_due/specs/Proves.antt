@@ -1,7 +1,7 @@
 -- What a check's yes says, and the text of a run, to which a check says yes.
 use Rattle.std.specs.Prelude.{◌≡◌, ◌↔◌, Bool, true, ℕ, List, [], ◌∷◌, Option, Some, None, Result, Ok, Err}
 use Rattle.fib_io.specs.Octets.{Adds, AddsSome}
-use Rattle.least_model.specs.Both.{LeastInBoth}
+use Rattle.table_model.specs.Both.{LeastInBoth}
 use Rattle.cert_model.specs.Right.{IsCertificate}
 use Rattle.printed_model.specs.Used.{Used, printed_in}
 use Rattle.table_model.specs.Entries.{AlikeInBoth}
@@ -10,8 +10,8 @@ use Rattle.texts_model.specs.Texts.{ComesTo, EveryTwo, least_difference}
 use Rattle.saved_model.specs.Saved.{saved}
 use Rattle.fib_same.specs.Due.{Compared, answer_of}
 use Rattle.mrt_write.specs.Reads.{after_events}
-use Rattle.address_model.specs.declared.family.Family.{Family}
-use Rattle.address_model.specs.declared.family.Family.TheVariants.{V4, V6}
+use Rattle.table_model.specs.declared.family.Family.{Family}
+use Rattle.table_model.specs.declared.family.Family.TheVariants.{V4, V6}
 use Rattle.table_model.specs.Entries.{in_order}
 use Rattle.table_model.specs.Changes.{Change}
 use Rattle.moves_cert.specs.Shortest.{AreProvedShortest}

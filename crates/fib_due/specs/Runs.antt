@@ -3,11 +3,11 @@ use Rattle.std.specs.Prelude.{◌≡◌, ◌≤◌, Some, Result, ℕ, List, len
 use Rattle.std.specs.List.{AllByRecursion, IsDistinct}
 use Rattle.std.specs.List.Sorted.{IsStrictlySortedBy}
 use Rattle.std.specs.Map.{keys_of}
-use Rattle.address_model.specs.Address.{Address, Prefix, same_address}
-use Rattle.address_model.specs.Order.{prefix_cmp}
+use Rattle.table_model.specs.Address.{Address, Prefix, same_address}
+use Rattle.table_model.specs.Order.{prefix_cmp}
 use Rattle.table_model.specs.Entries.{Entries, match_in, AlikeInBoth}
 use Rattle.table_model.specs.Changes.{Change, Add, Replace, Remove, sum_of}
-use Rattle.least_model.specs.Both.{LeastInBoth, AggregateInBoth}
+use Rattle.table_model.specs.Both.{LeastInBoth, AggregateInBoth}
 use Rattle.cert_model.specs.Right.{IsCertificate}
 use Rattle.cert_model.specs.Rows.{CertRow, leaf_row, join_row, bound_row}
 use Rattle.printed_model.specs.Numbered.{HaveHops}

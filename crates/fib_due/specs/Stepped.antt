@@ -1,8 +1,8 @@
 -- How a run in steps ends.
 use Rattle.std.specs.Prelude.{◌≡◌, ℕ, zero, suc, List, Option, Some, None, Result, Ok, Err}
 use Rattle.fib_io.specs.Octets.{Adds, AddsSome}
-use Rattle.address_model.specs.declared.family.Family.{Family}
-use Rattle.address_model.specs.declared.family.Family.TheVariants.{V4, V6}
+use Rattle.table_model.specs.declared.family.Family.{Family}
+use Rattle.table_model.specs.declared.family.Family.TheVariants.{V4, V6}
 use Rattle.step_model.specs.Machine.{ComesTo, IsHopsFull, IsTrieFull}
 use Rattle.step_world.specs.Stepping.{Stepping, IsTextOf}
 use Rattle.fib_words.specs.Commands.{Asked, Run, Check, Make, Steps, Same, Save, Moves, CheckMoves}

@@ -10,7 +10,7 @@ use Rattle.printed_model.specs.Rows.{Vrp}
 use Rattle.printed_model.specs.Used.{Used}
 use Rattle.step_model.specs.Script.{Step}
 use Rattle.fib_due.specs.declared.outcome.Outcome.{Outcome}
-use Rattle.address_model.specs.Address.{Prefix}
+use Rattle.table_model.specs.Address.{Prefix}
 use Rattle.fib_addr.specs.Views.{prefix_as}
 use Rattle.fib_due.specs.declared.outcome.Outcome.TheVariants.{Done, CheckNo, Differ, MovesNo, NoMemory, ReadFault, WriteFault, TooLarge, Malformed, HopsFull, TrieFull, BadLine, PathTooLong}
 use Rattle.fib_due.specs.declared.outcome.MrtInput.{MrtInput}

@@ -1,11 +1,11 @@
 -- What holds where an input doesn't tell what it holds.
 use Rattle.std.specs.Prelude.{Bool, ℕ, List, Option, Some, None, Result, Ok, Err, ◌⊎◌}
-use Rattle.address_model.specs.Address.{Prefix}
+use Rattle.table_model.specs.Address.{Prefix}
 use Rattle.printed_model.specs.Rows.{Vrp}
 use Rattle.route_model.specs.Events.{Event}
 use Rattle.fib_same.specs.Due.{Compared}
 use Rattle.std.specs.declared.vec.Vec.{Vec}
-use Rattle.address_model.specs.Address.{Address}
+use Rattle.table_model.specs.Address.{Address}
 use Rattle.printed_model.specs.Used.{Used}
 use Rattle.fib_words.specs.Commands.{Asked, Named, NamedSteps, Run, Check, Make, Steps, Same, Save, Moves, CheckMoves}
 use Rattle.fib_due.specs.declared.reply.Reply as code_reply

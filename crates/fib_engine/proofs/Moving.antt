@@ -1,17 +1,17 @@
 -- The first step of an event in the tables of both families, a repair or the way to the nearest table; and what both answer.
 use Rattle.std.proofs.Common.{◌≡◌, [], ◌++◌, Bool, true, false, Option, Some, None, refl, sym, ap, subst, ◌∙◌}
 use Rattle.std.specs.Map.{keys_of}
-use Rattle.address_model.specs.Width.{width}
-use Rattle.address_model.specs.Address.{Prefix, IsPrefix}
-use Rattle.address_model.specs.declared.family.Family.{Family}
-use Rattle.address_model.specs.declared.family.Family.TheVariants.{V4, V6}
+use Rattle.table_model.specs.Width.{width}
+use Rattle.table_model.specs.Address.{Prefix, IsPrefix}
+use Rattle.table_model.specs.declared.family.Family.{Family}
+use Rattle.table_model.specs.declared.family.Family.TheVariants.{V4, V6}
 use Rattle.table_model.specs.Table.{Table, Alike, lpm}
 use Rattle.table_model.specs.Entries.{Entries, AlikeInBoth, of_family}
 use Rattle.table_model.proofs.Sums.{in_order_again}
-use Rattle.least_model.specs.Least.{aggregate}
-use Rattle.least_model.specs.Both.{aggregate_in}
-use Rattle.least_model.proofs.Both.{family_is}
-use Rattle.least_model.proofs.Laws.{fresh_law}
+use Rattle.table_model.specs.Least.{aggregate}
+use Rattle.table_model.specs.Both.{aggregate_in}
+use Rattle.table_model.proofs.Both.{family_is}
+use Rattle.table_model.proofs.Laws.{fresh_law}
 use Rattle.kept_model.specs.Patched.{IsPair, after_repair}
 use Rattle.kept_model.proofs.Families.{AllOf}
 use Rattle.moves_cert.specs.Rows.{near_in}

@@ -1,8 +1,8 @@
 -- What tries of both tables' routes need.
 use Rattle.std.proofs.Common.{◌≡◌, ◌≤◌, ℕ, Some, None, cond, refl, sym, ap, subst, ◌∙◌}
-use Rattle.address_model.specs.Address.{same_family}
-use Rattle.address_model.specs.declared.family.Family.{Family}
-use Rattle.address_model.specs.declared.family.Family.TheVariants.{V4, V6}
+use Rattle.table_model.specs.Address.{same_family}
+use Rattle.table_model.specs.declared.family.Family.{Family}
+use Rattle.table_model.specs.declared.family.Family.TheVariants.{V4, V6}
 use Rattle.table_model.specs.Entries.{Entries}
 use Rattle.kept_model.specs.Patched.{with_route}
 use Rattle.kept_model.proofs.Outside.{routes_outside}

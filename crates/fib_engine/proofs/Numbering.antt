@@ -2,8 +2,8 @@
 use Rattle.std.proofs.Common.{◌≡◌, ℕ, ◌+◌, ◌<◌, ◌≤◌, List, [], ◌∷◌, ◌++◌, Bool, true, false, cond, Option, Some, None, length, refl, sym, ap, ◌∙◌, arith, length-append}
 use Rattle.std.specs.Prelude.{option_map, unwrap_or, ◌||◌, not, IfSome, IsSome}
 use Rattle.std.specs.List.{list_any, AllByRecursion}
-use Rattle.address_model.specs.Address.{Address, Prefix, same_address}
-use Rattle.address_model.proofs.Same.{same_address_is}
+use Rattle.table_model.specs.Address.{Address, Prefix, same_address}
+use Rattle.table_model.proofs.SamePrefix.{same_address_is}
 use Rattle.feed_model.specs.Feed.{IsNumbered, number_in, hops_after}
 use Rattle.fib_addr.specs.Hops.{number_of, with_hop, most_hops}
 use Rattle.fib_addr.specs.Views.{addr_as}

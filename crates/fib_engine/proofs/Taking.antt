@@ -4,12 +4,12 @@ use Rattle.std.specs.Prelude.{option_map, if◌then◌else◌}
 use Rattle.std.specs.List.{AllByRecursion}
 use Rattle.std.specs.List.Sorted.{IsStrictlySortedBy}
 use Rattle.std.specs.Map.{keys_of}
-use Rattle.address_model.specs.Width.{width}
-use Rattle.address_model.specs.Address.{Address, Prefix, IsAddress, same_address, same_family, same_prefix}
-use Rattle.address_model.specs.declared.family.Family.{Family}
-use Rattle.address_model.specs.declared.family.Family.TheVariants.{V4, V6}
-use Rattle.address_model.proofs.BitLaws.{length-bits_of}
-use Rattle.address_model.proofs.Same.{same_address_is}
+use Rattle.table_model.specs.Width.{width}
+use Rattle.table_model.specs.Address.{Address, Prefix, IsAddress, same_address, same_family, same_prefix}
+use Rattle.table_model.specs.declared.family.Family.{Family}
+use Rattle.table_model.specs.declared.family.Family.TheVariants.{V4, V6}
+use Rattle.table_model.proofs.BitLaws.{length-bits_of}
+use Rattle.table_model.proofs.SamePrefix.{same_address_is}
 use Rattle.table_model.specs.Table.{Table, Alike}
 use Rattle.table_model.specs.Entries.{Entries, AlikeInBoth, of_family, in_order}
 use Rattle.table_model.specs.Changes.{Change, after_changes}
@@ -22,9 +22,9 @@ use Rattle.feed_model.specs.Feed.{AreNumbered, IsNumbered, entries_of, hops_afte
 use Rattle.feed_model.proofs.Numbers.{hops_more, entries_stay, routes_numbered, chosen_numbered}
 use Rattle.feed_model.proofs.Tables.{at_prefix, entries_sorted, entries_at_prefixes, entry_after, new_entry}
 use Rattle.feed_model.proofs.Tables.{entry_at as routed_at}
-use Rattle.least_model.specs.Both.{aggregate_in, aggregate_in_both}
-use Rattle.least_model.specs.Sets.{answers}
-use Rattle.least_model.specs.Least.{bound}
+use Rattle.table_model.specs.Both.{aggregate_in, aggregate_in_both}
+use Rattle.table_model.specs.Sets.{answers}
+use Rattle.table_model.specs.Least.{bound}
 use Rattle.cert_model.specs.Rows.{CertRow, bound_row, certificate_of, family_rows, region_rows, whole_prefix}
 use Rattle.delta_model.specs.Between.{between, hop_at}
 use Rattle.kept_model.specs.Patched.{with_route, after_snapshot}

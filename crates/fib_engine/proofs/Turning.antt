@@ -6,7 +6,7 @@ use Rattle.std.specs.Map.{lookup}
 use Rattle.std.proofs.Math.Seq.{take-append_seam}
 use Rattle.std.proofs.lemmas.Bool.{lt-ltb, le-ltb}
 use Rattle.std.proofs.lemmas.List.{map_push, take_all, take_more, take-append-le}
-use Rattle.address_model.specs.Address.{Address, Prefix, same_prefix}
+use Rattle.table_model.specs.Address.{Address, Prefix, same_prefix}
 use Rattle.route_model.specs.Events.{Elem, IsEvent, elem_prefix}
 use Rattle.route_model.specs.Choice.{Candidates, IsElem, after_elem, after_elems, chosen_for, elems_of, routes_of}
 use Rattle.route_model.proofs.Elems.{all_more, candidates_stay, elems_of_event}

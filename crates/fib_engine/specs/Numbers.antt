@@ -1,6 +1,6 @@
 -- The numbers of hops while an elementary event is planned.
 use Rattle.std.specs.Prelude.{◌≡◌, ℕ, List, Option, Some, None, option_map, map, true, false}
-use Rattle.address_model.specs.Address.{Address, Prefix}
+use Rattle.table_model.specs.Address.{Address, Prefix}
 use Rattle.table_model.specs.Entries.{Entries}
 use Rattle.fib_addr.specs.Hops.{number_of, with_hop}
 use Rattle.fib_addr.specs.Views.{addr_as}

@@ -1,6 +1,6 @@
 -- What is seen of an engine once no more events come.
 use Rattle.std.specs.Prelude.{true}
-use Rattle.address_model.specs.declared.family.Family.TheVariants.{V4, V6}
+use Rattle.table_model.specs.declared.family.Family.TheVariants.{V4, V6}
 use Rattle.table_model.specs.Entries.{Entries}
 use Rattle.route_tries.specs.Sizes.{Sizes}
 use Rattle.route_tries.specs.declared.needs.FamilyNeeds.{FamilyNeeds}

@@ -1,9 +1,9 @@
 -- The kept tables of both families.
 use Rattle.std.specs.Prelude.{◌≡◌, ℕ, List, [], ◌++◌, Bool, cond, Option, Some, None}
 use Rattle.std.specs.List.{filter}
-use Rattle.address_model.specs.Address.{same_family}
-use Rattle.address_model.specs.declared.family.Family.{Family}
-use Rattle.address_model.specs.declared.family.Family.TheVariants.{V4, V6}
+use Rattle.table_model.specs.Address.{same_family}
+use Rattle.table_model.specs.declared.family.Family.{Family}
+use Rattle.table_model.specs.declared.family.Family.TheVariants.{V4, V6}
 use Rattle.table_model.specs.Entries.{Entries, in_order}
 use Rattle.table_model.specs.Changes.{Change, after_changes}
 use Rattle.fib_addr.specs.declared.prefix.Prefix as code_prefix

@@ -1,7 +1,7 @@
 -- What each elementary event of updates does to the routes.
 use Rattle.std.specs.Prelude.{◌≡◌, ◌≤◌, ℕ, ◌-◌, List, [], ◌∷◌, ◌++◌, Bool, false, Option, Some, None, option_map, is_some, length, take}
 use Rattle.std.specs.List.{AllByRecursion}
-use Rattle.address_model.specs.Address.{Address, Prefix}
+use Rattle.table_model.specs.Address.{Address, Prefix}
 use Rattle.route_model.specs.Events.{Elem, elem_prefix}
 use Rattle.route_model.specs.Choice.{Candidates, IsElem, after_elem, after_elems, chosen_for}
 use Rattle.feed_model.specs.Feed.{full_at, hops_after}

@@ -1,8 +1,8 @@
 //! The engine.
 
 ghost use Rattle.std.specs.Prelude.{◌≡◌, ◌≤◌, ◌<◌, ◌+◌, ◌^◌, ◌↔◌, [], ◌∷◌, ◌++◌, ℕ, List, length, map, not, option_map, true, false, Some, None, IfOk, IfSome, IsSome, OnOk, OnErr, IsErr, IsErrOf};
-ghost use Rattle.address_model.specs.Address.{Address, Prefix as model_prefix};
-ghost use Rattle.least_model.specs.Both.{aggregate_in_both};
+ghost use Rattle.table_model.specs.Address.{Address, Prefix as model_prefix};
+ghost use Rattle.table_model.specs.Both.{aggregate_in_both};
 ghost use Rattle.cert_model.specs.Rows.{certificate_of};
 ghost use Rattle.route_model.specs.Events.{Elem as model_elem};
 ghost use Rattle.route_model.specs.Choice.{elems_of};

@@ -1,7 +1,7 @@
 //! What an engine is once no more events come.
 
 ghost use Rattle.std.specs.Prelude.{◌≡◌, ◌++◌, IfOk, OnOk};
-ghost use Rattle.least_model.specs.Both.{aggregate_in_both};
+ghost use Rattle.table_model.specs.Both.{aggregate_in_both};
 ghost use Rattle.cert_model.specs.Rows.{certificate_of};
 ghost use Rattle.route_tries.specs.Sizes.{AreFew, needs_of};
 ghost use Rattle.route_tries.specs.Tries.{AreTriesOf};

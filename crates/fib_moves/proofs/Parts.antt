@@ -5,8 +5,8 @@ use Rattle.std.specs.Box.{box_value}
 use Rattle.std.specs.declared.alloc.Global.{Global}
 use Rattle.table_model.specs.Table.{Table, IsTable, root, half, inherit}
 use Rattle.table_model.proofs.Cut.{entry}
-use Rattle.least_model.specs.Sets.{is_in, smallest, side, set_of, k_of}
-use Rattle.least_model.proofs.Patch.{table_half, no_half}
+use Rattle.table_model.specs.Sets.{is_in, smallest, side, set_of, k_of}
+use Rattle.table_model.proofs.Patch.{table_half, no_half}
 use Rattle.hop_sets.specs.Hops.{SameHops}
 use Rattle.orig_tree.specs.Spots.{Spot, answers_in}
 use Rattle.orig_tree.specs.Walk.{Walks, behind}

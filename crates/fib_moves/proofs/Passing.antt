@@ -3,15 +3,15 @@ use Rattle.std.proofs.Common.{◌≡◌, ℕ, zero, suc, List, [], ◌∷◌, �
 use Rattle.std.specs.Prelude.{Box, is_some, IfSome}
 use Rattle.std.specs.Option.{option_to_list}
 use Rattle.std.specs.declared.alloc.Global.{Global}
-use Rattle.address_model.specs.Address.{Prefix}
-use Rattle.address_model.specs.Regions.{half_at}
+use Rattle.table_model.specs.Address.{Prefix}
+use Rattle.table_model.specs.Halves.{half_at}
 use Rattle.table_model.specs.Table.{Table, IsTable, root, half, here, inherit}
 use Rattle.table_model.specs.Entries.{Entries, of_table}
-use Rattle.least_model.specs.Regions.{lift, join}
-use Rattle.least_model.specs.Sets.{side}
-use Rattle.least_model.proofs.Join.{root_join, low_join, high_join, table_join}
-use Rattle.least_model.proofs.Patch.{table_half, no_half}
-use Rattle.least_model.proofs.Sets.{in_first, in_single}
+use Rattle.table_model.specs.Regions.{lift, join}
+use Rattle.table_model.specs.Sets.{side}
+use Rattle.table_model.proofs.Join.{root_join, low_join, high_join, table_join}
+use Rattle.table_model.proofs.Patch.{table_half, no_half}
+use Rattle.table_model.proofs.Sets.{in_first, in_single}
 use Rattle.stays_model.specs.Parts.{BothOrNeither, ArePart}
 use Rattle.stays_model.proofs.Parting.{part_here, part_join}
 use Rattle.fib_addr.specs.Views.{prefix_as, entry_as}

@@ -2,12 +2,12 @@
 use Rattle.std.proofs.Common.{◌≡◌, ◌≢◌, ℕ, zero, suc, ◌-◌, List, [], ◌∷◌, ◌++◌, Bool, true, false, cond, Option, Some, None, length, refl, sym, ap, subst, ◌∙◌, arith, append_assoc}
 use Rattle.std.specs.Prelude.{Box, IfNone}
 use Rattle.std.specs.declared.alloc.Global.{Global}
-use Rattle.address_model.specs.Address.{Prefix}
-use Rattle.address_model.specs.Regions.{half_at}
+use Rattle.table_model.specs.Address.{Prefix}
+use Rattle.table_model.specs.Halves.{half_at}
 use Rattle.fib_addr.specs.Views.{prefix_as}
 use Rattle.fib_addr.specs.declared.prefix.Prefix as code
 use Rattle.table_model.specs.Table.{Table, root, half, inherit}
-use Rattle.least_model.specs.Sets.{side, k_of}
+use Rattle.table_model.specs.Sets.{side, k_of}
 use Rattle.cert_model.specs.Rows.{CertRow, leaf_row, join_row, one_answer, same_hop, leaf_or}
 use Rattle.cert_model.proofs.Answers.{one_answer_from}
 use Rattle.orig_tree.specs.Spots.{Spot, answers_in}

@@ -3,21 +3,21 @@ use Rattle.std.proofs.Common.{◌≡◌, ◌≢◌, ℕ, ◌+◌, ◌-◌, ◌�
 use Rattle.std.specs.List.{AllByRecursion}
 use Rattle.std.specs.Map.{keys_of}
 use Rattle.std.specs.Option.{option_to_list}
-use Rattle.address_model.specs.Address.{Prefix, same_family}
-use Rattle.address_model.specs.Bits.{begins}
-use Rattle.address_model.specs.Width.{width}
-use Rattle.address_model.specs.declared.family.Family.{Family}
-use Rattle.address_model.proofs.Same.{same_family_is}
+use Rattle.table_model.specs.Address.{Prefix, same_family}
+use Rattle.table_model.specs.Bits.{begins}
+use Rattle.table_model.specs.Width.{width}
+use Rattle.table_model.specs.declared.family.Family.{Family}
+use Rattle.table_model.proofs.SamePrefix.{same_family_is}
 use Rattle.table_model.specs.Table.{Entry, Table, IsTable, root, half, here, inherit, cut}
 use Rattle.table_model.specs.Entries.{Entries, of_family, of_table}
 use Rattle.table_model.specs.Changes.{Change}
 use Rattle.table_model.proofs.Cut.{entry}
-use Rattle.least_model.specs.Regions.{entry_at, lift, above}
-use Rattle.least_model.specs.Sets.{answers}
-use Rattle.least_model.proofs.Join.{distinct_lift, short_lift}
-use Rattle.least_model.proofs.Region.{begins_append, cut_lift}
-use Rattle.least_model.proofs.Patch.{cut_cut, begins_rest}
-use Rattle.least_model.proofs.Same.{cut_nil}
+use Rattle.table_model.specs.Regions.{entry_at, lift, above}
+use Rattle.table_model.specs.Sets.{answers}
+use Rattle.table_model.proofs.Join.{distinct_lift, short_lift}
+use Rattle.table_model.proofs.Region.{begins_append, cut_lift}
+use Rattle.table_model.proofs.Patch.{cut_cut, begins_rest}
+use Rattle.table_model.proofs.Same.{cut_nil}
 use Rattle.delta_model.specs.Between.{AreEntries, hop_at, change_at, between}
 use Rattle.delta_model.proofs.Alike.{alike_changes, placed_are}
 use Rattle.kept_model.proofs.Families.{hop_none, table_of}

@@ -1,15 +1,15 @@
 -- The way down to an event's prefix.
 use Rattle.std.proofs.Common.{◌≡◌, ◌≢◌, ℕ, suc, ◌+◌, ◌-◌, ◌≤◌, List, [], ◌∷◌, ◌++◌, Bool, true, false, not, cond, None, length, refl, sym, ap, subst, ◌∙◌, arith, append_assoc, length-append, nat_eq}
 use Rattle.std.specs.Int.{bit_at}
-use Rattle.address_model.specs.Bits.{bits_of}
-use Rattle.address_model.specs.Address.{Prefix}
-use Rattle.address_model.specs.Width.{width}
-use Rattle.address_model.specs.Regions.{half_at}
-use Rattle.address_model.specs.declared.family.Family.{Family}
+use Rattle.table_model.specs.Bits.{bits_of}
+use Rattle.table_model.specs.Address.{Prefix}
+use Rattle.table_model.specs.Width.{width}
+use Rattle.table_model.specs.Halves.{half_at}
+use Rattle.table_model.specs.declared.family.Family.{Family}
 use Rattle.table_model.specs.Table.{Table, IsTable, root, half, inherit, cut}
-use Rattle.least_model.specs.Regions.{entry_at, above}
-use Rattle.least_model.proofs.Above.{above_cut}
-use Rattle.least_model.proofs.Patch.{cut_cut}
+use Rattle.table_model.specs.Regions.{entry_at, above}
+use Rattle.table_model.proofs.Above.{above_cut}
+use Rattle.table_model.proofs.Patch.{cut_cut}
 use Rattle.fib_addr.specs.Views.{prefix_as}
 use Rattle.fib_addr.specs.declared.prefix.Prefix as code
 use Rattle.orig_tree.specs.Cover.{SomeGets}
@@ -17,7 +17,7 @@ use Rattle.orig_tree.specs.Walk.{behind}
 use Rattle.orig_tree.specs.Spots.{EachFixed}
 use Rattle.orig_tree.specs.Views.{Fits}
 use Rattle.orig_tree.proofs.Paths.{no_bits, first_bit}
-use Rattle.address_model.proofs.BitLaws.{length-bits_of}
+use Rattle.table_model.proofs.BitLaws.{length-bits_of}
 use Rattle.fib_addr.proofs.Parts.{length_prefix}
 use Rattle.std.specs.Prelude.{is_some, ◌||◌}
 use Rattle.orig_tree.proofs.Telling.{half_longer}

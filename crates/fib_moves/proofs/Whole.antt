@@ -3,17 +3,17 @@ use Rattle.std.proofs.Common.{◌≡◌, ◌+◌, ℕ, List, [], ◌∷◌, ◌+
 use Rattle.std.specs.List.{AllByRecursion}
 use Rattle.std.specs.Map.{keys_of}
 use Rattle.std.proofs.lemmas.Bool.{eq-eqb}
-use Rattle.address_model.specs.Address.{Prefix, same_family}
-use Rattle.address_model.specs.Width.{width}
-use Rattle.address_model.specs.declared.family.Family.{Family}
-use Rattle.address_model.proofs.Same.{same_family_is}
+use Rattle.table_model.specs.Address.{Prefix, same_family}
+use Rattle.table_model.specs.Width.{width}
+use Rattle.table_model.specs.declared.family.Family.{Family}
+use Rattle.table_model.proofs.SamePrefix.{same_family_is}
 use Rattle.table_model.specs.Table.{Table, IsTable, root, cut}
 use Rattle.table_model.specs.Entries.{Entries, of_family, of_table}
 use Rattle.table_model.specs.Changes.{Change, Replace}
-use Rattle.least_model.specs.Regions.{entry_at, lift}
-use Rattle.least_model.specs.Sets.{answers}
-use Rattle.least_model.proofs.Both.{family_is}
-use Rattle.least_model.proofs.Region.{cut_lift}
+use Rattle.table_model.specs.Regions.{entry_at, lift}
+use Rattle.table_model.specs.Sets.{answers}
+use Rattle.table_model.proofs.Both.{family_is}
+use Rattle.table_model.proofs.Region.{cut_lift}
 use Rattle.delta_model.specs.Between.{AreEntries, hop_at, change_at, between}
 use Rattle.delta_model.proofs.Alike.{alike_changes, placed_are}
 use Rattle.kept_model.proofs.Families.{hop_none, table_of}

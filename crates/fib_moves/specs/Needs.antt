@@ -3,7 +3,7 @@ use Rattle.std.specs.Prelude.{◌≡◌, ℕ, zero, suc, ◌+◌, List, [], Bool
 use Rattle.std.specs.Box.{box_value}
 use Rattle.std.specs.declared.alloc.Global.{Global}
 use Rattle.table_model.specs.Table.{Table, IsTable, half}
-use Rattle.least_model.specs.Sets.{side}
+use Rattle.table_model.specs.Sets.{side}
 use Rattle.orig_tree.specs.Spots.{Spot, answers_in}
 use Rattle.orig_tree.specs.Walk.{behind}
 use Rattle.moves_model.specs.Sets.{allowed_by_both, gap, inner_set, inner_k, near_set, near_k}

@@ -1,11 +1,11 @@
 -- What the way down adds for a region, and the changes of the whole space.
 use Rattle.std.specs.Prelude.{◌≡◌, ℕ, List, [], ◌++◌, Bool, map}
-use Rattle.address_model.specs.Address.{Prefix}
+use Rattle.table_model.specs.Address.{Prefix}
 use Rattle.table_model.specs.Table.{Table, IsTable, half}
 use Rattle.table_model.specs.Entries.{of_table}
-use Rattle.least_model.specs.Regions.{lift}
+use Rattle.table_model.specs.Regions.{lift}
 use Rattle.stays_model.specs.Parts.{ArePart}
-use Rattle.address_model.specs.declared.family.Family.{Family}
+use Rattle.table_model.specs.declared.family.Family.{Family}
 use Rattle.table_model.specs.Changes.{Change}
 use Rattle.delta_model.specs.Between.{between}
 use Rattle.fib_addr.specs.Views.{entry_as}

@@ -4,7 +4,7 @@ use Rattle.std.specs.Option.{option_to_list}
 use Rattle.table_model.specs.Table.{Table, IsTable, here, inherit}
 use Rattle.table_model.specs.Entries.{of_table}
 use Rattle.table_model.specs.Changes.{Change}
-use Rattle.least_model.specs.Regions.{lift}
+use Rattle.table_model.specs.Regions.{lift}
 use Rattle.stays_model.specs.Parts.{BothOrNeither, ArePart}
 use Rattle.delta_model.specs.Between.{between}
 use Rattle.fib_addr.specs.Views.{prefix_as, entry_as}

@@ -1,10 +1,10 @@
 -- The way down to an event's prefix.
 use Rattle.std.specs.Prelude.{◌≡◌, ℕ, suc, ◌+◌, List, [], ◌++◌, Bool, true, false}
-use Rattle.address_model.specs.Width.{width}
-use Rattle.address_model.specs.Regions.{half_at}
-use Rattle.address_model.specs.declared.family.Family.{Family}
+use Rattle.table_model.specs.Width.{width}
+use Rattle.table_model.specs.Halves.{half_at}
+use Rattle.table_model.specs.declared.family.Family.{Family}
 use Rattle.table_model.specs.Table.{Table, root, half, inherit, cut}
-use Rattle.least_model.specs.Regions.{entry_at, above}
+use Rattle.table_model.specs.Regions.{entry_at, above}
 use Rattle.fib_addr.specs.Views.{prefix_as}
 use Rattle.orig_tree.specs.Walk.{behind}
 use Rattle.moves_event.specs.Way.{is_blocked, turn_by}

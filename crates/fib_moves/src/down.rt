@@ -2,7 +2,7 @@
 
 ghost use Rattle.std.specs.Prelude.{◌≡◌, ◌+◌, ◌≢◌, true, false, OnOk};
 ghost use Rattle.std.specs.Option.{option_copied};
-ghost use Rattle.address_model.specs.Width.{width};
+ghost use Rattle.table_model.specs.Width.{width};
 ghost use Rattle.table_model.specs.Table.{IsTable, inherit};
 ghost use Rattle.stays_model.specs.Parts.{BothOrNeither};
 ghost use Rattle.fib_addr.specs.Views.{prefix_as};

@@ -2,7 +2,7 @@
 
 ghost use Rattle.std.specs.Prelude.{◌≡◌, ◌≤◌, ◌+◌, map, IfOk};
 ghost use Rattle.std.specs.Option.{option_copied};
-ghost use Rattle.address_model.specs.Width.{width};
+ghost use Rattle.table_model.specs.Width.{width};
 ghost use Rattle.table_model.specs.Table.{IsTable};
 ghost use Rattle.table_model.specs.Entries.{of_family};
 ghost use Rattle.delta_model.specs.Between.{between};

@@ -1,7 +1,7 @@
 //! A region with its node.
 
 ghost use Rattle.std.specs.Prelude.{◌≡◌, ◌≢◌, ◌+◌, suc, true, false};
-ghost use Rattle.address_model.specs.Width.{width};
+ghost use Rattle.table_model.specs.Width.{width};
 ghost use Rattle.table_model.specs.Table.{root, half, inherit};
 ghost use Rattle.orig_tree.specs.Walk.{behind};
 ghost use Rattle.moves_cert.specs.Demands.{is_bare};

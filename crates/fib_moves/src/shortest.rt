@@ -1,7 +1,7 @@
 //! The shortest list of changes.
 
 ghost use Rattle.std.specs.Prelude.{◌≡◌, ◌+◌, length, map, IfOk};
-ghost use Rattle.address_model.specs.Width.{width};
+ghost use Rattle.table_model.specs.Width.{width};
 ghost use Rattle.table_model.specs.Table.{IsTable};
 ghost use Rattle.table_model.specs.Entries.{of_family};
 ghost use Rattle.cert_model.specs.Rows.{whole_prefix};

@@ -5,7 +5,7 @@
 //! and its entry stays.
 
 ghost use Rattle.std.specs.Prelude.{◌≡◌, ◌≢◌, ◌+◌, [], ◌||◌, not, is_some};
-ghost use Rattle.address_model.specs.Width.{width};
+ghost use Rattle.table_model.specs.Width.{width};
 ghost use Rattle.table_model.specs.Table.{IsTable, root, half, inherit};
 ghost use Rattle.table_model.specs.Entries.{of_family};
 ghost use Rattle.fib_addr.specs.Views.{prefix_as};

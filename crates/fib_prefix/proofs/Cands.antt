@@ -1,6 +1,6 @@
 -- What candidates are.
-use Rattle.address_model.specs.Width.{width}
-use Rattle.address_model.proofs.BitLaws.{length-bits_of}
+use Rattle.table_model.specs.Width.{width}
+use Rattle.table_model.proofs.BitLaws.{length-bits_of}
 use Rattle.fib_prefix.specs.declared.event.Cand.{Cand}
 use Rattle.fib_prefix.specs.Views.{IsOfOctets, cand_as}
 

@@ -5,11 +5,11 @@ use Rattle.std.specs.Ordering.{nat_cmp, ordering_then, ordering_reverse}
 use Rattle.std.specs.declared.cmp.Ordering.{Ordering}
 use Rattle.std.specs.declared.cmp.Ordering.TheVariants.{Less, Equal, Greater}
 use Rattle.std.proofs.lemmas.Cmp.{on_total}
-use Rattle.address_model.specs.Bits.{value_of}
-use Rattle.address_model.specs.Width.{width}
-use Rattle.address_model.specs.Order.{family_cmp}
-use Rattle.address_model.proofs.BitLaws.{value-bits_of}
-use Rattle.address_model.proofs.Families.{family_order}
+use Rattle.table_model.specs.Bits.{value_of}
+use Rattle.table_model.specs.Width.{width}
+use Rattle.table_model.specs.Order.{family_cmp}
+use Rattle.table_model.proofs.BitLaws.{value-bits_of}
+use Rattle.table_model.proofs.Families.{family_order}
 use Rattle.fib_addr.specs.declared.addr.Addr.{Addr}
 use Rattle.fib_addr.specs.Views.{addr_as, prefix_as}
 use Rattle.fib_addr.specs.Order.{code_cmp}

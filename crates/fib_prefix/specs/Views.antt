@@ -1,6 +1,6 @@
 -- What a clause sees of peers, of what they say, and of candidates.
 use Rattle.std.specs.Prelude.{ℕ, ◌<◌, ◌^◌}
-use Rattle.address_model.specs.Address.{IsAddress}
+use Rattle.table_model.specs.Address.{IsAddress}
 use Rattle.fib_addr.specs.Views.{addr_as, prefix_as}
 use Rattle.route_model.specs.Events.{Peer, Via, Event, Announce, Withdraw, Down, Elem, Put, Cut}
 use Rattle.route_model.specs.Choice.{Place, Offer}

@@ -2,7 +2,7 @@
 //! hold for all values.
 
 ghost use Rattle.std.specs.Prelude.{◌≡◌, ◌↔◌, ℕ, ◌+◌, List, Bool, Some, None, length};
-ghost use Rattle.address_model.specs.Address.{Prefix, IsPrefix};
+ghost use Rattle.table_model.specs.Address.{Prefix, IsPrefix};
 ghost use Rattle.table_model.specs.Entries.{Entries};
 ghost use Rattle.table_model.specs.Uniform.{AllGet, TwoDiffer};
 ghost use Rattle.fib_regions.specs.Answers.{one_answer, part, answers_in, bits_in, Differ};

@@ -53,7 +53,7 @@ impl<'a, A: Answers> Region for PrefixRegion<'a, A> {
 
 impl<'a, A: Answers> PrefixRegion<'a, A> {
     ghost use Rattle.std.specs.Prelude.{◌≡◌};
-    ghost use Rattle.address_model.specs.Width.{width};
+    ghost use Rattle.table_model.specs.Width.{width};
     ghost use Rattle.fib_regions.specs.Answers.{all_answers};
 
     /// The region of all addresses of the table's family.

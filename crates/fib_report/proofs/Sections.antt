@@ -1,7 +1,7 @@
 -- The sections of a run, written one after the other.
 use Rattle.std.proofs.Common.{◌≡◌, List, [], ◌++◌, map, ap, subst, ◌∙◌}
 use Rattle.std.specs.Prelude.{flat_map}
-use Rattle.address_model.specs.Address.{Address}
+use Rattle.table_model.specs.Address.{Address}
 use Rattle.printed_model.specs.Rows.{PrintedRow}
 use Rattle.printed_model.specs.Numbered.{of_cert, of_least, of_route}
 use Rattle.fib_report.specs.Rows.{of_answer, of_change, of_invalid, of_moves, table_entry_row, printed_rows, report_rows, run_text}

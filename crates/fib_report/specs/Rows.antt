@@ -1,6 +1,6 @@
 -- The text of a run: its printed rows, one a line.
 use Rattle.std.specs.Prelude.{ℕ, List, [], ◌∷◌, ◌++◌, map, flat_map}
-use Rattle.address_model.specs.Address.{Address, Prefix}
+use Rattle.table_model.specs.Address.{Address, Prefix}
 use Rattle.table_model.specs.Changes.{Change, Add, Replace, Remove, additions}
 use Rattle.table_model.specs.Entries as table
 use Rattle.fib_addr.specs.Hops.{hop_at}

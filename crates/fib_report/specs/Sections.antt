@@ -4,7 +4,7 @@ use Rattle.std.specs.List.{AllByRecursion}
 use Rattle.std.proofs.Common.{[], ◌∷◌, refl, sym, ap, subst, ◌∙◌, append-nil, append_assoc}
 use Rattle.std.proofs.lemmas.Grind.{flat_map-append}
 use Rattle.std.proofs.lemmas.List.{map-append}
-use Rattle.address_model.specs.Address.{Address}
+use Rattle.table_model.specs.Address.{Address}
 use Rattle.cert_model.specs.Rows.{CertRow}
 use Rattle.csv.specs.Writing.{writer_under, writer_pending}
 use Rattle.printed_model.specs.Rows.{IsRow, PrintedRow, line_of, text_of}

@@ -1,6 +1,6 @@
 -- What a clause sees of a run, without what its types keep.
 use Rattle.std.specs.Prelude.{ℕ, List, map}
-use Rattle.address_model.specs.Address.{Address}
+use Rattle.table_model.specs.Address.{Address}
 use Rattle.table_model.specs.Entries.{Entries}
 use Rattle.table_model.specs.Changes.{Change}
 use Rattle.cert_model.specs.Rows.{CertRow}

@@ -6,14 +6,14 @@ use Rattle.std.specs.Cmp.{IsStrictWeakOrder}
 use Rattle.std.specs.Ordering.{is_le, is_lt, ordering_reverse, ordering_then}
 use Rattle.std.specs.declared.cmp.Ordering.{Ordering}
 use Rattle.std.specs.declared.cmp.Ordering.TheVariants.{Less, Equal, Greater}
-use Rattle.address_model.specs.Address.{Prefix, IsPrefix, same_family}
-use Rattle.address_model.specs.Bits.{begins}
-use Rattle.address_model.specs.Order.{family_cmp, path_cmp, prefix_cmp}
-use Rattle.address_model.specs.Regions.{is_within}
-use Rattle.address_model.specs.declared.family.Family.{Family}
-use Rattle.address_model.specs.declared.family.Family.TheVariants.{V4, V6}
-use Rattle.address_model.proofs.Ordered.{equal_are_same, path_order, prefix_total}
-use Rattle.address_model.proofs.Same.{same_family_is, same_family_itself}
+use Rattle.table_model.specs.Address.{Prefix, IsPrefix, same_family}
+use Rattle.table_model.specs.Bits.{begins}
+use Rattle.table_model.specs.Order.{family_cmp, path_cmp, prefix_cmp}
+use Rattle.table_model.specs.Halves.{is_within}
+use Rattle.table_model.specs.declared.family.Family.{Family}
+use Rattle.table_model.specs.declared.family.Family.TheVariants.{V4, V6}
+use Rattle.table_model.proofs.Ordered.{equal_are_same, path_order, prefix_total}
+use Rattle.table_model.proofs.SamePrefix.{same_family_is, same_family_itself}
 
 -- ---- by bits
 

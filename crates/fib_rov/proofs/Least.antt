@@ -5,8 +5,8 @@ use Rattle.std.specs.List.{position_or_len}
 use Rattle.std.proofs.lemmas.List.{get_or_default, length-map}
 use Rattle.std.proofs.lemmas.Bool.{and_parts, cases_lt, cases_eq}
 use Rattle.std.specs.List.Sorted.{IsPermutation}
-use Rattle.address_model.specs.Address.{Prefix}
-use Rattle.address_model.specs.Width.{width}
+use Rattle.table_model.specs.Address.{Prefix}
+use Rattle.table_model.specs.Width.{width}
 use Rattle.fib_addr.specs.Views.{prefix_as}
 use Rattle.fib_addr.specs.declared.prefix.Prefix as code
 use Rattle.fib_addr.proofs.Parts.{length_prefix}

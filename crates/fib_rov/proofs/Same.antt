@@ -1,8 +1,8 @@
 -- Prefixes of the code that are equal stand for one prefix.
 use Rattle.std.proofs.Common.{◌≡◌, Bool, sym, ap, subst, ◌≤◌, ◌∙◌}
 use Rattle.std.specs.Ordering.{is_eq}
-use Rattle.address_model.specs.Width.{width}
-use Rattle.address_model.specs.Address.{IsPrefix, same_prefix}
+use Rattle.table_model.specs.Width.{width}
+use Rattle.table_model.specs.Address.{IsPrefix, same_prefix}
 use Rattle.route_model.proofs.Keyed.{key_test}
 use Rattle.route_model.proofs.Places.{prefix_key}
 use Rattle.fib_addr.specs.Views.{prefix_as}

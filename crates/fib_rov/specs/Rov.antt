@@ -1,7 +1,7 @@
 -- Route origin validation (RFC 6811, 2).
 use Rattle.std.specs.Prelude.{ℕ, Bool, false, not, ◌&&◌, ◌==◌, List, [], length, map, flat_map, nat_lt, position, slice_get, option_to_list, Option, Some, None}
-use Rattle.address_model.specs.Address.{Prefix}
-use Rattle.address_model.specs.Regions.{is_within}
+use Rattle.table_model.specs.Address.{Prefix}
+use Rattle.table_model.specs.Halves.{is_within}
 use Rattle.printed_model.specs.Rows.{Announced, Vrp}
 use Rattle.route_model.specs.Events.{Event, Announce, Withdraw, Down}
 use Rattle.fib_rov.specs.declared.state.State.{State}

@@ -7,7 +7,7 @@
 
 ghost use Rattle.std.specs.Prelude.{◌≡◌, ◌+◌, ◌-◌, ◌≤◌, ◌<◌, length, get_or, true, IfOk};
 ghost use Rattle.std.specs.List.Sorted.{IsPermutation};
-ghost use Rattle.address_model.specs.Address.{IsPrefix, Prefix as model_prefix};
+ghost use Rattle.table_model.specs.Address.{IsPrefix, Prefix as model_prefix};
 ghost use Rattle.fib_addr.specs.Views.{prefix_as};
 ghost use Rattle.fib_rov.specs.declared.numbered.Numbered as code;
 ghost use Rattle.fib_rov.specs.Index.{AreLinked, AreSorted, AreUpTo, IsLast, IsPlaceOf, covers, encloses, numbered, prefix_of, stands_up_to};

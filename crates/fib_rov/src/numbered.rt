@@ -1,7 +1,7 @@
 //! VRPs with their numbers.
 
 ghost use Rattle.std.specs.Prelude.{◌≡◌, ◌≤◌, ◌<◌, ◌-◌, ◌%◌, ◌^◌};
-ghost use Rattle.address_model.specs.Width.{width};
+ghost use Rattle.table_model.specs.Width.{width};
 
 use crate::vrp::Vrp;
 use fib_addr::{Family, Prefix};
@@ -23,8 +23,8 @@ pub(crate) struct Numbered {
 }
 
 impl Numbered {
-    ghost use Rattle.address_model.specs.Address.{same_prefix};
-    ghost use Rattle.address_model.specs.Order.{prefix_cmp};
+    ghost use Rattle.table_model.specs.Address.{same_prefix};
+    ghost use Rattle.table_model.specs.Order.{prefix_cmp};
     ghost use Rattle.fib_addr.specs.Views.{prefix_as};
     ghost use Rattle.fib_rov.specs.Index.{covers, prefix_of, stands_up_to, vrp_of, with_number};
 

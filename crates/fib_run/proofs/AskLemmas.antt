@@ -5,7 +5,7 @@ use Rattle.octet_fields.specs.Field.{◌>>=◌}
 use Rattle.std.proofs.lemmas.Bool.{eqb-true}
 use Rattle.std.proofs.lemmas.List.{length-map}
 use Rattle.bstr.specs.Text.{without_terminator, lines_of as cut_lines}
-use Rattle.address_model.specs.Address.{Address}
+use Rattle.table_model.specs.Address.{Address}
 use Rattle.fib_addr.specs.Text.{address_in}
 use Rattle.printed_model.specs.Texts.{lines_of, line_texts}
 use Rattle.printed_model.proofs.Lines.{lines_same, few_lines}

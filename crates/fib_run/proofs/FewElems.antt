@@ -8,7 +8,7 @@ use Rattle.std.specs.Ordering.{match_ordering}
 use Rattle.std.specs.declared.cmp.Ordering.{Ordering}
 use Rattle.std.specs.declared.cmp.Ordering.TheVariants.{Less, Equal, Greater}
 use Rattle.std.proofs.lemmas.List.Sums.{fold-append}
-use Rattle.address_model.specs.Address.{same_prefix}
+use Rattle.table_model.specs.Address.{same_prefix}
 use Rattle.route_model.proofs.Places.{place_key, same_peer_is}
 use Rattle.route_model.specs.Events.{Peer, Event, Announce, Withdraw, Down, Elem, same_peer}
 use Rattle.route_model.specs.Choice.{Place, Offer, Candidates, same_place, place_cmp, after_elem, after_elems, cut_of, elems_of, elems_after}

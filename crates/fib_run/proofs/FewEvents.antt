@@ -3,11 +3,11 @@ use Rattle.std.proofs.Common.{◌≡◌, ℕ, zero, suc, ◌+◌, ◌≤◌, ◌
 use Rattle.std.specs.Prelude.{nat_lt, not, slice_get, ◌==◌, if◌then◌else◌, bit_and, IfOk, IfSome, MatchResult}
 use Rattle.std.proofs.lemmas.Bool.{ltb-false}
 use Rattle.std.proofs.lemmas.List.{length-drop, length-map, take-append-drop}
-use Rattle.address_model.specs.declared.family.Family.{Family}
-use Rattle.address_model.specs.declared.family.Family.TheVariants.{V4}
-use Rattle.address_model.specs.Address.{Address, Prefix}
-use Rattle.address_model.specs.Bits.{number}
-use Rattle.address_model.specs.Width.{width}
+use Rattle.table_model.specs.declared.family.Family.{Family}
+use Rattle.table_model.specs.declared.family.Family.TheVariants.{V4}
+use Rattle.table_model.specs.Address.{Address, Prefix}
+use Rattle.table_model.specs.Bits.{number}
+use Rattle.table_model.specs.Width.{width}
 use Rattle.route_model.specs.Events.{Peer, Withdraw, Down}
 use Rattle.octet_fields.specs.Field.{◌>>=◌, refuse, octet_at, octets_at, number_at, all_read, one_more, times, steps, until_end}
 use Rattle.wire_model.specs.declared.place.Place.{Place}

@@ -2,10 +2,10 @@
 use Rattle.std.proofs.Common.{◌≡◌, ℕ, ◌≤◌, List, [], ◌∷◌, ◌++◌, Option, Result, Ok, Err, length, map, sym, ap, subst, ◌∙◌, append_assoc}
 use Rattle.std.specs.Prelude.{flat_map}
 use Rattle.std.specs.List.{AllByRecursion}
-use Rattle.address_model.specs.Address.{Address}
+use Rattle.table_model.specs.Address.{Address}
 use Rattle.table_model.specs.Changes.{Change, Add, Replace, Remove}
 use Rattle.table_model.specs.Entries.{Entries}
-use Rattle.least_model.specs.Both.{aggregate_in_both}
+use Rattle.table_model.specs.Both.{aggregate_in_both}
 use Rattle.cert_model.specs.Rows.{CertRow, certificate_of}
 use Rattle.cert_model.specs.Right.{IsCertificate}
 use Rattle.cert_model.proofs.Verdicts.{verdict_from}

@@ -7,10 +7,10 @@ use Rattle.fib_run.specs.declared.state.FeedError.{FeedError}
 use Rattle.fib_run.specs.declared.state.FeedError.TheVariants.{Malformed, HopsFull, TrieFull as FeedFull, NoMemory, Fault, TooLarge}
 use Rattle.std.proofs.lemmas.List.{map_push}
 use Rattle.std.proofs.lemmas.List.Sums.{fold-append}
-use Rattle.address_model.specs.Address.{Address, Prefix}
+use Rattle.table_model.specs.Address.{Address, Prefix}
 use Rattle.std.specs.List.Sorted.{IsStrictlySortedBy}
 use Rattle.std.specs.Map.{keys_of}
-use Rattle.address_model.specs.Order.{prefix_cmp}
+use Rattle.table_model.specs.Order.{prefix_cmp}
 use Rattle.table_model.specs.Changes.{Change, Add, additions}
 use Rattle.table_model.specs.Entries.{Entries}
 use Rattle.route_model.specs.Events.{Elem, Event}

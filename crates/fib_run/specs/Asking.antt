@@ -2,7 +2,7 @@
 use Rattle.std.specs.Prelude.{◌≡◌, ℕ, ◌+◌, List, ◌++◌, length, map, false, Result, Ok, Err}
 use Rattle.std.specs.declared.vec.Vec.{Vec}
 use Rattle.octet_fields.specs.Field.{◌>>=◌}
-use Rattle.address_model.specs.Address.{Address}
+use Rattle.table_model.specs.Address.{Address}
 use Rattle.fib_addr.specs.Views.{addr_as}
 use Rattle.fib_addr.specs.declared.addr.Addr.{Addr}
 use Rattle.fib_io.specs.Causes.{Rose}

@@ -1,6 +1,6 @@
 -- What a state holds after elementary events.
 use Rattle.std.specs.Prelude.{◌≡◌, ◌≤◌, ℕ, List, [], ◌++◌, length, map, codes, unwrap_or, Option, Some, None, true, false, Result, Ok, Err}
-use Rattle.address_model.specs.Address.{Address}
+use Rattle.table_model.specs.Address.{Address}
 use Rattle.table_model.specs.Changes.{Change}
 use Rattle.route_model.specs.Events.{Elem, Event}
 use Rattle.printed_model.specs.Rows.{Vrp}

@@ -4,7 +4,7 @@
 ghost use Rattle.std.specs.Prelude.{◌≡◌, ◌≤◌, ◌++◌, length, map};
 ghost use Rattle.std.specs.List.Sorted.{IsStrictlySortedBy};
 ghost use Rattle.std.specs.Map.{keys_of};
-ghost use Rattle.address_model.specs.Order.{prefix_cmp};
+ghost use Rattle.table_model.specs.Order.{prefix_cmp};
 ghost use Rattle.table_model.specs.Entries.{Entries};
 ghost use Rattle.table_model.specs.Changes.{additions};
 ghost use Rattle.delta_model.specs.Between.{between};

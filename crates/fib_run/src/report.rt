@@ -7,7 +7,7 @@
 
 ghost use Rattle.std.specs.Prelude.{◌≡◌, ◌++◌, ℕ, [], true, IfOk, OnOk, flat_map, length, map};
 ghost use Rattle.table_model.specs.Entries.{Entries};
-ghost use Rattle.least_model.specs.Both.{aggregate_in_both};
+ghost use Rattle.table_model.specs.Both.{aggregate_in_both};
 ghost use Rattle.table_model.specs.Changes.{additions};
 ghost use Rattle.feed_model.specs.Feed.{at_event};
 ghost use Rattle.fib_addr.specs.Views.{addr_as, entry_as};

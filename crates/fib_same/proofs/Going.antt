@@ -4,7 +4,7 @@ use Rattle.std.specs.Prelude.{option_map}
 use Rattle.std.proofs.lemmas.List.{drop_more}
 use Rattle.std.proofs.Math.ListN.{drop_of_length-le}
 use Rattle.octet_fields.specs.Field.{◌>>=◌}
-use Rattle.address_model.specs.Address.{Address}
+use Rattle.table_model.specs.Address.{Address}
 use Rattle.table_model.specs.Entries.{Entries}
 use Rattle.fib_addr.specs.Hops.{Hops}
 use Rattle.fib_io.specs.Reads.{Makes, PassEnd, Read}

@@ -3,12 +3,12 @@ use Rattle.std.proofs.Common.{◌≡◌, ℕ, Some, sym, ap, ◌∙◌, ◌⊎�
 use Rattle.std.specs.Ordering.{match_ordering, nat_cmp, ordering_then}
 use Rattle.std.specs.declared.cmp.Ordering.{Ordering}
 use Rattle.std.specs.declared.cmp.Ordering.TheVariants.{Equal, Greater}
-use Rattle.address_model.specs.Bits.{value_of, bits_of}
-use Rattle.address_model.specs.Width.{width}
-use Rattle.address_model.specs.Derived.{code_family_cmp}
-use Rattle.address_model.specs.Order.{family_cmp}
-use Rattle.address_model.proofs.BitLaws.{value-bits_of}
-use Rattle.address_model.proofs.Families.{family_order}
+use Rattle.table_model.specs.Bits.{value_of, bits_of}
+use Rattle.table_model.specs.Width.{width}
+use Rattle.table_model.specs.Derived.{code_family_cmp}
+use Rattle.table_model.specs.Order.{family_cmp}
+use Rattle.table_model.proofs.BitLaws.{value-bits_of}
+use Rattle.table_model.proofs.Families.{family_order}
 use Rattle.cert_model.specs.Verdict.{address_cmp}
 use Rattle.fib_addr.specs.declared.addr.Addr.{Addr}
 use Rattle.fib_addr.specs.Views.{addr_as}

@@ -4,7 +4,7 @@ use Rattle.fib_io.specs.Causes.{Rose}
 use Rattle.fib_addr.specs.Views.{prefix_as}
 use Rattle.printed_model.specs.declared.kind.Kind.{Kind}
 use Rattle.printed_model.specs.Kinds.{KindEntries}
-use Rattle.address_model.specs.Address.{Address}
+use Rattle.table_model.specs.Address.{Address}
 use Rattle.fib_same.specs.Due.{Stop, Untold, Refused, TooLarge, BadLine, Twice, text_at}
 use Rattle.fib_same.specs.declared.error.SameError.{SameError}
 use Rattle.fib_same.specs.declared.error.SameError.TheVariants as error

@@ -2,7 +2,7 @@
 use Rattle.std.specs.Prelude.{◌≡◌, ℕ, ◌+◌, ◌<◌, ◌^◌, List, Option, Some, option_map, Result, Ok, ◌⊎◌, IfSome}
 use Rattle.std.specs.List.{slice_get}
 use Rattle.table_model.specs.Entries.{Entries, match_in}
-use Rattle.address_model.specs.Address.{Address}
+use Rattle.table_model.specs.Address.{Address}
 use Rattle.fib_addr.specs.Hops.{Hops, hop_at}
 use Rattle.fib_addr.specs.Views.{addr_as}
 use Rattle.printed_model.specs.declared.kind.Kind.{Kind}

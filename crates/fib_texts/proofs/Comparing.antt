@@ -5,7 +5,7 @@ use Rattle.std.proofs.lemmas.Result.{IfOk-weaker}
 use Rattle.std.proofs.lemmas.List.{map-append}
 use Rattle.cert_model.specs.Verdict.{No, Twice}
 use Rattle.octet_fields.specs.Field.{◌>>=◌}
-use Rattle.address_model.specs.Address.{Prefix}
+use Rattle.table_model.specs.Address.{Prefix}
 use Rattle.fib_addr.specs.Views.{prefix_as}
 use Rattle.fib_io.specs.Reads.{Anywhere, AtEnd, AtFault, Makes, PassEnd, PastMost, Read}
 use Rattle.fib_io.proofs.Passing.{makes_as}

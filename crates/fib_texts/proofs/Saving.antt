@@ -4,7 +4,7 @@ use Rattle.std.specs.Prelude.{IfOk, IfSome, OnOk, option_to_list}
 use Rattle.std.proofs.lemmas.Bool.{le-ltb, lt-ltb}
 use Rattle.std.specs.declared.vec.Vec.{Vec}
 use Rattle.octet_fields.specs.Field.{◌>>=◌}
-use Rattle.address_model.specs.Address.{Prefix}
+use Rattle.table_model.specs.Address.{Prefix}
 use Rattle.route_model.specs.Events.{Event}
 use Rattle.route_model.specs.Choice.{Candidates, Offer, Place}
 use Rattle.saved_model.specs.Saved.{long_one, most_peers, peers_with_candidates, saved}

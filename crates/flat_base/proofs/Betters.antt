@@ -8,8 +8,8 @@ use Rattle.std.specs.BTreeMap.{is_at}
 use Rattle.std.specs.declared.cmp.Ordering.TheVariants.{Equal}
 use Rattle.std.proofs.lemmas.Cmp.{tied_back, tied_itself}
 use Rattle.std.proofs.lemmas.Option.{same_Some, none-some}
-use Rattle.address_model.specs.Address.{Prefix, same_prefix}
-use Rattle.address_model.proofs.Same.{same_prefix_is, same_prefix_itself}
+use Rattle.table_model.specs.Address.{Prefix, same_prefix}
+use Rattle.table_model.proofs.SamePrefix.{same_prefix_is, same_prefix_itself}
 use Rattle.fib_addr.specs.Views.{prefix_as}
 use Rattle.fib_prefix.specs.Views.{peer_as, via_as}
 use Rattle.fib_addr.specs.Order.{code_cmp}

@@ -5,10 +5,10 @@ use Rattle.std.specs.Ordering.{nat_cmp, ordering_then, is_eq}
 use Rattle.std.specs.declared.cmp.Ordering.{Ordering}
 use Rattle.std.specs.declared.cmp.Ordering.TheVariants.{Less, Equal, Greater}
 use Rattle.std.proofs.lemmas.Cmp.{ranked}
-use Rattle.address_model.specs.declared.family.Family.{Family}
-use Rattle.address_model.specs.declared.family.Family.TheVariants.{V4, V6}
-use Rattle.address_model.specs.contracts.family.Family.{the_type}
-use Rattle.address_model.specs.contracts.family.FamilyOrd.TheImpl as family_ord
+use Rattle.table_model.specs.declared.family.Family.{Family}
+use Rattle.table_model.specs.declared.family.Family.TheVariants.{V4, V6}
+use Rattle.table_model.specs.contracts.family.Family.{the_type}
+use Rattle.table_model.specs.contracts.family.FamilyOrd.TheImpl as family_ord
 use Rattle.fib_addr.specs.Order.{code_cmp}
 use Rattle.fib_addr.specs.OrderLaws.{tied}
 use Rattle.fib_addr.specs.contracts.prefix.PrefixPartialEq.TheImpl as prefix_same

@@ -10,11 +10,11 @@ use Rattle.std.specs.declared.cmp.Ordering.TheVariants.{Less, Equal, Greater}
 use Rattle.std.proofs.lemmas.Bool.{cases_lt}
 use Rattle.std.proofs.lemmas.Cmp.{tied_back, tied_itself}
 use Rattle.std.proofs.lemmas.Option.{none-some, same_Some, slice_get_within, slice_get_past, slice_get_read, slice_get-get_or}
-use Rattle.address_model.specs.Width.{width}
-use Rattle.address_model.specs.declared.family.Family.{Family}
-use Rattle.address_model.specs.declared.family.Family.TheVariants.{V4, V6}
+use Rattle.table_model.specs.Width.{width}
+use Rattle.table_model.specs.declared.family.Family.{Family}
+use Rattle.table_model.specs.declared.family.Family.TheVariants.{V4, V6}
 use Rattle.std.specs.Coded.{le_prop}
-use Rattle.address_model.specs.contracts.family.Family.{the_type}
+use Rattle.table_model.specs.contracts.family.Family.{the_type}
 use denote.Enum.Bare.{sameb}
 use Rattle.fib_prefix.specs.Views.{peer_as}
 use Rattle.fib_addr.specs.Order.{code_cmp}

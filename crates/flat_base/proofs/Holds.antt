@@ -6,7 +6,7 @@ use Rattle.std.specs.Ordering.{nat_cmp, ordering_then, is_lt}
 use Rattle.std.specs.declared.cmp.Ordering.{Ordering}
 use Rattle.std.specs.declared.cmp.Ordering.TheVariants.{Less, Equal, Greater}
 use Rattle.std.proofs.lemmas.Bool.{and_from}
-use Rattle.address_model.specs.Address.{Prefix, same_prefix}
+use Rattle.table_model.specs.Address.{Prefix, same_prefix}
 use Rattle.fib_prefix.specs.Views.{via_as}
 use Rattle.fib_prefix.specs.declared.event.Via.{Via}
 use Rattle.route_model.specs.Events as events

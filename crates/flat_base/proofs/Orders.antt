@@ -6,9 +6,9 @@ use Rattle.std.specs.Ordering.{nat_cmp, ordering_then, is_eq}
 use Rattle.std.specs.declared.cmp.Ordering.{Ordering}
 use Rattle.std.specs.declared.cmp.Ordering.TheVariants.{Less, Equal, Greater}
 use Rattle.std.proofs.lemmas.Cmp.{nat_cmp_total, on_total, then_total}
-use Rattle.address_model.specs.Width.{width}
-use Rattle.address_model.specs.Address.{IsPrefix, same_prefix}
-use Rattle.address_model.proofs.BitLaws.{length-bits_of}
+use Rattle.table_model.specs.Width.{width}
+use Rattle.table_model.specs.Address.{IsPrefix, same_prefix}
+use Rattle.table_model.proofs.BitLaws.{length-bits_of}
 use Rattle.fib_prefix.specs.declared.event.Peer.{Peer}
 use Rattle.fib_prefix.specs.declared.event.Via.{Via}
 use Rattle.fib_addr.specs.declared.prefix.Prefix as code

@@ -1,7 +1,7 @@
 -- Seats, ranks, offers and rows made of their parts are what clauses see.
 use Rattle.std.proofs.Common.{◌≡◌, ℕ, ◌<◌, ◌≤◌, ◌-◌, ◌^◌, ◌%◌, ap, ◌∙◌}
 use Rattle.std.specs.Coded.{le_prop, Coded-set, coded_ℕ}
-use Rattle.address_model.specs.Width.{width}
+use Rattle.table_model.specs.Width.{width}
 use Rattle.fib_addr.specs.declared.addr.Addr.{Addr}
 use Rattle.fib_prefix.specs.declared.event.Via.{Via}
 use Rattle.fib_addr.specs.declared.prefix.Prefix.{Prefix}

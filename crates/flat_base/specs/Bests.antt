@@ -2,7 +2,7 @@
 use Rattle.std.specs.Prelude.{◌≡◌, ◌==◌, ◌&&◌, ◌||◌, nat_lt, ℕ, List, Bool, true, false, Option, Some, None, option_map, if◌then◌else◌}
 use Rattle.std.specs.List.{list_any}
 use Rattle.std.specs.Ordering.{is_eq, is_lt}
-use Rattle.address_model.specs.Address.{Prefix, same_prefix}
+use Rattle.table_model.specs.Address.{Prefix, same_prefix}
 use Rattle.fib_addr.specs.Views.{addr_as, prefix_as}
 use Rattle.fib_prefix.specs.Views.{via_as}
 use Rattle.fib_prefix.specs.Order.{code_via_cmp}

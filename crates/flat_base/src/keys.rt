@@ -1,7 +1,7 @@
 //! What a route is found by, how preferred it is, and what it offers.
 
 ghost use Rattle.std.specs.Prelude.{◌≡◌, ◌≤◌, ◌-◌, ◌%◌, ◌^◌, ◌<◌, false};
-ghost use Rattle.address_model.specs.Width.{width};
+ghost use Rattle.table_model.specs.Width.{width};
 
 use fib_prefix::{Addr, Family, Peer, Prefix, Via};
 use std::cmp::Ordering;

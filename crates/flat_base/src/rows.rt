@@ -1,7 +1,7 @@
 //! The rows of the flat candidates.
 
 ghost use Rattle.std.specs.Prelude.{◌≡◌, ◌≤◌, ◌-◌, ◌%◌, ◌^◌, ◌<◌};
-ghost use Rattle.address_model.specs.Width.{width};
+ghost use Rattle.table_model.specs.Width.{width};
 
 use fib_prefix::{Family, Prefix};
 use std::cmp::Ordering;

@@ -5,7 +5,7 @@ use Rattle.std.proofs.lemmas.Bool.{ne_eqb, eq-eqb, or_parts}
 use Rattle.std.proofs.lemmas.List.{drop_more, drop_all, take_all}
 use Rattle.std.proofs.lemmas.List.Folds.{list_any-append}
 use Rattle.std.proofs.Math.Nat.{min-eq_left}
-use Rattle.least_model.specs.Sets.{is_in, common, or_else, joint, smallest}
+use Rattle.table_model.specs.Sets.{is_in, common, or_else, joint, smallest}
 use Rattle.hop_sets.specs.Hops.{Ascending, SameHops}
 
 -- a hop before a sorted list isn't in it

@@ -1,7 +1,7 @@
 -- Sets of one hop each.
 use Rattle.std.proofs.Common.{◌≡◌, ◌≢◌, ℕ, List, [], ◌∷◌, ◌||◌, Bool, true, false, cond, nat_eq, refl, sym, ap, ◌∙◌}
 use Rattle.std.proofs.lemmas.Bool.{eqb-false, ne_eqb}
-use Rattle.least_model.specs.Sets.{common, joint, or_else}
+use Rattle.table_model.specs.Sets.{common, joint, or_else}
 
 same_is : (a b : ℕ) → a ≡ b → nat_eq b a ≡ true
 same_is a b e = (elim (nat_eq b a) as (λ t. nat_eq b a ≡ t → t ≡ true) [ true ↦ λ h. refl | false ↦ λ h. absurd (eqb-false b a h (sym e)) ]) refl

@@ -1,7 +1,7 @@
 -- Sets of hops as sorted lists.
 use Rattle.std.specs.Prelude.{◌≡◌, ℕ, ◌<◌, List, [], ◌∷◌}
 use Rattle.std.specs.List.{AllByRecursion}
-use Rattle.least_model.specs.Sets.{is_in}
+use Rattle.table_model.specs.Sets.{is_in}
 
 -- each hop once, in the order of their numbers
 abbrev pub Ascending : List ℕ → Type 0

@@ -1,7 +1,7 @@
 //! The set.
 
 ghost use Rattle.std.specs.Prelude.{◌≡◌, ◌↔◌, [], ◌∷◌, IfOk, IsTrue, Option};
-ghost use Rattle.least_model.specs.Sets.{common, joint, is_in, smallest, own};
+ghost use Rattle.table_model.specs.Sets.{common, joint, is_in, smallest, own};
 ghost use Rattle.hop_sets.specs.Hops.{Ascending, SameHops};
 ghost use Rattle.hop_sets.specs.Forms.{listed};
 

@@ -1,7 +1,7 @@
 //! Two sorted rows of hops are put together in one pass.
 
 ghost use Rattle.std.specs.Prelude.{◌≡◌, ◌++◌, ◌↔◌, [], IsTrue, IfOk};
-ghost use Rattle.least_model.specs.Sets.{common, joint};
+ghost use Rattle.table_model.specs.Sets.{common, joint};
 ghost use Rattle.hop_sets.specs.Hops.{Ascending, SameHops};
 
 use smallvec::SmallVec;

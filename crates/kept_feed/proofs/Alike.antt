@@ -3,20 +3,20 @@ use Rattle.std.proofs.Common.{◌≡◌, ℕ, ◌+◌, ◌≤◌, List, [], ◌�
 use Rattle.std.specs.Prelude.{option_map, if◌then◌else◌}
 use Rattle.std.specs.List.{AllByRecursion}
 use Rattle.std.specs.Map.{lookup}
-use Rattle.address_model.specs.Bits.{begins}
-use Rattle.address_model.specs.Width.{width}
-use Rattle.address_model.specs.Address.{Address, Prefix, same_address, same_family, same_prefix}
-use Rattle.address_model.specs.declared.family.Family.{Family}
-use Rattle.address_model.specs.declared.family.Family.TheVariants.{V4, V6}
-use Rattle.address_model.proofs.Same.{same_address_is, same_prefix_is, same_family_is, same_family_itself}
+use Rattle.table_model.specs.Bits.{begins}
+use Rattle.table_model.specs.Width.{width}
+use Rattle.table_model.specs.Address.{Address, Prefix, same_address, same_family, same_prefix}
+use Rattle.table_model.specs.declared.family.Family.{Family}
+use Rattle.table_model.specs.declared.family.Family.TheVariants.{V4, V6}
+use Rattle.table_model.proofs.SamePrefix.{same_address_is, same_prefix_is, same_family_is, same_family_itself}
 use Rattle.table_model.specs.Table.{Alike}
 use Rattle.table_model.specs.Entries.{Entries, of_family, AlikeInBoth}
-use Rattle.least_model.specs.Regions.{SameEntries, SameOutside, entry_at}
-use Rattle.least_model.specs.Least.{aggregate}
-use Rattle.least_model.specs.Both.{LeastInBoth, aggregate_in, aggregate_in_both}
-use Rattle.least_model.proofs.Laws.{aggregate_table, fresh_law}
-use Rattle.least_model.proofs.Same.{same_answers, same_least}
-use Rattle.least_model.proofs.Order.{answers_outside}
+use Rattle.table_model.specs.Regions.{SameEntries, SameOutside, entry_at}
+use Rattle.table_model.specs.Least.{aggregate}
+use Rattle.table_model.specs.Both.{LeastInBoth, aggregate_in, aggregate_in_both}
+use Rattle.table_model.proofs.Laws.{aggregate_table, fresh_law}
+use Rattle.table_model.proofs.Same.{same_answers, same_least}
+use Rattle.table_model.proofs.Order.{answers_outside}
 use Rattle.route_model.specs.Events.{Elem, elem_prefix}
 use Rattle.route_model.specs.Choice.{Candidates, AreCandidates, IsElem, after_elem, after_elems, chosen_for}
 use Rattle.route_model.proofs.Said.{candidates_after}

@@ -1,11 +1,11 @@
 -- One elementary event more, and the numbers of hops on the way.
 use Rattle.std.proofs.Common.{◌≡◌, ℕ, ◌+◌, ◌≤◌, List, [], ◌∷◌, ◌++◌, length, refl, sym, ap, subst, ◌∙◌, arith, append-nil, append_assoc}
 use Rattle.std.specs.List.{AllByRecursion}
-use Rattle.address_model.specs.Address.{Address, Prefix}
+use Rattle.table_model.specs.Address.{Address, Prefix}
 use Rattle.table_model.specs.Entries.{Entries}
 use Rattle.table_model.proofs.Sums.{in_order_again}
-use Rattle.least_model.specs.Both.{aggregate_in_both}
-use Rattle.least_model.proofs.Both.{aggregates_sorted}
+use Rattle.table_model.specs.Both.{aggregate_in_both}
+use Rattle.table_model.proofs.Both.{aggregates_sorted}
 use Rattle.route_model.specs.Events.{Elem}
 use Rattle.route_model.specs.Choice.{Candidates, after_elem, after_elems, routes_of}
 use Rattle.feed_model.specs.Feed.{AreNumbered, IsNumbered, hops_after, at_event}

@@ -6,15 +6,15 @@ use Rattle.std.specs.Option.{option_and_then}
 use Rattle.std.specs.List.{AllByRecursion}
 use Rattle.std.specs.List.Sorted.{IsStrictlySortedBy}
 use Rattle.std.specs.Map.{keys_of}
-use Rattle.address_model.specs.Width.{width}
-use Rattle.address_model.specs.Address.{Address, Prefix, IsPrefix}
-use Rattle.address_model.specs.declared.family.Family.{Family}
-use Rattle.address_model.specs.declared.family.Family.TheVariants.{V4, V6}
+use Rattle.table_model.specs.Width.{width}
+use Rattle.table_model.specs.Address.{Address, Prefix, IsPrefix}
+use Rattle.table_model.specs.declared.family.Family.{Family}
+use Rattle.table_model.specs.declared.family.Family.TheVariants.{V4, V6}
 use Rattle.table_model.specs.Entries.{Entries, of_family}
 use Rattle.table_model.specs.Changes.{Change, after_change, after_changes, sum_of}
-use Rattle.least_model.specs.Least.{aggregate}
-use Rattle.least_model.specs.Both.{aggregate_in, aggregate_in_both}
-use Rattle.least_model.proofs.Laws.{aggregate_table}
+use Rattle.table_model.specs.Least.{aggregate}
+use Rattle.table_model.specs.Both.{aggregate_in, aggregate_in_both}
+use Rattle.table_model.proofs.Laws.{aggregate_table}
 use Rattle.route_model.specs.Events.{Elem, elem_prefix}
 use Rattle.route_model.specs.Choice.{Candidates, IsElem, after_elem, chosen_for}
 use Rattle.delta_model.specs.Between.{between}

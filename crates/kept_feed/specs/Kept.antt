@@ -2,10 +2,10 @@
 -- a repair at its prefix, and now and then by a snapshot (after Uzmi and others, 'SMALTA: Practical and Near-Optimal FIB
 -- Aggregation', CoNEXT 2011; the rule of repair is our own, see `kept_model`).
 use Rattle.std.specs.Prelude.{ℕ, zero, suc, ◌+◌, ◌%◌, List, [], ◌∷◌, ◌++◌, Bool, true, false, nat_eq, Option, Some, None, if◌then◌else◌}
-use Rattle.address_model.specs.Address.{Address, Prefix, same_address}
+use Rattle.table_model.specs.Address.{Address, Prefix, same_address}
 use Rattle.table_model.specs.Entries.{Entries, in_order}
 use Rattle.table_model.specs.Changes.{Change}
-use Rattle.least_model.specs.Both.{aggregate_in_both}
+use Rattle.table_model.specs.Both.{aggregate_in_both}
 use Rattle.route_model.specs.Events.{Elem, elem_prefix}
 use Rattle.route_model.specs.Choice.{Candidates, after_elem, chosen_for}
 use Rattle.delta_model.specs.Between.{between}

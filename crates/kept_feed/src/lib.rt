@@ -5,11 +5,11 @@
 
 ghost use Rattle.std.specs.Prelude.{◌≡◌, ℕ, ◌+◌, [], ◌∷◌, ◌++◌, List, Some, length};
 ghost use Rattle.std.specs.List.{AllByRecursion};
-ghost use Rattle.address_model.specs.Address.{Address};
+ghost use Rattle.table_model.specs.Address.{Address};
 ghost use Rattle.table_model.specs.Changes.{after_changes, sum_of};
 ghost use Rattle.route_model.specs.Events.{Elem};
 ghost use Rattle.table_model.specs.Entries.{Entries, AlikeInBoth};
-ghost use Rattle.least_model.specs.Both.{LeastInBoth, aggregate_in_both};
+ghost use Rattle.table_model.specs.Both.{LeastInBoth, aggregate_in_both};
 ghost use Rattle.route_model.specs.Choice.{Candidates, AreCandidates, IsElem, after_elems};
 ghost use Rattle.feed_model.specs.Feed.{AreNumbered, at_event, changes_in, entries_of, hops_after};
 ghost use Rattle.kept_feed.specs.Kept.{AreNumberedAlong, changes_by, kept_at_load, kept_by, kept_changes_from, kept_from, kept_load_changes, snapshot_of};

@@ -8,20 +8,20 @@ use Rattle.std.specs.Ordering.{nat_cmp, ordering_then}
 use Rattle.std.specs.declared.cmp.Ordering.TheVariants.{Less}
 use Rattle.std.proofs.lemmas.List.{map-append}
 use Rattle.std.proofs.lemmas.List.Elements.{filter-append}
-use Rattle.address_model.specs.Width.{width}
-use Rattle.address_model.specs.Bits.{begins, same_bits}
-use Rattle.address_model.specs.Address.{Prefix, IsPrefix, same_family, same_prefix}
-use Rattle.address_model.specs.Order.{prefix_cmp, family_cmp, filled}
-use Rattle.address_model.specs.declared.family.Family.{Family}
-use Rattle.address_model.specs.declared.family.Family.TheVariants.{V4, V6}
+use Rattle.table_model.specs.Width.{width}
+use Rattle.table_model.specs.Bits.{begins, same_bits}
+use Rattle.table_model.specs.Address.{Prefix, IsPrefix, same_family, same_prefix}
+use Rattle.table_model.specs.Order.{prefix_cmp, family_cmp, filled}
+use Rattle.table_model.specs.declared.family.Family.{Family}
+use Rattle.table_model.specs.declared.family.Family.TheVariants.{V4, V6}
 use Rattle.table_model.specs.Table.{Table}
 use Rattle.table_model.specs.Entries.{Entries, of_family, of_table}
-use Rattle.least_model.specs.Regions.{above}
-use Rattle.least_model.specs.Least.{aggregate}
+use Rattle.table_model.specs.Regions.{above}
+use Rattle.table_model.specs.Least.{aggregate}
 use Rattle.table_model.proofs.Cut.{entry}
 use Rattle.route_model.proofs.Keyed.{same_entries, all_filter}
 use Rattle.route_model.proofs.Places.{prefix_key}
-use Rattle.address_model.specs.Regions.{is_within}
+use Rattle.table_model.specs.Halves.{is_within}
 use Rattle.delta_model.specs.Between.{AreEntries, place_of, hop_at, change_at, between}
 use Rattle.delta_model.proofs.Held.{Placed, first, all_both, all_folded}
 use Rattle.delta_model.proofs.Alike.{same_changes, all_between, placed_are}

@@ -7,13 +7,13 @@ use Rattle.std.specs.BTreeMap.{insert_entry}
 use Rattle.std.specs.Ordering.{match_ordering}
 use Rattle.std.specs.declared.cmp.Ordering.{Ordering}
 use Rattle.std.specs.declared.cmp.Ordering.TheVariants.{Less, Equal, Greater}
-use Rattle.address_model.specs.Bits.{begins}
-use Rattle.address_model.specs.Address.{Address, Prefix, IsPrefix, contains, same_family, same_prefix}
-use Rattle.address_model.specs.Order.{prefix_cmp}
-use Rattle.address_model.specs.declared.family.Family.{Family}
-use Rattle.address_model.specs.declared.family.Family.TheVariants.{V4, V6}
-use Rattle.address_model.proofs.Ordered.{equal_are_same}
-use Rattle.address_model.proofs.Same.{same_prefix_is}
+use Rattle.table_model.specs.Bits.{begins}
+use Rattle.table_model.specs.Address.{Address, Prefix, IsPrefix, contains, same_family, same_prefix}
+use Rattle.table_model.specs.Order.{prefix_cmp}
+use Rattle.table_model.specs.declared.family.Family.{Family}
+use Rattle.table_model.specs.declared.family.Family.TheVariants.{V4, V6}
+use Rattle.table_model.proofs.Ordered.{equal_are_same}
+use Rattle.table_model.proofs.SamePrefix.{same_prefix_is}
 use Rattle.table_model.specs.Table.{Table, longest, hop_or, containing}
 use Rattle.table_model.specs.Entries.{Entries, match_in, of_family}
 use Rattle.table_model.proofs.Cut.{entry}

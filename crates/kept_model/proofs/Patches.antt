@@ -3,19 +3,19 @@ use Rattle.std.proofs.Common.{◌≡◌, ◌≢◌, ℕ, ◌≤◌, List, [], �
 use Rattle.std.specs.Prelude.{◌&&◌}
 use Rattle.std.specs.List.{AllByRecursion, IsDistinct}
 use Rattle.std.specs.Map.{keys_of}
-use Rattle.address_model.specs.Bits.{begins, same_bits}
-use Rattle.address_model.specs.Width.{width}
-use Rattle.address_model.specs.Address.{Prefix, IsPrefix, same_family, same_prefix}
-use Rattle.address_model.specs.declared.family.Family.{Family}
-use Rattle.address_model.proofs.Same.{same_family_is, same_family_itself, same_bits_itself}
+use Rattle.table_model.specs.Bits.{begins, same_bits}
+use Rattle.table_model.specs.Width.{width}
+use Rattle.table_model.specs.Address.{Prefix, IsPrefix, same_family, same_prefix}
+use Rattle.table_model.specs.declared.family.Family.{Family}
+use Rattle.table_model.proofs.SamePrefix.{same_family_is, same_family_itself, same_bits_itself}
 use Rattle.table_model.specs.Table.{Entry, Table, lpm, Distinct, IsTable, Alike, root, half}
 use Rattle.table_model.specs.Entries.{Entries, of_family, of_table}
 use Rattle.table_model.proofs.Cut.{entry}
-use Rattle.least_model.specs.Regions.{entry_at, SameEntries, SameOutside, above}
-use Rattle.least_model.specs.Least.{aggregate, patch}
-use Rattle.least_model.proofs.Patch.{patch_table, patch_alike, patch_least, begins_rest, same_length}
-use Rattle.least_model.proofs.Same.{cut_nil, same_answers, patch_keeps, patch_repairs}
-use Rattle.address_model.specs.Regions.{is_within}
+use Rattle.table_model.specs.Regions.{entry_at, SameEntries, SameOutside, above}
+use Rattle.table_model.specs.Least.{aggregate, patch}
+use Rattle.table_model.proofs.Patch.{patch_table, patch_alike, patch_least, begins_rest, same_length}
+use Rattle.table_model.proofs.Same.{cut_nil, same_answers, patch_keeps, patch_repairs}
+use Rattle.table_model.specs.Halves.{is_within}
 use Rattle.delta_model.specs.Between.{AreEntries, hop_at}
 use Rattle.delta_model.proofs.Held.{Placed}
 use Rattle.delta_model.proofs.Alike.{hop_in_replaced, replaced_placed, placed_are}

@@ -4,22 +4,22 @@ use Rattle.std.specs.Prelude.{◌&&◌}
 use Rattle.std.specs.List.{AllByRecursion, IsDistinct}
 use Rattle.std.specs.List.Sorted.{IsStrictlySortedBy}
 use Rattle.std.specs.Map.{keys_of}
-use Rattle.address_model.specs.Bits.{begins}
-use Rattle.address_model.specs.Width.{width}
-use Rattle.address_model.specs.Address.{Prefix, IsPrefix, same_family, same_prefix}
-use Rattle.address_model.specs.Order.{prefix_cmp}
-use Rattle.address_model.specs.declared.family.Family.{Family}
-use Rattle.address_model.specs.declared.family.Family.TheVariants.{V4, V6}
-use Rattle.address_model.proofs.Same.{same_prefix_is}
+use Rattle.table_model.specs.Bits.{begins}
+use Rattle.table_model.specs.Width.{width}
+use Rattle.table_model.specs.Address.{Prefix, IsPrefix, same_family, same_prefix}
+use Rattle.table_model.specs.Order.{prefix_cmp}
+use Rattle.table_model.specs.declared.family.Family.{Family}
+use Rattle.table_model.specs.declared.family.Family.TheVariants.{V4, V6}
+use Rattle.table_model.proofs.SamePrefix.{same_prefix_is}
 use Rattle.table_model.specs.Table.{Table, Distinct, IsTable, Entry}
 use Rattle.table_model.specs.Entries.{Entries, of_family, of_table}
-use Rattle.least_model.specs.Regions.{IsWithin, above}
-use Rattle.least_model.specs.Sets.{agg, answers}
-use Rattle.least_model.proofs.Laws.{aggregate_table}
-use Rattle.least_model.proofs.Region.{within_lift}
+use Rattle.table_model.specs.Regions.{IsWithin, above}
+use Rattle.table_model.specs.Sets.{agg, answers}
+use Rattle.table_model.proofs.Laws.{aggregate_table}
+use Rattle.table_model.proofs.Region.{within_lift}
 use Rattle.std.proofs.Common.{◌-◌}
 use Rattle.table_model.specs.Table.{cut}
-use Rattle.address_model.specs.Regions.{is_within}
+use Rattle.table_model.specs.Halves.{is_within}
 use Rattle.delta_model.specs.Between.{AreEntries, between}
 use Rattle.delta_model.proofs.Alike.{part_changes, part_changes_back}
 use Rattle.kept_model.specs.Patched.{entries_within, region_aggregate, patch_of}

@@ -6,16 +6,16 @@ use Rattle.std.specs.Prelude.{◌≡◌, ℕ, zero, suc, ◌++◌, Bool, true, f
 use Rattle.std.specs.List.{filter, AllByRecursion}
 use Rattle.std.specs.List.Sorted.{IsStrictlySortedBy}
 use Rattle.std.specs.Map.{keys_of, remove_entry}
-use Rattle.address_model.specs.Address.{Prefix, IsPrefix, same_prefix}
-use Rattle.address_model.specs.Order.{prefix_cmp}
-use Rattle.address_model.specs.declared.family.Family.TheVariants.{V4, V6}
-use Rattle.address_model.specs.Width.{width}
+use Rattle.table_model.specs.Address.{Prefix, IsPrefix, same_prefix}
+use Rattle.table_model.specs.Order.{prefix_cmp}
+use Rattle.table_model.specs.declared.family.Family.TheVariants.{V4, V6}
+use Rattle.table_model.specs.Width.{width}
 use Rattle.table_model.specs.Entries.{Entries, of_family, of_table, with_entry, in_order}
-use Rattle.least_model.specs.Regions.{above}
-use Rattle.least_model.specs.Least.{aggregate}
-use Rattle.least_model.specs.Both.{aggregate_in}
-use Rattle.address_model.specs.declared.family.Family.{Family}
-use Rattle.address_model.specs.Regions.{is_within}
+use Rattle.table_model.specs.Regions.{above}
+use Rattle.table_model.specs.Least.{aggregate}
+use Rattle.table_model.specs.Both.{aggregate_in}
+use Rattle.table_model.specs.declared.family.Family.{Family}
+use Rattle.table_model.specs.Halves.{is_within}
 
 -- the entries within p, p's own among them
 abbrev pub entries_within : Prefix → Entries → Entries

@@ -6,16 +6,16 @@
 ghost use Rattle.std.specs.Prelude.{◌≡◌, ◌≤◌, ◌++◌, List, Bool, false, length};
 ghost use Rattle.std.specs.List.Sorted.{IsStrictlySortedBy};
 ghost use Rattle.std.specs.Map.{keys_of};
-ghost use Rattle.address_model.specs.Address.{Prefix, IsPrefix, same_family};
-ghost use Rattle.address_model.specs.Bits.{begins};
-ghost use Rattle.address_model.specs.Width.{width};
-ghost use Rattle.address_model.specs.declared.family.Family.{Family};
+ghost use Rattle.table_model.specs.Address.{Prefix, IsPrefix, same_family};
+ghost use Rattle.table_model.specs.Bits.{begins};
+ghost use Rattle.table_model.specs.Width.{width};
+ghost use Rattle.table_model.specs.declared.family.Family.{Family};
 ghost use Rattle.table_model.specs.Table.{lpm, Alike};
-ghost use Rattle.least_model.specs.Regions.{SameEntries, SameOutside};
-ghost use Rattle.address_model.specs.Order.{prefix_cmp};
+ghost use Rattle.table_model.specs.Regions.{SameEntries, SameOutside};
+ghost use Rattle.table_model.specs.Order.{prefix_cmp};
 ghost use Rattle.table_model.specs.Entries.{Entries, of_family};
 ghost use Rattle.delta_model.specs.Between.{AreEntries, between};
-ghost use Rattle.address_model.specs.declared.family.Family.TheVariants.{V4, V6};
+ghost use Rattle.table_model.specs.declared.family.Family.TheVariants.{V4, V6};
 ghost use Rattle.kept_model.specs.Patched.{entries_within, region_aggregate, patch_of, IsPair};
 
 /// The changes of a repair are those within its prefix, between what was there and the aggregate.

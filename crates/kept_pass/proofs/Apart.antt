@@ -4,18 +4,18 @@ use Rattle.std.specs.Prelude.{is_none, is_some, not}
 use Rattle.std.specs.List.{AllByRecursion}
 use Rattle.std.specs.Map.{keys_of}
 use Rattle.std.proofs.lemmas.Bool.{eq-eqb}
-use Rattle.address_model.specs.Address.{Prefix, same_family}
-use Rattle.address_model.specs.Width.{width}
-use Rattle.address_model.specs.declared.family.Family.{Family}
-use Rattle.address_model.proofs.Same.{same_family_is}
+use Rattle.table_model.specs.Address.{Prefix, same_family}
+use Rattle.table_model.specs.Width.{width}
+use Rattle.table_model.specs.declared.family.Family.{Family}
+use Rattle.table_model.proofs.SamePrefix.{same_family_is}
 use Rattle.table_model.specs.Table.{Table, IsTable, cut}
 use Rattle.table_model.specs.Entries.{Entries, of_family, of_table}
 use Rattle.table_model.specs.Changes.{Change, Replace}
-use Rattle.least_model.specs.Regions.{entry_at, lift}
-use Rattle.least_model.specs.Sets.{agg, answers}
-use Rattle.least_model.specs.Least.{aggregate}
-use Rattle.least_model.specs.Both.{aggregate_in}
-use Rattle.least_model.proofs.Both.{family_is}
+use Rattle.table_model.specs.Regions.{entry_at, lift}
+use Rattle.table_model.specs.Sets.{agg, answers}
+use Rattle.table_model.specs.Least.{aggregate}
+use Rattle.table_model.specs.Both.{aggregate_in}
+use Rattle.table_model.proofs.Both.{family_is}
 use Rattle.delta_model.specs.Between.{AreEntries, place_of, hop_at, change_at, between}
 use Rattle.delta_model.proofs.Alike.{all_between, alike_changes, placed_are}
 use Rattle.kept_model.proofs.Families.{hop_none, table_of}
@@ -38,9 +38,9 @@ use Rattle.kept_pass.specs.Places.{IsBefore, IsPlace}
 use Rattle.kept_pass.specs.declared.pass.Differing.{Differing}
 use Rattle.kept_pass.specs.Known.{IsKnown}
 use Rattle.kept_pass.specs.Passes.{IsPass, IsRootOf, AreApart}
-use Rattle.least_model.proofs.Both.{sorted_aggregate}
-use Rattle.least_model.proofs.Laws.{aggregate_table}
-use Rattle.least_model.proofs.Region.{cut_lift}
+use Rattle.table_model.proofs.Both.{sorted_aggregate}
+use Rattle.table_model.proofs.Laws.{aggregate_table}
+use Rattle.table_model.proofs.Region.{cut_lift}
 
 unlifted : (L : Table) → lift [] L ≡ L
 unlifted L = cut_lift [] L

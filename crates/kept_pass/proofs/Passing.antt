@@ -2,18 +2,18 @@
 use Rattle.std.proofs.Common.{◌≡◌, ◌+◌, ℕ, zero, suc, List, [], ◌∷◌, ◌++◌, ◌||◌, Bool, true, false, Option, Some, None, length, map, refl, sym, ap, subst, ◌∙◌, arith, append_assoc, append-nil}
 use Rattle.std.specs.Prelude.{is_some, IfSome}
 use Rattle.std.specs.Option.{option_to_list}
-use Rattle.address_model.specs.Address.{Prefix}
-use Rattle.address_model.specs.Width.{width}
-use Rattle.address_model.specs.Regions.{half_at}
+use Rattle.table_model.specs.Address.{Prefix}
+use Rattle.table_model.specs.Width.{width}
+use Rattle.table_model.specs.Halves.{half_at}
 use Rattle.table_model.specs.Table.{Table, IsTable, root, half, here, inherit, lpm}
 use Rattle.table_model.proofs.Cut.{lpm_cut, lpm_nil}
 use Rattle.table_model.specs.Entries.{Entries, of_table}
-use Rattle.least_model.specs.Regions.{lift, join, entry_at}
-use Rattle.least_model.specs.Sets.{side, set_of, own, agg}
-use Rattle.least_model.proofs.Join.{table_join}
-use Rattle.least_model.proofs.Patch.{table_half}
-use Rattle.least_model.proofs.Same.{cut_nil}
-use Rattle.least_model.proofs.Cost.{agg_root}
+use Rattle.table_model.specs.Regions.{lift, join, entry_at}
+use Rattle.table_model.specs.Sets.{side, set_of, own, agg}
+use Rattle.table_model.proofs.Join.{table_join}
+use Rattle.table_model.proofs.Patch.{table_half}
+use Rattle.table_model.proofs.Same.{cut_nil}
+use Rattle.table_model.proofs.Cost.{agg_root}
 use Rattle.stays_model.specs.Stays.{Stays, Settled, is_wide}
 use Rattle.stays_model.specs.Parts.{BothOrNeither, ArePart, IsEnd}
 use Rattle.stays_model.proofs.Again.{agg_same, agg_half}

@@ -1,11 +1,11 @@
 -- Nodes of a path.
 use Rattle.std.proofs.Common.{◌≡◌, ◌≢◌, ◌-◌, ℕ, List, [], ◌||◌, Bool, true, false, nat_eq, refl, sym, ap, subst, ◌∙◌}
 use Rattle.std.specs.Int.{bit_at}
-use Rattle.address_model.specs.Bits.{bits_of}
+use Rattle.table_model.specs.Bits.{bits_of}
 use Rattle.table_model.specs.Table.{Table, root, half, cut}
-use Rattle.address_model.specs.declared.family.Family.{Family}
+use Rattle.table_model.specs.declared.family.Family.{Family}
 use Rattle.table_model.specs.Entries.{Entries, of_family, of_table}
-use Rattle.least_model.proofs.Both.{family_is}
+use Rattle.table_model.proofs.Both.{family_is}
 use Rattle.stays_model.specs.Stays.{is_wide, NoneAround}
 use Rattle.orig_tree.proofs.Paths.{no_bits, first_bit}
 use Rattle.kept_pass.specs.Places.{IsUnmarked}

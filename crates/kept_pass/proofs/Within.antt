@@ -2,21 +2,21 @@
 use Rattle.std.proofs.Common.{◌≡◌, ◌+◌, ◌-◌, ◌≤◌, ℕ, zero, suc, List, [], ◌∷◌, ◌++◌, Bool, true, false, cond, Option, Some, None, length, map, refl, sym, ap, subst, ◌∙◌, arith, inl, inr, length-append}
 use Rattle.std.specs.Prelude.{◌&&◌, is_none}
 use Rattle.std.specs.List.{AllByRecursion}
-use Rattle.address_model.specs.Address.{Prefix, IsPrefix, same_family}
-use Rattle.address_model.specs.Bits.{begins}
-use Rattle.address_model.specs.Width.{width}
-use Rattle.address_model.specs.Regions.{is_within}
-use Rattle.address_model.specs.declared.family.Family.{Family}
-use Rattle.address_model.proofs.Same.{same_family_is, same_family_itself}
+use Rattle.table_model.specs.Address.{Prefix, IsPrefix, same_family}
+use Rattle.table_model.specs.Bits.{begins}
+use Rattle.table_model.specs.Width.{width}
+use Rattle.table_model.specs.Halves.{is_within}
+use Rattle.table_model.specs.declared.family.Family.{Family}
+use Rattle.table_model.proofs.SamePrefix.{same_family_is, same_family_itself}
 use Rattle.table_model.specs.Table.{Entry, Table, IsTable, root, half, inherit, lpm, cut}
 use Rattle.table_model.specs.Entries.{Entries, of_family, of_table}
 use Rattle.table_model.proofs.Cut.{lpm_cut}
-use Rattle.least_model.specs.Regions.{above, entry_at, lift}
-use Rattle.least_model.specs.Sets.{agg, answers}
-use Rattle.least_model.proofs.Join.{distinct_lift, short_lift, half_same, half_other}
-use Rattle.least_model.proofs.Patch.{begins_rest, cut_cut, table_half}
-use Rattle.least_model.proofs.Region.{cut_lift, lpm_region}
-use Rattle.least_model.proofs.Same.{cut_nil, same_answers}
+use Rattle.table_model.specs.Regions.{above, entry_at, lift}
+use Rattle.table_model.specs.Sets.{agg, answers}
+use Rattle.table_model.proofs.Join.{distinct_lift, short_lift, half_same, half_other}
+use Rattle.table_model.proofs.Patch.{begins_rest, cut_cut, table_half}
+use Rattle.table_model.proofs.Region.{cut_lift, lpm_region}
+use Rattle.table_model.proofs.Same.{cut_nil, same_answers}
 use Rattle.delta_model.specs.Between.{AreEntries, hop_at, between}
 use Rattle.delta_model.proofs.Alike.{alike_changes, placed_are}
 use Rattle.kept_model.specs.Patched.{region_aggregate, patch_of}

@@ -1,11 +1,11 @@
 -- What is known of a table since its last snapshot.
 use Rattle.std.specs.Prelude.{◌≡◌, List, [], Bool, Option, Some, None}
-use Rattle.address_model.specs.Address.{Prefix}
-use Rattle.address_model.specs.Width.{width}
-use Rattle.address_model.specs.declared.family.Family.{Family}
+use Rattle.table_model.specs.Address.{Prefix}
+use Rattle.table_model.specs.Width.{width}
+use Rattle.table_model.specs.declared.family.Family.{Family}
 use Rattle.table_model.specs.Entries.{Entries, of_family}
-use Rattle.least_model.specs.Regions.{entry_at}
-use Rattle.least_model.specs.Sets.{answers}
+use Rattle.table_model.specs.Regions.{entry_at}
+use Rattle.table_model.specs.Sets.{answers}
 use Rattle.stays_model.specs.Stays.{Settled}
 use Rattle.orig_tree.specs.Views.{Labels}
 

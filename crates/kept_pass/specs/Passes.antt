@@ -2,12 +2,12 @@
 use Rattle.std.specs.Prelude.{◌≡◌, ℕ, [], ◌++◌, map, Option, Some, None}
 use Rattle.std.specs.List.{AllByRecursion}
 use Rattle.std.specs.Map.{keys_of}
-use Rattle.address_model.specs.Address.{Prefix}
-use Rattle.address_model.specs.Width.{width}
+use Rattle.table_model.specs.Address.{Prefix}
+use Rattle.table_model.specs.Width.{width}
 use Rattle.table_model.specs.Table.{Table, IsTable}
 use Rattle.table_model.specs.Entries.{of_family, of_table}
-use Rattle.least_model.specs.Regions.{lift}
-use Rattle.least_model.specs.Sets.{agg, answers}
+use Rattle.table_model.specs.Regions.{lift}
+use Rattle.table_model.specs.Sets.{agg, answers}
 use Rattle.delta_model.specs.Between.{AreEntries, between}
 use Rattle.kept_model.specs.Patched.{patch_of}
 use Rattle.stays_model.specs.Parts.{ArePart}

@@ -1,8 +1,8 @@
 //! A region on the way down, beside its nodes in the tree and in the tree of the marks.
 
 ghost use Rattle.std.specs.Prelude.{◌≡◌, ◌≢◌, ◌+◌, ◌||◌, ◌≤◌, suc, [], true, false, is_some, Bool};
-ghost use Rattle.address_model.specs.Bits.{bits_of};
-ghost use Rattle.address_model.specs.Width.{width};
+ghost use Rattle.table_model.specs.Bits.{bits_of};
+ghost use Rattle.table_model.specs.Width.{width};
 ghost use Rattle.table_model.specs.Table.{IsTable, root, half, inherit, cut};
 ghost use Rattle.table_model.specs.Entries.{of_family};
 ghost use Rattle.fib_addr.specs.Views.{prefix_as};

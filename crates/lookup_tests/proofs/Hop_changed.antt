@@ -1,10 +1,10 @@
 -- A table of one route, and the same route to another hop.
 use Rattle.std.proofs.Common.{◌≡◌, ℕ, List, [], ◌∷◌, Bool, true, false, cond, refl, sym, ap, ◌∙◌}
 use Rattle.std.specs.Prelude.{◌&&◌}
-use Rattle.address_model.specs.Bits.{begins}
-use Rattle.address_model.specs.Address.{Address, Prefix, contains, same_family}
-use Rattle.address_model.specs.declared.family.Family.{Family}
-use Rattle.address_model.specs.declared.family.Family.TheVariants.{V4, V6}
+use Rattle.table_model.specs.Bits.{begins}
+use Rattle.table_model.specs.Address.{Address, Prefix, contains, same_family}
+use Rattle.table_model.specs.declared.family.Family.{Family}
+use Rattle.table_model.specs.declared.family.Family.TheVariants.{V4, V6}
 use Rattle.table_model.specs.Table.{Entry, hop_or, longest}
 use Rattle.table_model.specs.Entries.{match_in}
 use Rattle.poptrie_set.specs.Prepares.{AgreeOutside}

@@ -1,7 +1,7 @@
 //! Tries of a table of one route: its answers, how many nodes they visit, what they need, and where they are refused.
 
 ghost use Rattle.std.specs.Prelude.{◌≡◌, ◌≤◌};
-ghost use Rattle.address_model.specs.Width.{width};
+ghost use Rattle.table_model.specs.Width.{width};
 ghost use Rattle.table_model.specs.Entries.{Entries};
 ghost use Rattle.poptrie_build.specs.Tries.{StandsFor};
 

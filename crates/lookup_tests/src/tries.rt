@@ -1,7 +1,7 @@
 //! What tries of one route need, and of two.
 
 ghost use Rattle.std.specs.Prelude.{◌≡◌, IfOk};
-ghost use Rattle.address_model.specs.declared.family.Family.TheVariants.{V4};
+ghost use Rattle.table_model.specs.declared.family.Family.TheVariants.{V4};
 
 use fib_addr::{Addr, Family, Hop, Prefix};
 use orig_tree::Tree;

@@ -2,10 +2,10 @@
 use Rattle.std.proofs.Common.{◌≡◌, ℕ, zero, suc, ◌+◌, ◌-◌, ◌*◌, ◌/◌, ◌%◌, ◌^◌, ◌<◌, ◌≤◌, take, refl, sym, ap, ◌∙◌, add-zero, mod-eq_of_lt, arith}
 use Rattle.std.proofs.Math.Nat.{mod-add-mod, mul_comm}
 use Rattle.std.proofs.lemmas.Nat.{shl-shr, shr_split, mod_below, mod-mul-add, pow_pos}
-use Rattle.address_model.specs.declared.family.Family.TheVariants.{V4}
-use Rattle.address_model.specs.Address.{first_bits}
-use Rattle.address_model.specs.Bits.{bits_of}
-use Rattle.address_model.proofs.BitLaws.{bits_take}
+use Rattle.table_model.specs.declared.family.Family.TheVariants.{V4}
+use Rattle.table_model.specs.Address.{first_bits}
+use Rattle.table_model.specs.Bits.{bits_of}
+use Rattle.table_model.proofs.BitLaws.{bits_take}
 use Rattle.made_model.specs.Draws.{next_state, state_after, draw}
 use Rattle.made_model.specs.Drawn.{Route, Offer, route, offer}
 

@@ -5,8 +5,8 @@ use Rattle.std.specs.List.{range_with_len}
 use Rattle.std.proofs.lemmas.List.{length-take-le, length-map, map-append}
 use Rattle.std.proofs.lemmas.List.FromFn.{map-range_with_len_more, get_or-map-range_with_len, length-map-range_with_len}
 use Rattle.std.proofs.lemmas.Nat.{mod_below}
-use Rattle.address_model.specs.Bits.{bits_of}
-use Rattle.address_model.proofs.BitLaws.{length-bits_of}
+use Rattle.table_model.specs.Bits.{bits_of}
+use Rattle.table_model.proofs.BitLaws.{length-bits_of}
 use Rattle.made_model.specs.Draws.{state_after, draw}
 use Rattle.made_model.specs.Drawn.{Route, Offer, route, offer, entry_route, update_state, is_withdrawal, update_route, update_offer}
 use Rattle.written_model.specs.Octets.{record_octets}

@@ -4,11 +4,11 @@ use Rattle.std.specs.Prelude.{Result, Ok, Err, OnOk}
 use Rattle.std.specs.Int.{bytes_high_first}
 use Rattle.std.proofs.lemmas.List.{length-take-le, length-replicate}
 use Rattle.std.proofs.lemmas.Nat.{shr_split, shr_below}
-use Rattle.address_model.specs.declared.family.Family.TheVariants.{V4}
-use Rattle.address_model.specs.Address.{first_bits}
-use Rattle.address_model.specs.Bits.{bits_of, value_of}
-use Rattle.address_model.specs.Order.{filled}
-use Rattle.address_model.proofs.BitLaws.{length-bits_of, value-bits_of, value-append, value-zeros, bits_take}
+use Rattle.table_model.specs.declared.family.Family.TheVariants.{V4}
+use Rattle.table_model.specs.Address.{first_bits}
+use Rattle.table_model.specs.Bits.{bits_of, value_of}
+use Rattle.table_model.specs.Order.{filled}
+use Rattle.table_model.proofs.BitLaws.{length-bits_of, value-bits_of, value-append, value-zeros, bits_take}
 use Rattle.wire_model.specs.Wire.{octets_for}
 use Rattle.written_model.specs.Octets.{number_octets, prefix_octets, attribute_octets, as_path_octets}
 use Rattle.written_model.proofs.Attributes.{length-as_path}

@@ -1,8 +1,8 @@
 -- What a clause sees of routes and offers, and the records that draws lead to.
 use Rattle.std.specs.Prelude.{ℕ, ◌%◌, List, length, get_or, ◌==◌}
-use Rattle.address_model.specs.declared.family.Family.TheVariants.{V4}
-use Rattle.address_model.specs.Address.{first_bits}
-use Rattle.address_model.specs.Bits.{bits_of}
+use Rattle.table_model.specs.declared.family.Family.TheVariants.{V4}
+use Rattle.table_model.specs.Address.{first_bits}
+use Rattle.table_model.specs.Bits.{bits_of}
 use Rattle.made_model.specs.Draws.{state_after, draw}
 use Rattle.made_model.specs.Drawn as drawn
 use Rattle.written_model.specs.Octets.{record_octets}

@@ -3,7 +3,7 @@ use Rattle.std.proofs.Common.{◌≡◌, ℕ, zero, suc, ◌+◌, ◌<◌, ◌�
 use Rattle.std.specs.Prelude.{flat_map, slice_get, ◌==◌}
 use Rattle.std.specs.List.{range_with_len}
 use Rattle.std.proofs.lemmas.Bool.{ne_eqb}
-use Rattle.address_model.specs.declared.family.Family.TheVariants.{V4}
+use Rattle.table_model.specs.declared.family.Family.TheVariants.{V4}
 use Rattle.route_model.specs.Events.{Peer}
 use Rattle.octet_fields.specs.Field.{one_more, times}
 use Rattle.wire_model.specs.declared.rule.Rule.{Rule}

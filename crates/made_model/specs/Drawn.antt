@@ -1,9 +1,9 @@
 -- What is drawn: routes of eight peers, then updates of these routes; and the events that they are. Addresses and AS numbers are those set aside for documentation (RFC 5737, 3; RFC 5398, 4).
 use Rattle.std.specs.Prelude.{ℕ, ◌+◌, ◌*◌, ◌/◌, ◌%◌, ◌^◌, Bool, List, [], ◌∷◌, map, Some, ◌==◌, if◌then◌else◌}
 use Rattle.std.specs.List.{range_with_len}
-use Rattle.address_model.specs.declared.family.Family.TheVariants.{V4}
-use Rattle.address_model.specs.Address.{Address, Prefix, first_bits}
-use Rattle.address_model.specs.Bits.{bits_of, octet_bits}
+use Rattle.table_model.specs.declared.family.Family.TheVariants.{V4}
+use Rattle.table_model.specs.Address.{Address, Prefix, first_bits}
+use Rattle.table_model.specs.Bits.{bits_of, octet_bits}
 use Rattle.route_model.specs.Events.{Peer, Via, Event, Announce, Withdraw}
 use Rattle.made_model.specs.Draws.{state_after, draw}
 

@@ -9,16 +9,16 @@ use Rattle.std.specs.Ordering.{match_ordering, ordering_reverse}
 use Rattle.std.specs.declared.cmp.Ordering.{Ordering}
 use Rattle.std.specs.declared.cmp.Ordering.TheVariants.{Less, Equal, Greater}
 use Rattle.std.proofs.lemmas.List.Sums.{fold-append}
-use Rattle.address_model.specs.Address.{Prefix, IsPrefix, same_family, same_prefix}
-use Rattle.address_model.specs.Order.{prefix_cmp}
-use Rattle.address_model.specs.declared.family.Family.{Family}
-use Rattle.address_model.proofs.Ordered.{prefix_total, equal_are_same}
-use Rattle.address_model.proofs.Same.{same_family_itself}
+use Rattle.table_model.specs.Address.{Prefix, IsPrefix, same_family, same_prefix}
+use Rattle.table_model.specs.Order.{prefix_cmp}
+use Rattle.table_model.specs.declared.family.Family.{Family}
+use Rattle.table_model.proofs.Ordered.{prefix_total, equal_are_same}
+use Rattle.table_model.proofs.SamePrefix.{same_family_itself}
 use Rattle.table_model.specs.Entries.{Entries, with_entry, in_order, of_family}
 use Rattle.table_model.specs.Changes.{Replace, is_held}
 use Rattle.table_model.proofs.Sums.{all_placed, sorted_placed, in_order_sorted}
 use Rattle.table_model.proofs.Cut.{entry}
-use Rattle.least_model.specs.Regions.{entry_at}
+use Rattle.table_model.specs.Regions.{entry_at}
 use Rattle.route_model.proofs.Keyed.{lookup-put, lookup-below, not_same_greater}
 use Rattle.route_model.proofs.Places.{prefix_key}
 use Rattle.delta_model.specs.Between.{AreEntries, hop_at, change_at, changes_at, between}

@@ -1,14 +1,14 @@
 -- The rows that routes and an old table have are right.
 use Rattle.std.proofs.Common.{◌≡◌, ℕ, zero, suc, ◌+◌, ◌-◌, ◌<◌, List, [], ◌∷◌, ◌++◌, Bool, true, false, cond, Option, Some, None, length, refl, sym, ap, ◌∙◌, arith, subst, append_assoc, length-append, append-nil}
 use Rattle.std.specs.Prelude.{◌&&◌}
-use Rattle.address_model.specs.Width.{width}
-use Rattle.address_model.specs.Address.{Prefix, IsPrefix}
-use Rattle.address_model.specs.Regions.{half_at}
-use Rattle.address_model.specs.declared.family.Family.{Family}
+use Rattle.table_model.specs.Width.{width}
+use Rattle.table_model.specs.Address.{Prefix, IsPrefix}
+use Rattle.table_model.specs.Halves.{half_at}
+use Rattle.table_model.specs.declared.family.Family.{Family}
 use Rattle.table_model.specs.Table.{Table, IsTable, lpm, root, half, cut}
 use Rattle.table_model.specs.Entries.{Entries, of_family}
-use Rattle.least_model.specs.Sets.{side, answers}
-use Rattle.least_model.proofs.Patch.{table_half, no_half, cut_cut}
+use Rattle.table_model.specs.Sets.{side, answers}
+use Rattle.table_model.proofs.Patch.{table_half, no_half, cut_cut}
 use Rattle.cert_model.specs.Rows.{CertRow, leaf_row, join_row, whole_prefix, one_answer, leaf_or}
 use Rattle.cert_model.proofs.Regions.{get_all}
 use Rattle.cert_model.proofs.Answers.{one_answer_is}

@@ -2,9 +2,9 @@
 use Rattle.std.proofs.Common.{◌≡◌, ℕ, zero, suc, ◌+◌, ◌-◌, ◌<◌, ◌≤◌, List, [], ◌∷◌, ◌++◌, Bool, true, false, length, refl, sym, ap, ◌∙◌, arith, length-append, append_assoc}
 use Rattle.std.proofs.lemmas.Bool.{and_parts}
 use Rattle.table_model.specs.Table.{Table, lpm, root, half, cut}
-use Rattle.least_model.specs.Sets.{apart, side, set_of, k_of, answers}
-use Rattle.least_model.proofs.Cost.{set_uniform, k_uniform}
-use Rattle.least_model.proofs.Patch.{cut_cut}
+use Rattle.table_model.specs.Sets.{apart, side, set_of, k_of, answers}
+use Rattle.table_model.proofs.Cost.{set_uniform, k_uniform}
+use Rattle.table_model.proofs.Patch.{cut_cut}
 use Rattle.moves_model.specs.Sets.{Allowed, these, allowed_by_both, gap, set_over, k_over, inner_set, inner_k, near_set, near_k}
 use Rattle.moves_cert.specs.Demands.{has_no_entries, is_bare}
 

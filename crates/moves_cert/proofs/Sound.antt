@@ -4,16 +4,16 @@ use Rattle.std.specs.Prelude.{◌&&◌}
 use Rattle.std.specs.Option.{option_and_then}
 use Rattle.std.specs.List.{AllByRecursion}
 use Rattle.std.specs.Map.{remove_entry}
-use Rattle.address_model.specs.Bits.{same_bits}
-use Rattle.address_model.specs.Width.{width}
-use Rattle.address_model.specs.Order.{prefix_cmp}
-use Rattle.address_model.specs.Address.{Prefix, IsPrefix, same_family, same_prefix}
-use Rattle.address_model.specs.declared.family.Family.{Family}
+use Rattle.table_model.specs.Bits.{same_bits}
+use Rattle.table_model.specs.Width.{width}
+use Rattle.table_model.specs.Order.{prefix_cmp}
+use Rattle.table_model.specs.Address.{Prefix, IsPrefix, same_family, same_prefix}
+use Rattle.table_model.specs.declared.family.Family.{Family}
 use Rattle.table_model.specs.Table.{Table, IsTable, root, half}
 use Rattle.table_model.specs.Entries.{Entries, with_entry, in_order, of_family}
 use Rattle.table_model.specs.Changes.{Change, Add, Replace, Remove, is_held, after_change, after_changes}
-use Rattle.least_model.specs.Regions.{entry_at, SameEntries}
-use Rattle.least_model.proofs.Patch.{table_half, no_half}
+use Rattle.table_model.specs.Regions.{entry_at, SameEntries}
+use Rattle.table_model.proofs.Patch.{table_half, no_half}
 use Rattle.route_model.proofs.Keyed.{all_put, sorted_put, lookup-put, all_cut, sorted_cut, lookup-cut}
 use Rattle.route_model.proofs.Places.{prefix_key}
 use Rattle.delta_model.specs.Between.{AreEntries, place_of, hop_at}

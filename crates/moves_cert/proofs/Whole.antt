@@ -3,14 +3,14 @@ use Rattle.std.proofs.Common.{◌≡◌, ◌≢◌, ℕ, ◌<◌, ◌≤◌, Lis
 use Rattle.std.proofs.lemmas.Bool.{lt-ltb, ltb-true}
 use Rattle.std.specs.List.{AllByRecursion, IsDistinct}
 use Rattle.std.specs.Map.{keys_of}
-use Rattle.address_model.specs.Width.{width}
-use Rattle.address_model.specs.Address.{Prefix, IsPrefix, same_prefix}
-use Rattle.address_model.specs.declared.family.Family.{Family}
+use Rattle.table_model.specs.Width.{width}
+use Rattle.table_model.specs.Address.{Prefix, IsPrefix, same_prefix}
+use Rattle.table_model.specs.declared.family.Family.{Family}
 use Rattle.table_model.specs.Table.{Table, IsTable, Alike}
 use Rattle.table_model.specs.Entries.{Entries, in_order, of_family}
 use Rattle.table_model.specs.Changes.{Change}
-use Rattle.least_model.proofs.Both.{family_is}
-use Rattle.least_model.proofs.Same.{same_answers}
+use Rattle.table_model.proofs.Both.{family_is}
+use Rattle.table_model.proofs.Same.{same_answers}
 use Rattle.delta_model.specs.Between.{AreEntries, place_of, between}
 use Rattle.delta_model.proofs.Sums.{made}
 use Rattle.delta_model.proofs.Held.{hop_in_order}

@@ -2,14 +2,14 @@
 -- the routes and T is the old table. The rows are those of a certificate of leastness (`cert_model`), and say something else: a
 -- join's k is how many changes its region needs.
 use Rattle.std.specs.Prelude.{◌≡◌, ℕ, ◌+◌, ◌<◌, List, [], ◌∷◌, Bool, true, false, cond, length, Option, ◌&&◌}
-use Rattle.address_model.specs.Width.{width}
-use Rattle.address_model.specs.Address.{Prefix, IsPrefix}
-use Rattle.address_model.specs.Regions.{half_at}
-use Rattle.address_model.specs.declared.family.Family.{Family}
+use Rattle.table_model.specs.Width.{width}
+use Rattle.table_model.specs.Address.{Prefix, IsPrefix}
+use Rattle.table_model.specs.Halves.{half_at}
+use Rattle.table_model.specs.declared.family.Family.{Family}
 use Rattle.table_model.specs.Table.{Table, half, cut}
 use Rattle.table_model.specs.Entries.{Entries, of_family}
 use Rattle.table_model.specs.Uniform.{AllGet}
-use Rattle.least_model.specs.Regions.{entry_at}
+use Rattle.table_model.specs.Regions.{entry_at}
 use Rattle.cert_model.specs.Rows.{CertRow, leaf_row, join_row, bound_row, whole_prefix}
 use Rattle.moves_model.specs.Sets.{Allowed, these, is_allowed, allowed_by_both, gap, set_over, k_over}
 

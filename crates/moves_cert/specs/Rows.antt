@@ -1,12 +1,12 @@
 -- The rows that routes and an old table have, and the table that the old one is to become.
 use Rattle.std.specs.Prelude.{ℕ, zero, suc, List, [], ◌∷◌, ◌++◌, Bool, true, false, cond, Option, None}
-use Rattle.address_model.specs.Width.{width}
-use Rattle.address_model.specs.Address.{Prefix}
-use Rattle.address_model.specs.Regions.{half_at}
-use Rattle.address_model.specs.declared.family.Family.{Family}
+use Rattle.table_model.specs.Width.{width}
+use Rattle.table_model.specs.Address.{Prefix}
+use Rattle.table_model.specs.Halves.{half_at}
+use Rattle.table_model.specs.declared.family.Family.{Family}
 use Rattle.table_model.specs.Table.{Table, half}
 use Rattle.table_model.specs.Entries.{Entries, of_family, of_table}
-use Rattle.least_model.specs.Sets.{side, answers}
+use Rattle.table_model.specs.Sets.{side, answers}
 use Rattle.cert_model.specs.Rows.{CertRow, leaf_row, join_row, bound_row, whole_prefix, one_answer, leaf_or}
 use Rattle.moves_model.specs.Sets.{near_k}
 use Rattle.moves_model.specs.Nearest.{nearest, near_bound}

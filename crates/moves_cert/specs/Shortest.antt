@@ -2,9 +2,9 @@
 use Rattle.std.specs.Prelude.{◌≡◌, ℕ, ◌≤◌, List, [], ◌∷◌, ◌++◌, length, Some}
 use Rattle.std.specs.List.{IsDistinct}
 use Rattle.std.specs.Map.{keys_of}
-use Rattle.address_model.specs.Width.{width}
-use Rattle.address_model.specs.Address.{same_prefix}
-use Rattle.address_model.specs.declared.family.Family.{Family}
+use Rattle.table_model.specs.Width.{width}
+use Rattle.table_model.specs.Address.{same_prefix}
+use Rattle.table_model.specs.declared.family.Family.{Family}
 use Rattle.table_model.specs.Table.{Table, Alike}
 use Rattle.table_model.specs.Entries.{Entries, in_order, of_family}
 use Rattle.table_model.specs.Changes.{Change, after_changes}

@@ -2,13 +2,13 @@
 -- table, all of one family.
 use Rattle.std.specs.Prelude.{ℕ, ◌+◌, List, [], ◌∷◌, Bool, true, false, ◌&&◌, cond, Option, Some, None, length, nat_eq, nat_lt, option_map, is_some}
 use Rattle.std.specs.Option.{option_or, unwrap_or}
-use Rattle.address_model.specs.Address.{Address, Prefix, same_family, same_prefix}
-use Rattle.address_model.specs.Width.{width}
-use Rattle.address_model.specs.Regions.{half_at}
-use Rattle.address_model.specs.declared.family.Family.{Family}
+use Rattle.table_model.specs.Address.{Address, Prefix, same_family, same_prefix}
+use Rattle.table_model.specs.Width.{width}
+use Rattle.table_model.specs.Halves.{half_at}
+use Rattle.table_model.specs.declared.family.Family.{Family}
 use Rattle.table_model.specs.Entries.{Entries, in_order, of_family}
 use Rattle.table_model.specs.Changes.{Change, after_change}
-use Rattle.least_model.specs.Sets.{answers}
+use Rattle.table_model.specs.Sets.{answers}
 use Rattle.cert_model.specs.Rows.{CertRow, leaf_row, join_row, bound_row, whole_prefix}
 use Rattle.cert_model.specs.Verdict.{twice, least_differing, all_get}
 use Rattle.moves_model.specs.Nearest.{near_bound}

@@ -6,9 +6,9 @@
 ghost use Rattle.std.specs.Prelude.{◌≡◌, ◌≢◌, ◌<◌, ◌↔◌, ℕ, List, None, length};
 ghost use Rattle.std.specs.List.{AllByRecursion, IsDistinct};
 ghost use Rattle.std.specs.Map.{keys_of};
-ghost use Rattle.address_model.specs.Width.{width};
-ghost use Rattle.address_model.specs.Address.{IsPrefix, same_prefix};
-ghost use Rattle.address_model.specs.declared.family.Family.{Family};
+ghost use Rattle.table_model.specs.Width.{width};
+ghost use Rattle.table_model.specs.Address.{IsPrefix, same_prefix};
+ghost use Rattle.table_model.specs.declared.family.Family.{Family};
 ghost use Rattle.table_model.specs.Table.{Table, IsTable, Alike};
 ghost use Rattle.table_model.specs.Entries.{Entries, of_family};
 ghost use Rattle.table_model.specs.Changes.{Change};

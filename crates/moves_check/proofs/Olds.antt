@@ -4,8 +4,8 @@ use Rattle.std.specs.Prelude.{◌&&◌}
 use Rattle.std.specs.List.{AllByRecursion}
 use Rattle.std.specs.declared.cmp.Ordering.{Ordering}
 use Rattle.std.specs.declared.cmp.Ordering.TheVariants.{Less, Greater}
-use Rattle.address_model.specs.Bits.{begins}
-use Rattle.address_model.specs.Order.{path_cmp}
+use Rattle.table_model.specs.Bits.{begins}
+use Rattle.table_model.specs.Order.{path_cmp}
 use Rattle.table_model.specs.Table.{Table, Entry, half, cut}
 use Rattle.table_model.proofs.Cut.{entry}
 use Rattle.moves_cert.specs.Demands.{has_no_entries, is_bare}

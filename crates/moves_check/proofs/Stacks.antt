@@ -3,9 +3,9 @@ use Rattle.std.proofs.Common.{◌≡◌, ◌≢◌, ℕ, zero, suc, ◌+◌, ◌
 use Rattle.std.specs.List.{AllByRecursion}
 use Rattle.std.specs.Prelude.{◌&&◌, ◌↔◌, is_some, IsSome, option_map, option_to_list}
 use Rattle.std.proofs.lemmas.Bool.{cond-true, cond-false, eq-eqb, ne_eqb}
-use Rattle.address_model.specs.Address.{Prefix, same_prefix, same_family}
-use Rattle.address_model.specs.Regions.{half_at}
-use Rattle.address_model.specs.declared.family.Family.{Family}
+use Rattle.table_model.specs.Address.{Prefix, same_prefix, same_family}
+use Rattle.table_model.specs.Halves.{half_at}
+use Rattle.table_model.specs.declared.family.Family.{Family}
 use Rattle.table_model.specs.Entries.{Entries}
 use Rattle.cert_model.specs.Rows.{CertRow, leaf_row, join_row, bound_row, whole_prefix}
 use Rattle.cert_model.specs.Verdict.{all_get}

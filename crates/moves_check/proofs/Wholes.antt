@@ -4,15 +4,15 @@ use Rattle.std.specs.Prelude.{option_map, ◌&&◌}
 use Rattle.std.specs.Option.{option_or}
 use Rattle.std.specs.List.{AllByRecursion, IsDistinct}
 use Rattle.std.specs.Map.{keys_of}
-use Rattle.address_model.specs.Address.{Prefix, IsPrefix, same_prefix}
-use Rattle.address_model.specs.Width.{width}
-use Rattle.address_model.specs.declared.family.Family.{Family}
+use Rattle.table_model.specs.Address.{Prefix, IsPrefix, same_prefix}
+use Rattle.table_model.specs.Width.{width}
+use Rattle.table_model.specs.declared.family.Family.{Family}
 use Rattle.table_model.specs.Table.{Table, root, half, cut}
 use Rattle.table_model.specs.Entries.{Entries, in_order, of_family}
 use Rattle.table_model.specs.Changes.{Change}
-use Rattle.least_model.specs.Regions.{entry_at, SameEntries}
-use Rattle.least_model.proofs.Same.{cut_nil}
-use Rattle.least_model.proofs.Patch.{cut_cut}
+use Rattle.table_model.specs.Regions.{entry_at, SameEntries}
+use Rattle.table_model.proofs.Same.{cut_nil}
+use Rattle.table_model.proofs.Patch.{cut_cut}
 use Rattle.table_model.proofs.Cut.{entry}
 use Rattle.delta_model.specs.Between.{AreEntries}
 use Rattle.delta_model.proofs.Held.{hop_in_order, in_order_placed}

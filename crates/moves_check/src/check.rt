@@ -2,7 +2,7 @@
 
 ghost use Rattle.std.specs.Prelude.{◌≡◌, ◌<◌, ◌^◌, ℕ, [], cond, nat_lt, None, Some, map, option_map, IfOk, IfErr, OnOk, is_some};
 ghost use Rattle.std.specs.Option.{option_or};
-ghost use Rattle.address_model.specs.Width.{width};
+ghost use Rattle.table_model.specs.Width.{width};
 ghost use Rattle.table_model.specs.Entries.{Entries, in_order};
 ghost use Rattle.cert_model.specs.Verdict.{twice};
 ghost use Rattle.cert_check.specs.Runs.{AreRuns, Below, RunsTell};

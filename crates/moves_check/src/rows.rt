@@ -2,8 +2,8 @@
 //! the family's whole region.
 
 ghost use Rattle.std.specs.Prelude.{◌≡◌, ◌+◌, ◌&&◌, ◌∷◌, [], map, option_map, None, Some, true, false, IfOk, OnOk};
-ghost use Rattle.address_model.specs.Address.{same_family, same_prefix};
-ghost use Rattle.address_model.specs.Regions.{half_at};
+ghost use Rattle.table_model.specs.Address.{same_family, same_prefix};
+ghost use Rattle.table_model.specs.Halves.{half_at};
 ghost use Rattle.table_model.specs.Entries.{Entries};
 ghost use Rattle.cert_model.specs.Rows.{leaf_row, join_row, bound_row, whole_prefix};
 ghost use Rattle.cert_model.specs.Verdict.{all_get};

@@ -3,12 +3,12 @@ use Rattle.std.proofs.Common.{◌≡◌, ℕ, zero, suc, List, [], ◌∷◌, Bo
 use Rattle.std.proofs.lemmas.Bool.{eq-eqb}
 use Rattle.table_model.specs.Table.{Table, IsTable, root, half, inherit}
 use Rattle.table_model.proofs.Cut.{lpm_nil}
-use Rattle.least_model.specs.Sets.{or_else, joint, side}
+use Rattle.table_model.specs.Sets.{or_else, joint, side}
 use Rattle.moves_model.specs.Sets.{Allowed, any, these, is_allowed, allowed_by_both, set_over, new_entry, inner_set, near_set, near_of}
 use Rattle.moves_model.specs.Nearest.{GivesAnswers}
-use Rattle.least_model.specs.Regions.{entry_at}
-use Rattle.least_model.proofs.Join.{low_join, high_join}
-use Rattle.least_model.proofs.Patch.{no_half}
+use Rattle.table_model.specs.Regions.{entry_at}
+use Rattle.table_model.proofs.Join.{low_join, high_join}
+use Rattle.table_model.proofs.Patch.{no_half}
 use Rattle.moves_model.proofs.Keeps.{gives_half, set_gives, gives_set, comes, comes_below, root_near}
 use Rattle.moves_event.specs.Way.{fills, allowed_beside}
 

@@ -1,11 +1,11 @@
 -- The pass to the event's prefix, prefix by prefix.
 use Rattle.std.proofs.Common.{◌≡◌, ◌≢◌, ℕ, zero, suc, ◌-◌, ◌≤◌, List, [], ◌∷◌, ◌++◌, Bool, true, false, not, cond, Option, Some, None, length, refl, sym, ap, ◌∙◌, arith}
-use Rattle.address_model.specs.Bits.{begins}
+use Rattle.table_model.specs.Bits.{begins}
 use Rattle.table_model.specs.Table.{Table, longest, hop_or, root, half, inherit, cut}
-use Rattle.least_model.specs.Regions.{entry_at, above}
-use Rattle.least_model.specs.Sets.{side}
-use Rattle.least_model.proofs.Above.{above_cut, none_above}
-use Rattle.least_model.proofs.Patch.{begins_same}
+use Rattle.table_model.specs.Regions.{entry_at, above}
+use Rattle.table_model.specs.Sets.{side}
+use Rattle.table_model.proofs.Above.{above_cut, none_above}
+use Rattle.table_model.proofs.Patch.{begins_same}
 use Rattle.moves_model.specs.Sets.{Allowed, is_allowed, least_allowed, new_entry, near_of}
 use Rattle.moves_model.proofs.Allowed.{has_hop, holds_new}
 use Rattle.moves_model.proofs.Near.{set_hop}

@@ -1,12 +1,12 @@
 -- The nearest table after one event.
 use Rattle.std.proofs.Common.{◌≡◌, ◌≢◌, ◌⊎◌, inl, inr, ℕ, zero, suc, ◌-◌, ◌≤◌, List, [], ◌∷◌, ◌++◌, Bool, true, false, cond, length, drop, refl, sym, ap, ◌∙◌, arith}
-use Rattle.address_model.specs.Bits.{begins}
+use Rattle.table_model.specs.Bits.{begins}
 use Rattle.table_model.specs.Table.{Table, IsTable, Alike, root, half, inherit, cut}
-use Rattle.least_model.specs.Regions.{entry_at, above, SameEntries, SameOutside}
-use Rattle.least_model.specs.Sets.{side, answers}
-use Rattle.least_model.proofs.Above.{above_cut}
-use Rattle.least_model.proofs.Patch.{cut_cut, begins_same, begins_trans}
-use Rattle.least_model.proofs.Order.{answers_outside}
+use Rattle.table_model.specs.Regions.{entry_at, above, SameEntries, SameOutside}
+use Rattle.table_model.specs.Sets.{side, answers}
+use Rattle.table_model.proofs.Above.{above_cut}
+use Rattle.table_model.proofs.Patch.{cut_cut, begins_same, begins_trans}
+use Rattle.table_model.proofs.Order.{answers_outside}
 use Rattle.moves_model.specs.Sets.{Allowed, new_entry, near_of}
 use Rattle.moves_model.specs.Nearest.{nearest}
 use Rattle.moves_event.specs.Way.{is_clear, allowed_at, turn, pass_to, comes_to, AlikeBeside, turn_entry, event_hop}

@@ -2,13 +2,13 @@
 use Rattle.std.proofs.Common.{◌≡◌, ℕ, zero, suc, ◌-◌, ◌≤◌, List, [], ◌∷◌, ◌++◌, Bool, true, false, not, ◌&&◌, ◌||◌, cond, Option, Some, None, length, nat_eq, is_none, refl, sym, ap, ◌∙◌, arith}
 use Rattle.table_model.specs.Table.{Table, lpm, IsTable, root, half, inherit, cut}
 use Rattle.table_model.proofs.Cut.{lpm_cut}
-use Rattle.least_model.specs.Regions.{entry_at, SameEntries}
-use Rattle.least_model.specs.Sets.{is_in, common, or_else, side}
-use Rattle.least_model.proofs.Join.{root_join, low_join, high_join}
-use Rattle.least_model.proofs.Patch.{table_half, begins_same, begins_other}
+use Rattle.table_model.specs.Regions.{entry_at, SameEntries}
+use Rattle.table_model.specs.Sets.{is_in, common, or_else, side}
+use Rattle.table_model.proofs.Join.{root_join, low_join, high_join}
+use Rattle.table_model.proofs.Patch.{table_half, begins_same, begins_other}
 use Rattle.std.proofs.lemmas.Bool.{and_parts}
 use Rattle.std.proofs.lemmas.List.Folds.{list_any-append}
-use Rattle.least_model.proofs.Sets.{in_common, in_first, in_single}
+use Rattle.table_model.proofs.Sets.{in_common, in_first, in_single}
 use Rattle.moves_model.specs.Sets.{Allowed, any, these, is_allowed, allowed_by_both, least_allowed, set_over, new_entry, inner_set, near_set, near_of}
 use Rattle.moves_model.specs.Nearest.{GivesAnswers}
 use Rattle.moves_model.proofs.Allowed.{has_hop, holds_new}

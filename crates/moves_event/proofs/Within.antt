@@ -2,14 +2,14 @@
 use Rattle.std.proofs.Common.{◌≡◌, ◌≢◌, ℕ, suc, ◌+◌, ◌-◌, ◌≤◌, List, [], ◌∷◌, ◌++◌, Bool, true, false, length, refl, sym, ap, ◌∙◌, arith, length-append, append_assoc}
 use Rattle.std.specs.Prelude.{is_some, ◌||◌, ◌&&◌, Option, None, Some, zero}
 use Rattle.table_model.proofs.Cut.{lpm_cut, lpm_nil}
-use Rattle.address_model.specs.Bits.{begins}
+use Rattle.table_model.specs.Bits.{begins}
 use Rattle.table_model.specs.Table.{Table, lpm, longest, hop_or, Alike, root, half, inherit, cut}
-use Rattle.least_model.specs.Regions.{above, SameEntries}
-use Rattle.least_model.specs.Sets.{side, answers}
-use Rattle.least_model.proofs.Region.{lpm_region, begins_append}
-use Rattle.least_model.proofs.Patch.{cut_cut, begins_same}
-use Rattle.least_model.proofs.Above.{above_cut, none_above}
-use Rattle.least_model.proofs.Same.{same_answers}
+use Rattle.table_model.specs.Regions.{above, SameEntries}
+use Rattle.table_model.specs.Sets.{side, answers}
+use Rattle.table_model.proofs.Region.{lpm_region, begins_append}
+use Rattle.table_model.proofs.Patch.{cut_cut, begins_same}
+use Rattle.table_model.proofs.Above.{above_cut, none_above}
+use Rattle.table_model.proofs.Same.{same_answers}
 use Rattle.moves_model.specs.Nearest.{GivesAnswers}
 use Rattle.moves_event.specs.Way.{fills, SameBut, FilledGive}
 use Rattle.moves_event.proofs.Aside.{gives_covered}

@@ -1,10 +1,10 @@
 -- The nearest table where the old one answers rightly outside a prefix p, an event's: what stays, and the one prefix above p that
 -- may change. A region of d more bits has the answers f and the old entries T, and p is a way down from it.
 use Rattle.std.specs.Prelude.{◌≡◌, ◌≢◌, ℕ, zero, suc, ◌-◌, ◌≤◌, List, [], ◌∷◌, ◌++◌, Bool, true, false, not, ◌&&◌, ◌||◌, cond, Option, length, is_some, is_none}
-use Rattle.address_model.specs.Bits.{begins}
+use Rattle.table_model.specs.Bits.{begins}
 use Rattle.table_model.specs.Table.{Table, lpm, root, half, inherit, cut}
-use Rattle.least_model.specs.Regions.{join, entry_at, above}
-use Rattle.least_model.specs.Sets.{side, answers}
+use Rattle.table_model.specs.Regions.{join, entry_at, above}
+use Rattle.table_model.specs.Sets.{side, answers}
 use Rattle.moves_model.specs.Sets.{Allowed, any, these, inner_set, new_entry, near_of}
 
 -- ---- a region in which T gives the answers

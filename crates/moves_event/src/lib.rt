@@ -5,10 +5,10 @@
 #![tactic(auto)]
 
 ghost use Rattle.std.specs.Prelude.{◌≡◌, ◌≢◌, ℕ, suc, ◌+◌, ◌-◌, ◌≤◌, List, Bool, [], ◌∷◌, ◌++◌, true, false, cond, length, Some, None};
-ghost use Rattle.address_model.specs.Bits.{begins};
+ghost use Rattle.table_model.specs.Bits.{begins};
 ghost use Rattle.table_model.specs.Table.{Table, lpm, IsTable, Alike, root, half, inherit, cut};
-ghost use Rattle.least_model.specs.Regions.{SameEntries, SameOutside, entry_at, above};
-ghost use Rattle.least_model.specs.Sets.{answers, side};
+ghost use Rattle.table_model.specs.Regions.{SameEntries, SameOutside, entry_at, above};
+ghost use Rattle.table_model.specs.Sets.{answers, side};
 ghost use Rattle.moves_model.specs.Sets.{is_allowed, inner_set, near_set, near_k, near_of};
 ghost use Rattle.moves_model.specs.Nearest.{GivesAnswers, nearest};
 ghost use Rattle.moves_event.specs.Way.{fills, allowed_beside, GivesBeside, allowed_at, is_clear, turn, AlikeBeside, SameBut, turn_entry, event_hop, is_blocked, turn_by, FilledGive};

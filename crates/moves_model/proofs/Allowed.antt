@@ -2,8 +2,8 @@
 use Rattle.std.proofs.Common.{◌≡◌, ℕ, ◌+◌, ◌≤◌, List, Bool, true, false, not, cond, Option, Some, None, nat_eq, refl, sym, ap, ◌∙◌, arith}
 use Rattle.std.proofs.lemmas.Bool.{eqb-true}
 use Rattle.table_model.specs.Table.{inherit}
-use Rattle.least_model.specs.Sets.{is_in}
-use Rattle.least_model.proofs.Sets.{miss, filled, filled_joint, in_smallest, without_entry, with_entry, of_the_set, miss_most}
+use Rattle.table_model.specs.Sets.{is_in}
+use Rattle.table_model.proofs.Sets.{miss, filled, filled_joint, in_smallest, without_entry, with_entry, of_the_set, miss_most}
 use Rattle.moves_model.specs.Sets.{Allowed, any, these, is_allowed, allowed_by_both, gap, least_allowed, set_over, k_over, new_entry}
 use Rattle.moves_model.proofs.Counts.{one_if, tally, tally_itself}
 

@@ -4,7 +4,7 @@ use Rattle.std.specs.List.{AllByRecursion}
 use Rattle.std.proofs.lemmas.Bool.{eqb-true, eq-eqb}
 use Rattle.table_model.specs.Table.{Entry, Table, Distinct, root, half, here}
 use Rattle.table_model.proofs.Cut.{entry}
-use Rattle.least_model.specs.Regions.{entry_at}
+use Rattle.table_model.specs.Regions.{entry_at}
 use Rattle.std.specs.Prelude.{is_none}
 use Rattle.moves_model.specs.Dist.{differs, how_many, distance}
 

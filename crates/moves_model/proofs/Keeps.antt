@@ -4,11 +4,11 @@ use Rattle.std.proofs.Common.{◌≡◌, ◌≢◌, ℕ, zero, suc, ◌+◌, Lis
 use Rattle.std.proofs.lemmas.Bool.{eqb-true, eq-eqb}
 use Rattle.table_model.specs.Table.{Entry, Table, lpm, longest, hop_or, containing, IsTable, root, half, inherit}
 use Rattle.table_model.proofs.Cut.{lpm_cut, lpm_nil}
-use Rattle.least_model.specs.Regions.{join, entry_at, SameEntries}
-use Rattle.least_model.specs.Sets.{side}
-use Rattle.least_model.proofs.Join.{root_join, low_join, high_join}
-use Rattle.least_model.proofs.Sets.{in_single, miss_single}
-use Rattle.least_model.proofs.Patch.{table_half, no_half}
+use Rattle.table_model.specs.Regions.{join, entry_at, SameEntries}
+use Rattle.table_model.specs.Sets.{side}
+use Rattle.table_model.proofs.Join.{root_join, low_join, high_join}
+use Rattle.table_model.proofs.Sets.{in_single, miss_single}
+use Rattle.table_model.proofs.Patch.{table_half, no_half}
 use Rattle.moves_model.specs.Sets.{Allowed, these, is_allowed, allowed_by_both, gap, least_allowed, set_over, new_entry, inner_set, inner_k, near_set, near_k, near_of}
 use Rattle.moves_model.specs.Nearest.{GivesAnswers}
 use Rattle.moves_model.proofs.Allowed.{lacks, both_without, both_of, holds_least, over_cost}

@@ -2,11 +2,11 @@
 use Rattle.std.proofs.Common.{◌≡◌, ℕ, zero, suc, ◌+◌, ◌≤◌, List, [], ◌∷◌, Bool, true, false, cond, Option, length, refl, sym, ap, ◌∙◌, arith, inl, inr}
 use Rattle.table_model.specs.Table.{Table, lpm, IsTable, Alike, Distinct, root, half, inherit}
 use Rattle.table_model.proofs.Cut.{lpm_cut, lpm_nil}
-use Rattle.least_model.specs.Regions.{join}
-use Rattle.least_model.specs.Sets.{side, answers}
-use Rattle.least_model.proofs.Join.{root_join, low_join, high_join, lpm_join_low, lpm_join_high, table_here, table_join}
-use Rattle.least_model.proofs.Sets.{in_single, miss_single}
-use Rattle.least_model.proofs.Patch.{table_half, no_half}
+use Rattle.table_model.specs.Regions.{join}
+use Rattle.table_model.specs.Sets.{side, answers}
+use Rattle.table_model.proofs.Join.{root_join, low_join, high_join, lpm_join_low, lpm_join_high, table_here, table_join}
+use Rattle.table_model.proofs.Sets.{in_single, miss_single}
+use Rattle.table_model.proofs.Patch.{table_half, no_half}
 use Rattle.moves_model.specs.Dist.{distance}
 use Rattle.moves_model.specs.Sets.{Allowed, these, is_allowed, allowed_by_both, gap, new_entry, inner_set, inner_k, near_set, near_k, near_of}
 use Rattle.moves_model.specs.Nearest.{Nearest, nearest, near_bound}

@@ -1,7 +1,7 @@
 -- How far one table of a family is from another.
 use Rattle.std.specs.Prelude.{ℕ, ◌+◌, [], ◌∷◌, Bool, true, false, not, cond, Option, None, Some, nat_eq, is_none}
 use Rattle.table_model.specs.Table.{Entry, Table}
-use Rattle.least_model.specs.Regions.{entry_at}
+use Rattle.table_model.specs.Regions.{entry_at}
 
 -- whether two tables that hold these at a prefix differ there: one has an entry and the other none, or their hops differ
 abbrev pub differs : Option ℕ → Option ℕ → Bool

@@ -1,7 +1,7 @@
 -- The nearest table to an old one that answers as the routes do, for addresses of w bits: R are the routes, T is the old table.
 use Rattle.std.specs.Prelude.{◌≡◌, ℕ, ◌+◌, ◌≤◌, List, [], Bool, length, cond}
 use Rattle.table_model.specs.Table.{Table, lpm, IsTable, Alike}
-use Rattle.least_model.specs.Sets.{answers}
+use Rattle.table_model.specs.Sets.{answers}
 use Rattle.moves_model.specs.Dist.{distance}
 use Rattle.moves_model.specs.Sets.{is_allowed, near_set, near_k, near_of}
 

@@ -4,8 +4,8 @@
 -- another hop, and a new one comes. Here a region with an old entry may inherit any hop, since its own entry counts there.
 use Rattle.std.specs.Prelude.{ℕ, zero, suc, ◌+◌, List, [], ◌∷◌, Bool, true, false, cond, Option, Some, None}
 use Rattle.table_model.specs.Table.{Table, root, half, inherit}
-use Rattle.least_model.specs.Regions.{join}
-use Rattle.least_model.specs.Sets.{is_in, joint, apart, smallest, side}
+use Rattle.table_model.specs.Regions.{join}
+use Rattle.table_model.specs.Sets.{is_in, joint, apart, smallest, side}
 
 -- which hops are allowed: any, or these
 pub data Allowed : Type 0 where

@@ -6,7 +6,7 @@
 
 ghost use Rattle.std.specs.Prelude.{◌≡◌, ◌≤◌, ◌↔◌, ◌+◌, ℕ, List, Bool, true, Some};
 ghost use Rattle.table_model.specs.Table.{Table, IsTable, Alike, half, root};
-ghost use Rattle.least_model.specs.Regions.{SameEntries};
+ghost use Rattle.table_model.specs.Regions.{SameEntries};
 ghost use Rattle.moves_model.specs.Sets.{is_allowed, near_set, near_k, near_of};
 ghost use Rattle.moves_model.specs.Dist.{distance};
 ghost use Rattle.moves_model.specs.Nearest.{Nearest, nearest, near_bound, GivesAnswers};

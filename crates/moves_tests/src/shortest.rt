@@ -2,7 +2,7 @@
 //! written from the definitions, which finds it by counting the changes for every hop.
 
 ghost use Rattle.std.specs.Prelude.{◌≡◌, IfOk};
-ghost use Rattle.address_model.specs.declared.family.Family.TheVariants.{V4};
+ghost use Rattle.table_model.specs.declared.family.Family.TheVariants.{V4};
 
 use crate::common::{Net, Step, Told, changes_of, entries_of, prefix, rows_of};
 use fib_addr::{Family, Hop};

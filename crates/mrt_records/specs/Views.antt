@@ -1,7 +1,7 @@
 -- What a clause sees of a peer table and of what a record says.
 use Rattle.std.specs.Prelude.{ℕ, List, map, Option, Some, None, option_map, Result, Ok, Bool, true, ◌==◌, if◌then◌else◌}
 use Rattle.std.specs.declared.vec.Vec.{Vec}
-use Rattle.address_model.specs.declared.family.Family.{Family}
+use Rattle.table_model.specs.declared.family.Family.{Family}
 use Rattle.octet_fields.specs.Field.{◌>>=◌}
 use Rattle.route_model.specs.Events.{Peer, Event}
 use Rattle.fib_prefix.specs.Views.{peer_as, event_as}

@@ -9,8 +9,8 @@ use Rattle.std.specs.declared.cmp.Ordering.{Ordering}
 use Rattle.std.specs.declared.cmp.Ordering.TheVariants.{Less, Equal, Greater}
 use Rattle.std.proofs.lemmas.Bool.{cases_lt}
 use Rattle.std.proofs.lemmas.Cmp.{alike_right}
-use Rattle.address_model.specs.Width.{width}
-use Rattle.address_model.proofs.BitLaws.{length-bits_of}
+use Rattle.table_model.specs.Width.{width}
+use Rattle.table_model.proofs.BitLaws.{length-bits_of}
 use Rattle.route_model.specs.Events.{Peer, IsPeer, same_peer, peer_cmp}
 use Rattle.route_model.proofs.Keyed.{key_test}
 use Rattle.route_model.proofs.Places.{peer_key}

@@ -14,8 +14,8 @@ use Rattle.fib_prefix.specs.Views.{peer_as}
 use Rattle.saved_model.specs.Saved.{peers_with_candidates, long_one, most_path}
 use Rattle.saved_model.proofs.Sharing.{stays_in, all_key}
 use Rattle.fib_prefix.specs.Views.{cand_as}
-use Rattle.address_model.specs.Width.{width}
-use Rattle.address_model.proofs.BitLaws.{length-bits_of}
+use Rattle.table_model.specs.Width.{width}
+use Rattle.table_model.proofs.BitLaws.{length-bits_of}
 use Rattle.fib_prefix.specs.declared.event.Peer as code
 use Rattle.mrt_write.specs.Dumps.{AreIn, AreShort}
 use Rattle.mrt_write.specs.Plans.{PlanAnswers}

@@ -4,9 +4,9 @@ use Rattle.std.specs.Prelude.{◌&&◌, flat_map, nat_lt}
 use Rattle.std.proofs.lemmas.Bool.{lt-ltb, le-ltb, cases_lt, ltb-true, and_parts}
 use Rattle.std.proofs.lemmas.List.{length-take-le}
 use Rattle.std.specs.Ordering.{is_eq}
-use Rattle.address_model.specs.Width.{width}
-use Rattle.address_model.specs.Order.{filled}
-use Rattle.address_model.specs.Address.{IsPrefix, same_prefix}
+use Rattle.table_model.specs.Width.{width}
+use Rattle.table_model.specs.Order.{filled}
+use Rattle.table_model.specs.Address.{IsPrefix, same_prefix}
 use Rattle.wire_model.specs.Record.{most_length}
 use Rattle.wire_model.specs.Wire.{octets_for}
 use Rattle.route_model.specs.Events.{Peer}

@@ -4,12 +4,12 @@ use Rattle.std.specs.Prelude.{flat_map, Result, Ok, Err, OnOk, nat_lt, ◌==◌,
 use Rattle.std.specs.Int.{bytes_high_first}
 use Rattle.std.proofs.lemmas.List.{length-take-le, length-replicate}
 use Rattle.std.proofs.lemmas.Nat.{mod_below, shr_split, shr_below}
-use Rattle.address_model.specs.declared.family.Family.{Family}
-use Rattle.address_model.specs.Address.{Address, Prefix}
-use Rattle.address_model.specs.Bits.{bits_of, value_of}
-use Rattle.address_model.specs.Order.{filled}
-use Rattle.address_model.specs.Width.{width}
-use Rattle.address_model.proofs.BitLaws.{length-bits_of, value-bits_of, value-append, value-zeros, bits_take}
+use Rattle.table_model.specs.declared.family.Family.{Family}
+use Rattle.table_model.specs.Address.{Address, Prefix}
+use Rattle.table_model.specs.Bits.{bits_of, value_of}
+use Rattle.table_model.specs.Order.{filled}
+use Rattle.table_model.specs.Width.{width}
+use Rattle.table_model.proofs.BitLaws.{length-bits_of, value-bits_of, value-append, value-zeros, bits_take}
 use Rattle.wire_model.specs.Wire.{octets_for}
 use Rattle.written_model.specs.Octets.{number_octets, prefix_octets, as_path_octets, record_octets}
 use Rattle.saved_model.specs.Checkpoint.{Piece, rib_subtype, piece_body, piece_record}

@@ -1,7 +1,7 @@
 //! RIB records.
 
 ghost use Rattle.std.specs.Prelude.{◌≡◌, ◌≤◌, ◌<◌, ◌+◌, ◌^◌, ◌++◌, List, length, flat_map, OnOk};
-ghost use Rattle.address_model.specs.Address.{Prefix};
+ghost use Rattle.table_model.specs.Address.{Prefix};
 ghost use Rattle.route_model.specs.Events.{Peer};
 ghost use Rattle.fib_addr.specs.Views.{prefix_as};
 ghost use Rattle.written_model.specs.Octets.{record_octets};

@@ -4,7 +4,7 @@ use Rattle.std.proofs.lemmas.List.{length-take}
 use Rattle.std.proofs.lemmas.Bool.{ltb-false}
 use Rattle.byteorder.specs.Endian.{big_number}
 use Rattle.byteorder.specs.Numbers.{big_from-cons}
-use Rattle.address_model.specs.Bits.{number}
+use Rattle.table_model.specs.Bits.{number}
 use Rattle.octet_fields.specs.Field.{octets_at, number_at}
 
 -- of the first n octets

@@ -1,6 +1,6 @@
 -- A field is read from the front of the octets: its value and the octets after it, or the fault of the place where it is cut.
 use Rattle.std.specs.Prelude.{ℕ, zero, suc, Bool, true, List, [], ◌∷◌, ◌++◌, length, take, drop, Result, Ok, Err, nat_lt, ◌==◌, if◌then◌else◌}
-use Rattle.address_model.specs.Bits.{number}
+use Rattle.table_model.specs.Bits.{number}
 
 infixl 10 ◌>>=◌
 abbrev pub ◌>>=◌ : {A B F : Type 0} → Result A F → (A → Result B F) → Result B F

@@ -3,13 +3,13 @@ use Rattle.std.proofs.Common.{◌≡◌, ◌≢◌, ℕ, ◌-◌, List, Bool, sy
 use Rattle.std.specs.Prelude.{nat_eq}
 use Rattle.std.specs.Int.{bit_at}
 use Rattle.std.specs.Option.{unwrap_or}
-use Rattle.address_model.specs.Bits.{bits_of}
-use Rattle.address_model.specs.declared.family.Family.{Family}
+use Rattle.table_model.specs.Bits.{bits_of}
+use Rattle.table_model.specs.declared.family.Family.{Family}
 use Rattle.table_model.specs.Table.{Table, hop_or, longest, root, inherit}
 use Rattle.table_model.specs.Entries.{Entries, of_family, of_table}
-use Rattle.least_model.specs.Regions.{above, strictly_containing, join}
-use Rattle.least_model.proofs.Above.{none_above, above_cut}
-use Rattle.least_model.proofs.Join.{root_join}
+use Rattle.table_model.specs.Regions.{above, strictly_containing, join}
+use Rattle.table_model.proofs.Above.{none_above, above_cut}
+use Rattle.table_model.proofs.Join.{root_join}
 use Rattle.orig_tree.specs.Walk.{Walks, walks_of}
 use Rattle.orig_tree.specs.declared.node.Label.TheVariants.{Entry}
 use Rattle.orig_tree.proofs.Paths.{no_bits, first_bit}

@@ -4,9 +4,9 @@ use Rattle.std.specs.Prelude.{nat_eq}
 use Rattle.std.specs.Int.{bit_at}
 use Rattle.std.specs.Option.{unwrap_or}
 use Rattle.std.proofs.lemmas.List.{get_or-set_same, get_or-set_other, length-set}
-use Rattle.address_model.specs.Bits.{bits_of, begins}
+use Rattle.table_model.specs.Bits.{bits_of, begins}
 use Rattle.table_model.specs.Table.{Table, lpm}
-use Rattle.least_model.specs.Regions.{above, join}
+use Rattle.table_model.specs.Regions.{above, join}
 use Rattle.orig_tree.specs.Views.{Fits}
 use Rattle.orig_tree.specs.Walk.{Walks, no_walks, walks_of, rows_of, edited, Allowed, labelled}
 use Rattle.orig_tree.specs.Cover.{IsCover, covered, only_of}

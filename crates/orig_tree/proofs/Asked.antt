@@ -1,11 +1,11 @@
 -- What is asked about a prefix, of a family's table.
 use Rattle.std.proofs.Common.{◌≡◌, ℕ, ◌≤◌, List, Bool, true, refl, sym, ap, ◌∙◌, subst, Option, Some, None}
 use Rattle.std.specs.Prelude.{◌&&◌}
-use Rattle.address_model.specs.Bits.{begins}
-use Rattle.address_model.specs.Width.{width}
-use Rattle.address_model.specs.Address.{same_family}
-use Rattle.address_model.specs.declared.family.Family.{Family}
-use Rattle.address_model.specs.declared.family.Family.TheVariants.{V4, V6}
+use Rattle.table_model.specs.Bits.{begins}
+use Rattle.table_model.specs.Width.{width}
+use Rattle.table_model.specs.Address.{same_family}
+use Rattle.table_model.specs.declared.family.Family.{Family}
+use Rattle.table_model.specs.declared.family.Family.TheVariants.{V4, V6}
 use Rattle.table_model.specs.Table.{Table, lpm}
 use Rattle.table_model.specs.Entries.{Entries, of_family, of_table, match_in}
 use Rattle.table_model.specs.Uniform.{AllGet, TwoDiffer}

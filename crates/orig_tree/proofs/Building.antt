@@ -2,15 +2,15 @@
 use Rattle.std.proofs.Common.{◌≡◌, ◌≢◌, ℕ, zero, suc, ◌-◌, ◌<◌, ◌≤◌, List, [], ◌∷◌, ◌++◌, length, Bool, true, false, refl, sym, ap, ◌∙◌, subst, arith, Option, Some, None, slice_set, append_assoc, map}
 use Rattle.std.specs.Option.{unwrap_or}
 use Rattle.std.proofs.lemmas.List.{get_or-set_other, length-set}
-use Rattle.address_model.specs.Address.{Prefix}
-use Rattle.address_model.specs.Regions.{half_at}
-use Rattle.address_model.specs.Width.{width}
-use Rattle.address_model.specs.declared.family.Family.{Family}
+use Rattle.table_model.specs.Address.{Prefix}
+use Rattle.table_model.specs.Halves.{half_at}
+use Rattle.table_model.specs.Width.{width}
+use Rattle.table_model.specs.declared.family.Family.{Family}
 use Rattle.table_model.specs.Table.{Table, lpm, inherit, here}
 use Rattle.table_model.specs.Entries.{Entries, of_table}
 use Rattle.table_model.proofs.Cut.{lpm_nil}
-use Rattle.least_model.specs.Regions.{join, lift}
-use Rattle.least_model.specs.Sets.{side}
+use Rattle.table_model.specs.Regions.{join, lift}
+use Rattle.table_model.specs.Sets.{side}
 use Rattle.fib_addr.specs.Views.{prefix_as, entry_as}
 use Rattle.fib_addr.specs.declared.prefix.Prefix as code
 use Rattle.fib_addr.specs.declared.entry.Entry as code_entry

@@ -3,7 +3,7 @@ use Rattle.std.proofs.Common.{◌≡◌, ◌≢◌, ℕ, zero, suc, ◌+◌, ◌
 use Rattle.std.specs.Int.{bit_at}
 use Rattle.std.specs.List.{filter}
 use Rattle.std.proofs.lemmas.List.{length-append}
-use Rattle.address_model.specs.Bits.{begins, bits_of}
+use Rattle.table_model.specs.Bits.{begins, bits_of}
 use Rattle.orig_tree.specs.Walk.{Walks, walks_of}
 use Rattle.orig_tree.specs.Arena.{node_at, half_place, from_half, walks_at, walks_by}
 use Rattle.orig_tree.specs.Within.{nodes_in, told}

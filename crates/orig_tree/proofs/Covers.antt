@@ -3,8 +3,8 @@ use Rattle.std.proofs.Common.{◌≡◌, ℕ, zero, suc, List, [], ◌∷◌, �
 use Rattle.std.proofs.lemmas.List.{length-replicate}
 use Rattle.std.proofs.lemmas.Bool.{eqb-true, eqb-false}
 use Rattle.table_model.specs.Table.{Table, here}
-use Rattle.least_model.specs.Regions.{lift, join}
-use Rattle.least_model.proofs.Join.{lpm_join_low, lpm_join_high}
+use Rattle.table_model.specs.Regions.{lift, join}
+use Rattle.table_model.proofs.Join.{lpm_join_low, lpm_join_high}
 use Rattle.orig_tree.specs.Views.{Fits}
 use Rattle.orig_tree.specs.Cover.{Shows, Allows, Within, SomeGets, ReachedBy, IsCover, both, stopped, covered}
 use Rattle.orig_tree.specs.declared.cover.Cover.{Cover}

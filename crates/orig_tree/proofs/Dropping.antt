@@ -1,9 +1,9 @@
 -- One level of the walks that give nodes back.
 use Rattle.std.proofs.Common.{inl, inr, ◌⊎◌, ◌≡◌, ◌≢◌, ℕ, zero, suc, ◌+◌, ◌-◌, ◌<◌, ◌≤◌, List, [], ◌∷◌, ◌++◌, length, Bool, true, false, ◌||◌, cond, nat_eq, refl, sym, ap, ◌∙◌, subst, arith, Option, Some, None, is_some, slice_set}
 use Rattle.std.specs.Int.{bit_at}
-use Rattle.address_model.specs.Bits.{bits_of, begins}
-use Rattle.least_model.specs.Regions.{join}
-use Rattle.least_model.specs.Sets.{side}
+use Rattle.table_model.specs.Bits.{bits_of, begins}
+use Rattle.table_model.specs.Regions.{join}
+use Rattle.table_model.specs.Sets.{side}
 use Rattle.orig_tree.specs.Walk.{Walks, no_walks, walks_of, has_node}
 use Rattle.orig_tree.specs.Cover.{IsCover}
 use Rattle.orig_tree.specs.Slots.{AreCovers}

@@ -1,7 +1,7 @@
 -- How long the prefixes at a node are, and what a cover says of its addresses.
 use Rattle.std.proofs.Common.{◌≡◌, ℕ, zero, suc, List, [], ◌∷◌, ◌++◌, length, Bool, true, false, refl, sym, ap, ◌∙◌, subst, arith, Option, Some, None}
 use Rattle.table_model.specs.Table.{Table, lpm, here}
-use Rattle.least_model.specs.Regions.{lift, join}
+use Rattle.table_model.specs.Regions.{lift, join}
 use Rattle.orig_tree.specs.Views.{Fits}
 use Rattle.orig_tree.specs.Walk.{Walks, no_walks}
 use Rattle.orig_tree.specs.Arena.{node_at, half_place, from_half, walks_at}

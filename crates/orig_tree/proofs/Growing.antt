@@ -3,10 +3,10 @@ use Rattle.std.proofs.Common.{◌≡◌, ◌≢◌, ℕ, zero, suc, ◌-◌, ◌
 use Rattle.std.specs.Int.{bit_at}
 use Rattle.std.proofs.lemmas.Bool.{cases_order}
 use Rattle.std.specs.Option.{unwrap_or}
-use Rattle.address_model.specs.Bits.{begins, bits_of}
+use Rattle.table_model.specs.Bits.{begins, bits_of}
 use Rattle.table_model.specs.Table.{lpm, half, root, inherit}
 use Rattle.table_model.proofs.Cut.{lpm_cut}
-use Rattle.least_model.specs.Sets.{side}
+use Rattle.table_model.specs.Sets.{side}
 use Rattle.orig_tree.specs.Edits.{edit}
 use Rattle.orig_tree.specs.Walk.{Walks}
 use Rattle.orig_tree.specs.Arena.{Place, At, blank, node_at, half_place, from_half, IfHalf, IsTree, IsHeld, IsSplit, HasRoom, KeepsOthers, walks_at, walks_by}

@@ -1,11 +1,11 @@
 -- Which half of a region a longer prefix is within.
 use Rattle.std.proofs.Common.{◌≡◌, ℕ, zero, suc, ◌-◌, ◌<◌, ◌≤◌, List, [], ◌∷◌, ◌++◌, length, length-append, take, Bool, true, false, ◌&&◌, refl, sym, ap, ◌∙◌, subst, arith, nat_eq}
 use Rattle.std.specs.Int.{bit_at}
-use Rattle.address_model.specs.Bits.{begins, bits_of}
-use Rattle.address_model.specs.Width.{width}
-use Rattle.address_model.specs.Address.{same_family}
-use Rattle.address_model.specs.Regions.{is_within, half_at}
-use Rattle.address_model.proofs.Same.{same_family_is}
+use Rattle.table_model.specs.Bits.{begins, bits_of}
+use Rattle.table_model.specs.Width.{width}
+use Rattle.table_model.specs.Address.{same_family}
+use Rattle.table_model.specs.Halves.{is_within, half_at}
+use Rattle.table_model.proofs.SamePrefix.{same_family_is}
 use Rattle.fib_addr.specs.Views.{prefix_as}
 use Rattle.fib_addr.specs.declared.prefix.Prefix as code
 use Rattle.fib_addr.proofs.Parts.{length_prefix}

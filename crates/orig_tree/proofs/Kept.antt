@@ -3,10 +3,10 @@ use Rattle.std.proofs.Common.{◌≡◌, ◌≢◌, ℕ, zero, suc, ◌-◌, ◌
 use Rattle.std.specs.Int.{bit_at}
 use Rattle.std.specs.Option.{unwrap_or}
 use Rattle.std.proofs.lemmas.Bool.{eqb-true, eqb-false}
-use Rattle.address_model.specs.Bits.{bits_of}
+use Rattle.table_model.specs.Bits.{bits_of}
 use Rattle.table_model.specs.Table.{Table, lpm, inherit}
-use Rattle.least_model.specs.Regions.{join}
-use Rattle.least_model.proofs.Join.{lpm_join_low, lpm_join_high}
+use Rattle.table_model.specs.Regions.{join}
+use Rattle.table_model.proofs.Join.{lpm_join_low, lpm_join_high}
 use Rattle.orig_tree.specs.Views.{Fits}
 use Rattle.orig_tree.specs.Walk.{Walks, walks_of, rows_of, edited, labelled}
 use Rattle.orig_tree.specs.Cover.{Shows, Allows, Within, SomeGets, ReachedBy, IsCover, only_by, only_of}

@@ -1,10 +1,10 @@
 -- The whole tree where a route is set or taken away, with what is kept.
 use Rattle.std.proofs.Common.{◌≡◌, ℕ, suc, ◌+◌, ◌<◌, ◌≤◌, List, [], ◌∷◌, length, Bool, true, false, refl, sym, ap, ◌∙◌, subst, arith, Option, Some, None}
-use Rattle.address_model.specs.Bits.{bits_of}
-use Rattle.address_model.specs.Width.{width}
-use Rattle.address_model.specs.declared.family.Family.{Family}
+use Rattle.table_model.specs.Bits.{bits_of}
+use Rattle.table_model.specs.Width.{width}
+use Rattle.table_model.specs.declared.family.Family.{Family}
 use Rattle.table_model.specs.Table.{lpm}
-use Rattle.least_model.specs.Sets.{side}
+use Rattle.table_model.specs.Sets.{side}
 use Rattle.orig_tree.specs.Edits.{edit}
 use Rattle.orig_tree.specs.Walk.{Walks, no_walks, walks_of, edited, Allowed, has_node}
 use Rattle.orig_tree.specs.Arena.{Place, blank, node_at, half_place, IfHalf, walks_at, IsTree, IsHeld, HasRoom, IsRoomier, HalvesStay, whole, IsArena}

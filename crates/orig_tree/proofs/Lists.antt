@@ -3,11 +3,11 @@ use Rattle.std.proofs.Common.{◌≡◌, ℕ, List, [], ◌∷◌, ◌++◌, Boo
 use Rattle.std.specs.Ordering.{match_ordering}
 use Rattle.std.specs.declared.cmp.Ordering.{Ordering}
 use Rattle.std.specs.declared.cmp.Ordering.TheVariants.{Less, Equal, Greater}
-use Rattle.address_model.specs.Bits.{same_bits}
+use Rattle.table_model.specs.Bits.{same_bits}
 use Rattle.table_model.specs.Table.{Table, here}
 use Rattle.table_model.proofs.Cut.{entry}
-use Rattle.least_model.specs.Regions.{lift, join}
-use Rattle.address_model.specs.Order.{path_cmp}
+use Rattle.table_model.specs.Regions.{lift, join}
+use Rattle.table_model.specs.Order.{path_cmp}
 use Rattle.orig_tree.specs.Edits.{put, without, edit}
 
 cmp_down : (b : Bool) (p q : List Bool) → path_cmp (b ∷ p) (b ∷ q) ≡ path_cmp p q

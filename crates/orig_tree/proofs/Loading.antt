@@ -12,12 +12,12 @@ use Rattle.std.specs.Map.{keys_of}
 use Rattle.std.proofs.Common.{arith}
 use Rattle.std.proofs.lemmas.List.Sums.{fold-append}
 use Rattle.std.proofs.lemmas.List.Elements.{filter-append}
-use Rattle.address_model.specs.Bits.{bits_of}
-use Rattle.address_model.specs.Width.{width}
-use Rattle.address_model.specs.Address.{Prefix, IsPrefix, same_family}
-use Rattle.address_model.specs.declared.family.Family.{Family}
-use Rattle.address_model.proofs.BitLaws.{length-bits_of}
-use Rattle.address_model.proofs.Same.{same_family_is, same_family_itself}
+use Rattle.table_model.specs.Bits.{bits_of}
+use Rattle.table_model.specs.Width.{width}
+use Rattle.table_model.specs.Address.{Prefix, IsPrefix, same_family}
+use Rattle.table_model.specs.declared.family.Family.{Family}
+use Rattle.table_model.proofs.BitLaws.{length-bits_of}
+use Rattle.table_model.proofs.SamePrefix.{same_family_is, same_family_itself}
 use Rattle.table_model.specs.Entries.{Entries, of_table, with_entry}
 use Rattle.fib_addr.specs.Views.{prefix_as, entry_as}
 use Rattle.fib_addr.specs.declared.entry.Entry as code_entry

@@ -4,12 +4,12 @@ use Rattle.std.proofs.lemmas.Bool.{ne_eqb}
 use Rattle.std.specs.Int.{bit_at}
 use Rattle.std.proofs.lemmas.List.{drop_more, drop-set-lt}
 use Rattle.std.specs.Option.{unwrap_or, is_some}
-use Rattle.address_model.specs.Bits.{begins, bits_of}
+use Rattle.table_model.specs.Bits.{begins, bits_of}
 use Rattle.table_model.specs.Table.{Table, lpm, half, root, inherit}
 use Rattle.table_model.proofs.Cut.{lpm_cut, lpm_nil}
-use Rattle.least_model.specs.Sets.{side}
-use Rattle.least_model.specs.Regions.{join}
-use Rattle.least_model.proofs.Join.{root_join, low_join, high_join}
+use Rattle.table_model.specs.Sets.{side}
+use Rattle.table_model.specs.Regions.{join}
+use Rattle.table_model.proofs.Join.{root_join, low_join, high_join}
 use Rattle.orig_tree.specs.Edits.{edit}
 use Rattle.orig_tree.specs.Packed.{cover_in}
 use Rattle.orig_tree.specs.Walk.{Walks}

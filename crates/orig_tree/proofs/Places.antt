@@ -6,17 +6,17 @@ use Rattle.std.specs.Map.{keys_of, remove_entry}
 use Rattle.std.specs.Ordering.{match_ordering}
 use Rattle.std.specs.declared.cmp.Ordering.{Ordering}
 use Rattle.std.specs.declared.cmp.Ordering.TheVariants.{Less, Equal, Greater}
-use Rattle.address_model.specs.Bits.{bits_of, same_bits}
-use Rattle.address_model.specs.Width.{width}
-use Rattle.address_model.specs.Address.{Prefix, IsPrefix, same_prefix}
-use Rattle.address_model.specs.Order.{prefix_cmp, path_cmp}
-use Rattle.address_model.specs.declared.family.Family.{Family}
-use Rattle.address_model.specs.declared.family.Family.TheVariants.{V4, V6}
-use Rattle.address_model.proofs.Ordered.{path_order}
+use Rattle.table_model.specs.Bits.{bits_of, same_bits}
+use Rattle.table_model.specs.Width.{width}
+use Rattle.table_model.specs.Address.{Prefix, IsPrefix, same_prefix}
+use Rattle.table_model.specs.Order.{prefix_cmp, path_cmp}
+use Rattle.table_model.specs.declared.family.Family.{Family}
+use Rattle.table_model.specs.declared.family.Family.TheVariants.{V4, V6}
+use Rattle.table_model.proofs.Ordered.{path_order}
 use Rattle.table_model.specs.Table.{Entry, Table, lpm}
 use Rattle.table_model.specs.Entries.{Entries, of_family, match_in, with_entry, of_table}
 use Rattle.table_model.proofs.Sums.{all_placed, sorted_placed}
-pub use Rattle.least_model.proofs.Both.{family_is}
+pub use Rattle.table_model.proofs.Both.{family_is}
 use Rattle.orig_tree.specs.Edits.{put, without, edit, routed}
 use Rattle.orig_tree.specs.Views.{InPlace, Labels}
 

@@ -2,12 +2,12 @@
 use Rattle.std.proofs.Common.{◌≡◌, ◌≢◌, ℕ, zero, suc, ◌-◌, ◌<◌, ◌≤◌, List, [], ◌∷◌, ◌++◌, Bool, true, false, refl, sym, ap, ◌∙◌, subst, arith, Option, Some, None, nat_eq, slice_set}
 use Rattle.std.specs.Int.{bit_at}
 use Rattle.std.specs.Option.{unwrap_or}
-use Rattle.address_model.specs.Bits.{bits_of}
+use Rattle.table_model.specs.Bits.{bits_of}
 use Rattle.table_model.specs.Table.{lpm}
 use Rattle.orig_tree.specs.Edits.{edit}
 use Rattle.orig_tree.specs.Walk.{Walks, labelled, has_node, edited}
-use Rattle.address_model.specs.Width.{width}
-use Rattle.address_model.specs.declared.family.Family.{Family}
+use Rattle.table_model.specs.Width.{width}
+use Rattle.table_model.specs.declared.family.Family.{Family}
 use Rattle.orig_tree.specs.Arena.{whole, IsArena, Place, At, node_at, half_place, walks_at, IsTree, IsHeld, IsSet, IsSplit, HalvesStay, is_in, Keeps, cover_at, cover_of, retold}
 use Rattle.orig_tree.specs.Bests.{Stands, AreBest, IsLaid, KeepsBest, laid}
 use Rattle.orig_tree.specs.Placed.{Climbs, IsPlaced, route_set, told_again}

@@ -3,9 +3,9 @@ use Rattle.std.proofs.Common.{◌≡◌, ◌≢◌, ℕ, zero, suc, ◌-◌, Lis
 use Rattle.std.proofs.lemmas.Bool.{eqb-true}
 use Rattle.std.specs.Option.{unwrap_or}
 use Rattle.table_model.specs.Table.{Table, root, half, inherit, lpm}
-use Rattle.least_model.specs.Sets.{side, set_of, k_of, is_in, smallest, apart, one_if_empty}
-use Rattle.least_model.proofs.Sets.{same_smallest, filled, in_first}
-use Rattle.least_model.proofs.Cost.{set_uniform, set_filled, k_uniform}
+use Rattle.table_model.specs.Sets.{side, set_of, k_of, is_in, smallest, apart, one_if_empty}
+use Rattle.table_model.proofs.Sets.{same_smallest, filled, in_first}
+use Rattle.table_model.proofs.Cost.{set_uniform, set_filled, k_uniform}
 use Rattle.hop_sets.specs.Hops.{SameHops}
 use Rattle.orig_tree.specs.Walk.{Walks}
 use Rattle.orig_tree.specs.Arena.{Place, IsTree, IsArena, cover_of, node_at, half_place, from_half, IfHalf, walks_at, walks_by}
@@ -30,15 +30,15 @@ use Rattle.orig_tree.specs.declared.node.Label.TheVariants.{Route, Entry}
 use Rattle.orig_tree.proofs.Arena.{side_half}
 use Rattle.orig_tree.proofs.Mending.{own_route, half_gets}
 use Rattle.orig_tree.proofs.Standing.{best_alike}
-use Rattle.address_model.specs.Bits.{bits_of}
-use Rattle.address_model.specs.Width.{width}
-use Rattle.address_model.specs.declared.family.Family.{Family}
+use Rattle.table_model.specs.Bits.{bits_of}
+use Rattle.table_model.specs.Width.{width}
+use Rattle.table_model.specs.declared.family.Family.{Family}
 use Rattle.std.specs.Int.{bit_at}
 use Rattle.table_model.specs.Table.{cut}
 use Rattle.table_model.specs.Entries.{Entries, of_table, of_family}
 use Rattle.table_model.proofs.Cut.{lpm_cut}
-use Rattle.least_model.specs.Sets.{answers}
-use Rattle.least_model.proofs.Both.{family_is}
+use Rattle.table_model.specs.Sets.{answers}
+use Rattle.table_model.proofs.Both.{family_is}
 use Rattle.orig_tree.specs.Arena.{whole}
 use Rattle.orig_tree.specs.Bests.{KeepsBest}
 use Rattle.orig_tree.proofs.Paths.{no_bits, first_bit}

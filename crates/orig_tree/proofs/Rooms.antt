@@ -4,8 +4,8 @@ use Rattle.std.specs.Prelude.{nat_eq}
 use Rattle.std.specs.Int.{bit_at}
 use Rattle.std.proofs.lemmas.Bool.{eqb-true, eqb-false, cases_lt}
 use Rattle.std.proofs.lemmas.List.{get_or-set_same, get_or-set_other, length-set, get_or_append_left}
-use Rattle.address_model.specs.Bits.{bits_of, begins, same_bits}
-use Rattle.least_model.specs.Regions.{join}
+use Rattle.table_model.specs.Bits.{bits_of, begins, same_bits}
+use Rattle.table_model.specs.Regions.{join}
 use Rattle.orig_tree.specs.Walk.{Walks, no_walks, walks_of, AreMadeTo, has_node}
 use Rattle.orig_tree.specs.Cover.{IsCover}
 use Rattle.orig_tree.specs.Slots.{AreCovers}

@@ -1,19 +1,19 @@
 -- The array as one tree from its root on.
 use Rattle.std.proofs.Common.{◌≡◌, ℕ, zero, suc, ◌+◌, ◌-◌, ◌<◌, ◌≤◌, List, [], ◌∷◌, Bool, true, refl, sym, ap, ◌∙◌, subst, arith, Option, None}
-use Rattle.address_model.specs.Bits.{bits_of}
-use Rattle.address_model.specs.Width.{width}
-use Rattle.address_model.specs.declared.family.Family.{Family}
-use Rattle.address_model.specs.declared.family.Family.TheVariants.{V4, V6}
+use Rattle.table_model.specs.Bits.{bits_of}
+use Rattle.table_model.specs.Width.{width}
+use Rattle.table_model.specs.declared.family.Family.{Family}
+use Rattle.table_model.specs.declared.family.Family.TheVariants.{V4, V6}
 use Rattle.orig_tree.specs.Walk.{Walks, no_walks, walks_of, rows_of, edited, Allowed, has_node}
 use Rattle.orig_tree.specs.Arena.{Place, At, Nowhere, blank, walks_at, IsTree, is_in, SpareFrom, IsHeld, IsSet, HasRoom, IsRoomier, whole, IsArena}
 use Rattle.orig_tree.specs.declared.node.Node.{Node}
 use Rattle.orig_tree.specs.declared.node.Label.{Label}
-use Rattle.address_model.specs.Address.{Prefix}
+use Rattle.table_model.specs.Address.{Prefix}
 use Rattle.fib_addr.specs.Views.{prefix_as}
 use Rattle.fib_addr.specs.declared.prefix.Prefix as code
 use Rattle.table_model.specs.Table.{lpm}
 use Rattle.table_model.specs.Entries.{Entries, of_table, of_family, match_in}
-use Rattle.least_model.specs.Regions.{lift, above}
+use Rattle.table_model.specs.Regions.{lift, above}
 use Rattle.orig_tree.specs.Views.{Labels, Fits}
 use Rattle.orig_tree.specs.Uniform.{IsUniform}
 use Rattle.orig_tree.proofs.Places.{match_is}

@@ -1,8 +1,8 @@
 -- A node is put at its place, and a place is given back.
 use Rattle.std.proofs.Common.{◌≡◌, ◌≢◌, ℕ, suc, ◌<◌, List, [], ◌∷◌, ◌++◌, length, Bool, true, false, refl, sym, ap, ◌∙◌, subst, arith, slice_set}
 use Rattle.std.proofs.lemmas.List.{get_or-set_same, get_or-set_other, length-set}
-use Rattle.address_model.specs.Bits.{begins}
-use Rattle.least_model.specs.Sets.{side}
+use Rattle.table_model.specs.Bits.{begins}
+use Rattle.table_model.specs.Sets.{side}
 use Rattle.orig_tree.specs.Arena.{Place, At, Spare, Nowhere, blank, node_at, half_place, IfHalf, IsTree, SpareFrom, IsHeld, KeepsOthers}
 use Rattle.orig_tree.specs.Bests.{Stands, AreBest}
 use Rattle.orig_tree.specs.Drops.{spare_node}

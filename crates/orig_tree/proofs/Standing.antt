@@ -1,13 +1,13 @@
 -- What stands for a region, and for the regions below it.
 use Rattle.std.proofs.Common.{◌≡◌, ◌≢◌, ℕ, zero, suc, ◌+◌, ◌≤◌, List, [], ◌∷◌, ◌++◌, length, Bool, true, false, cond, ◌||◌, IsTrue, ◌↔◌, refl, sym, ap, ◌∙◌, subst, arith, Option, Some, None, nat_eq}
 use Rattle.std.proofs.lemmas.Bool.{ne_eqb}
-use Rattle.address_model.specs.Bits.{begins, bits_of}
-use Rattle.address_model.proofs.BitLaws.{length-bits_of}
+use Rattle.table_model.specs.Bits.{begins, bits_of}
+use Rattle.table_model.proofs.BitLaws.{length-bits_of}
 use Rattle.table_model.specs.Table.{lpm, half, root, inherit}
 use Rattle.table_model.proofs.Cut.{lpm_cut, lpm_nil}
-use Rattle.least_model.specs.Sets.{side, set_of, is_in, common, joint, or_else, one_if_empty, apart}
-use Rattle.least_model.proofs.Sets.{same_joint}
-use Rattle.least_model.proofs.Cost.{set_uniform, set_more, set_alike, k_uniform, k_more, k_alike}
+use Rattle.table_model.specs.Sets.{side, set_of, is_in, common, joint, or_else, one_if_empty, apart}
+use Rattle.table_model.proofs.Sets.{same_joint}
+use Rattle.table_model.proofs.Cost.{set_uniform, set_more, set_alike, k_uniform, k_more, k_alike}
 use Rattle.hop_sets.specs.Hops.{SameHops}
 use Rattle.orig_tree.specs.Edits.{put}
 use Rattle.orig_tree.specs.Arena.{Place, At, node_at, half_place, IfHalf, IsTree}

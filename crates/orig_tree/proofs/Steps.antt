@@ -3,11 +3,11 @@ use Rattle.std.proofs.Common.{◌≡◌, ◌≢◌, ℕ, ◌-◌, List, [], ◌�
 use Rattle.std.specs.Prelude.{nat_eq}
 use Rattle.std.specs.Int.{bit_at}
 use Rattle.std.specs.Option.{unwrap_or}
-use Rattle.address_model.specs.Bits.{bits_of, same_bits}
+use Rattle.table_model.specs.Bits.{bits_of, same_bits}
 use Rattle.table_model.specs.Table.{Table, root, half, lpm, inherit}
 use Rattle.table_model.proofs.Cut.{lpm_nil, lpm_cut}
-use Rattle.least_model.specs.Regions.{join}
-use Rattle.least_model.proofs.Join.{root_join, low_join, high_join}
+use Rattle.table_model.specs.Regions.{join}
+use Rattle.table_model.proofs.Join.{root_join, low_join, high_join}
 use Rattle.orig_tree.specs.Walk.{Walks, no_walks, walks_of, rows_of, edited, Allowed, labelled, has_node}
 use Rattle.orig_tree.specs.declared.node.Label.{Label}
 use Rattle.orig_tree.specs.declared.node.Label.TheVariants.{Route, Entry}

@@ -3,11 +3,11 @@ use Rattle.std.proofs.Common.{◌≡◌, ◌≢◌, ℕ, suc, ◌+◌, ◌-◌, 
 use Rattle.std.proofs.lemmas.Bool.{eqb-true}
 use Rattle.std.specs.Int.{bit_at}
 use Rattle.std.specs.Option.{unwrap_or}
-use Rattle.address_model.specs.Bits.{bits_of}
+use Rattle.table_model.specs.Bits.{bits_of}
 use Rattle.table_model.specs.Table.{lpm, inherit}
-use Rattle.least_model.specs.Sets.{side, set_of, is_in, joint, apart}
-use Rattle.least_model.proofs.Sets.{same_joint}
-use Rattle.least_model.proofs.Cost.{set_more, k_more}
+use Rattle.table_model.specs.Sets.{side, set_of, is_in, joint, apart}
+use Rattle.table_model.proofs.Sets.{same_joint}
+use Rattle.table_model.proofs.Cost.{set_more, k_more}
 use Rattle.hop_sets.specs.Hops.{SameHops}
 use Rattle.orig_tree.specs.Edits.{edit}
 use Rattle.orig_tree.specs.Arena.{Place, At, node_at, half_place, from_half, IfHalf, IsTree, walks_at, walks_by}

@@ -1,12 +1,12 @@
 -- What is taken of a node of the array.
 use Rattle.std.proofs.Common.{◌≡◌, ℕ, zero, suc, ◌-◌, ◌<◌, ◌≤◌, List, [], ◌++◌, true, false, sym, ap, subst, arith, Bool, Option, Some, None, map}
-use Rattle.address_model.specs.Width.{width}
-use Rattle.address_model.specs.Address.{Prefix}
+use Rattle.table_model.specs.Width.{width}
+use Rattle.table_model.specs.Address.{Prefix}
 use Rattle.fib_addr.specs.Views.{prefix_as}
 use Rattle.std.specs.Option.{option_to_list}
 use Rattle.table_model.specs.Table.{Table}
 use Rattle.table_model.specs.Entries.{Entries, of_table}
-use Rattle.least_model.specs.Regions.{lift}
+use Rattle.table_model.specs.Regions.{lift}
 use Rattle.orig_tree.specs.Views.{Fits}
 use Rattle.orig_tree.specs.Walk.{rows_of, labelled}
 use Rattle.orig_tree.specs.Arena.{node_at, half_place, from_half, walks_by, walks_at}
@@ -14,7 +14,7 @@ use Rattle.orig_tree.specs.declared.node.Node.{Node}
 use Rattle.orig_tree.specs.declared.node.Label.{Label}
 use Rattle.orig_tree.proofs.Telling.{told_end, told_nothing, told_level, fits_low, fits_high, half_longer}
 use Rattle.fib_addr.specs.declared.prefix.Prefix as code
-use Rattle.address_model.specs.Regions.{half_at}
+use Rattle.table_model.specs.Halves.{half_at}
 
 module _ {S : Type 0} (Takes : S → Entries → S → Type 0) where
   pub end_told : (p : code.Prefix) (label : Label) (cells : List Node) (n : Node) (i : ℕ) (o : Option ℕ) (X Y : S) (d : ℕ) → n ≡ node_at cells i → p.len ≡ width p.family → o ≡ labelled label n.route.hop n.entry.hop

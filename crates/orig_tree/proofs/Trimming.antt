@@ -4,15 +4,15 @@ use Rattle.std.specs.List.{list_any}
 use Rattle.std.specs.Int.{bit_at}
 use Rattle.std.specs.Option.{is_some}
 use Rattle.std.proofs.lemmas.List.Folds.{list_any-append}
-use Rattle.address_model.specs.Bits.{bits_of, begins, same_bits}
-use Rattle.address_model.specs.declared.family.Family.{Family}
+use Rattle.table_model.specs.Bits.{bits_of, begins, same_bits}
+use Rattle.table_model.specs.declared.family.Family.{Family}
 use Rattle.table_model.specs.Table.{Entry, Table, here}
 use Rattle.table_model.specs.Entries.{Entries, of_family, of_table}
-use Rattle.least_model.specs.Regions.{lift, join}
+use Rattle.table_model.specs.Regions.{lift, join}
 use Rattle.orig_tree.specs.Walk.{Walks, no_walks, walks_of, has_node}
 use Rattle.orig_tree.specs.Trims.{has_within, is_used, HasBeside, NodeIsKept, AreTrimmed, IsTrimmed, IsPruned, KeepsRoot, bare, has_labels}
 use Rattle.orig_tree.proofs.Paths.{no_bits, first_one, first_zero}
-use Rattle.least_model.proofs.Both.{family_is}
+use Rattle.table_model.proofs.Both.{family_is}
 use Rattle.orig_tree.proofs.Steps.{has_low, has_high}
 
 -- ---- what a half has within

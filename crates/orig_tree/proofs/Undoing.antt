@@ -2,16 +2,16 @@
 use Rattle.std.proofs.Common.{get_or, take, drop, slice_set, ◌≡◌, ℕ, zero, suc, ◌+◌, ◌<◌, ◌≤◌, List, [], ◌∷◌, ◌++◌, length, Bool, true, false, cond, refl, sym, ap, ◌∙◌, subst, arith, Option, Some, None, nat_eq}
 use Rattle.std.proofs.lemmas.Bool.{eqb-true}
 use Rattle.std.proofs.lemmas.List.{take_more_set, take_all, drop_all, append-nil}
-use Rattle.address_model.specs.Bits.{bits_of}
-use Rattle.address_model.specs.Width.{width}
-use Rattle.address_model.specs.declared.family.Family.{Family}
-use Rattle.address_model.proofs.BitLaws.{length-bits_of}
-use Rattle.address_model.proofs.Same.{same_bits_itself}
+use Rattle.table_model.specs.Bits.{bits_of}
+use Rattle.table_model.specs.Width.{width}
+use Rattle.table_model.specs.declared.family.Family.{Family}
+use Rattle.table_model.proofs.BitLaws.{length-bits_of}
+use Rattle.table_model.proofs.SamePrefix.{same_bits_itself}
 use Rattle.table_model.specs.Table.{Table, lpm, root, half}
 use Rattle.table_model.specs.Entries.{of_table}
-use Rattle.least_model.specs.Regions.{join, entry_at}
-use Rattle.least_model.proofs.Join.{root_join, low_join, high_join}
-use Rattle.least_model.proofs.Same.{cut_nil}
+use Rattle.table_model.specs.Regions.{join, entry_at}
+use Rattle.table_model.proofs.Join.{root_join, low_join, high_join}
+use Rattle.table_model.proofs.Same.{cut_nil}
 use Rattle.fib_addr.specs.declared.prefix.Prefix as code
 use Rattle.orig_tree.specs.Edits.{edit}
 use Rattle.orig_tree.specs.Views.{InPlace}

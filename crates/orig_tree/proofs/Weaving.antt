@@ -4,19 +4,19 @@ use Rattle.std.proofs.lemmas.Bool.{eqb-true}
 use Rattle.std.proofs.lemmas.List.{take_all}
 use Rattle.std.specs.Option.{unwrap_or}
 use Rattle.std.specs.Int.{bit_at}
-use Rattle.address_model.specs.Address.{Prefix}
+use Rattle.table_model.specs.Address.{Prefix}
 use denote.Enum.Bare.{sameb}
-use Rattle.address_model.specs.contracts.family.Family.{the_type}
-use Rattle.address_model.specs.declared.family.Family.{Family}
-use Rattle.address_model.specs.declared.family.Family.TheVariants.{V4, V6}
-use Rattle.address_model.specs.Bits.{begins, bits_of}
-use Rattle.address_model.specs.Regions.{half_at}
-use Rattle.address_model.specs.Width.{width}
+use Rattle.table_model.specs.contracts.family.Family.{the_type}
+use Rattle.table_model.specs.declared.family.Family.{Family}
+use Rattle.table_model.specs.declared.family.Family.TheVariants.{V4, V6}
+use Rattle.table_model.specs.Bits.{begins, bits_of}
+use Rattle.table_model.specs.Halves.{half_at}
+use Rattle.table_model.specs.Width.{width}
 use Rattle.table_model.specs.Table.{Table, lpm, inherit}
 use Rattle.table_model.specs.Entries.{Entries, of_table}
 use Rattle.table_model.proofs.Cut.{entry}
-use Rattle.least_model.specs.Regions.{join, lift}
-use Rattle.least_model.specs.Sets.{side}
+use Rattle.table_model.specs.Regions.{join, lift}
+use Rattle.table_model.specs.Sets.{side}
 use Rattle.fib_addr.specs.Views.{prefix_as}
 use Rattle.fib_addr.specs.declared.prefix.Prefix as code
 use Rattle.fib_addr.specs.declared.entry.Entry as code_entry

@@ -4,17 +4,17 @@ use Rattle.std.specs.Prelude.{nat_eq, filter, ◌&&◌}
 use Rattle.std.specs.Int.{bit_at}
 use Rattle.std.specs.List.{AllByRecursion}
 use Rattle.std.specs.Map.{lookup, keys_of}
-use Rattle.address_model.specs.Bits.{bits_of, begins, same_bits}
-use Rattle.address_model.specs.Width.{width}
-use Rattle.address_model.specs.Address.{Prefix, same_family, same_prefix}
-use Rattle.address_model.specs.declared.family.Family.{Family}
-use Rattle.address_model.proofs.Same.{same_family_itself}
+use Rattle.table_model.specs.Bits.{bits_of, begins, same_bits}
+use Rattle.table_model.specs.Width.{width}
+use Rattle.table_model.specs.Address.{Prefix, same_family, same_prefix}
+use Rattle.table_model.specs.declared.family.Family.{Family}
+use Rattle.table_model.proofs.SamePrefix.{same_family_itself}
 use Rattle.table_model.specs.Table.{Entry, Table, root, half, cut}
 use Rattle.table_model.specs.Entries.{Entries, of_table}
 use Rattle.table_model.proofs.Cut.{entry}
-use Rattle.least_model.specs.Regions.{entry_at, lift}
-use Rattle.least_model.proofs.Same.{cut_nil}
-use Rattle.address_model.specs.Regions.{is_within}
+use Rattle.table_model.specs.Regions.{entry_at, lift}
+use Rattle.table_model.proofs.Same.{cut_nil}
+use Rattle.table_model.specs.Halves.{is_within}
 use Rattle.fib_addr.specs.Views.{prefix_as}
 use Rattle.fib_addr.specs.declared.prefix.Prefix as code
 use Rattle.fib_addr.proofs.Parts.{length_prefix}

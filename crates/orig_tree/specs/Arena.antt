@@ -1,8 +1,8 @@
 -- What a place in the array of nodes stands for, and which places are whose.
 use Rattle.std.specs.Prelude.{◌≡◌, ◌≢◌, ℕ, zero, suc, ◌<◌, ◌≤◌, List, [], ◌∷◌, ◌++◌, length, Bool, true, false, Option, Some, None, slice_index_or}
-use Rattle.address_model.specs.Bits.{begins}
-use Rattle.address_model.specs.Width.{width}
-use Rattle.address_model.specs.declared.family.Family.{Family}
+use Rattle.table_model.specs.Bits.{begins}
+use Rattle.table_model.specs.Width.{width}
+use Rattle.table_model.specs.declared.family.Family.{Family}
 use Rattle.orig_tree.specs.Walk.{Walks, no_walks, walks_of, edited, AreMadeTo, has_node}
 use Rattle.orig_tree.specs.Cover.{covered}
 use Rattle.orig_tree.specs.Slots.{AreCovers}

@@ -1,12 +1,12 @@
 -- What the nodes of a tree keep of their regions: the best hops, and what a region costs under one of them.
 use Rattle.std.specs.Prelude.{◌≡◌, ℕ, zero, suc, List, [], ◌∷◌, Bool, true, false, cond, nat_eq, Option, Some, None, slice_index_or}
-use Rattle.address_model.specs.Bits.{begins}
+use Rattle.table_model.specs.Bits.{begins}
 use Rattle.table_model.specs.Table.{Table, lpm, half}
-use Rattle.least_model.specs.Sets.{side, set_of, k_of}
+use Rattle.table_model.specs.Sets.{side, set_of, k_of}
 use Rattle.hop_sets.specs.Hops.{SameHops}
 use Rattle.orig_tree.specs.Edits.{put}
-use Rattle.address_model.specs.Width.{width}
-use Rattle.address_model.specs.declared.family.Family.{Family}
+use Rattle.table_model.specs.Width.{width}
+use Rattle.table_model.specs.declared.family.Family.{Family}
 use Rattle.orig_tree.specs.Walk.{Walks, edited, has_node}
 use Rattle.orig_tree.specs.Arena.{Place, At, node_at, half_place, IfHalf, whole, IsRoomier}
 use Rattle.orig_tree.specs.declared.node.Label.{Label}

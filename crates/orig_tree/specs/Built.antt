@@ -1,9 +1,9 @@
 -- Nodes that are built in one walk over routes that stand in order.
 use Rattle.std.specs.Prelude.{◌≡◌, ◌≢◌, ◌<◌, ℕ, suc, ◌≤◌, List, [], ◌++◌, length, Bool, Option}
-use Rattle.address_model.specs.Address.{Prefix}
+use Rattle.table_model.specs.Address.{Prefix}
 use Rattle.table_model.specs.Table.{Table, lpm}
 use Rattle.table_model.specs.Entries.{Entries, of_table}
-use Rattle.least_model.specs.Regions.{lift}
+use Rattle.table_model.specs.Regions.{lift}
 use Rattle.orig_tree.specs.Arena.{Place, At, node_at, from_half, walks_at, IfHalf, IsTree, IsHeld}
 use Rattle.orig_tree.specs.Packed.{bare_slot}
 use Rattle.orig_tree.specs.Bests.{Stands, best_one, best_behind, AreBest}

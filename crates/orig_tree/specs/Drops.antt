@@ -4,7 +4,7 @@ use Rattle.orig_tree.specs.Walk.{Walks, walks_of}
 use Rattle.orig_tree.specs.Trims.{IsTrimmed, IsPruned, KeepsRoot, bare}
 use Rattle.orig_tree.specs.Arena.{Place, At, half_place, from_half, walks_by, walks_at, IfHalf, IsNode, IsTree, IsHeld, KeepsOthers}
 use Rattle.orig_tree.specs.Bests.{AreBest}
-use Rattle.least_model.specs.Sets.{side}
+use Rattle.table_model.specs.Sets.{side}
 use Rattle.orig_tree.specs.Packed.{bare_slot}
 use Rattle.orig_tree.specs.declared.node.Node.{Node}
 use Rattle.orig_tree.specs.declared.best.Best.{Best}

@@ -1,6 +1,6 @@
 -- The labels of a node with their covers.
 use Rattle.std.specs.Prelude.{◌≡◌, ℕ, Option}
-use Rattle.least_model.specs.Regions.{join}
+use Rattle.table_model.specs.Regions.{join}
 use Rattle.orig_tree.specs.Walk.{Walks}
 use Rattle.orig_tree.specs.Cover.{IsCover}
 use Rattle.orig_tree.specs.Packed.{cover_in}

@@ -1,7 +1,7 @@
 -- Nodes that are dropped.
 use Rattle.std.specs.Prelude.{◌≡◌, ◌↔◌, ◌⊎◌, List, [], ◌||◌, Bool, true, false, None}
 use Rattle.std.specs.List.{list_any}
-use Rattle.address_model.specs.Bits.{begins}
+use Rattle.table_model.specs.Bits.{begins}
 use Rattle.table_model.specs.Table.{Table}
 use Rattle.orig_tree.specs.Walk.{Walks, has_node, no_walks, walks_of}
 

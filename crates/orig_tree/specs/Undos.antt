@@ -1,8 +1,8 @@
 -- The last change of a route, and how it is taken back.
 use Rattle.std.specs.Prelude.{◌≡◌, ◌≤◌, ℕ, suc, List, Option, Some, None}
-use Rattle.address_model.specs.Bits.{bits_of}
-use Rattle.address_model.specs.Width.{width}
-use Rattle.address_model.specs.declared.family.Family.{Family}
+use Rattle.table_model.specs.Bits.{bits_of}
+use Rattle.table_model.specs.Width.{width}
+use Rattle.table_model.specs.declared.family.Family.{Family}
 use Rattle.table_model.specs.Table.{Table, lpm}
 use Rattle.table_model.specs.Entries.{of_table}
 use Rattle.orig_tree.specs.Edits.{edit}

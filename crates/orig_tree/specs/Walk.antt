@@ -1,8 +1,8 @@
 -- What is seen of a node: the tables of its two labels, and where there are nodes.
 use Rattle.std.specs.Prelude.{◌≡◌, ◌⊎◌, ℕ, List, [], ◌∷◌, ◌++◌, map, ◌||◌, Bool, true, false, Option, Some, None}
-use Rattle.address_model.specs.Bits.{begins, same_bits}
+use Rattle.table_model.specs.Bits.{begins, same_bits}
 use Rattle.table_model.specs.Table.{Table}
-use Rattle.least_model.specs.Regions.{join}
+use Rattle.table_model.specs.Regions.{join}
 use Rattle.orig_tree.specs.Edits.{edit}
 use Rattle.orig_tree.specs.declared.node.Label.{Label}
 use Rattle.orig_tree.specs.declared.node.Label.TheVariants.{Route, Entry}

@@ -1,7 +1,7 @@
 -- How many nodes there are within a prefix.
 use Rattle.std.specs.Prelude.{ℕ, ◌^◌, ◌-◌, min, List, Bool, length}
 use Rattle.std.specs.List.{filter}
-use Rattle.address_model.specs.Bits.{begins}
+use Rattle.table_model.specs.Bits.{begins}
 
 -- the nodes at p or within p
 abbrev pub nodes_in : List Bool → List (List Bool) → ℕ

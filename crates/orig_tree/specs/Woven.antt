@@ -1,12 +1,12 @@
 -- Entries that are set one after the other, in one walk.
 use Rattle.std.specs.Prelude.{◌≡◌, ℕ, ◌<◌, List, [], ◌∷◌, ◌++◌, Bool, false, Some, fold}
 use Rattle.std.specs.List.{filter}
-use Rattle.address_model.specs.Address.{Prefix, same_family}
-use Rattle.address_model.specs.declared.family.Family.{Family}
-use Rattle.address_model.specs.Regions.{is_within}
+use Rattle.table_model.specs.Address.{Prefix, same_family}
+use Rattle.table_model.specs.declared.family.Family.{Family}
+use Rattle.table_model.specs.Halves.{is_within}
 use Rattle.table_model.specs.Table.{Table, lpm}
 use Rattle.table_model.specs.Entries.{Entries, of_table, with_entry}
-use Rattle.least_model.specs.Regions.{lift}
+use Rattle.table_model.specs.Regions.{lift}
 use Rattle.orig_tree.specs.Edits.{put}
 use Rattle.orig_tree.specs.Walk.{rows_of}
 use Rattle.orig_tree.specs.Views.{InPlace}

@@ -1,9 +1,9 @@
 //! What nodes keep of their regions, by places: the best hops, and what the region costs under one of them.
 
 ghost use Rattle.std.specs.Prelude.{◌≡◌, ◌≢◌, ◌+◌, ◌<◌, ◌≤◌, ℕ, suc, List, Bool, true, false, cond, IfOk, OnOk, [], ◌∷◌, length, vec_len};
-ghost use Rattle.address_model.specs.Bits.{bits_of};
+ghost use Rattle.table_model.specs.Bits.{bits_of};
 ghost use Rattle.table_model.specs.Table.{lpm};
-ghost use Rattle.least_model.specs.Sets.{side};
+ghost use Rattle.table_model.specs.Sets.{side};
 ghost use Rattle.orig_tree.specs.Edits.{edit, put};
 ghost use Rattle.orig_tree.specs.Bests.{Stands, best_one, best_in, best_behind, put_at, changed, back};
 

@@ -2,12 +2,12 @@
 //! they are built, with its route, its cover and what it keeps of its region.
 
 ghost use Rattle.std.specs.Prelude.{◌≡◌, ◌≢◌, ℕ, ◌<◌, ◌-◌, suc, Bool, true, false, List, [], ◌∷◌, ◌++◌, OnOk, IfOk, map, vec_len, length, slice_set, ◌≤◌};
-ghost use Rattle.address_model.specs.Width.{width};
+ghost use Rattle.table_model.specs.Width.{width};
 ghost use Rattle.table_model.specs.Table.{here};
 ghost use Rattle.table_model.specs.Entries.{of_table};
-ghost use Rattle.least_model.specs.Regions.{lift};
-ghost use Rattle.least_model.specs.Sets.{side};
-ghost use Rattle.address_model.specs.Regions.{half_at};
+ghost use Rattle.table_model.specs.Regions.{lift};
+ghost use Rattle.table_model.specs.Sets.{side};
+ghost use Rattle.table_model.specs.Halves.{half_at};
 ghost use Rattle.fib_addr.specs.Views.{entry_as, prefix_as};
 ghost use Rattle.orig_tree.specs.Arena.{blank, bare_cover_is, cells_of, cover_at, link, retold, IsArena};
 ghost use Rattle.orig_tree.specs.Bests.{Stands, best_one, best_in, best_behind, KeepsBest};

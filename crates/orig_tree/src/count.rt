@@ -1,7 +1,7 @@
 //! How many nodes there are within a prefix.
 
 ghost use Rattle.std.specs.Prelude.{◌≡◌, ◌≤◌, ◌^◌, ◌-◌, ℕ, suc, List, Bool, length, min};
-ghost use Rattle.address_model.specs.Bits.{bits_of};
+ghost use Rattle.table_model.specs.Bits.{bits_of};
 ghost use Rattle.orig_tree.specs.Arena.{cells_of, walks_at, from_half};
 ghost use Rattle.orig_tree.specs.Within.{nodes_in, told};
 

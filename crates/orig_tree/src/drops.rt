@@ -2,7 +2,7 @@
 
 ghost use Rattle.std.specs.Prelude.{◌≡◌, ◌≤◌, ◌+◌, ◌||◌, ℕ, List, Bool, [], vec_len, slice_set, cond};
 ghost use Rattle.std.specs.Option.{is_some};
-ghost use Rattle.address_model.specs.Bits.{bits_of};
+ghost use Rattle.table_model.specs.Bits.{bits_of};
 ghost use Rattle.orig_tree.specs.Arena.{cells_of, Place, link, IsTree, IsHeld, IfHalf};
 ghost use Rattle.orig_tree.specs.Drops.{with_halves, spare_node, NodeTrimmed, HalfTrimmed};
 

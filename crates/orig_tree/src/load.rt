@@ -2,12 +2,12 @@
 //! nodes keep is told anew when all are set, from the least regions on.
 
 ghost use Rattle.std.specs.Prelude.{◌≡◌, ◌≤◌, ◌+◌, ◌∷◌, [], ℕ, suc, List, Bool, true, false, OnOk, OnErr, IfOk, vec_len, map, filter, None};
-ghost use Rattle.address_model.specs.Bits.{bits_of};
-ghost use Rattle.address_model.specs.Width.{width};
+ghost use Rattle.table_model.specs.Bits.{bits_of};
+ghost use Rattle.table_model.specs.Width.{width};
 ghost use Rattle.table_model.specs.Table.{lpm};
 ghost use Rattle.orig_tree.specs.Walk.{rows_of};
 ghost use Rattle.orig_tree.specs.Views.{InPlace};
-ghost use Rattle.address_model.specs.Address.{same_family};
+ghost use Rattle.table_model.specs.Address.{same_family};
 ghost use Rattle.table_model.specs.Entries.{Entries, of_table};
 ghost use Rattle.fib_addr.specs.Views.{entry_as};
 ghost use Rattle.orig_tree.specs.Arena.{blank, cells_of, Place, IfHalf, IsTree, walks_at, from_half, whole, IsArena};

@@ -6,9 +6,9 @@
 
 ghost use Rattle.std.specs.Prelude.{◌≡◌, ◌≢◌, ◌≤◌, ◌+◌, ◌++◌, ℕ, suc, List, length, Bool, true, false, [], ◌∷◌, Option, IfOk, OnOk, not, ◌&&◌, vec_len};
 ghost use Rattle.std.specs.Option.{unwrap_or, is_some};
-ghost use Rattle.address_model.specs.Bits.{bits_of};
+ghost use Rattle.table_model.specs.Bits.{bits_of};
 ghost use Rattle.table_model.specs.Table.{lpm};
-ghost use Rattle.least_model.specs.Sets.{side};
+ghost use Rattle.table_model.specs.Sets.{side};
 ghost use Rattle.orig_tree.specs.Edits.{edit};
 ghost use Rattle.orig_tree.specs.Packed.{cover_in};
 ghost use Rattle.orig_tree.specs.Arena.{cells_of, Place, IfHalf, IsTree, walks_at, from_half};

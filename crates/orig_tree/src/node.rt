@@ -3,11 +3,11 @@
 
 ghost use Rattle.std.specs.Prelude.{◌≡◌, ◌≤◌, ◌<◌, ◌-◌, ℕ, OnOk, OnErr, IsOk, IfOk, ◌∷◌, List, Bool, true, false, [], map, ◌++◌, slice_set, vec_len, vec_capacity, ◌+◌, ◌^◌, length, suc, Some, None};
 ghost use Rattle.std.specs.Option.{is_some};
-ghost use Rattle.address_model.specs.Bits.{bits_of};
-ghost use Rattle.address_model.specs.Regions.{half_at};
-ghost use Rattle.address_model.specs.Width.{width};
+ghost use Rattle.table_model.specs.Bits.{bits_of};
+ghost use Rattle.table_model.specs.Halves.{half_at};
+ghost use Rattle.table_model.specs.Width.{width};
 ghost use Rattle.table_model.specs.Table.{lpm, root, half, here};
-ghost use Rattle.least_model.specs.Regions.{above, lift};
+ghost use Rattle.table_model.specs.Regions.{above, lift};
 ghost use Rattle.fib_addr.specs.Views.{prefix_as};
 ghost use Rattle.orig_tree.specs.Walk.{rows_of, edited, Allowed, labelled, has_node};
 ghost use Rattle.table_model.specs.Entries.{of_table};

@@ -1,11 +1,11 @@
 //! What a tree has at a prefix, and within it.
 
 ghost use Rattle.std.specs.Prelude.{◌≡◌, ◌≤◌, ◌<◌, ◌+◌, ◌-◌, ℕ, OnOk};
-ghost use Rattle.address_model.specs.Bits.{bits_of};
-ghost use Rattle.address_model.specs.Width.{width};
+ghost use Rattle.table_model.specs.Bits.{bits_of};
+ghost use Rattle.table_model.specs.Width.{width};
 ghost use Rattle.table_model.specs.Table.{cut};
 ghost use Rattle.table_model.specs.Entries.{of_table};
-ghost use Rattle.least_model.specs.Regions.{entry_at, lift};
+ghost use Rattle.table_model.specs.Regions.{entry_at, lift};
 ghost use Rattle.fib_addr.specs.Views.{prefix_as};
 ghost use Rattle.orig_tree.specs.Arena.{cells_of, walks_at};
 ghost use Rattle.orig_tree.specs.Views.{Fits};

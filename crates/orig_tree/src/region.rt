@@ -1,9 +1,9 @@
 //! A region of a tree, which is asked for its best hops and what it costs.
 
 ghost use Rattle.std.specs.Prelude.{◌≡◌, ◌≢◌, ◌≤◌, ◌+◌, ◌++◌, ◌∷◌, [], true, false, ℕ, suc, List, Bool, Option, None, length, IfSome, IfNone, IfOk, IsTrue};
-ghost use Rattle.address_model.specs.Bits.{bits_of};
+ghost use Rattle.table_model.specs.Bits.{bits_of};
 ghost use Rattle.table_model.specs.Table.{root, half, cut, inherit, lpm};
-ghost use Rattle.least_model.specs.Sets.{set_of, k_of, is_in, smallest};
+ghost use Rattle.table_model.specs.Sets.{set_of, k_of, is_in, smallest};
 ghost use Rattle.hop_sets.specs.Hops.{SameHops};
 ghost use Rattle.orig_tree.specs.Spots.{answers_in, rows_in, EachFixed};
 ghost use Rattle.orig_tree.specs.Views.{Fits};

@@ -1,8 +1,8 @@
 //! Many entries set in one walk: as long as the next one is within the region at hand, the walk goes on from there.
 
 ghost use Rattle.std.specs.Prelude.{◌≡◌, ◌≤◌, ◌<◌, ◌-◌, ℕ, List, Bool, true, IfOk, OnOk, IfSome, IfNone, false, map, vec_len};
-ghost use Rattle.address_model.specs.Regions.{half_at};
-ghost use Rattle.address_model.specs.Width.{width};
+ghost use Rattle.table_model.specs.Halves.{half_at};
+ghost use Rattle.table_model.specs.Width.{width};
 ghost use Rattle.fib_addr.specs.Views.{entry_as, prefix_as};
 ghost use Rattle.orig_tree.specs.Arena.{cells_of, Place, IsTree, IsHeld};
 ghost use Rattle.orig_tree.specs.Bests.{best_in};

@@ -1,9 +1,9 @@
 //! The array as one tree from its root on.
 
 ghost use Rattle.std.specs.Prelude.{◌≡◌, ◌≤◌, ℕ, OnOk, OnErr, IsOk, IfOk, true, Option, None, Some, vec_len, ◌+◌, ◌∷◌, []};
-ghost use Rattle.address_model.specs.Bits.{bits_of};
-ghost use Rattle.address_model.specs.Width.{width};
-ghost use Rattle.least_model.specs.Regions.{entry_at};
+ghost use Rattle.table_model.specs.Bits.{bits_of};
+ghost use Rattle.table_model.specs.Width.{width};
+ghost use Rattle.table_model.specs.Regions.{entry_at};
 ghost use Rattle.orig_tree.specs.Walk.{walks_of, no_walks, edited, Allowed, has_node};
 ghost use Rattle.orig_tree.specs.Trims.{IsTrimmed};
 ghost use Rattle.orig_tree.specs.Arena.{blank, cells_of, whole, IsArena, IsRoomier, HalvesStay};

@@ -1,12 +1,12 @@
 -- Regions with the same answers.
 use Rattle.std.proofs.Common.{◌≡◌, ◌≢◌, ℕ, zero, suc, List, [], ◌∷◌, ◌++◌, Bool, true, false, Option, Some, None, length, refl, sym, ap, ◌∙◌, arith}
-use Rattle.address_model.specs.Address.{Prefix}
-use Rattle.address_model.specs.Regions.{half_at}
+use Rattle.table_model.specs.Address.{Prefix}
+use Rattle.table_model.specs.Halves.{half_at}
 use Rattle.table_model.specs.Table.{Table, root, half, inherit, lpm}
 use Rattle.table_model.proofs.Cut.{lpm_cut}
-use Rattle.least_model.specs.Regions.{join}
-use Rattle.least_model.specs.Sets.{side, set_of, k_of, own, agg}
-use Rattle.least_model.proofs.Cost.{set_alike, k_uniform, k_alike}
+use Rattle.table_model.specs.Regions.{join}
+use Rattle.table_model.specs.Sets.{side, set_of, k_of, own, agg}
+use Rattle.table_model.proofs.Cost.{set_alike, k_uniform, k_alike}
 use Rattle.cert_model.specs.Rows.{leaf_row, join_row, leaf_or, one_answer, same_hop, region_rows}
 use Rattle.cert_model.proofs.Answers.{one_answer_is}
 use Rattle.orig_tree.specs.Spots.{Spot, answers_in}

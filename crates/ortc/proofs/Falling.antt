@@ -4,25 +4,25 @@ use Rattle.std.proofs.lemmas.Bool.{ne_eqb, eqb-true, eq-eqb, cases_Bool}
 use Rattle.std.specs.List.Sorted.{IsStrictlySortedBy}
 use Rattle.std.specs.Map.{keys_of}
 use Rattle.std.specs.Option.{option_to_list}
-use Rattle.address_model.specs.Order.{prefix_cmp}
-use Rattle.address_model.specs.Address.{Prefix}
-use Rattle.address_model.specs.Width.{width}
-use Rattle.address_model.specs.Regions.{half_at}
-use Rattle.address_model.specs.declared.family.Family.{Family}
+use Rattle.table_model.specs.Order.{prefix_cmp}
+use Rattle.table_model.specs.Address.{Prefix}
+use Rattle.table_model.specs.Width.{width}
+use Rattle.table_model.specs.Halves.{half_at}
+use Rattle.table_model.specs.declared.family.Family.{Family}
 use Rattle.fib_addr.specs.Views.{prefix_as}
 use Rattle.fib_addr.proofs.Parts.{length_prefix}
 use Rattle.fib_addr.specs.declared.prefix.Prefix as code
 use Rattle.table_model.specs.Table.{Table, root, half, here, inherit, cut}
 use Rattle.table_model.specs.Entries.{Entries, of_family, of_table}
 use Rattle.table_model.proofs.Cut.{entry}
-use Rattle.least_model.specs.Regions.{lift, join}
-use Rattle.least_model.specs.Sets.{side, set_of, own, pick, agg, answers}
-use Rattle.least_model.specs.Least.{aggregate, IsAggregate, Least, LeastWithin}
-use Rattle.least_model.proofs.Sets.{in_first, in_single, in_pick}
-use Rattle.least_model.proofs.Cost.{set_uniform}
-use Rattle.least_model.proofs.Laws.{fresh_law, aggregate_least}
-use Rattle.least_model.proofs.Patch.{aggregate_is}
-use Rattle.least_model.proofs.Both.{family_is, sorted_aggregate}
+use Rattle.table_model.specs.Regions.{lift, join}
+use Rattle.table_model.specs.Sets.{side, set_of, own, pick, agg, answers}
+use Rattle.table_model.specs.Least.{aggregate, IsAggregate, Least, LeastWithin}
+use Rattle.table_model.proofs.Sets.{in_first, in_single, in_pick}
+use Rattle.table_model.proofs.Cost.{set_uniform}
+use Rattle.table_model.proofs.Laws.{fresh_law, aggregate_least}
+use Rattle.table_model.proofs.Patch.{aggregate_is}
+use Rattle.table_model.proofs.Both.{family_is, sorted_aggregate}
 use Rattle.orig_tree.proofs.Telling as telling
 use Rattle.orig_tree.specs.Spots.{Spot, answers_in}
 use Rattle.ortc.proofs.Alike.{agg_alike, half_answers}

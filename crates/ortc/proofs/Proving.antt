@@ -1,15 +1,15 @@
 -- The rows of regions.
 use Rattle.std.proofs.Common.{◌≡◌, ◌≢◌, ℕ, zero, suc, ◌+◌, ◌-◌, List, [], ◌∷◌, ◌++◌, Bool, true, false, None, length, refl, sym, ap, subst, ◌∙◌, arith}
-use Rattle.address_model.specs.Address.{Prefix}
-use Rattle.address_model.specs.Width.{width}
-use Rattle.address_model.specs.Regions.{half_at}
-use Rattle.address_model.specs.declared.family.Family.{Family}
+use Rattle.table_model.specs.Address.{Prefix}
+use Rattle.table_model.specs.Width.{width}
+use Rattle.table_model.specs.Halves.{half_at}
+use Rattle.table_model.specs.declared.family.Family.{Family}
 use Rattle.fib_addr.specs.Views.{prefix_as}
 use Rattle.fib_addr.specs.declared.prefix.Prefix as code
 use Rattle.table_model.specs.Table.{root, half, inherit}
 use Rattle.table_model.specs.Entries.{Entries, of_family}
-use Rattle.least_model.specs.Sets.{side, set_of, k_of, answers}
-use Rattle.least_model.specs.Least.{Least, bound}
+use Rattle.table_model.specs.Sets.{side, set_of, k_of, answers}
+use Rattle.table_model.specs.Least.{Least, bound}
 use Rattle.ortc.specs.Proved.{ProveLeast}
 use Rattle.cert_model.specs.Rows.{CertRow, leaf_row, join_row, bound_row, one_answer, leaf_or, region_rows, whole_prefix, family_rows}
 use Rattle.cert_model.specs.Right.{bound_by}
@@ -17,8 +17,8 @@ use Rattle.cert_model.proofs.Answers.{one_answer_from}
 use Rattle.cert_model.proofs.Postorder.{have_bound, few}
 use Rattle.orig_tree.proofs.Telling.{whole_len}
 use Rattle.orig_tree.specs.Spots.{Spot, answers_in}
-use Rattle.least_model.proofs.Cost.{set_alike, k_alike}
-use Rattle.least_model.proofs.Laws.{bound_law}
+use Rattle.table_model.proofs.Cost.{set_alike, k_alike}
+use Rattle.table_model.proofs.Laws.{bound_law}
 use Rattle.ortc.proofs.Alike.{rows_alike, two_answers, some_bit, half_answers}
 
 -- the rows of a region with one answer

@@ -1,7 +1,7 @@
 -- What the rows of one family prove.
 use Rattle.std.specs.Prelude.{◌≡◌, ℕ, List, [], ◌∷◌, ◌++◌, length}
-use Rattle.address_model.specs.declared.family.Family.{Family}
-use Rattle.address_model.specs.Width.{width}
+use Rattle.table_model.specs.declared.family.Family.{Family}
+use Rattle.table_model.specs.Width.{width}
 use Rattle.table_model.specs.Table.{Alike}
 use Rattle.table_model.specs.Entries.{Entries, of_family}
 use Rattle.cert_model.specs.Rows.{CertRow, bound_row}

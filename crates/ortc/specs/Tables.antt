@@ -1,8 +1,8 @@
 -- What the tables of a tree are.
 use Rattle.std.specs.Prelude.{ℕ, List, Bool}
-use Rattle.address_model.specs.Width.{width}
+use Rattle.table_model.specs.Width.{width}
 use Rattle.table_model.specs.Entries.{Entries, of_family}
-use Rattle.least_model.specs.Least.{IsAggregate}
+use Rattle.table_model.specs.Least.{IsAggregate}
 use Rattle.orig_tree.specs.Views.{Labels}
 
 -- T is the aggregate of the region p for the tree's routes under h, with the tree's entries as the old table

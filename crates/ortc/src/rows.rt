@@ -4,8 +4,8 @@
 //! There is one row for each region, and one for the bound. Rows are handed on one by one: no list of them is made here.
 
 ghost use Rattle.std.specs.Prelude.{◌≡◌, ◌+◌, ℕ, ◌++◌, List, Bool, [], ◌∷◌, IfOk, OnOk};
-ghost use Rattle.address_model.specs.Width.{width};
-ghost use Rattle.least_model.specs.Sets.{set_of, k_of};
+ghost use Rattle.table_model.specs.Width.{width};
+ghost use Rattle.table_model.specs.Sets.{set_of, k_of};
 ghost use Rattle.cert_model.specs.Rows.{bound_row, family_rows, region_rows};
 ghost use Rattle.cert_model.specs.Right.{bound_by};
 ghost use Rattle.fib_addr.specs.Views.{prefix_as};

@@ -1,6 +1,6 @@
 -- A trie shows entries by their answers alone.
 use Rattle.std.proofs.Common.{◌≡◌, ℕ, ◌+◌, ◌≤◌, List, Bool, false, sym, ap, ◌∙◌, subst}
-use Rattle.address_model.specs.declared.family.Family.{Family}
+use Rattle.table_model.specs.declared.family.Family.{Family}
 use Rattle.table_model.specs.Entries.{Entries}
 use Rattle.buddy_arena.specs.Space.{Space}
 use Rattle.block_pool.specs.Arrays.{Array, places_of}

@@ -5,12 +5,12 @@ use Rattle.std.specs.List.{list_any, AllByRecursion}
 use Rattle.std.proofs.Math.Seq.{take-append_seam}
 use Rattle.std.proofs.lemmas.Bool.{cases_eq, ne_eqb}
 use Rattle.std.proofs.lemmas.List.{take-append-drop, length-take-le, length-drop}
-use Rattle.address_model.specs.Address.{Address, IsAddress, Prefix}
-use Rattle.address_model.specs.Bits.{bits_of, value_of}
-use Rattle.address_model.specs.Width.{width}
-use Rattle.address_model.specs.declared.family.Family.{Family}
-use Rattle.address_model.specs.declared.family.Family.TheVariants.{V4, V6}
-use Rattle.address_model.proofs.BitLaws.{length-bits_of, value-bits_of, value-lt, bits_from_value}
+use Rattle.table_model.specs.Address.{Address, IsAddress, Prefix}
+use Rattle.table_model.specs.Bits.{bits_of, value_of}
+use Rattle.table_model.specs.Width.{width}
+use Rattle.table_model.specs.declared.family.Family.{Family}
+use Rattle.table_model.specs.declared.family.Family.TheVariants.{V4, V6}
+use Rattle.table_model.proofs.BitLaws.{length-bits_of, value-bits_of, value-lt, bits_from_value}
 use Rattle.fib_regions.specs.Answers.{all_answers, part, side}
 use Rattle.poptrie_build.specs.Tries.{rest}
 use Rattle.poptrie_set.specs.Lives.{Store, covers, ShowsIn}

@@ -1,7 +1,7 @@
 -- Steps that concern the other family.
 use Rattle.std.proofs.Common.{◌≡◌, ℕ, suc, ◌+◌, ◌≤◌, List, [], ◌∷◌, ◌++◌, Bool, true, false, cond, Option, Some, None, refl, sym, ap, ◌∙◌, arith, subst}
 use Rattle.std.proofs.lemmas.List.{append-nil}
-use Rattle.address_model.specs.declared.family.Family.{Family}
+use Rattle.table_model.specs.declared.family.Family.{Family}
 use Rattle.table_model.specs.Entries.{Entries}
 use Rattle.fib_regions.specs.Answers.{all_answers}
 use Rattle.orig_tree.specs.Views.{Labels}

@@ -1,6 +1,6 @@
 -- Before the first step.
 use Rattle.std.proofs.Common.{◌≡◌, ℕ, zero, suc, ◌≤◌, List, [], Bool, false, Option, None, get_or, length, replicate, refl, sym, ap, ◌∙◌, arith, subst}
-use Rattle.address_model.specs.declared.family.Family.{Family}
+use Rattle.table_model.specs.declared.family.Family.{Family}
 use Rattle.table_model.specs.Entries.{Entries}
 use Rattle.fib_regions.specs.Answers.{all_answers}
 use Rattle.orig_tree.specs.Views.{Labels}

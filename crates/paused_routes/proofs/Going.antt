@@ -1,7 +1,7 @@
 -- An open look-up goes on.
 use Rattle.std.proofs.Common.{◌≡◌, ℕ, suc, ◌+◌, Option, Some, None, refl, sym, ap, ◌∙◌, arith, subst}
 use Rattle.std.specs.Prelude.{Result, Ok, Err, OnOk, OnErr, IfOk}
-use Rattle.address_model.specs.declared.family.Family.{Family}
+use Rattle.table_model.specs.declared.family.Family.{Family}
 use Rattle.table_model.specs.Entries.{Entries, match_in}
 use Rattle.fib_addr.specs.declared.entry.Hop.{Hop}
 use Rattle.fib_addr.specs.Views.{addr_as}

@@ -1,9 +1,9 @@
 -- The next event is made ready, or isn't.
 use Rattle.std.proofs.Common.{◌≡◌, ℕ, suc, ◌+◌, ◌*◌, ◌^◌, ◌≤◌, List, drop, Bool, true, false, cond, Option, refl, sym, ap, ◌∙◌, arith, subst}
 use Rattle.std.specs.Prelude.{Result, Ok, Err, OnOk, is_err}
-use Rattle.address_model.specs.Address.{Prefix, same_family}
-use Rattle.address_model.specs.declared.family.Family.{Family}
-use Rattle.address_model.proofs.Same.{same_family_itself}
+use Rattle.table_model.specs.Address.{Prefix, same_family}
+use Rattle.table_model.specs.declared.family.Family.{Family}
+use Rattle.table_model.proofs.SamePrefix.{same_family_itself}
 use Rattle.table_model.specs.Entries.{Entries}
 use Rattle.kept_model.specs.Patched.{with_route}
 use Rattle.fib_regions.specs.Answers.{all_answers}

@@ -1,7 +1,7 @@
 -- The steps of a pending update, in the machine.
 use Rattle.std.proofs.Common.{◌≡◌, ℕ, suc, ◌+◌, ◌<◌, ◌≤◌, List, [], ◌∷◌, ◌++◌, Bool, true, false, cond, Option, Some, None, refl, sym, ap, ◌∙◌, arith, subst}
 use Rattle.std.specs.Prelude.{Result, Ok, Err, OnOk, IfErr}
-use Rattle.address_model.specs.declared.family.Family.{Family}
+use Rattle.table_model.specs.declared.family.Family.{Family}
 use Rattle.table_model.specs.Entries.{Entries}
 use Rattle.fib_regions.specs.Answers.{all_answers}
 use Rattle.orig_tree.specs.Views.{Labels}

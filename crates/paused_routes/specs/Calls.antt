@@ -1,7 +1,7 @@
 -- What the calls do, as steps of the machine.
 use Rattle.std.specs.Prelude.{◌≡◌, ℕ, suc, ◌^◌, Bool, true, false, Option, Some, None, Result, Ok, Err}
-use Rattle.address_model.specs.Address.{Prefix}
-use Rattle.address_model.specs.declared.family.Family.{Family}
+use Rattle.table_model.specs.Address.{Prefix}
+use Rattle.table_model.specs.declared.family.Family.{Family}
 use Rattle.table_model.specs.Entries.{Entries, match_in}
 use Rattle.kept_model.specs.Patched.{with_route}
 use Rattle.fib_addr.specs.Hops.{hop_at}

@@ -1,7 +1,7 @@
 //! Laws: each function does nothing, and its clause holds for all values.
 
 ghost use Rattle.std.specs.Prelude.{◌≡◌, false};
-ghost use Rattle.address_model.specs.declared.family.Family.{Family};
+ghost use Rattle.table_model.specs.declared.family.Family.{Family};
 ghost use Rattle.step_model.specs.Machine.{World, State, is_in};
 ghost use Rattle.paused_routes.specs.declared.routes.PausedRoutes.{PausedRoutes};
 ghost use Rattle.paused_routes.specs.Paused.{IsAt};

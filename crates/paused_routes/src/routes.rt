@@ -86,7 +86,7 @@ fn filled(alloc: Global, tree: &Tree, sizes: &Sizes) -> Result<Live, PausedError
 
 impl PausedRoutes {
     ghost use Rattle.std.specs.Prelude.{◌≡◌, ◌<◌, suc, false, IfOk, IfErr, OnOk, OnErr};
-    ghost use Rattle.address_model.specs.declared.family.Family.{Family};
+    ghost use Rattle.table_model.specs.declared.family.Family.{Family};
     ghost use Rattle.fib_addr.specs.Views.{addr_as, prefix_as};
     ghost use Rattle.kept_model.specs.Patched.{with_route};
     ghost use Rattle.poptrie_update.specs.Lives.{is_pending};

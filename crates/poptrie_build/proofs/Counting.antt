@@ -11,8 +11,8 @@ use Rattle.poptrie_build.specs.Stands.{IsCanonical}
 use Rattle.poptrie_build.specs.Slots.{AreSlots}
 use Rattle.poptrie_build.specs.Making.{kind_in}
 use Rattle.std.proofs.Math.Pow.{pow_mono}
-use Rattle.address_model.specs.Bits.{bits_of}
-use Rattle.address_model.proofs.BitLaws.{length-bits_of}
+use Rattle.table_model.specs.Bits.{bits_of}
+use Rattle.table_model.proofs.BitLaws.{length-bits_of}
 use Rattle.block_pool.specs.Places.{count_free, IsFresh, Takes}
 use Rattle.block_pool.proofs.Powers.{up_above}
 use Rattle.poptrie_build.specs.declared.node.Node.{Node}

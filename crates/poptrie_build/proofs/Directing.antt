@@ -4,8 +4,8 @@ use Rattle.std.proofs.lemmas.Bool.{cases_lt}
 use Rattle.std.proofs.Math.ListN.{length-set}
 use Rattle.std.proofs.lemmas.List.{get_or_append_left, get_or-append_right, get_or-set_same, get_or-set_other}
 use Rattle.std.proofs.Math.Pow.{pow_mono}
-use Rattle.address_model.specs.Bits.{bits_of}
-use Rattle.address_model.proofs.BitLaws.{length-bits_of}
+use Rattle.table_model.specs.Bits.{bits_of}
+use Rattle.table_model.proofs.BitLaws.{length-bits_of}
 use Rattle.buddy_arena.specs.Space.{Space, IsSized}
 use Rattle.fib_regions.specs.Answers.{side, part, one_answer}
 use Rattle.poptrie_build.specs.Strides.{mixed}

@@ -2,12 +2,12 @@
 use Rattle.std.proofs.Common.{◌≡◌, ◌≢◌, ℕ, zero, suc, ◌≤◌, List, [], ◌∷◌, Bool, true, false, cond, length, refl, sym, ap, ◌∙◌, arith, replicate, inl, inr}
 use Rattle.std.specs.Prelude.{◌&&◌, ◌⊎◌}
 use Rattle.std.proofs.lemmas.List.{length-replicate}
-use Rattle.address_model.specs.Bits.{begins}
-use Rattle.address_model.specs.Width.{width}
-use Rattle.address_model.specs.Address.{Address, Prefix, IsPrefix, contains, same_family}
-use Rattle.address_model.specs.Regions.{is_within}
-use Rattle.address_model.specs.declared.family.Family.{Family}
-use Rattle.address_model.specs.declared.family.Family.TheVariants.{V4, V6}
+use Rattle.table_model.specs.Bits.{begins}
+use Rattle.table_model.specs.Width.{width}
+use Rattle.table_model.specs.Address.{Address, Prefix, IsPrefix, contains, same_family}
+use Rattle.table_model.specs.Halves.{is_within}
+use Rattle.table_model.specs.declared.family.Family.{Family}
+use Rattle.table_model.specs.declared.family.Family.TheVariants.{V4, V6}
 use Rattle.table_model.specs.Table.{Entry, hop_or, longest}
 use Rattle.table_model.specs.Entries.{match_in}
 use Rattle.table_model.specs.Uniform.{AllGet, TwoDiffer}

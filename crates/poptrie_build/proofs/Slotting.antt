@@ -5,8 +5,8 @@ use Rattle.std.proofs.lemmas.Bool.{cases_lt}
 use Rattle.std.proofs.lemmas.Nat.{pow-add, shr_high}
 use Rattle.std.proofs.lemmas.Nat.Bits.{bit_at_above, shr_and_one}
 use Rattle.std.proofs.lemmas.List.{get_or_append_left, get_or-append_right, get_or-set_same, length-take}
-use Rattle.address_model.specs.Bits.{bits_of}
-use Rattle.address_model.proofs.BitLaws.{length-bits_of, bits_low}
+use Rattle.table_model.specs.Bits.{bits_of}
+use Rattle.table_model.proofs.BitLaws.{length-bits_of, bits_low}
 use Rattle.fib_regions.specs.Answers.{side, part, one_answer}
 use Rattle.poptrie_build.specs.Slots.{AreSlots}
 use Rattle.fib_regions.proofs.OneAnswer.{one_answer_part}

@@ -1,6 +1,6 @@
 -- What a node that is not in the arrays yet stands for, and in which places the arrays below it lie.
 use Rattle.std.specs.Prelude.{◌≡◌, ℕ, zero, suc, ◌+◌, ◌-◌, ◌^◌, ◌<◌, List, Bool, true, None, length, slice_index}
-use Rattle.address_model.specs.Bits.{bits_of}
+use Rattle.table_model.specs.Bits.{bits_of}
 use Rattle.poptrie_build.specs.Bits.{rank_of}
 use Rattle.fib_regions.specs.Answers.{one_answer, part}
 use Rattle.poptrie_build.specs.Strides.{slots, slot}

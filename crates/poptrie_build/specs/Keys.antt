@@ -1,7 +1,7 @@
 -- The bits of an address as a number.
 use Rattle.std.specs.Prelude.{ℕ, ◌-◌, ◌*◌, ◌%◌, ◌^◌, ◌<◌}
 use Rattle.std.proofs.lemmas.Nat.{mod_below, pow_pos}
-use Rattle.address_model.specs.Width.{width}
+use Rattle.table_model.specs.Width.{width}
 use Rattle.fib_addr.specs.declared.addr.Addr.{Addr}
 
 -- as the first of 128, the most significant first

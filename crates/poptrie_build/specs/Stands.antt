@@ -1,7 +1,7 @@
 -- What nodes and leaves in arrays stand for.
 use Rattle.std.specs.Prelude.{◌≡◌, ℕ, zero, suc, ◌+◌, ◌-◌, ◌^◌, ◌<◌, List, Bool, Option, Some, None, length, slice_index, slice_index_or}
 use Rattle.std.specs.Int.{bit_at}
-use Rattle.address_model.specs.Bits.{bits_of}
+use Rattle.table_model.specs.Bits.{bits_of}
 use Rattle.poptrie_build.specs.Bits.{rank_of}
 use Rattle.fib_regions.specs.Answers.{one_answer, part}
 use Rattle.poptrie_build.specs.Strides.{slots, slot, mixed, run_start}

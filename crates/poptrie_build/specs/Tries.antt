@@ -1,8 +1,8 @@
 -- What a trie is seen as, and what it stands for.
 use Rattle.std.specs.Prelude.{◌≡◌, ℕ, ◌+◌, ◌-◌, ◌^◌, ◌<◌, ◌≤◌, List, ◌⊎◌, length}
-use Rattle.address_model.specs.Width.{width}
-use Rattle.address_model.specs.Address.{Address}
-use Rattle.address_model.specs.declared.family.Family.{Family}
+use Rattle.table_model.specs.Width.{width}
+use Rattle.table_model.specs.Address.{Address}
+use Rattle.table_model.specs.declared.family.Family.{Family}
 use Rattle.table_model.specs.Entries.{Entries}
 use Rattle.buddy_arena.specs.Space.{Space, IsSized}
 use Rattle.fib_regions.specs.Answers.{all_answers}

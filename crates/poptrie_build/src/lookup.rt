@@ -1,7 +1,7 @@
 //! The way from a direct word to the leaf of an address.
 
 ghost use Rattle.std.specs.Prelude.{◌≡◌, ◌+◌, ◌*◌, ◌≤◌, ◌<◌};
-ghost use Rattle.address_model.specs.Width.{width};
+ghost use Rattle.table_model.specs.Width.{width};
 ghost use Rattle.fib_addr.specs.Views.{addr_as};
 ghost use Rattle.buddy_arena.specs.Space.{IsSized};
 ghost use Rattle.fib_regions.specs.Answers.{part};

@@ -1,7 +1,7 @@
 //! The slots of a region, asked by halves.
 
 ghost use Rattle.std.specs.Prelude.{◌≡◌, ◌+◌, ◌^◌, ◌<◌, ◌≤◌, length};
-ghost use Rattle.address_model.specs.Bits.{bits_of};
+ghost use Rattle.table_model.specs.Bits.{bits_of};
 ghost use Rattle.fib_regions.specs.Answers.{part};
 ghost use Rattle.poptrie_build.specs.Slots.{AreSlots};
 

@@ -52,7 +52,7 @@ pub fn empty_words(alloc: Global, direct_bits: u8) -> Result<Vec<u32>, AllocErro
 
 impl Trie {
     ghost use Rattle.std.specs.Prelude.{[], ◌≡◌, ◌+◌, ◌-◌, ◌^◌, ◌≤◌, IfOk, IfErr, OnOk, OnErr};
-    ghost use Rattle.address_model.specs.Width.{width};
+    ghost use Rattle.table_model.specs.Width.{width};
     ghost use Rattle.fib_addr.specs.Views.{addr_as};
     ghost use Rattle.table_model.specs.Entries.{Entries, match_in};
     ghost use Rattle.poptrie_build.specs.Need.{told};

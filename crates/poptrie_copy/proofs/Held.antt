@@ -1,7 +1,7 @@
 -- What stands, stands in the places of its own arrays.
 use Rattle.std.proofs.Common.{◌≡◌, ℕ, zero, suc, ◌+◌, ◌-◌, ◌^◌, ◌<◌, List, [], ◌∷◌, Bool, true, cond, Option, Some, None, length, get_or, refl, ap, ◌∙◌, arith, subst}
 use Rattle.std.specs.Prelude.{nat_lt}
-use Rattle.address_model.specs.Bits.{bits_of}
+use Rattle.table_model.specs.Bits.{bits_of}
 use Rattle.poptrie_build.specs.Bits.{rank_of}
 use Rattle.poptrie_build.specs.Strides.{slots, slot, mixed}
 use Rattle.fib_regions.specs.Answers.{part, one_answer}

@@ -2,7 +2,7 @@
 use Rattle.std.proofs.Common.{◌≡◌, ◌≢◌, ℕ, suc, ◌+◌, ◌-◌, ◌*◌, ◌^◌, ◌<◌, ◌≤◌, List, [], ◌∷◌, ◌++◌, Bool, true, false, Option, Some, None, length, refl, sym, ap, ◌∙◌, arith, subst, inl, inr}
 use Rattle.std.specs.Prelude.{◌⊎◌, slice_index}
 use Rattle.std.proofs.lemmas.Bool.{cases_lt}
-use Rattle.address_model.specs.Bits.{bits_of}
+use Rattle.table_model.specs.Bits.{bits_of}
 use Rattle.buddy_arena.specs.Space.{Space}
 use Rattle.block_pool.specs.Places.{Keeps, is_out}
 use Rattle.fib_regions.specs.Answers.{one_answer, part, side}

@@ -1,6 +1,6 @@
 -- What is asked for is no more than what the new part needs; so what is put aside is no more than what the old part needed.
 use Rattle.std.proofs.Common.{◌≡◌, ℕ, zero, suc, ◌+◌, ◌-◌, ◌*◌, ◌^◌, ◌<◌, ◌≤◌, List, [], ◌∷◌, ◌++◌, Bool, true, false, Option, Some, None, refl, sym, ap, ◌∙◌, arith, subst}
-use Rattle.address_model.specs.Bits.{bits_of}
+use Rattle.table_model.specs.Bits.{bits_of}
 use Rattle.buddy_arena.specs.Space.{Space, tick, marked}
 use Rattle.buddy_arena.specs.Space as arena
 use Rattle.buddy_arena.proofs.Totals.{tick_le}

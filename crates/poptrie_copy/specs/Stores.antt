@@ -1,7 +1,7 @@
 -- Direct words to be stored.
 use Rattle.std.specs.Prelude.{◌≡◌, ◌≢◌, ℕ, ◌+◌, ◌-◌, ◌*◌, ◌^◌, ◌<◌, ◌≤◌, List, [], ◌∷◌, ◌++◌, Bool, cond, nat_eq, nat_le, nat_lt, ◌&&◌, slice_index}
 use Rattle.std.specs.List.{AllByRecursion}
-use Rattle.address_model.specs.Bits.{bits_of}
+use Rattle.table_model.specs.Bits.{bits_of}
 use Rattle.buddy_arena.specs.Space.{Space}
 use Rattle.block_pool.specs.Arrays.{Array}
 use Rattle.block_pool.specs.Blocks.{Held}

@@ -1,7 +1,7 @@
 -- The calls of a live trie, as steps of what it is seen as.
 use Rattle.std.proofs.Common.{◌≡◌, ℕ, zero, suc, ◌+◌, ◌<◌, ◌≤◌, List, [], ◌∷◌, ◌++◌, Bool, false, length, get_or, refl, sym, ap, ◌∙◌, arith, subst, set}
 use Rattle.std.specs.List.{AllByRecursion}
-use Rattle.address_model.specs.declared.family.Family.{Family}
+use Rattle.table_model.specs.declared.family.Family.{Family}
 use Rattle.table_model.specs.Entries.{Entries}
 use Rattle.buddy_arena.specs.Space.{Space}
 use Rattle.block_pool.specs.Places.{is_out}

@@ -1,6 +1,6 @@
 -- A lookup without a pause, read by read.
 use Rattle.std.proofs.Common.{◌≡◌, ℕ, zero, suc, ◌+◌, ◌-◌, ◌*◌, ◌<◌, ◌≤◌, List, Bool, Option, Some, None, take, drop, refl, sym, ap, ◌∙◌, arith, subst}
-use Rattle.address_model.specs.Width.{width}
+use Rattle.table_model.specs.Width.{width}
 use Rattle.fib_addr.specs.declared.addr.Addr.{Addr}
 use Rattle.fib_addr.specs.Views.{addr_as}
 use Rattle.table_model.specs.Entries.{Entries, match_in}

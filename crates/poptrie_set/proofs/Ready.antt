@@ -3,13 +3,13 @@ use Rattle.std.proofs.Common.{◌≡◌, ℕ, suc, ◌+◌, ◌*◌, ◌^◌, �
 use Rattle.std.specs.Prelude.{◌↔◌, ◌∷◌, OnOk, OnErr, IfErr, slice_index, ◌&&◌}
 use Rattle.std.specs.List.{AllByRecursion}
 use Rattle.std.proofs.lemmas.List.{length-append}
-use Rattle.address_model.specs.Bits.{bits_of, begins}
-use Rattle.address_model.specs.Address.{Prefix, same_family}
-use Rattle.address_model.specs.Width.{width}
-use Rattle.address_model.specs.declared.family.Family.{Family}
-use Rattle.address_model.specs.declared.family.Family.TheVariants.{V4, V6}
-use Rattle.address_model.proofs.BitLaws.{length-bits_of}
-use Rattle.address_model.proofs.Same.{same_family_itself}
+use Rattle.table_model.specs.Bits.{bits_of, begins}
+use Rattle.table_model.specs.Address.{Prefix, same_family}
+use Rattle.table_model.specs.Width.{width}
+use Rattle.table_model.specs.declared.family.Family.{Family}
+use Rattle.table_model.specs.declared.family.Family.TheVariants.{V4, V6}
+use Rattle.table_model.proofs.BitLaws.{length-bits_of}
+use Rattle.table_model.proofs.SamePrefix.{same_family_itself}
 use Rattle.table_model.specs.Entries.{Entries}
 use Rattle.buddy_arena.specs.Space.{Space, IsSized}
 use Rattle.buddy_arena.specs.Space as arena

@@ -6,8 +6,8 @@ use Rattle.std.proofs.Math.Pow.{pow_mono}
 use Rattle.std.proofs.lemmas.Nat.{div-mul-add, pow-add, pow_pos}
 use Rattle.std.proofs.lemmas.Bool.{cases_lt}
 use Rattle.std.proofs.lemmas.List.{append_assoc, take-append-le, take-take, length-take-le}
-use Rattle.address_model.specs.Bits.{bits_of, begins}
-use Rattle.address_model.proofs.BitLaws.{length-bits_of, bits_take, bits_split, bits_low, same_from_bits}
+use Rattle.table_model.specs.Bits.{bits_of, begins}
+use Rattle.table_model.proofs.BitLaws.{length-bits_of, bits_take, bits_split, bits_low, same_from_bits}
 use Rattle.buddy_arena.specs.Space.{Space}
 use Rattle.buddy_arena.proofs.Counts.{mul_mono}
 use Rattle.block_pool.specs.Places.{is_out}

@@ -1,6 +1,6 @@
 -- The direct words made anew for a table that differs from the one before within a prefix.
 use Rattle.std.specs.Prelude.{◌≡◌, ℕ, ◌*◌, ◌^◌, ◌<◌, ◌≤◌, List, ◌++◌, Bool, false, length, slice_index}
-use Rattle.address_model.specs.Bits.{bits_of, begins}
+use Rattle.table_model.specs.Bits.{bits_of, begins}
 use Rattle.buddy_arena.specs.Space.{Space, IsSized}
 use Rattle.block_pool.specs.Places.{Keeps, is_out}
 use Rattle.block_pool.specs.Arrays.{Array, AreApart}

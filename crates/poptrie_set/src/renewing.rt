@@ -1,8 +1,8 @@
 //! The direct words of a prefix's slots, made anew beside the old ones.
 
 ghost use Rattle.std.specs.Prelude.{◌≡◌, ℕ, ◌+◌, ◌-◌, ◌^◌, ◌<◌, ◌≤◌, [], IfErr, OnOk, OnErr, length, slice_index};
-ghost use Rattle.address_model.specs.Bits.{bits_of};
-ghost use Rattle.address_model.specs.Width.{width};
+ghost use Rattle.table_model.specs.Bits.{bits_of};
+ghost use Rattle.table_model.specs.Width.{width};
 ghost use Rattle.buddy_arena.specs.Space.{IsSized};
 ghost use Rattle.block_pool.specs.Places.{is_out};
 ghost use Rattle.block_pool.specs.Arrays.{AreApart};

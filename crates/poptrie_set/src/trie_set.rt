@@ -74,7 +74,7 @@ impl Model for TrieSet {
 
 impl TrieSet {
     ghost use Rattle.std.specs.Prelude.{◌≡◌, ℕ, List, [], ◌∷◌, ◌++◌, suc, ◌+◌, ◌*◌, ◌≤◌, ◌<◌, Bool, true, false, length, IfOk, OnOk, OnErr, IfErr};
-    ghost use Rattle.address_model.specs.Width.{width};
+    ghost use Rattle.table_model.specs.Width.{width};
     ghost use Rattle.fib_addr.specs.Views.{addr_as, prefix_as};
     ghost use Rattle.table_model.specs.Entries.{Entries, match_in};
     ghost use Rattle.fib_regions.specs.Answers.{all_answers};

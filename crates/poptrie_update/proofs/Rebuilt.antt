@@ -1,7 +1,7 @@
 -- An update whose trie is built in the other set, as it is told of the set before.
 use Rattle.std.proofs.Common.{◌≡◌, ℕ, ◌^◌, ◌≤◌, List, Bool, false, Result, Ok, Err, refl, sym, ap, subst}
 use Rattle.std.specs.Prelude.{OnOk, IfOk}
-use Rattle.address_model.specs.declared.family.Family.{Family}
+use Rattle.table_model.specs.declared.family.Family.{Family}
 use Rattle.table_model.specs.Entries.{Entries}
 use Rattle.poptrie_build.specs.Tries.{node_need, leaf_need, IsTooMuch}
 use Rattle.poptrie_copy.specs.Asks.{RunsOut}

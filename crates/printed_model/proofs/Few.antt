@@ -7,8 +7,8 @@ use Rattle.std.proofs.lemmas.Grind.{flat_map-append}
 use Rattle.std.proofs.lemmas.List.{length-map}
 use Rattle.std.proofs.lemmas.Map.Steps.{length-le_from_distinct_below}
 use Rattle.octet_fields.specs.Field.{◌>>=◌}
-use Rattle.address_model.specs.Address.{Address, same_address}
-use Rattle.address_model.proofs.Same.{same_address_itself}
+use Rattle.table_model.specs.Address.{Address, same_address}
+use Rattle.table_model.proofs.SamePrefix.{same_address_itself}
 use Rattle.table_model.specs.Entries.{Entries}
 use Rattle.fib_addr.specs.Hops.{hop_at, with_hop, most_hops}
 use Rattle.fib_addr.proofs.HopLists.{folded_distinct, none_distinct, passes_within, place_holds}

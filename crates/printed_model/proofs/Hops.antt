@@ -4,7 +4,7 @@ use Rattle.std.specs.Prelude.{unwrap_or, flat_map, fold, option_to_list, slice_g
 use Rattle.std.specs.List.{AllByRecursion, list_any}
 use Rattle.std.proofs.lemmas.Grind.{flat_map-append}
 use Rattle.std.proofs.lemmas.List.Sums.{fold-append}
-use Rattle.address_model.specs.Address.{Address, Prefix, same_address}
+use Rattle.table_model.specs.Address.{Address, Prefix, same_address}
 use Rattle.fib_addr.specs.Hops.{hop_at, with_hop}
 use Rattle.fib_addr.proofs.HopLists.{HasNumber, brought_number, folded_stays, number_holds}
 use Rattle.cert_model.specs.Rows.{leaf_row}

@@ -4,10 +4,10 @@ use Rattle.std.specs.Prelude.{◌||◌, flat_map, slice_get}
 use Rattle.std.specs.List.{AllByRecursion, IsDistinct}
 use Rattle.std.proofs.lemmas.Bool.{eqb-true}
 use Rattle.std.proofs.lemmas.Grind.{flat_map-append}
-use Rattle.address_model.specs.Address.{Address, Prefix, same_address}
-use Rattle.address_model.proofs.Same.{same_address_itself}
+use Rattle.table_model.specs.Address.{Address, Prefix, same_address}
+use Rattle.table_model.proofs.SamePrefix.{same_address_itself}
 use Rattle.table_model.specs.Entries.{Entries}
-use Rattle.least_model.specs.Sets.{is_in}
+use Rattle.table_model.specs.Sets.{is_in}
 use Rattle.fib_addr.specs.Hops.{hop_at}
 use Rattle.cert_model.specs.Rows.{CertRow, leaf_row, join_row, bound_row}
 use Rattle.cert_model.specs.Right.{IsCertificate}

@@ -1,7 +1,7 @@
 -- What is written of a row is read again.
 use Rattle.std.proofs.Common.{◌≡◌, ℕ, List, [], ◌∷◌, Option, Result, Ok, decimal, codes, ap, ◌∙◌}
 use Rattle.octet_fields.specs.Field.{◌>>=◌}
-use Rattle.address_model.specs.Address.{Address, Prefix, IsPrefix}
+use Rattle.table_model.specs.Address.{Address, Prefix, IsPrefix}
 use Rattle.fib_addr.specs.Text.{address_text, prefix_text}
 use Rattle.printed_model.specs.Rows.{Announced, Vrp, PrintedRow, route_row, invalid_row, add_row, replace_row, remove_row, moves_row, answer_row, visits_row, table_row, least_row, cert_leaf_row, cert_join_row, cert_bound_row, report_row, IsRow, fields_of, count_name, family_name, hop_text, origin_text}
 use Rattle.printed_model.specs.Reading.{address_field, prefix_field, number_field, hop_field, origin_field, count_field, family_field, announced_fields, vrp_fields, announced_in, printed_vrp_in, invalid_in, entry_in, route_in, answer_in, visits_in, signed_in, change_in, moves_in, join_in, bound_in, part_in, cert_in, report_in, named_in, row_in}

@@ -10,7 +10,7 @@ use Rattle.std.proofs.lemmas.List.Splits.{slice_split_at, slice_split_none}
 use Rattle.std.proofs.Math.Seq.{take-append_seam}
 use Rattle.octet_fields.specs.Field.{◌>>=◌}
 use Rattle.bstr.specs.Text.{without_terminator, no_cr}
-use Rattle.address_model.specs.Address.{Address, same_address}
+use Rattle.table_model.specs.Address.{Address, same_address}
 use Rattle.fib_addr.specs.Hops.{with_hop, most_hops}
 use Rattle.fib_addr.proofs.GroupLaws.{is_mark, none_of_both}
 use Rattle.printed_model.specs.Rows.{PrintedRow, route_row, invalid_row, add_row, replace_row, remove_row, moves_row, answer_row, visits_row, table_row, least_row, cert_leaf_row, cert_join_row, cert_bound_row, report_row, IsRow, fields_of, text_of}

@@ -1,7 +1,7 @@
 -- The entries that a text's rows of one kind say: its routes, its table to forward by, or its least table.
 use Rattle.std.specs.Prelude.{ℕ, List, Result, Ok, flat_map, fold}
 use Rattle.octet_fields.specs.Field.{◌>>=◌}
-use Rattle.address_model.specs.Address.{Address}
+use Rattle.table_model.specs.Address.{Address}
 use Rattle.table_model.specs.Entries.{Entries}
 use Rattle.fib_addr.specs.Hops.{with_hop}
 use Rattle.printed_model.specs.declared.kind.Kind.{Kind}

@@ -1,7 +1,7 @@
 -- The rows that print routes, a least table and a certificate whose hops have numbers.
 use Rattle.std.specs.Prelude.{ℕ, ◌≤◌, List, [], ◌∷◌, ◌++◌, Option, None, Some, map, flat_map, length}
 use Rattle.std.specs.List.{AllByRecursion}
-use Rattle.address_model.specs.Address.{Address, Prefix, IsPrefix}
+use Rattle.table_model.specs.Address.{Address, Prefix, IsPrefix}
 use Rattle.table_model.specs.Entries.{Entries}
 use Rattle.fib_addr.specs.Hops.{hop_at}
 use Rattle.cert_model.specs.Rows.{CertRow, leaf_row, join_row, bound_row}

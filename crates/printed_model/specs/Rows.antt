@@ -1,9 +1,9 @@
 -- The rows of printed text.
 use Rattle.std.specs.Prelude.{ℕ, ◌^◌, ◌<◌, List, [], ◌∷◌, ◌++◌, codes, decimal, Option, option_map, unwrap_or, flat_map, IfSome}
 use Rattle.std.specs.List.{join_with_byte}
-use Rattle.address_model.specs.Address.{Address, Prefix, IsAddress, IsPrefix}
-use Rattle.address_model.specs.declared.family.Family.{Family}
-use Rattle.address_model.specs.declared.family.Family.TheVariants.{V4, V6}
+use Rattle.table_model.specs.Address.{Address, Prefix, IsAddress, IsPrefix}
+use Rattle.table_model.specs.declared.family.Family.{Family}
+use Rattle.table_model.specs.declared.family.Family.TheVariants.{V4, V6}
 use Rattle.fib_addr.specs.Text.{address_text, prefix_text}
 
 -- what a run counts; Treated are the messages that were treated as withdrawals (RFC 7606, 2)

@@ -1,7 +1,7 @@
 -- What a checker uses of printed rows: the routes, the least table and the certificate, with numbers for the hops.
 use Rattle.std.specs.Prelude.{ℕ, List, [], ◌∷◌, Option, Some, None, Result, Ok, option_to_list, unwrap_or, flat_map}
 use Rattle.octet_fields.specs.Field.{◌>>=◌}
-use Rattle.address_model.specs.Address.{Address, Prefix}
+use Rattle.table_model.specs.Address.{Address, Prefix}
 use Rattle.table_model.specs.Entries.{Entries}
 use Rattle.fib_addr.specs.Hops.{number_of}
 use Rattle.cert_model.specs.Rows.{CertRow, leaf_row, join_row, bound_row}

@@ -8,7 +8,7 @@ mod kind;
 ghost use Rattle.std.specs.Prelude.{◌≡◌, ◌↔◌, ◌≤◌, List, ℕ, Ok, Err, Some, length, flat_map};
 ghost use Rattle.std.specs.List.{AllByRecursion, IsDistinct};
 ghost use Rattle.std.specs.Map.{keys_of};
-ghost use Rattle.address_model.specs.Address.{Address, IsAddress, IsPrefix, same_address};
+ghost use Rattle.table_model.specs.Address.{Address, IsAddress, IsPrefix, same_address};
 ghost use Rattle.table_model.specs.Entries.{Entries};
 ghost use Rattle.cert_model.specs.Rows.{CertRow};
 ghost use Rattle.cert_model.specs.Right.{IsCertificate};

@@ -3,7 +3,7 @@ use Rattle.std.proofs.Common.{◌≡◌, List, [], ◌∷◌, ◌++◌, Option, 
 use Rattle.std.specs.Prelude.{unwrap_or, flat_map, fold, option_to_list}
 use Rattle.std.specs.List.{AllByRecursion}
 use Rattle.std.proofs.lemmas.Grind.{flat_map-append}
-use Rattle.address_model.specs.Address.{Address}
+use Rattle.table_model.specs.Address.{Address}
 use Rattle.table_model.specs.Changes.{Change, Add, Replace}
 use Rattle.fib_addr.specs.Hops.{with_hop}
 use Rattle.fib_addr.proofs.HopLists.{HasNumber, brought_number, folded_stays}

@@ -3,7 +3,7 @@ use Rattle.std.proofs.Common.{◌≡◌, ℕ, ◌+◌, ◌≤◌, List, [], ◌�
 use Rattle.std.specs.Prelude.{◌==◌}
 use Rattle.octet_fields.specs.Field.{◌>>=◌}
 use Rattle.bstr.specs.Text.{without_terminator, lines_of as cut_lines}
-use Rattle.address_model.specs.Address.{Address}
+use Rattle.table_model.specs.Address.{Address}
 use Rattle.table_model.specs.Changes.{Change}
 use Rattle.cert_model.specs.Rows.{CertRow}
 use Rattle.fib_addr.specs.Hops.{Hops, most_hops}

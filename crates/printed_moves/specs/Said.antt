@@ -1,7 +1,7 @@
 -- The changes that a text says, and the rows that are to prove them the fewest.
 use Rattle.std.specs.Prelude.{ℕ, List, [], ◌∷◌, Result, Ok, flat_map, fold, option_to_list}
 use Rattle.octet_fields.specs.Field.{◌>>=◌}
-use Rattle.address_model.specs.Address.{Address}
+use Rattle.table_model.specs.Address.{Address}
 use Rattle.table_model.specs.Changes.{Change, Add, Replace, Remove}
 use Rattle.cert_model.specs.Rows.{CertRow}
 use Rattle.fib_addr.specs.Hops.{with_hop}

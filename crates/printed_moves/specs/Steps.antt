@@ -1,6 +1,6 @@
 -- What one more row makes of what was read.
 use Rattle.std.specs.Prelude.{List, ◌++◌, fold}
-use Rattle.address_model.specs.Address.{Address}
+use Rattle.table_model.specs.Address.{Address}
 use Rattle.fib_addr.specs.Hops.{with_hop}
 use Rattle.printed_model.specs.Rows.{PrintedRow}
 use Rattle.printed_model.specs.Used.{cert_part}

@@ -2,9 +2,9 @@
 use Rattle.std.proofs.Common.{◌≡◌, ℕ, ◌*◌, ◌≤◌, ◌<◌, Bool, true, false, List, [], ◌∷◌, length, take, drop, Result, Ok, Err, refl, subst, arith}
 use Rattle.std.specs.Prelude.{nat_lt, ◌==◌, ◌||◌, if◌then◌else◌, bit_and, IfOk}
 use Rattle.std.proofs.lemmas.List.{length-drop}
-use Rattle.address_model.specs.declared.family.Family.{Family}
-use Rattle.address_model.specs.Bits.{number}
-use Rattle.address_model.specs.Width.{width}
+use Rattle.table_model.specs.declared.family.Family.{Family}
+use Rattle.table_model.specs.Bits.{number}
+use Rattle.table_model.specs.Width.{width}
 use Rattle.octet_fields.specs.Field.{◌>>=◌, refuse, octet_at, octets_at, number_at, one_more, steps, until_end}
 use Rattle.wire_model.specs.declared.place.Place.{Place}
 use Rattle.wire_model.specs.declared.rule.Rule.{Rule}

@@ -4,12 +4,12 @@ use Rattle.std.specs.Prelude.{nat_lt, slice_get, unwrap_or, not, ◌==◌, ◌||
 use Rattle.std.specs.List.{AllByRecursion}
 use Rattle.std.proofs.lemmas.Bool.{ltb-false, eqb-true}
 use Rattle.std.proofs.lemmas.List.{length-take-le}
-use Rattle.address_model.specs.declared.family.Family.{Family}
-use Rattle.address_model.specs.declared.family.Family.TheVariants.{V4, V6}
-use Rattle.address_model.specs.Address.{Address, Prefix, IsAddress, IsPrefix}
-use Rattle.address_model.specs.Bits.{bits_of, octet_bits}
-use Rattle.address_model.specs.Width.{width}
-use Rattle.address_model.proofs.BitLaws.{length-bits_of}
+use Rattle.table_model.specs.declared.family.Family.{Family}
+use Rattle.table_model.specs.declared.family.Family.TheVariants.{V4, V6}
+use Rattle.table_model.specs.Address.{Address, Prefix, IsAddress, IsPrefix}
+use Rattle.table_model.specs.Bits.{bits_of, octet_bits}
+use Rattle.table_model.specs.Width.{width}
+use Rattle.table_model.proofs.BitLaws.{length-bits_of}
 use Rattle.route_model.specs.Events.{Peer, IsPeer, Via, IsVia, Event, Down, IsEvent}
 use Rattle.route_model.proofs.Elems.{all_more}
 use Rattle.octet_fields.specs.Field.{◌>>=◌, refuse, octet_at, octets_at, number_at, all_read, one_more, times, steps, until_end}

@@ -1,9 +1,9 @@
 -- TABLE_DUMP_V2 (RFC 6396, 4.3; RFC 8050, 4): peer tables and unicast RIB records.
 use Rattle.std.specs.Prelude.{ℕ, Bool, List, [], Option, Some, None, option_map, Result, Ok, Err, bit_and, ◌==◌, if◌then◌else◌, slice_get}
 use Rattle.std.specs.Option.{option_or}
-use Rattle.address_model.specs.declared.family.Family.{Family}
-use Rattle.address_model.specs.declared.family.Family.TheVariants.{V4, V6}
-use Rattle.address_model.specs.Address.{Address, Prefix}
+use Rattle.table_model.specs.declared.family.Family.{Family}
+use Rattle.table_model.specs.declared.family.Family.TheVariants.{V4, V6}
+use Rattle.table_model.specs.Address.{Address, Prefix}
 use Rattle.route_model.specs.Events.{Peer, Via, Event, Announce, Withdraw}
 use Rattle.octet_fields.specs.Field.{◌>>=◌, octet_at, octets_at, number_at, all_read, one_more, times}
 use Rattle.wire_model.specs.declared.place.Place.TheVariants.{Rib}

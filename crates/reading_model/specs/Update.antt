@@ -1,8 +1,8 @@
 -- BGP4MP and BGP4MP_ET (RFC 6396, 4.4 and 3; RFC 8050, 3), UPDATE (RFC 4271, 4.3; RFC 7911, 3).
 use Rattle.std.specs.Prelude.{ℕ, List, [], ◌∷◌, ◌++◌, length, map, Option, Some, None, Result, Ok, Bool, true, false, not, nat_lt, ◌==◌, ◌||◌, ◌&&◌, if◌then◌else◌}
-use Rattle.address_model.specs.declared.family.Family.{Family}
-use Rattle.address_model.specs.declared.family.Family.TheVariants.{V4}
-use Rattle.address_model.specs.Address.{Address}
+use Rattle.table_model.specs.declared.family.Family.{Family}
+use Rattle.table_model.specs.declared.family.Family.TheVariants.{V4}
+use Rattle.table_model.specs.Address.{Address}
 use Rattle.route_model.specs.Events.{Peer, Via, Event, Withdraw, Down}
 use Rattle.octet_fields.specs.Field.{◌>>=◌, refuse, octet_at, octets_at, number_at, all_read}
 use Rattle.wire_model.specs.declared.place.Place.TheVariants.{Update}

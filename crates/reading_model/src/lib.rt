@@ -8,7 +8,7 @@ mod session;
 
 ghost use Rattle.std.specs.Prelude.{◌≡◌, ℕ, Bool, List, Ok, Err};
 ghost use Rattle.std.specs.List.{AllByRecursion};
-ghost use Rattle.address_model.specs.declared.family.Family.{Family};
+ghost use Rattle.table_model.specs.declared.family.Family.{Family};
 ghost use Rattle.route_model.specs.Events.{IsEvent};
 ghost use Rattle.octet_fields.specs.Field.{one_more};
 ghost use Rattle.wire_model.specs.Wire.{nlri_at};

@@ -9,9 +9,9 @@ use Rattle.std.specs.Ordering.{ordering_then}
 use Rattle.std.specs.BTreeMap.{is_at}
 use Rattle.std.specs.declared.cmp.Ordering.TheVariants.{Less}
 use Rattle.std.proofs.lemmas.Cmp.{tied_itself}
-use Rattle.address_model.specs.Address.{Prefix, same_prefix}
-use Rattle.address_model.specs.Order.{prefix_cmp}
-use Rattle.address_model.proofs.Same.{same_prefix_is, same_prefix_itself}
+use Rattle.table_model.specs.Address.{Prefix, same_prefix}
+use Rattle.table_model.specs.Order.{prefix_cmp}
+use Rattle.table_model.proofs.SamePrefix.{same_prefix_is, same_prefix_itself}
 use Rattle.fib_addr.specs.Views.{prefix_as}
 use Rattle.fib_addr.specs.Order.{code_cmp}
 use Rattle.fib_addr.specs.declared.prefix.Prefix as code

@@ -2,7 +2,7 @@
 use Rattle.std.proofs.Common.{append_assoc, append-nil, ◌+◌, ◌≡◌, ◌≤◌, ℕ, length, List, [], ◌∷◌, ◌++◌, true, false, Option, Some, None, refl, sym, ap, ◌∙◌}
 use Rattle.std.specs.Prelude.{map, slice_get}
 use Rattle.std.proofs.lemmas.List.{map-append}
-use Rattle.address_model.specs.Address.{Address}
+use Rattle.table_model.specs.Address.{Address}
 use Rattle.table_model.specs.Entries.{Entries}
 use Rattle.feed_model.specs.Feed.{number_in}
 use Rattle.fib_addr.specs.Views.{addr_as, entry_as, prefix_as}

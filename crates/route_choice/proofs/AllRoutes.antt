@@ -7,9 +7,9 @@ use Rattle.std.specs.Map.{lookup, keys_of}
 use Rattle.std.specs.Ordering.{is_eq}
 use Rattle.std.specs.BTreeMap.{is_at}
 use Rattle.std.specs.declared.cmp.Ordering.TheVariants.{Less, Equal}
-use Rattle.address_model.specs.Address.{Address, Prefix, IsPrefix, same_prefix}
-use Rattle.address_model.specs.Order.{prefix_cmp}
-use Rattle.address_model.proofs.Same.{same_prefix_is, same_prefix_itself}
+use Rattle.table_model.specs.Address.{Address, Prefix, IsPrefix, same_prefix}
+use Rattle.table_model.specs.Order.{prefix_cmp}
+use Rattle.table_model.proofs.SamePrefix.{same_prefix_is, same_prefix_itself}
 use Rattle.fib_addr.specs.Views.{addr_as, prefix_as, route_as}
 use Rattle.fib_addr.specs.Order.{code_cmp}
 use Rattle.fib_addr.specs.declared.addr.Addr.{Addr}

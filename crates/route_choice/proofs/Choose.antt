@@ -3,8 +3,8 @@ use Rattle.std.proofs.Common.{subst, ◌≡◌, Bool, true, false, cond, Option,
 use Rattle.std.specs.Prelude.{option_map, if◌then◌else◌, ◌&&◌, ◌||◌, ◌==◌, nat_lt}
 use Rattle.std.specs.Map.{lookup}
 use Rattle.std.specs.Ordering.{nat_cmp, ordering_then, is_lt}
-use Rattle.address_model.specs.Address.{Address, Prefix, same_prefix}
-use Rattle.address_model.proofs.Same.{same_prefix_is, same_prefix_itself}
+use Rattle.table_model.specs.Address.{Address, Prefix, same_prefix}
+use Rattle.table_model.proofs.SamePrefix.{same_prefix_is, same_prefix_itself}
 use Rattle.fib_addr.specs.Views.{addr_as, prefix_as}
 use Rattle.fib_prefix.specs.Views.{via_as, elem_as}
 use Rattle.fib_addr.specs.declared.prefix.Prefix as code

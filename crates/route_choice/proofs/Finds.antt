@@ -9,7 +9,7 @@ use Rattle.std.specs.declared.cmp.Ordering.{Ordering}
 use Rattle.std.specs.declared.cmp.Ordering.TheVariants.{Less, Equal, Greater}
 use Rattle.std.proofs.lemmas.Bool.{not-true, not-false}
 use Rattle.std.proofs.lemmas.Cmp.{alike_right}
-use Rattle.address_model.specs.contracts.family.Family.{the_type}
+use Rattle.table_model.specs.contracts.family.Family.{the_type}
 use Rattle.fib_prefix.specs.contracts.event.ViaPartialEq.TheImpl as via_same
 use Rattle.fib_addr.specs.contracts.prefix.PrefixPartialEq.TheImpl as prefix_same
 use Rattle.std.specs.Option.{option_eq}

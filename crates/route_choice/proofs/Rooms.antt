@@ -8,7 +8,7 @@ use Rattle.std.specs.Ordering.{nat_cmp, ordering_then, is_eq}
 use Rattle.std.specs.BTreeMap.{is_at}
 use Rattle.std.specs.declared.cmp.Ordering.TheVariants.{Equal}
 use Rattle.std.proofs.lemmas.Cmp.{nat_cmp_total, tied_itself}
-use Rattle.address_model.specs.Address.{Address, Prefix, same_prefix}
+use Rattle.table_model.specs.Address.{Address, Prefix, same_prefix}
 use Rattle.fib_addr.specs.Views.{addr_as, prefix_as}
 use Rattle.fib_prefix.specs.Views.{via_as, elem_as}
 use Rattle.fib_addr.specs.Order.{code_cmp}

@@ -2,7 +2,7 @@
 use Rattle.std.specs.Prelude.{◌≡◌, ◌==◌, ◌&&◌, ◌||◌, nat_lt, ℕ, List, [], ◌∷◌, Bool, true, Option, Some, None, map, filter, flat_map, slice_get, if◌then◌else◌}
 use Rattle.std.specs.List.{AllByRecursion, list_any}
 use Rattle.std.specs.BTreeMap.{is_at}
-use Rattle.address_model.specs.Address.{Address, Prefix, same_prefix}
+use Rattle.table_model.specs.Address.{Address, Prefix, same_prefix}
 use Rattle.table_model.specs.Entries.{Entries}
 use Rattle.feed_model.specs.Feed.{number_in}
 use Rattle.fib_addr.specs.Views.{prefix_as}

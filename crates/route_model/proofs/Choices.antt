@@ -11,10 +11,10 @@ use Rattle.std.specs.declared.cmp.Ordering.{Ordering}
 use Rattle.std.specs.declared.cmp.Ordering.TheVariants.{Less, Equal, Greater}
 use Rattle.std.proofs.lemmas.Bool.{or_parts, not-true}
 use Rattle.std.proofs.lemmas.Cmp.{nat_cmp_total, on_total, then_total, tied_itself, upto, ranked}
-use Rattle.address_model.specs.Address.{Address, Prefix, same_prefix}
-use Rattle.address_model.specs.Order.{prefix_cmp}
-use Rattle.address_model.proofs.Same.{same_prefix_is, same_prefix_itself}
-use Rattle.address_model.proofs.Ordered.{equal_are_same}
+use Rattle.table_model.specs.Address.{Address, Prefix, same_prefix}
+use Rattle.table_model.specs.Order.{prefix_cmp}
+use Rattle.table_model.proofs.SamePrefix.{same_prefix_is, same_prefix_itself}
+use Rattle.table_model.proofs.Ordered.{equal_are_same}
 use Rattle.route_model.specs.Events.{via_cmp}
 use Rattle.route_model.specs.Choice.{Place, Offer, Candidates, AreCandidates, IsHeld, IsPlace, same_place, place_cmp, choice_cmp, beats, is_chosen, chosen_in, IsChosen, routes_of, chosen_for}
 use Rattle.route_model.proofs.Keyed.{found_meets, found_later, found_fails, none_passes, lookup-filter, sorted_filter, all_filter}

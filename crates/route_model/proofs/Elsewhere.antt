@@ -4,8 +4,8 @@ use Rattle.std.specs.Prelude.{◌&&◌, ◌||◌, if◌then◌else◌, map}
 use Rattle.std.specs.List.{AllByRecursion, list_any}
 use Rattle.std.specs.List.Sorted.{IsStrictlySortedBy}
 use Rattle.std.specs.Map.{lookup, keys_of}
-use Rattle.address_model.specs.Address.{Prefix, IsPrefix, same_prefix}
-use Rattle.address_model.proofs.Same.{same_prefix_is, same_prefix_itself}
+use Rattle.table_model.specs.Address.{Prefix, IsPrefix, same_prefix}
+use Rattle.table_model.proofs.SamePrefix.{same_prefix_is, same_prefix_itself}
 use Rattle.route_model.specs.Events.{Elem, Put, Cut, elem_prefix, same_via}
 use Rattle.route_model.specs.Choice.{Place, Offer, Candidates, AreCandidates, IsHeld, IsPlace, IsElem, same_place, place_cmp, after_elem, is_about, offered, is_chosen, chosen_in, routes_of, chosen_for}
 use Rattle.route_model.proofs.Keyed.{found_later, found_fails, all_filter}

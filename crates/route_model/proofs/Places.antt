@@ -7,15 +7,15 @@ use Rattle.std.specs.declared.cmp.Ordering.{Ordering}
 use Rattle.std.specs.declared.cmp.Ordering.TheVariants.{Less, Equal, Greater}
 use Rattle.std.proofs.lemmas.Bool.{and_parts, and_from}
 use Rattle.std.proofs.lemmas.Cmp.{nat_cmp_total, on_total, then_total, ranked}
-use Rattle.address_model.specs.Bits.{value_of}
-use Rattle.address_model.specs.Width.{width}
-use Rattle.address_model.specs.Address.{Address, IsPrefix, same_address, same_prefix}
-use Rattle.address_model.specs.Order.{prefix_cmp}
-use Rattle.address_model.specs.declared.family.Family.{Family}
-use Rattle.address_model.specs.declared.family.Family.TheVariants.{V4, V6}
-use Rattle.address_model.proofs.BitLaws.{bits_from_value}
-use Rattle.address_model.proofs.Same.{same_address_is, same_address_itself, same_prefix_is, same_prefix_itself}
-use Rattle.address_model.proofs.Ordered.{prefix_total, equal_are_same}
+use Rattle.table_model.specs.Bits.{value_of}
+use Rattle.table_model.specs.Width.{width}
+use Rattle.table_model.specs.Address.{Address, IsPrefix, same_address, same_prefix}
+use Rattle.table_model.specs.Order.{prefix_cmp}
+use Rattle.table_model.specs.declared.family.Family.{Family}
+use Rattle.table_model.specs.declared.family.Family.TheVariants.{V4, V6}
+use Rattle.table_model.proofs.BitLaws.{bits_from_value}
+use Rattle.table_model.proofs.SamePrefix.{same_address_is, same_address_itself, same_prefix_is, same_prefix_itself}
+use Rattle.table_model.proofs.Ordered.{prefix_total, equal_are_same}
 use Rattle.route_model.specs.Events.{Peer, IsPeer, same_peer, peer_cmp, Via, IsVia, same_via, via_cmp}
 use Rattle.route_model.specs.Choice.{Place, IsPlace, same_place, place_cmp}
 use Rattle.route_model.proofs.Keyed.{IsKey}

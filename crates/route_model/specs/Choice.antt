@@ -14,8 +14,8 @@ use Rattle.std.specs.Map.{lookup, keys_of, remove_entry}
 use Rattle.std.specs.BTreeMap.{insert_entry}
 use Rattle.std.specs.Ordering.{nat_cmp, ordering_then, is_lt}
 use Rattle.std.specs.declared.cmp.Ordering.{Ordering}
-use Rattle.address_model.specs.Address.{Address, Prefix, IsPrefix, same_prefix}
-use Rattle.address_model.specs.Order.{prefix_cmp}
+use Rattle.table_model.specs.Address.{Address, Prefix, IsPrefix, same_prefix}
+use Rattle.table_model.specs.Order.{prefix_cmp}
 use Rattle.route_model.specs.Events.{same_peer, Via, IsVia, same_via, via_cmp, Event, Announce, Withdraw, Down, Elem, Put, Cut}
 
 -- where a candidate stands: its prefix and the way by which it comes

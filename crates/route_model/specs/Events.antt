@@ -2,9 +2,9 @@
 use Rattle.std.specs.Prelude.{ℕ, ◌&&◌, ◌==◌, Bool, Option}
 use Rattle.std.specs.Ordering.{nat_cmp, ordering_then}
 use Rattle.std.specs.declared.cmp.Ordering.{Ordering}
-use Rattle.address_model.specs.Address.{Address, Prefix, IsAddress, IsPrefix, same_address}
-use Rattle.address_model.specs.Bits.{value_of}
-use Rattle.address_model.specs.Order.{family_cmp}
+use Rattle.table_model.specs.Address.{Address, Prefix, IsAddress, IsPrefix, same_address}
+use Rattle.table_model.specs.Bits.{value_of}
+use Rattle.table_model.specs.Order.{family_cmp}
 
 -- a peer: its address and its AS number (RFC 6396, 4.3.1 and 4.4)
 pub record Peer : Type 0 where

@@ -9,8 +9,8 @@ ghost use Rattle.std.specs.List.{AllByRecursion, list_any};
 ghost use Rattle.std.specs.List.Sorted.{IsStrictlySortedBy};
 ghost use Rattle.std.specs.Map.{lookup, keys_of};
 ghost use Rattle.std.specs.declared.cmp.Ordering.TheVariants.{Less};
-ghost use Rattle.address_model.specs.Address.{Prefix, same_prefix};
-ghost use Rattle.address_model.specs.Order.{prefix_cmp};
+ghost use Rattle.table_model.specs.Address.{Prefix, same_prefix};
+ghost use Rattle.table_model.specs.Order.{prefix_cmp};
 ghost use Rattle.route_model.specs.Events.{Event, IsEvent, Elem, via_cmp, elem_prefix};
 ghost use Rattle.route_model.specs.Choice.{Place, Offer, Candidates, AreCandidates, IsHeld, IsChosen, IsElem, same_place, after_elem, after_elems, elems_of, elems_after, last_offer, routes_of, chosen_for};
 

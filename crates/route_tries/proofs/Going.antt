@@ -1,12 +1,12 @@
 -- Regions of a tree's routes.
 use Rattle.std.proofs.Common.{◌≡◌, ◌≢◌, ℕ, ◌≤◌, List, ◌++◌, Bool, Option, Some, None, length, take, refl, sym, ap, ◌∙◌}
 use Rattle.std.proofs.lemmas.List.{take-append-le}
-use Rattle.address_model.specs.declared.family.Family.{Family}
+use Rattle.table_model.specs.declared.family.Family.{Family}
 use Rattle.table_model.specs.Table.{Table, half, inherit, lpm, root}
 use Rattle.table_model.specs.Entries.{Entries, of_family}
 use Rattle.table_model.proofs.Cut.{lpm_cut}
-use Rattle.least_model.specs.Sets.{answers, k_of}
-use Rattle.least_model.proofs.Cost.{k_uniform}
+use Rattle.table_model.specs.Sets.{answers, k_of}
+use Rattle.table_model.proofs.Cost.{k_uniform}
 use Rattle.fib_regions.specs.Answers.{one_answer, side, part, all_answers}
 use Rattle.fib_regions.proofs.OneAnswer.{one_answer_is}
 use Rattle.orig_tree.specs.Spots.{Spot, answers_in}

@@ -2,7 +2,7 @@
 use Rattle.std.proofs.Common.{◌≡◌, ◌≢◌, ℕ, zero, suc, ◌+◌, ◌-◌, ◌/◌, ◌^◌, ◌<◌, List, [], ◌∷◌, Bool, true, false, Some, nat_eq, drop, refl, sym, ap, ◌∙◌, arith, subst}
 use Rattle.std.specs.Prelude.{if◌then◌else◌, bit_and}
 use Rattle.std.proofs.lemmas.Nat.Bits.{shr_and_one}
-use Rattle.address_model.specs.Bits.{bits_of}
+use Rattle.table_model.specs.Bits.{bits_of}
 use Rattle.fib_regions.specs.Answers.{one_answer}
 use Rattle.poptrie_build.specs.Strides.{slot}
 use Rattle.poptrie_build.specs.Need.{told}

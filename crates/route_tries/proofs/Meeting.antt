@@ -1,6 +1,6 @@
 -- Paths that meet, and the bits of numbers that are paths.
 use Rattle.std.proofs.Common.{◌≡◌, ℕ, zero, suc, ◌-◌, List, [], ◌∷◌, ◌++◌, Bool, true, false, length, drop, refl, ap, ◌∙◌, arith}
-use Rattle.address_model.specs.Bits.{bits_of, begins}
+use Rattle.table_model.specs.Bits.{bits_of, begins}
 use Rattle.route_tries.specs.Parts.{meet}
 
 -- what begins with a path that doesn't meet p doesn't begin with p

@@ -1,7 +1,7 @@
 -- Tries and needs of a table read one family's entries alone.
 use Rattle.std.proofs.Common.{◌≡◌, ℕ, ap, sym, ◌∙◌}
-use Rattle.address_model.specs.Address.{Address}
-use Rattle.address_model.specs.declared.family.Family.{Family}
+use Rattle.table_model.specs.Address.{Address}
+use Rattle.table_model.specs.declared.family.Family.{Family}
 use Rattle.table_model.specs.Table.{Table, lpm}
 use Rattle.table_model.specs.Entries.{Entries, match_in, of_family}
 use Rattle.poptrie_build.specs.Strides.{strides, trie_visits}

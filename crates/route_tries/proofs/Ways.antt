@@ -3,8 +3,8 @@ use Rattle.std.proofs.Common.{◌≡◌, ℕ, zero, suc, ◌+◌, ◌-◌, ◌*�
 use Rattle.std.specs.Prelude.{if◌then◌else◌}
 use Rattle.std.proofs.lemmas.Bool.{cases_lt}
 use Rattle.std.proofs.lemmas.List.{length-take}
-use Rattle.address_model.specs.Bits.{bits_of, begins}
-use Rattle.address_model.proofs.BitLaws.{length-bits_of}
+use Rattle.table_model.specs.Bits.{bits_of, begins}
+use Rattle.table_model.proofs.BitLaws.{length-bits_of}
 use Rattle.block_pool.specs.Powers.{up}
 use Rattle.fib_regions.specs.Answers.{one_answer}
 use Rattle.fib_regions.proofs.OneAnswer.{one_answer_part, mixed_bits}

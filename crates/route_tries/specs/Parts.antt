@@ -1,8 +1,8 @@
 -- What a trie needs at a prefix.
 use Rattle.std.specs.Prelude.{◌≡◌, ◌≤◌, ℕ, zero, suc, ◌+◌, ◌-◌, List, [], ◌∷◌, Bool, true, false, ◌||◌, if◌then◌else◌, drop}
-use Rattle.address_model.specs.Bits.{bits_of, begins}
-use Rattle.address_model.specs.Address.{Address, Prefix, contains}
-use Rattle.address_model.specs.declared.family.Family.{Family}
+use Rattle.table_model.specs.Bits.{bits_of, begins}
+use Rattle.table_model.specs.Address.{Address, Prefix, contains}
+use Rattle.table_model.specs.declared.family.Family.{Family}
 use Rattle.table_model.specs.Entries.{Entries, match_in}
 use Rattle.block_pool.specs.Powers.{up}
 use Rattle.fib_regions.specs.Answers.{all_answers, side, one_answer}

@@ -1,7 +1,7 @@
 -- How large the tries of both families are, what they need, and what is said where an arena is too small.
 use Rattle.std.specs.Prelude.{◌≤◌, ℕ, ◌+◌, ◌^◌, Option, Some, None, cond, nat_lt}
-use Rattle.address_model.specs.declared.family.Family.{Family}
-use Rattle.address_model.specs.declared.family.Family.TheVariants.{V4, V6}
+use Rattle.table_model.specs.declared.family.Family.{Family}
+use Rattle.table_model.specs.declared.family.Family.TheVariants.{V4, V6}
 use Rattle.table_model.specs.Entries.{Entries}
 use Rattle.poptrie_build.specs.Need.{told}
 use Rattle.poptrie_build.specs.Tries.{node_need, leaf_need}

@@ -1,7 +1,7 @@
 -- The tries of both families.
 use Rattle.std.specs.Prelude.{◌≡◌, ℕ}
-use Rattle.address_model.specs.declared.family.Family.{Family}
-use Rattle.address_model.specs.declared.family.Family.TheVariants.{V4, V6}
+use Rattle.table_model.specs.declared.family.Family.{Family}
+use Rattle.table_model.specs.declared.family.Family.TheVariants.{V4, V6}
 use Rattle.table_model.specs.Entries.{Entries, of_family}
 use Rattle.poptrie_build.specs.Tries.{Shown, StandsFor}
 

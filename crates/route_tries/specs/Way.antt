@@ -1,6 +1,6 @@
 -- What is needed below the slots of a node on the way to a path.
 use Rattle.std.specs.Prelude.{◌≡◌, ℕ, ◌+◌, ◌^◌, ◌<◌, List, Bool, if◌then◌else◌, drop}
-use Rattle.address_model.specs.Bits.{bits_of}
+use Rattle.table_model.specs.Bits.{bits_of}
 use Rattle.route_tries.specs.Parts.{meet, way_nodes, way_leaves}
 
 -- what is needed below slot u of those that j bits tell apart, a region of e more bits with the answers f, on the way to the path p:

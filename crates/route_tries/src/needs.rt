@@ -1,7 +1,7 @@
 //! What tries need, counted in the trees of their routes.
 
 ghost use Rattle.std.specs.Prelude.{◌≡◌, ◌≤◌, ◌^◌, ℕ, Some, None, OnOk, IfErr, option_map};
-ghost use Rattle.address_model.specs.declared.family.Family.TheVariants.{V4, V6};
+ghost use Rattle.table_model.specs.declared.family.Family.TheVariants.{V4, V6};
 ghost use Rattle.fib_addr.specs.Views.{prefix_as};
 ghost use Rattle.poptrie_build.specs.Need.{told};
 ghost use Rattle.route_tries.specs.Sizes.{need_of as need_in, told_need, told_needs, needs_of_both, first_short, short_or as short_in, sizes_as, shortage_as};

@@ -1,7 +1,7 @@
 //! Regions of a tree's routes, which keep their place in the tree.
 
 ghost use Rattle.std.specs.Prelude.{◌≡◌, ◌≤◌, ◌+◌, take};
-ghost use Rattle.address_model.specs.Width.{width};
+ghost use Rattle.table_model.specs.Width.{width};
 ghost use Rattle.fib_addr.specs.Views.{prefix_as};
 ghost use Rattle.fib_regions.specs.Answers.{all_answers, part};
 ghost use Rattle.orig_tree.specs.Spots.{answers_in};

@@ -1,7 +1,7 @@
 //! The tries of both families.
 
 ghost use Rattle.std.specs.Prelude.{◌≡◌, ◌+◌, ◌<◌, ℕ, Some, None, IfOk, OnOk, IsErrOf};
-ghost use Rattle.address_model.specs.declared.family.Family.TheVariants.{V4, V6};
+ghost use Rattle.table_model.specs.declared.family.Family.TheVariants.{V4, V6};
 ghost use Rattle.table_model.specs.Entries.{Entries, match_in};
 ghost use Rattle.fib_addr.specs.Views.{addr_as};
 ghost use Rattle.poptrie_build.specs.Tries.{StandsFor, visits_of};
@@ -59,7 +59,7 @@ pub struct Tries<'a> {
 }
 
 impl<'a> Model for Tries<'a> {
-    ghost use Rattle.address_model.specs.declared.family.Family.TheVariants.{V4, V6};
+    ghost use Rattle.table_model.specs.declared.family.Family.TheVariants.{V4, V6};
     ghost use Rattle.route_tries.specs.Tries.{TwoTries, IsFilled};
 
     ghost Value = { TwoTries };

@@ -1,7 +1,7 @@
 //! What the nodes on the way to a path need, and all that is at and within the path.
 
 ghost use Rattle.std.specs.Prelude.{◌≡◌, ℕ, ◌+◌, ◌*◌, ◌^◌, ◌≤◌, ◌<◌, List, Bool, None};
-ghost use Rattle.address_model.specs.Bits.{bits_of};
+ghost use Rattle.table_model.specs.Bits.{bits_of};
 ghost use Rattle.fib_regions.specs.Answers.{one_answer};
 ghost use Rattle.poptrie_build.specs.Need.{told};
 ghost use Rattle.poptrie_build.specs.Strides.{mixed};

@@ -2,15 +2,15 @@
 use Rattle.std.proofs.Common.{◌≡◌, ◌≤◌, List, [], ◌++◌, Bool, Some, length, sym, ap, ◌∙◌, append-nil, length-append, arith}
 use Rattle.std.specs.List.{AllByRecursion}
 use Rattle.std.specs.Map.{keys_of}
-use Rattle.address_model.specs.Width.{width}
-use Rattle.address_model.specs.Address.{IsPrefix}
-use Rattle.address_model.specs.declared.family.Family.{Family}
-use Rattle.address_model.specs.declared.family.Family.TheVariants.{V4, V6}
+use Rattle.table_model.specs.Width.{width}
+use Rattle.table_model.specs.Address.{IsPrefix}
+use Rattle.table_model.specs.declared.family.Family.{Family}
+use Rattle.table_model.specs.declared.family.Family.TheVariants.{V4, V6}
 use Rattle.table_model.specs.Table.{Table, Alike}
 use Rattle.table_model.specs.Entries.{AlikeInBoth, Entries, in_order, of_family}
 use Rattle.table_model.specs.Changes.{Change, after_changes}
 use Rattle.table_model.proofs.Sums.{in_order_again}
-use Rattle.least_model.specs.Sets.{answers}
+use Rattle.table_model.specs.Sets.{answers}
 use Rattle.delta_model.proofs.Held.{Placed}
 use Rattle.moves_model.specs.Dist.{distance}
 use Rattle.moves_cert.specs.Shortest.{AreShortest}

@@ -4,16 +4,16 @@ use Rattle.std.specs.Prelude.{option_map}
 use Rattle.std.specs.Option.{option_or}
 use Rattle.std.specs.List.{AllByRecursion}
 use Rattle.std.specs.Map.{keys_of}
-use Rattle.address_model.specs.Width.{width}
-use Rattle.address_model.specs.Address.{IsPrefix, same_family}
-use Rattle.address_model.specs.declared.family.Family.{Family}
-use Rattle.address_model.specs.declared.family.Family.TheVariants.{V4, V6}
-use Rattle.address_model.proofs.Same.{same_family_is}
+use Rattle.table_model.specs.Width.{width}
+use Rattle.table_model.specs.Address.{IsPrefix, same_family}
+use Rattle.table_model.specs.declared.family.Family.{Family}
+use Rattle.table_model.specs.declared.family.Family.TheVariants.{V4, V6}
+use Rattle.table_model.proofs.SamePrefix.{same_family_is}
 use Rattle.table_model.specs.Table.{Alike}
 use Rattle.table_model.specs.Entries.{Entries, in_order, of_family}
 use Rattle.table_model.specs.Changes.{Change, after_changes}
 use Rattle.table_model.proofs.Sums.{in_order_again}
-use Rattle.least_model.proofs.Same.{same_answers}
+use Rattle.table_model.proofs.Same.{same_answers}
 use Rattle.route_model.proofs.Keyed.{all_filter}
 use Rattle.delta_model.specs.Between.{AreEntries, between, place_of}
 use Rattle.delta_model.proofs.Alike.{placed_are}

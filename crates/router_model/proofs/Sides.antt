@@ -4,12 +4,12 @@ use Rattle.std.specs.Prelude.{is_some, ◌&&◌}
 use Rattle.std.specs.List.{AllByRecursion}
 use Rattle.std.specs.Map.{keys_of, remove_entry}
 use Rattle.std.specs.Option.{option_and_then}
-use Rattle.address_model.specs.Bits.{same_bits}
-use Rattle.address_model.specs.Address.{Prefix, IsPrefix, same_family, same_prefix}
-use Rattle.address_model.specs.Order.{prefix_cmp}
-use Rattle.address_model.specs.declared.family.Family.{Family}
-use Rattle.address_model.specs.declared.family.Family.TheVariants.{V4, V6}
-use Rattle.address_model.proofs.Same.{same_family_is}
+use Rattle.table_model.specs.Bits.{same_bits}
+use Rattle.table_model.specs.Address.{Prefix, IsPrefix, same_family, same_prefix}
+use Rattle.table_model.specs.Order.{prefix_cmp}
+use Rattle.table_model.specs.declared.family.Family.{Family}
+use Rattle.table_model.specs.declared.family.Family.TheVariants.{V4, V6}
+use Rattle.table_model.proofs.SamePrefix.{same_family_is}
 use Rattle.table_model.specs.Entries.{Entries, with_entry}
 use Rattle.table_model.specs.Changes.{Change, Add, Replace, Remove, after_change, after_changes}
 use Rattle.table_model.proofs.Sums.{all_placed}

@@ -1,9 +1,9 @@
 -- What a router must change to forward as routes do, over both families: R are the routes, and T is the router's table.
 use Rattle.std.specs.Prelude.{◌≡◌, ℕ, ◌+◌, ◌≤◌, List, ◌++◌, Bool, true, false, Some, length}
 use Rattle.std.specs.List.{filter}
-use Rattle.address_model.specs.Address.{same_family}
-use Rattle.address_model.specs.declared.family.Family.{Family}
-use Rattle.address_model.specs.declared.family.Family.TheVariants.{V4, V6}
+use Rattle.table_model.specs.Address.{same_family}
+use Rattle.table_model.specs.declared.family.Family.{Family}
+use Rattle.table_model.specs.declared.family.Family.TheVariants.{V4, V6}
 use Rattle.table_model.specs.Entries.{AlikeInBoth, Entries, in_order, of_family}
 use Rattle.table_model.specs.Changes.{Change, after_changes}
 use Rattle.delta_model.specs.Between.{between}

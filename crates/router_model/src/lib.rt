@@ -6,8 +6,8 @@
 ghost use Rattle.std.specs.Prelude.{◌≡◌, ◌↔◌, ◌++◌, Bool, List, None, true};
 ghost use Rattle.std.specs.List.{AllByRecursion};
 ghost use Rattle.std.specs.Map.{keys_of};
-ghost use Rattle.address_model.specs.Address.{IsPrefix};
-ghost use Rattle.address_model.specs.declared.family.Family.TheVariants.{V4, V6};
+ghost use Rattle.table_model.specs.Address.{IsPrefix};
+ghost use Rattle.table_model.specs.declared.family.Family.TheVariants.{V4, V6};
 ghost use Rattle.table_model.specs.Entries.{Entries, in_order};
 ghost use Rattle.table_model.specs.Changes.{Change};
 ghost use Rattle.delta_model.specs.Between.{place_of};

@@ -1,7 +1,7 @@
 -- What is due of texts that are read one after another.
 use Rattle.std.proofs.Common.{◌≡◌, ℕ, List, [], ◌∷◌, Bool, Result, Ok, Err, inr, refl, sym, ap, subst}
 use Rattle.octet_fields.specs.Field.{◌>>=◌}
-use Rattle.address_model.specs.Address.{Address}
+use Rattle.table_model.specs.Address.{Address}
 use Rattle.printed_model.specs.declared.kind.Kind.TheVariants.{Least, Route}
 use Rattle.printed_model.specs.Kinds.{KindEntries}
 use Rattle.printed_moves.specs.Said.{SaidMoves}

@@ -1,8 +1,8 @@
 -- What is judged of a claim.
 use Rattle.std.proofs.Common.{◌≡◌, List, None, map, sym, ap}
 use Rattle.std.specs.Prelude.{option_map}
-use Rattle.address_model.specs.declared.family.Family.{Family}
-use Rattle.address_model.specs.declared.family.Family.TheVariants.{V4, V6}
+use Rattle.table_model.specs.declared.family.Family.{Family}
+use Rattle.table_model.specs.declared.family.Family.TheVariants.{V4, V6}
 use Rattle.moves_cert.specs.Verdict.{NoMoves, moves_verdict}
 use Rattle.moves_cert.proofs.Verdicts.{verdict_from}
 use Rattle.fib_addr.specs.Views.{entry_as}

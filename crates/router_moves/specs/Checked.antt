@@ -1,7 +1,7 @@
 -- What checking printed changes of a router comes to, by what the inputs hold.
 use Rattle.std.specs.Prelude.{ℕ, List, [], ◌∷◌, Option, Result, Ok, Err}
 use Rattle.octet_fields.specs.Field.{◌>>=◌}
-use Rattle.address_model.specs.Address.{Address}
+use Rattle.table_model.specs.Address.{Address}
 use Rattle.router_model.specs.Claims.{Claim, WrongMoves, claim_verdict}
 use Rattle.printed_model.specs.declared.kind.Kind.TheVariants.{Least, Route}
 use Rattle.printed_model.specs.Texts.{BadLine as BadRow}

@@ -1,7 +1,7 @@
 -- What a clause sees of this crate's values.
 use Rattle.std.specs.Prelude.{◌≡◌, ◌++◌, map, Bool, true, Result, Ok, length}
-use Rattle.address_model.specs.declared.family.Family.{Family}
-use Rattle.address_model.specs.declared.family.Family.TheVariants.{V4, V6}
+use Rattle.table_model.specs.declared.family.Family.{Family}
+use Rattle.table_model.specs.declared.family.Family.TheVariants.{V4, V6}
 use Rattle.table_model.specs.Entries.{Entries, in_order}
 use Rattle.fib_delta.specs.Views.{change_as}
 use Rattle.steady_model.specs.Steady.{AnswerSteadily}

@@ -2,7 +2,7 @@
 
 ghost use Rattle.std.specs.Prelude.{◌≡◌, IfOk, length, map};
 ghost use Rattle.std.specs.List.Sorted.{IsStrictlySortedBy};
-ghost use Rattle.address_model.specs.Order.{prefix_cmp};
+ghost use Rattle.table_model.specs.Order.{prefix_cmp};
 ghost use Rattle.delta_model.specs.Between.{place_of};
 ghost use Rattle.fib_addr.specs.Views.{entry_as};
 ghost use Rattle.fib_delta.specs.Views.{change_as};

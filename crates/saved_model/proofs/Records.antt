@@ -3,14 +3,14 @@ use Rattle.std.proofs.Common.{◌≡◌, ℕ, suc, ◌+◌, ◌*◌, ◌%◌, �
 use Rattle.std.specs.Prelude.{flat_map}
 use Rattle.std.specs.List.{AllByRecursion}
 use Rattle.std.proofs.lemmas.List.{map-append}
-use Rattle.address_model.specs.declared.family.Family.{Family}
-use Rattle.address_model.specs.declared.family.Family.TheVariants.{V4, V6}
-use Rattle.address_model.specs.Address.{Prefix}
+use Rattle.table_model.specs.declared.family.Family.{Family}
+use Rattle.table_model.specs.declared.family.Family.TheVariants.{V4, V6}
+use Rattle.table_model.specs.Address.{Prefix}
 use Rattle.octet_fields.specs.Field.{one_more, times, steps, until_end}
 use Rattle.wire_model.specs.declared.rule.Rule.TheVariants.{PeerTableForm, RibForm}
 use Rattle.wire_model.specs.Record.{most_length}
 use Rattle.wire_model.specs.Wire.{octets_for, id_size}
-use Rattle.address_model.specs.Width.{width}
+use Rattle.table_model.specs.Width.{width}
 use Rattle.wire_model.proofs.More.{until_end_next}
 use Rattle.reading_model.specs.Rib.{peer_at, peer_table, entry_hop, event_of, rib_entry_at, rib}
 use Rattle.reading_model.specs.Update.{said}

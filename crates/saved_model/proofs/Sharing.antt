@@ -8,11 +8,11 @@ use Rattle.std.specs.Ordering.{match_ordering}
 use Rattle.std.specs.declared.cmp.Ordering.{Ordering}
 use Rattle.std.specs.declared.cmp.Ordering.TheVariants.{Less, Equal, Greater}
 use Rattle.std.proofs.lemmas.Bool.{ltb-true, ltb-false, lt-ltb, eqb-true, and_parts}
-use Rattle.address_model.specs.declared.family.Family.{Family}
-use Rattle.address_model.specs.declared.family.Family.TheVariants.{V4, V6}
-use Rattle.address_model.specs.Address.{Prefix, IsPrefix, same_prefix}
-use Rattle.address_model.specs.Width.{width}
-use Rattle.address_model.proofs.Same.{same_prefix_is}
+use Rattle.table_model.specs.declared.family.Family.{Family}
+use Rattle.table_model.specs.declared.family.Family.TheVariants.{V4, V6}
+use Rattle.table_model.specs.Address.{Prefix, IsPrefix, same_prefix}
+use Rattle.table_model.specs.Width.{width}
+use Rattle.table_model.proofs.SamePrefix.{same_prefix_is}
 use Rattle.wire_model.specs.Record.{most_length}
 use Rattle.wire_model.specs.Wire.{octets_for, id_size}
 use Rattle.route_model.specs.Events.{Peer, IsPeer, same_peer, peer_cmp}
@@ -22,7 +22,7 @@ use Rattle.written_model.specs.Octets.{number_octets, prefix_octets}
 use Rattle.written_model.proofs.Fields.{length-number_octets}
 use Rattle.saved_model.specs.Entries.{peer_index, id_octets, attributes_of, entry_octets}
 use Rattle.saved_model.proofs.Attributes.{length-attributes}
-use Rattle.address_model.specs.Order.{filled}
+use Rattle.table_model.specs.Order.{filled}
 use Rattle.std.proofs.lemmas.List.{length-take}
 use Rattle.saved_model.specs.Checkpoint.{Piece, most_entries, has_ids, piece_body}
 use Rattle.saved_model.specs.Writable.{IsWritablePeer, IsWritable, IsPiece, AreWritable, all_of}

@@ -1,9 +1,9 @@
 -- A checkpoint: candidates as an MRT dump.
 use Rattle.std.specs.Prelude.{ℕ, ◌+◌, ◌%◌, ◌^◌, Bool, true, false, not, List, [], ◌∷◌, ◌++◌, length, flat_map, ◌==◌}
 use Rattle.std.specs.List.{list_any}
-use Rattle.address_model.specs.declared.family.Family.{Family}
-use Rattle.address_model.specs.declared.family.Family.TheVariants.{V4, V6}
-use Rattle.address_model.specs.Address.{Prefix}
+use Rattle.table_model.specs.declared.family.Family.{Family}
+use Rattle.table_model.specs.declared.family.Family.TheVariants.{V4, V6}
+use Rattle.table_model.specs.Address.{Prefix}
 use Rattle.route_model.specs.Events.{Peer, Event, Announce}
 use Rattle.route_model.specs.Choice.{Place, Offer, Candidates}
 use Rattle.written_model.specs.Octets.{number_octets, prefix_octets, record_octets, repeated_path}

@@ -1,8 +1,8 @@
 -- How a candidate is written as an entry of a RIB record (RFC 6396, 4.3.4; RFC 4271, 4.3), by a path of its length and its next hop. What else its attributes said isn't kept.
 use Rattle.std.specs.Prelude.{ℕ, ◌/◌, ◌%◌, Bool, List, [], ◌∷◌, ◌++◌, length, replicate, flat_map, position, unwrap_or, nat_lt, ◌==◌, if◌then◌else◌}
-use Rattle.address_model.specs.declared.family.Family.TheVariants.{V4, V6}
-use Rattle.address_model.specs.declared.family.Family.{Family}
-use Rattle.address_model.specs.Address.{Address}
+use Rattle.table_model.specs.declared.family.Family.TheVariants.{V4, V6}
+use Rattle.table_model.specs.declared.family.Family.{Family}
+use Rattle.table_model.specs.Address.{Address}
 use Rattle.route_model.specs.Events.{Peer, same_peer}
 use Rattle.route_model.specs.Choice.{Place, Offer}
 use Rattle.written_model.specs.Octets.{number_octets, behind_length, address_octets, as_path_octets}

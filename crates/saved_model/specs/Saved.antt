@@ -1,7 +1,7 @@
 -- The checkpoint of candidates: which peers it names, how candidates are shared out among records, and when there is none.
 use Rattle.std.specs.Prelude.{ℕ, ◌<◌, ◌^◌, Bool, not, ◌&&◌, List, [], ◌∷◌, ◌++◌, length, fold, nat_lt, Option, find, if◌then◌else◌}
 use Rattle.std.specs.BTreeSet.{insert_key}
-use Rattle.address_model.specs.Address.{IsAddress, same_prefix}
+use Rattle.table_model.specs.Address.{IsAddress, same_prefix}
 use Rattle.wire_model.specs.Record.{most_length}
 use Rattle.route_model.specs.Events.{Peer, peer_cmp}
 use Rattle.route_model.specs.Choice.{Place, Offer, Candidates}

@@ -1,7 +1,7 @@
 -- What a checkpoint can hold.
 use Rattle.std.specs.Prelude.{◌≡◌, ℕ, ◌^◌, ◌≤◌, ◌<◌, Bool, List, length, flat_map, slice_get, Some}
 use Rattle.std.specs.List.{AllByRecursion}
-use Rattle.address_model.specs.Address.{Prefix, IsPrefix, IsAddress}
+use Rattle.table_model.specs.Address.{Prefix, IsPrefix, IsAddress}
 use Rattle.wire_model.specs.Record.{most_length}
 use Rattle.wire_model.specs.Wire.{id_size}
 use Rattle.route_model.specs.Events.{Peer, IsPeer}

@@ -1,19 +1,19 @@
 -- A kept table after a change and after a snapshot.
 use Rattle.std.proofs.Common.{◌≡◌, ℕ, ◌≤◌, List, [], ◌++◌, Bool, true, false, Option, Some, length, refl, sym, ap, subst, ◌∙◌}
-use Rattle.address_model.specs.Bits.{begins}
-use Rattle.address_model.specs.Width.{width}
-use Rattle.address_model.specs.Address.{Prefix, IsPrefix, same_prefix}
-use Rattle.address_model.specs.declared.family.Family.{Family}
-use Rattle.address_model.proofs.Same.{same_prefix_is}
+use Rattle.table_model.specs.Bits.{begins}
+use Rattle.table_model.specs.Width.{width}
+use Rattle.table_model.specs.Address.{Prefix, IsPrefix, same_prefix}
+use Rattle.table_model.specs.declared.family.Family.{Family}
+use Rattle.table_model.proofs.SamePrefix.{same_prefix_is}
 use Rattle.table_model.specs.Table.{Table, Alike}
 use Rattle.table_model.specs.Entries.{Entries, of_family}
 use Rattle.table_model.specs.Changes.{after_changes}
-use Rattle.least_model.specs.Regions.{SameOutside}
-use Rattle.least_model.specs.Least.{Least, aggregate}
-use Rattle.least_model.specs.Both.{aggregate_in}
-use Rattle.least_model.proofs.Both.{family_is}
-use Rattle.least_model.proofs.Laws.{fresh_law}
-use Rattle.least_model.proofs.Order.{answers_outside}
+use Rattle.table_model.specs.Regions.{SameOutside}
+use Rattle.table_model.specs.Least.{Least, aggregate}
+use Rattle.table_model.specs.Both.{aggregate_in}
+use Rattle.table_model.proofs.Both.{family_is}
+use Rattle.table_model.proofs.Laws.{fresh_law}
+use Rattle.table_model.proofs.Order.{answers_outside}
 use Rattle.kept_model.specs.Patched.{with_route, patch_of}
 use Rattle.kept_model.proofs.Patches.{family_hop, patched_alike, patched_least}
 use Rattle.orig_tree.specs.Views.{Labels, InPlace}

@@ -2,31 +2,31 @@
 use Rattle.std.proofs.Common.{◌≡◌, ◌-◌, ℕ, List, [], ◌∷◌, ◌++◌, Bool, true, false, cond, Option, Some, None, length, refl, sym, ap, subst, ◌∙◌, arith, inl, inr}
 use Rattle.std.specs.Prelude.{◌&&◌, option_map}
 use Rattle.std.specs.Option.{ForSome}
-use Rattle.address_model.specs.Bits.{begins}
-use Rattle.address_model.specs.Address.{Prefix, IsPrefix, same_family, same_prefix}
-use Rattle.address_model.specs.Width.{width}
-use Rattle.address_model.specs.declared.family.Family.{Family}
+use Rattle.table_model.specs.Bits.{begins}
+use Rattle.table_model.specs.Address.{Prefix, IsPrefix, same_family, same_prefix}
+use Rattle.table_model.specs.Width.{width}
+use Rattle.table_model.specs.declared.family.Family.{Family}
 use Rattle.table_model.specs.Table.{Table, root, cut}
 use Rattle.table_model.specs.Entries.{Entries, of_family, with_entry}
-use Rattle.least_model.specs.Regions.{above, entry_at, lift, SameEntries}
-use Rattle.least_model.specs.Sets.{agg, answers}
-use Rattle.least_model.specs.Least.{aggregate}
-use Rattle.least_model.specs.Both.{aggregate_in}
-use Rattle.least_model.proofs.Both.{family_is}
-use Rattle.least_model.proofs.Region.{cut_lift}
+use Rattle.table_model.specs.Regions.{above, entry_at, lift, SameEntries}
+use Rattle.table_model.specs.Sets.{agg, answers}
+use Rattle.table_model.specs.Least.{aggregate}
+use Rattle.table_model.specs.Both.{aggregate_in}
+use Rattle.table_model.proofs.Both.{family_is}
+use Rattle.table_model.proofs.Region.{cut_lift}
 use Rattle.route_model.proofs.Keyed.{lookup-put}
 use Rattle.route_model.proofs.Places.{prefix_key}
 use Rattle.delta_model.specs.Between.{hop_at}
 use Rattle.kept_model.specs.Patched.{with_route, patch_of, after_repair, after_snapshot, region_aggregate}
 use Rattle.kept_model.proofs.Patches.{family_hop, table_hop, hop_patched}
-use Rattle.least_model.proofs.Patch.{cut_cut, same_above}
-use Rattle.address_model.specs.Regions.{is_within}
+use Rattle.table_model.proofs.Patch.{cut_cut, same_above}
+use Rattle.table_model.specs.Halves.{is_within}
 use Rattle.stays_model.specs.Stays.{Stays, is_wide, Settled, HasMarks, IsMarked, IsMended}
 use Rattle.stays_model.proofs.Again.{stays_again}
 use Rattle.stays_model.proofs.Settling.{above_nil, all_settled, settled_more, settled_after, settled_mended, stays_same}
 use Rattle.orig_tree.specs.Views.{Labels, InPlace}
 use Rattle.orig_tree.proofs.Arena.{begins_self}
-use Rattle.address_model.proofs.Same.{same_family_itself}
+use Rattle.table_model.proofs.SamePrefix.{same_family_itself}
 use Rattle.kept_pass.specs.Known.{IsSettled, IsKnown, IsKnownBefore}
 use Rattle.kept_pass.proofs.Within.{entry_lift}
 use Rattle.smalta_keep.specs.declared.routes.Former.{Former}

@@ -4,8 +4,8 @@ use Rattle.std.specs.Prelude.{IsSome}
 use Rattle.std.specs.Option.{option_and_then}
 use Rattle.std.specs.List.{AllByRecursion}
 use Rattle.std.proofs.lemmas.List.{map-append, drop_more, take_more}
-use Rattle.address_model.specs.Address.{Prefix, IsPrefix, same_prefix}
-use Rattle.address_model.specs.Order.{prefix_cmp}
+use Rattle.table_model.specs.Address.{Prefix, IsPrefix, same_prefix}
+use Rattle.table_model.specs.Order.{prefix_cmp}
 use Rattle.table_model.specs.Entries.{Entries, with_entry}
 use Rattle.table_model.specs.Changes.{Change, Add, Replace, Remove, after_change, after_changes}
 use Rattle.route_model.proofs.Keyed.{same_entries, all_put, sorted_put, lookup-put, all_cut, sorted_cut, lookup-cut}

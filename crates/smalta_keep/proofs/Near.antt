@@ -5,21 +5,21 @@ use Rattle.std.specs.List.Sorted.{IsStrictlySortedBy}
 use Rattle.std.specs.Map.{keys_of}
 use Rattle.std.proofs.lemmas.Bool.{and_parts, and_from, eqb-true, eq-eqb}
 use Rattle.std.proofs.lemmas.List.{map-append, take_more}
-use Rattle.address_model.specs.Bits.{begins}
-use Rattle.address_model.proofs.Same.{same_family_is, same_family_itself}
-use Rattle.address_model.specs.Address.{Prefix, IsPrefix, same_prefix, same_family}
-use Rattle.address_model.specs.Order.{prefix_cmp}
-use Rattle.address_model.specs.Regions.{is_within}
-use Rattle.address_model.specs.Width.{width}
-use Rattle.address_model.specs.declared.family.Family.{Family}
+use Rattle.table_model.specs.Bits.{begins}
+use Rattle.table_model.proofs.SamePrefix.{same_family_is, same_family_itself}
+use Rattle.table_model.specs.Address.{Prefix, IsPrefix, same_prefix, same_family}
+use Rattle.table_model.specs.Order.{prefix_cmp}
+use Rattle.table_model.specs.Halves.{is_within}
+use Rattle.table_model.specs.Width.{width}
+use Rattle.table_model.specs.declared.family.Family.{Family}
 use Rattle.table_model.specs.Table.{Table, IsTable, root, half, inherit, cut}
 use Rattle.table_model.specs.Entries.{Entries, of_family, of_table}
 use Rattle.table_model.specs.Changes.{Change, Add, Replace, Remove}
-use Rattle.least_model.specs.Regions.{InOrder}
-use Rattle.least_model.specs.Sets.{side, answers}
-use Rattle.least_model.proofs.Both.{sorted_table}
-use Rattle.least_model.proofs.Order.{order_join}
-use Rattle.least_model.proofs.Patch.{begins_trans}
+use Rattle.table_model.specs.Regions.{InOrder}
+use Rattle.table_model.specs.Sets.{side, answers}
+use Rattle.table_model.proofs.Both.{sorted_table}
+use Rattle.table_model.proofs.Order.{order_join}
+use Rattle.table_model.proofs.Patch.{begins_trans}
 use Rattle.route_model.proofs.Places.{prefix_key}
 use Rattle.delta_model.specs.Between.{place_of, hop_at, change_at, between}
 use Rattle.delta_model.proofs.Alike.{placed_are, same_changes, all_between}

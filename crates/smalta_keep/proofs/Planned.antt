@@ -6,7 +6,7 @@ use Rattle.table_model.specs.Entries.{Entries, of_family}
 use Rattle.table_model.specs.Changes.{Change, after_change, after_changes}
 use Rattle.delta_model.specs.Between.{between}
 use Rattle.delta_model.proofs.Alike.{made_placed}
-use Rattle.address_model.specs.Address.{Prefix}
+use Rattle.table_model.specs.Address.{Prefix}
 use Rattle.fib_addr.specs.Views.{prefix_as}
 use Rattle.fib_addr.specs.declared.prefix.Prefix as code_prefix
 use Rattle.fib_addr.specs.declared.entry.Hop as code_hop
@@ -15,15 +15,15 @@ use Rattle.smalta_keep.specs.declared.routes.Former.{Former}
 use Rattle.smalta_keep.specs.declared.repair.Repair.{Repair}
 use Rattle.smalta_keep.specs.declared.told.Mend.{Mend}
 use Rattle.kept_model.specs.Patched.{with_route, after_repair, after_snapshot}
-use Rattle.address_model.specs.Width.{width}
+use Rattle.table_model.specs.Width.{width}
 use Rattle.table_model.specs.Table.{Alike}
-use Rattle.least_model.specs.Both.{aggregate_in}
+use Rattle.table_model.specs.Both.{aggregate_in}
 use Rattle.event_moves.specs.Event.{AlikeBefore}
 use Rattle.event_moves.proofs.Routed.{routed_before}
 use Rattle.fib_delta.proofs.Held.{is_prefix}
 use Rattle.smalta_keep.specs.Answers.{IsAlikeFor}
 use Rattle.moves_cert.specs.Rows.{near_in}
-use Rattle.address_model.specs.declared.family.Family.{Family}
+use Rattle.table_model.specs.declared.family.Family.{Family}
 use Rattle.smalta_keep.specs.Routes.{HasFormer, former_in, former_place, undone_in}
 use Rattle.smalta_keep.specs.Plans.{IsMend, IsMoved, IsSet, IsStill, IsPlanned, Tells, IsBeforeAt, some_or, mended, repaired_table, planned_table}
 use Rattle.smalta_keep.specs.Views.{moved_of, repair_as, snapshot_as, with_planned, place_in}

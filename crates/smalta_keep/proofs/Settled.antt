@@ -2,8 +2,8 @@
 use Rattle.std.proofs.Common.{◌≡◌, Bool, true, false, Option, Some, None, refl, sym, subst, ◌∙◌}
 use Rattle.std.specs.Prelude.{option_map}
 use Rattle.std.specs.Option.{ForSome}
-use Rattle.address_model.specs.Address.{Prefix, IsPrefix}
-use Rattle.address_model.specs.declared.family.Family.{Family}
+use Rattle.table_model.specs.Address.{Prefix, IsPrefix}
+use Rattle.table_model.specs.declared.family.Family.{Family}
 use Rattle.kept_model.specs.Patched.{after_repair}
 use Rattle.fib_addr.specs.Views.{prefix_as}
 use Rattle.fib_addr.specs.declared.prefix.Prefix as code_prefix

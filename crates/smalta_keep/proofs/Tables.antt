@@ -3,12 +3,12 @@ use Rattle.std.proofs.Common.{◌≡◌, ℕ, ◌≤◌, List, [], ◌∷◌, Bo
 use Rattle.std.specs.List.{AllByRecursion}
 use Rattle.std.specs.Map.{keys_of}
 use Rattle.std.proofs.lemmas.Bool.{and_parts}
-use Rattle.address_model.specs.Width.{width}
-use Rattle.address_model.specs.Bits.{begins}
-use Rattle.address_model.specs.Address.{Prefix, IsPrefix, same_family}
-use Rattle.address_model.specs.Order.{prefix_cmp}
-use Rattle.address_model.specs.declared.family.Family.{Family}
-use Rattle.address_model.proofs.Same.{same_family_is, same_family_itself}
+use Rattle.table_model.specs.Width.{width}
+use Rattle.table_model.specs.Bits.{begins}
+use Rattle.table_model.specs.Address.{Prefix, IsPrefix, same_family}
+use Rattle.table_model.specs.Order.{prefix_cmp}
+use Rattle.table_model.specs.declared.family.Family.{Family}
+use Rattle.table_model.proofs.SamePrefix.{same_family_is, same_family_itself}
 use Rattle.table_model.specs.Table.{Table}
 use Rattle.table_model.specs.Entries.{Entries, in_order, of_family, of_table}
 use Rattle.table_model.proofs.Sums.{in_order_again}
@@ -16,13 +16,13 @@ use Rattle.table_model.specs.Changes.{Change, after_changes}
 use Rattle.std.proofs.Common.{Some}
 use Rattle.fib_delta.specs.declared.change.Change as code
 use Rattle.fib_delta.specs.Views.{change_as}
-use Rattle.least_model.specs.Regions.{above}
-use Rattle.least_model.specs.Least.{aggregate}
-use Rattle.least_model.specs.Both.{aggregate_in}
-use Rattle.least_model.proofs.Both.{sorted_aggregate}
-use Rattle.least_model.proofs.Laws.{aggregate_table}
+use Rattle.table_model.specs.Regions.{above}
+use Rattle.table_model.specs.Least.{aggregate}
+use Rattle.table_model.specs.Both.{aggregate_in}
+use Rattle.table_model.proofs.Both.{sorted_aggregate}
+use Rattle.table_model.proofs.Laws.{aggregate_table}
 use Rattle.route_model.proofs.Keyed.{all_filter, sorted_filter}
-use Rattle.address_model.specs.Regions.{is_within}
+use Rattle.table_model.specs.Halves.{is_within}
 use Rattle.delta_model.specs.Between.{place_of, between}
 use Rattle.delta_model.proofs.Alike.{replaced_placed, all_between, made_placed}
 use Rattle.kept_model.specs.Patched.{entries_within, region_aggregate, patch_of}

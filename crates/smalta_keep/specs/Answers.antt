@@ -1,11 +1,11 @@
 -- What a kept table answers, and how few entries it has, in its family.
 use Rattle.std.specs.Prelude.{◌≤◌, Bool, true, false, length, Option, Some, None}
-use Rattle.address_model.specs.Address.{Prefix}
-use Rattle.address_model.specs.Width.{width}
+use Rattle.table_model.specs.Address.{Prefix}
+use Rattle.table_model.specs.Width.{width}
 use Rattle.table_model.specs.Table.{Alike}
 use Rattle.table_model.specs.Entries.{Entries, of_family}
-use Rattle.least_model.specs.Least.{Least}
-use Rattle.least_model.specs.Regions.{SameOutside}
+use Rattle.table_model.specs.Least.{Least}
+use Rattle.table_model.specs.Regions.{SameOutside}
 use Rattle.delta_model.specs.Between.{AreEntries}
 use Rattle.fib_addr.specs.declared.prefix.Prefix as code_prefix
 use Rattle.fib_addr.specs.declared.entry.Hop as code_hop

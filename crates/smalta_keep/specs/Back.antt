@@ -1,6 +1,6 @@
 -- Changes that take others back.
 use Rattle.std.specs.Prelude.{ℕ, Option, Some, None}
-use Rattle.address_model.specs.Address.{Prefix}
+use Rattle.table_model.specs.Address.{Prefix}
 use Rattle.table_model.specs.Entries.{Entries}
 use Rattle.table_model.specs.Changes.{Change, Add, Replace, Remove}
 use Rattle.delta_model.specs.Between.{hop_at}

@@ -1,12 +1,12 @@
 -- Marks of where the routes changed since the last snapshot, and what is known of the table beside them.
 use Rattle.std.specs.Prelude.{◌≡◌, ◌-◌, ◌⊎◌, [], Bool, true, false, Option, Some, None, length}
-use Rattle.address_model.specs.Address.{Prefix}
-use Rattle.address_model.specs.declared.family.Family.{Family}
-use Rattle.address_model.specs.Width.{width}
+use Rattle.table_model.specs.Address.{Prefix}
+use Rattle.table_model.specs.declared.family.Family.{Family}
+use Rattle.table_model.specs.Width.{width}
 use Rattle.table_model.specs.Table.{cut}
 use Rattle.table_model.specs.Entries.{Entries, of_family}
-use Rattle.least_model.specs.Regions.{above, entry_at, SameOutside}
-use Rattle.least_model.specs.Sets.{answers}
+use Rattle.table_model.specs.Regions.{above, entry_at, SameOutside}
+use Rattle.table_model.specs.Sets.{answers}
 use Rattle.stays_model.specs.Stays.{Stays, is_wide, HasMarks, IsMarked, IsMended}
 use Rattle.orig_tree.specs.Views.{Labels}
 use Rattle.kept_pass.specs.Known.{IsSettled, IsKnown, IsKnownBefore}

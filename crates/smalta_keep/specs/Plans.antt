@@ -1,9 +1,9 @@
 -- What a plan tells.
 use Rattle.std.specs.Prelude.{◌≡◌, [], Bool, true, false, cond, ◌++◌, map, Option, Some, None, option_map}
 use Rattle.std.specs.Option.{ForSome}
-use Rattle.address_model.specs.Address.{Prefix}
-use Rattle.address_model.specs.declared.family.Family.{Family}
-use Rattle.address_model.specs.Width.{width}
+use Rattle.table_model.specs.Address.{Prefix}
+use Rattle.table_model.specs.declared.family.Family.{Family}
+use Rattle.table_model.specs.Width.{width}
 use Rattle.table_model.specs.Entries.{Entries, of_family}
 use Rattle.table_model.specs.Changes.{after_changes}
 use Rattle.delta_model.specs.Between.{between}

@@ -1,8 +1,8 @@
 -- How far changes reach.
 use Rattle.std.specs.Prelude.{◌≡◌, List, true}
 use Rattle.std.specs.List.{AllByRecursion}
-use Rattle.address_model.specs.Address.{Prefix}
-use Rattle.address_model.specs.Regions.{is_within}
+use Rattle.table_model.specs.Address.{Prefix}
+use Rattle.table_model.specs.Halves.{is_within}
 use Rattle.table_model.specs.Changes.{Change}
 use Rattle.delta_model.specs.Between.{place_of}
 

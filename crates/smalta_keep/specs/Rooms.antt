@@ -1,8 +1,8 @@
 -- What changes find in a tree, and what they leave.
 use Rattle.std.specs.Prelude.{◌≡◌, List, Bool, true, Option, Some, None}
-use Rattle.address_model.specs.Address.{Prefix}
+use Rattle.table_model.specs.Address.{Prefix}
 use Rattle.std.specs.List.{AllByRecursion}
-use Rattle.address_model.specs.declared.family.Family.{Family}
+use Rattle.table_model.specs.declared.family.Family.{Family}
 use Rattle.table_model.specs.Changes.{Change, Add, Replace, Remove}
 use Rattle.delta_model.specs.Between.{place_of}
 use Rattle.orig_tree.specs.Walk.{has_node}

@@ -1,7 +1,7 @@
 -- Routes that are put back.
 use Rattle.std.specs.Prelude.{◌≡◌, ℕ, Option, Some, None, option_map}
 use Rattle.std.specs.Map.{remove_entry}
-use Rattle.address_model.specs.Address.{Prefix, same_prefix}
+use Rattle.table_model.specs.Address.{Prefix, same_prefix}
 use Rattle.table_model.specs.Entries.{Entries, with_entry}
 use Rattle.fib_addr.specs.Views.{prefix_as}
 use Rattle.orig_tree.specs.Views.{Labels}

@@ -1,6 +1,6 @@
 -- What a clause sees of this crate's values.
 use Rattle.std.specs.Prelude.{List, Option, Some, None, map, option_map}
-use Rattle.address_model.specs.Address.{Prefix}
+use Rattle.table_model.specs.Address.{Prefix}
 use Rattle.table_model.specs.Entries.{Entries}
 use Rattle.table_model.specs.Changes.{Change}
 use Rattle.kept_model.specs.Patched.{with_route}

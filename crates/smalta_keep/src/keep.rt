@@ -3,10 +3,10 @@
 ghost use Rattle.std.specs.Prelude.{◌≡◌, ◌≤◌, filter, ◌∷◌, ◌++◌, [], Some, IfOk, OnOk, OnErr, map};
 ghost use Rattle.std.specs.Option.{ForSome};
 ghost use Rattle.std.specs.List.{AllByRecursion};
-ghost use Rattle.address_model.specs.Address.{same_family};
+ghost use Rattle.table_model.specs.Address.{same_family};
 ghost use Rattle.table_model.specs.Entries.{in_order};
 ghost use Rattle.table_model.specs.Changes.{after_changes};
-ghost use Rattle.least_model.specs.Both.{aggregate_in};
+ghost use Rattle.table_model.specs.Both.{aggregate_in};
 ghost use Rattle.cert_model.specs.Rows.{family_rows};
 ghost use Rattle.delta_model.specs.Between.{between};
 ghost use Rattle.kept_model.specs.Patched.{with_route, patch_of};

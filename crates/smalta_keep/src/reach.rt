@@ -1,7 +1,7 @@
 //! How far changes reach.
 
 ghost use Rattle.std.specs.Prelude.{◌≡◌, true, map};
-ghost use Rattle.address_model.specs.Regions.{is_within};
+ghost use Rattle.table_model.specs.Halves.{is_within};
 ghost use Rattle.delta_model.specs.Between.{place_of};
 ghost use Rattle.fib_addr.specs.Views.{prefix_as};
 ghost use Rattle.fib_delta.specs.Views.{change_as};

@@ -3,7 +3,7 @@
 ghost use Rattle.std.specs.Prelude.{◌≡◌, true, IfOk, OnOk, OnErr, option_map};
 ghost use Rattle.std.specs.Option.{ForSome};
 ghost use Rattle.std.specs.Map.{lookup};
-ghost use Rattle.address_model.specs.Address.{same_prefix};
+ghost use Rattle.table_model.specs.Address.{same_prefix};
 ghost use Rattle.orig_tree.specs.Views.{InPlace};
 ghost use Rattle.orig_tree.specs.Walk.{has_node};
 ghost use Rattle.fib_addr.specs.Views.{prefix_as};

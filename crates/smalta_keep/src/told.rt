@@ -2,7 +2,7 @@
 
 ghost use Rattle.std.specs.Prelude.{◌≡◌, [], false, Some, IfOk, cond, map, option_map};
 ghost use Rattle.std.specs.Option.{ForSome};
-ghost use Rattle.address_model.specs.Width.{width};
+ghost use Rattle.table_model.specs.Width.{width};
 ghost use Rattle.table_model.specs.Entries.{of_family};
 ghost use Rattle.delta_model.specs.Between.{AreEntries, between};
 ghost use Rattle.kept_model.specs.Patched.{patch_of};

@@ -1,10 +1,10 @@
 -- A pass over what a pass gave.
 use Rattle.std.proofs.Common.{◌≡◌, ℕ, zero, suc, List, [], ◌∷◌, Bool, true, false, cond, length, Option, Some, None, refl, sym, ap, ◌∙◌}
 use Rattle.table_model.specs.Table.{Table, half, root, inherit}
-use Rattle.least_model.specs.Regions.{join, entry_at, SameEntries}
-use Rattle.least_model.specs.Sets.{is_in, smallest, pick, own, side, set_of, agg}
-use Rattle.least_model.proofs.Join.{root_join, low_join, high_join}
-use Rattle.least_model.proofs.Cost.{set_alike}
+use Rattle.table_model.specs.Regions.{join, entry_at, SameEntries}
+use Rattle.table_model.specs.Sets.{is_in, smallest, pick, own, side, set_of, agg}
+use Rattle.table_model.proofs.Join.{root_join, low_join, high_join}
+use Rattle.table_model.proofs.Cost.{set_alike}
 use Rattle.stays_model.specs.Stays.{Stays}
 
 -- ---- one entry

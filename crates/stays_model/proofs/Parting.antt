@@ -1,11 +1,11 @@
 -- Parts of tables, put together.
 use Rattle.std.proofs.Common.{◌≡◌, ℕ, zero, List, [], ◌∷◌, Bool, true, false, Option, Some, None, refl, sym, ap, ◌∙◌, inl, inr}
 use Rattle.table_model.specs.Table.{Table, IsTable, half, root, here, cut}
-use Rattle.least_model.specs.Regions.{join, entry_at, SameEntries}
-use Rattle.least_model.specs.Sets.{set_of, own, agg}
-use Rattle.least_model.proofs.Join.{root_join, low_join, high_join}
-use Rattle.least_model.proofs.Same.{cut_nil}
-use Rattle.least_model.proofs.Patch.{no_half}
+use Rattle.table_model.specs.Regions.{join, entry_at, SameEntries}
+use Rattle.table_model.specs.Sets.{set_of, own, agg}
+use Rattle.table_model.proofs.Join.{root_join, low_join, high_join}
+use Rattle.table_model.proofs.Same.{cut_nil}
+use Rattle.table_model.proofs.Patch.{no_half}
 use Rattle.stays_model.specs.Parts.{BothOrNeither, ArePart, IsEnd}
 
 none_at : (q : List Bool) → entry_at q [] ≡ None

@@ -1,12 +1,12 @@
 -- Regions off the marks.
 use Rattle.std.proofs.Common.{◌≡◌, ℕ, zero, suc, ◌-◌, ◌≤◌, List, [], ◌∷◌, ◌++◌, Bool, true, false, length, Option, None, refl, sym, ap, subst, ◌∙◌, arith, length-append}
-use Rattle.address_model.specs.Bits.{begins}
+use Rattle.table_model.specs.Bits.{begins}
 use Rattle.table_model.specs.Table.{Table, half, root, inherit, cut, lpm, hop_or, longest}
-use Rattle.least_model.specs.Regions.{above, entry_at, SameEntries, SameOutside}
-use Rattle.least_model.specs.Sets.{side, agg, answers}
-use Rattle.least_model.proofs.Above.{above_cut, none_above}
-use Rattle.least_model.proofs.Patch.{begins_rest, begins_trans, cut_cut}
-use Rattle.least_model.proofs.Order.{answers_outside}
+use Rattle.table_model.specs.Regions.{above, entry_at, SameEntries, SameOutside}
+use Rattle.table_model.specs.Sets.{side, agg, answers}
+use Rattle.table_model.proofs.Above.{above_cut, none_above}
+use Rattle.table_model.proofs.Patch.{begins_rest, begins_trans, cut_cut}
+use Rattle.table_model.proofs.Order.{answers_outside}
 use Rattle.stays_model.specs.Stays.{Stays, is_wide, IsOff, Settled, HasMarks, IsMarked, IsMended, NoneAround}
 use Rattle.stays_model.proofs.Again.{agg_same, agg_again, stays_half}
 

@@ -1,8 +1,8 @@
 -- Where two tables differ.
 use Rattle.std.specs.Prelude.{◌≡◌, ◌⊎◌, ℕ, List, [], Bool, Option, None}
 use Rattle.table_model.specs.Table.{Table, half}
-use Rattle.least_model.specs.Regions.{entry_at}
-use Rattle.least_model.specs.Sets.{agg}
+use Rattle.table_model.specs.Regions.{entry_at}
+use Rattle.table_model.specs.Sets.{agg}
 
 -- both are told, or neither, and then they are the same
 abbrev pub BothOrNeither : Option ℕ → Option ℕ → Option ℕ → Option ℕ → Type 0

@@ -1,9 +1,9 @@
 -- Entries that a pass leaves as they are.
 use Rattle.std.specs.Prelude.{◌≡◌, ℕ, ◌-◌, ◌≤◌, List, [], ◌∷◌, ◌++◌, Bool, true, false, not, nat_eq, Option, None, Some, length}
-use Rattle.address_model.specs.Bits.{begins}
+use Rattle.table_model.specs.Bits.{begins}
 use Rattle.table_model.specs.Table.{Table, root, half, cut}
-use Rattle.least_model.specs.Regions.{above, entry_at, SameEntries}
-use Rattle.least_model.specs.Sets.{agg}
+use Rattle.table_model.specs.Regions.{above, entry_at, SameEntries}
+use Rattle.table_model.specs.Sets.{agg}
 
 -- in a region of d more bits with the answers f that inherits h, the downward pass with L as the old table gives what L has
 abbrev pub Stays : ℕ → (List Bool → ℕ) → Table → ℕ → Type 0

@@ -9,8 +9,8 @@
 
 ghost use Rattle.std.specs.Prelude.{◌≡◌, ℕ, suc, ◌-◌, List, [], ◌∷◌, Bool, false, None, length};
 ghost use Rattle.table_model.specs.Table.{Table, half, root, inherit, cut};
-ghost use Rattle.least_model.specs.Regions.{above, entry_at, SameOutside};
-ghost use Rattle.least_model.specs.Sets.{side, agg, answers};
+ghost use Rattle.table_model.specs.Regions.{above, entry_at, SameOutside};
+ghost use Rattle.table_model.specs.Sets.{side, agg, answers};
 ghost use Rattle.stays_model.specs.Stays.{Stays, is_wide, Settled, IsMarked, IsMended};
 
 /// What a pass gave stays in the next.

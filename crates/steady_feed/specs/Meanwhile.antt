@@ -1,6 +1,6 @@
 -- What a router answers while it makes the changes of a run one by one.
 use Rattle.std.specs.Prelude.{◌≡◌, ℕ, zero, suc, ◌⊎◌, List, [], ◌∷◌, ◌++◌, Some, take}
-use Rattle.address_model.specs.Address.{Address, IsAddress}
+use Rattle.table_model.specs.Address.{Address, IsAddress}
 use Rattle.table_model.specs.Entries.{Entries, match_in}
 use Rattle.table_model.specs.Changes.{Change, sum_of}
 use Rattle.route_model.specs.Events.{Elem}

@@ -1,6 +1,6 @@
 -- What a router is told: the changes of a kept table event by event, in steady order where that is asked for.
 use Rattle.std.specs.Prelude.{ℕ, ◌+◌, List, [], ◌∷◌, ◌++◌, Bool, true, false}
-use Rattle.address_model.specs.Address.{Address}
+use Rattle.table_model.specs.Address.{Address}
 use Rattle.table_model.specs.Entries.{Entries}
 use Rattle.table_model.specs.Changes.{Change}
 use Rattle.route_model.specs.Events.{Elem}

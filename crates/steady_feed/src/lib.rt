@@ -8,8 +8,8 @@ ghost use Rattle.std.specs.Prelude.{◌≡◌, ℕ, ◌+◌, [], ◌∷◌, ◌+
 ghost use Rattle.std.specs.List.{AllByRecursion};
 ghost use Rattle.std.specs.List.Sorted.{IsStrictlySortedBy};
 ghost use Rattle.std.specs.Map.{keys_of};
-ghost use Rattle.address_model.specs.Address.{Address, IsPrefix};
-ghost use Rattle.address_model.specs.Order.{prefix_cmp};
+ghost use Rattle.table_model.specs.Address.{Address, IsPrefix};
+ghost use Rattle.table_model.specs.Order.{prefix_cmp};
 ghost use Rattle.table_model.specs.Entries.{Entries, AlikeInBoth};
 ghost use Rattle.table_model.specs.Changes.{after_changes, sum_of};
 ghost use Rattle.route_model.specs.Events.{Elem};

@@ -5,7 +5,7 @@ use Rattle.std.specs.List.{AllByRecursion}
 use Rattle.std.specs.List.Sorted.{IsPermutation}
 use Rattle.std.specs.Option.{option_and_then}
 use Rattle.std.proofs.lemmas.Bool.{eq-eqb}
-use Rattle.address_model.specs.Address.{Address, Prefix, IsAddress, IsPrefix, same_prefix}
+use Rattle.table_model.specs.Address.{Address, Prefix, IsAddress, IsPrefix, same_prefix}
 use Rattle.table_model.specs.Entries.{Entries, AlikeInBoth, in_order, match_in}
 use Rattle.table_model.specs.Changes.{Change, Replace, after_change, after_changes}
 use Rattle.route_model.proofs.Keyed.{same_entries}

@@ -4,9 +4,9 @@ use Rattle.std.specs.Prelude.{is_some, ◌⊎◌}
 use Rattle.std.specs.List.{AllByRecursion, filter}
 use Rattle.std.specs.Map.{remove_entry}
 use Rattle.std.proofs.lemmas.Bool.{cases_lt, eqb-true, eq-eqb}
-use Rattle.address_model.specs.Address.{Address, Prefix, IsAddress, IsPrefix, first_bits, same_prefix}
-use Rattle.address_model.specs.Order.{prefix_cmp}
-use Rattle.address_model.specs.declared.family.Family.{Family}
+use Rattle.table_model.specs.Address.{Address, Prefix, IsAddress, IsPrefix, first_bits, same_prefix}
+use Rattle.table_model.specs.Order.{prefix_cmp}
+use Rattle.table_model.specs.declared.family.Family.{Family}
 use Rattle.table_model.specs.Entries.{Entries, with_entry, match_in}
 use Rattle.table_model.specs.Changes.{Change, Add, Replace, Remove, after_change}
 use Rattle.route_model.proofs.Keyed.{all_put, sorted_put, lookup-put, all_cut, sorted_cut, lookup-cut}

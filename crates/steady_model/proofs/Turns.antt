@@ -5,10 +5,10 @@ use Rattle.std.specs.List.{AllByRecursion, filter}
 use Rattle.std.specs.List.Sorted.{IsPermutation}
 use Rattle.std.proofs.lemmas.List.Sorted.{IsPermutation-refl, IsPermutation-sym, IsPermutation-cons, IsPermutation-trans, IsPermutation-middle, IsPermutation-append_right}
 use Rattle.std.proofs.lemmas.Bool.{eqb-true, eq-eqb, cases_lt}
-use Rattle.address_model.specs.Width.{width}
-use Rattle.address_model.specs.Address.{IsPrefix, same_family}
-use Rattle.address_model.specs.declared.family.Family.{Family}
-use Rattle.address_model.specs.declared.family.Family.TheVariants.{V4, V6}
+use Rattle.table_model.specs.Width.{width}
+use Rattle.table_model.specs.Address.{IsPrefix, same_family}
+use Rattle.table_model.specs.declared.family.Family.{Family}
+use Rattle.table_model.specs.declared.family.Family.TheVariants.{V4, V6}
 use Rattle.table_model.specs.Changes.{Change, Add, Replace, Remove}
 use Rattle.delta_model.specs.Between.{place_of}
 use Rattle.steady_model.specs.Steady.{sets, removes, longest_first, shortest_first, steady_of, in_steady_order}

@@ -2,10 +2,10 @@
 -- its new one, and once it has the new one it keeps it.
 use Rattle.std.specs.Prelude.{◌≡◌, ℕ, zero, suc, ◌⊎◌, ◌&&◌, List, ◌++◌, Bool, false, Some, length, nat_eq}
 use Rattle.std.specs.List.{filter}
-use Rattle.address_model.specs.Width.{width}
-use Rattle.address_model.specs.Address.{Address, Prefix, IsAddress, same_family}
-use Rattle.address_model.specs.declared.family.Family.{Family}
-use Rattle.address_model.specs.declared.family.Family.TheVariants.{V4, V6}
+use Rattle.table_model.specs.Width.{width}
+use Rattle.table_model.specs.Address.{Address, Prefix, IsAddress, same_family}
+use Rattle.table_model.specs.declared.family.Family.{Family}
+use Rattle.table_model.specs.declared.family.Family.TheVariants.{V4, V6}
 use Rattle.table_model.specs.Entries.{Entries, match_in}
 use Rattle.table_model.specs.Changes.{Change, Add, Replace, Remove, after_changes}
 

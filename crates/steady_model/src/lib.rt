@@ -10,8 +10,8 @@
 ghost use Rattle.std.specs.Prelude.{◌≡◌, ◌++◌, List, Some, map};
 ghost use Rattle.std.specs.List.{AllByRecursion};
 ghost use Rattle.std.specs.List.Sorted.{IsPermutation, IsSorted, IsStrictlySortedBy};
-ghost use Rattle.address_model.specs.Address.{IsPrefix};
-ghost use Rattle.address_model.specs.Order.{prefix_cmp};
+ghost use Rattle.table_model.specs.Address.{IsPrefix};
+ghost use Rattle.table_model.specs.Order.{prefix_cmp};
 ghost use Rattle.table_model.specs.Entries.{Entries, AlikeInBoth, in_order};
 ghost use Rattle.table_model.specs.Changes.{Change, after_changes};
 ghost use Rattle.delta_model.specs.Between.{AreEntries, place_of, between};

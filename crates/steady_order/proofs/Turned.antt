@@ -3,8 +3,8 @@ use Rattle.std.proofs.Common.{◌≡◌, List, [], ◌∷◌, ◌++◌, length, 
 use Rattle.std.specs.List.{AllByRecursion}
 use Rattle.std.proofs.lemmas.List.{map-append, length-map}
 use Rattle.std.specs.Map.{keys_of}
-use Rattle.address_model.specs.Width.{width}
-use Rattle.address_model.specs.Address.{IsPrefix}
+use Rattle.table_model.specs.Width.{width}
+use Rattle.table_model.specs.Address.{IsPrefix}
 use Rattle.table_model.specs.Changes.{Change, Add, additions}
 use Rattle.delta_model.specs.Between.{place_of}
 use Rattle.steady_model.specs.Turns.{set_turn, remove_turn}

@@ -2,9 +2,9 @@
 -- routes alone. A run is a list of rows that the machine allows, step by step.
 use Rattle.std.specs.Prelude.{◌≡◌, ◌≢◌, ◌↔◌, ◌⊎◌, ℕ, zero, suc, ◌+◌, ◌*◌, ◌^◌, ◌<◌, ◌≤◌, List, [], ◌∷◌, ◌++◌, Bool, true, false, ◌&&◌, cond, nat_eq, nat_lt, length, take, Option, Some, None}
 use Rattle.std.specs.List.{list_any}
-use Rattle.address_model.specs.Address.{Address, Prefix, IsAddress, same_family}
-use Rattle.address_model.specs.Bits.{value_of}
-use Rattle.address_model.specs.declared.family.Family.{Family}
+use Rattle.table_model.specs.Address.{Address, Prefix, IsAddress, same_family}
+use Rattle.table_model.specs.Bits.{value_of}
+use Rattle.table_model.specs.declared.family.Family.{Family}
 use Rattle.table_model.specs.Entries.{Entries, match_in}
 use Rattle.fib_addr.specs.Hops.{hop_at}
 use Rattle.poptrie_build.specs.Tries.{visits_of, node_need, leaf_need, IsTooMuch}

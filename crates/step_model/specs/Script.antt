@@ -2,7 +2,7 @@
 use Rattle.std.specs.Prelude.{ℕ, ◌+◌, List, [], ◌∷◌, ◌++◌, codes, bytes_eq, Bool, Result, Ok, Err, ◌==◌, if◌then◌else◌}
 use Rattle.std.specs.List.{slice_split}
 use Rattle.octet_fields.specs.Field.{◌>>=◌}
-use Rattle.address_model.specs.Address.{Address}
+use Rattle.table_model.specs.Address.{Address}
 use Rattle.fib_addr.specs.Text.{number_below}
 use Rattle.printed_model.specs.Reading.{address_field, bad_count, bad_number, bad_word, next_field, one_field, or_why}
 use Rattle.printed_model.specs.Texts.{BadLine, line_texts}

@@ -1,8 +1,8 @@
 -- What each event does to the routes, as a change at one prefix.
 use Rattle.std.specs.Prelude.{◌≡◌, ℕ, zero, suc, List, [], ◌∷◌, cond, length, option_map, Option, Some, None}
 use Rattle.std.specs.List.{filter}
-use Rattle.address_model.specs.Address.{Prefix, same_family}
-use Rattle.address_model.specs.declared.family.Family.{Family}
+use Rattle.table_model.specs.Address.{Prefix, same_family}
+use Rattle.table_model.specs.declared.family.Family.{Family}
 use Rattle.table_model.specs.Entries.{Entries}
 use Rattle.kept_model.specs.Patched.{with_route}
 use Rattle.step_model.specs.Machine.{World}

@@ -5,7 +5,7 @@
 #![tactic(auto)]
 
 ghost use Rattle.std.specs.Prelude.{◌≡◌, ◌<◌, ℕ, Option, None, Some};
-ghost use Rattle.address_model.specs.declared.family.Family.{Family};
+ghost use Rattle.table_model.specs.declared.family.Family.{Family};
 ghost use Rattle.step_model.specs.Script.{Step};
 ghost use Rattle.step_model.specs.Rows.{StepRow, printed_number};
 ghost use Rattle.step_model.specs.Machine.{World, State, Lookup, Takes, Names, StaysOrEnds};

@@ -1,7 +1,7 @@
 -- A run in steps from an engine at the end of its load.
 use Rattle.std.proofs.Common.{◌≡◌, List, [], Bool, map, refl, sym, ap, subst, ◌∙◌, append-nil}
 use Rattle.std.specs.Prelude.{IfErr, IfOk, Option, Result, Ok, Err}
-use Rattle.address_model.specs.Address.{Address}
+use Rattle.table_model.specs.Address.{Address}
 use Rattle.table_model.specs.Entries.{Entries}
 use Rattle.route_model.specs.Events.{Elem}
 use Rattle.route_model.specs.Choice.{after_elems}

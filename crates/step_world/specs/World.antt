@@ -1,6 +1,6 @@
 -- The world that a load and updates make: what a run in steps may be a run of.
 use Rattle.std.specs.Prelude.{ℕ, List, [], ◌∷◌, ◌++◌, Option, None, is_some, length, take, drop}
-use Rattle.address_model.specs.Address.{Address, Prefix}
+use Rattle.table_model.specs.Address.{Address, Prefix}
 use Rattle.route_model.specs.Events.{Elem}
 use Rattle.route_model.specs.Choice.{Candidates, after_elems}
 use Rattle.feed_model.specs.Feed.{entries_of, full_at, hops_after}

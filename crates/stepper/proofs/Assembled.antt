@@ -1,8 +1,8 @@
 -- A stepper put together of its halves, and what is begun in it.
 use Rattle.std.proofs.Common.{◌≡◌, ◌<◌, ◌≤◌, ℕ, suc, Bool, true, false, cond, Option, Some, None, refl, sym, ap, ◌∙◌, subst}
-use Rattle.address_model.specs.Address.{same_family}
-use Rattle.address_model.specs.declared.family.Family.{Family}
-use Rattle.address_model.specs.declared.family.Family.TheVariants.{V4, V6}
+use Rattle.table_model.specs.Address.{same_family}
+use Rattle.table_model.specs.declared.family.Family.{Family}
+use Rattle.table_model.specs.declared.family.Family.TheVariants.{V4, V6}
 use Rattle.poptrie_update.specs.Pendings.{IsTokenOf}
 use Rattle.poptrie_update.specs.declared.pending.Pending.{Pending}
 use Rattle.step_model.specs.Script.{Step}

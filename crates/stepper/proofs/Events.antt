@@ -1,8 +1,8 @@
 -- The event that is begun makes a store, ends, or is cancelled.
 use Rattle.std.proofs.Common.{◌≡◌, ◌<◌, ◌≤◌, ℕ, suc, [], Bool, true, false, Option, Some, None, Result, Ok, Err, refl, sym, ap, ◌∙◌, arith, subst}
 use Rattle.std.specs.Prelude.{IfErr, OnOk}
-use Rattle.address_model.specs.declared.family.Family.{Family}
-use Rattle.address_model.specs.declared.family.Family.TheVariants.{V4, V6}
+use Rattle.table_model.specs.declared.family.Family.{Family}
+use Rattle.table_model.specs.declared.family.Family.TheVariants.{V4, V6}
 use Rattle.orig_tree.specs.Views.{Labels}
 use Rattle.poptrie_update.specs.Pendings.{IsTokenOf}
 use Rattle.poptrie_update.specs.declared.pending.Pending.{Pending}

@@ -1,6 +1,6 @@
 -- The stores that are left are made, and the update ends.
 use Rattle.std.proofs.Common.{◌≡◌, ◌<◌, ℕ, suc, ◌+◌, Bool, true, false, Option, Some, None, refl, sym, ap, ◌∙◌, arith, subst}
-use Rattle.address_model.specs.declared.family.Family.{Family}
+use Rattle.table_model.specs.declared.family.Family.{Family}
 use Rattle.poptrie_update.specs.Lives.{stores_left}
 use Rattle.poptrie_update.specs.Pendings.{IsTokenOf}
 use Rattle.poptrie_update.specs.declared.pending.Pending.{Pending}

@@ -1,8 +1,8 @@
 -- Look-ups of a family, by their numbers and printed numbers.
 use Rattle.std.proofs.Common.{◌≡◌, ◌<◌, ℕ, Option, sym, ap, ◌∙◌, arith, subst}
-use Rattle.address_model.specs.Address.{Address}
-use Rattle.address_model.specs.declared.family.Family.{Family}
-use Rattle.address_model.specs.declared.family.Family.TheVariants.{V4, V6}
+use Rattle.table_model.specs.Address.{Address}
+use Rattle.table_model.specs.declared.family.Family.{Family}
+use Rattle.table_model.specs.declared.family.Family.TheVariants.{V4, V6}
 use Rattle.step_model.specs.Rows.{StepRow, opened, answered, printed_number}
 use Rattle.step_model.specs.Machine.{World, State, Opens, Goes}
 

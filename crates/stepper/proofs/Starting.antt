@@ -6,10 +6,10 @@ use Rattle.std.specs.declared.vec.Vec.{Vec}
 use Rattle.std.proofs.Common.{Global}
 use Rattle.std.specs.Map.{keys_of}
 use Rattle.std.proofs.lemmas.Bool.Decides.{nat_tests}
-use Rattle.address_model.specs.Address.{IsPrefix, same_family}
-use Rattle.address_model.specs.Order.{prefix_cmp}
-use Rattle.address_model.specs.declared.family.Family.{Family}
-use Rattle.address_model.specs.declared.family.Family.TheVariants.{V4, V6}
+use Rattle.table_model.specs.Address.{IsPrefix, same_family}
+use Rattle.table_model.specs.Order.{prefix_cmp}
+use Rattle.table_model.specs.declared.family.Family.{Family}
+use Rattle.table_model.specs.declared.family.Family.TheVariants.{V4, V6}
 use Rattle.table_model.specs.Entries.{Entries, in_order}
 use Rattle.table_model.proofs.Sums.{in_order_again}
 use Rattle.route_model.proofs.Keyed.{all_filter, sorted_filter}

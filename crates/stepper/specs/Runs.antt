@@ -1,8 +1,8 @@
 -- What a stepper is, in a state of the machine of steps.
 use Rattle.std.specs.Prelude.{◌≡◌, ℕ, suc, ◌<◌, ◌≤◌, List, [], map, option_map, Bool, true, Option, Some, None}
 use Rattle.std.specs.List.{AllByRecursion}
-use Rattle.address_model.specs.declared.family.Family.{Family}
-use Rattle.address_model.specs.declared.family.Family.TheVariants.{V4, V6}
+use Rattle.table_model.specs.declared.family.Family.{Family}
+use Rattle.table_model.specs.declared.family.Family.TheVariants.{V4, V6}
 use Rattle.table_model.specs.Entries.{Entries}
 use Rattle.fib_addr.specs.Hops.{Hops}
 use Rattle.fib_addr.specs.Views.{prefix_as}

@@ -1,7 +1,7 @@
 //! The look-ups of one family.
 
 ghost use Rattle.std.specs.Prelude.{◌≡◌, ◌<◌};
-ghost use Rattle.address_model.specs.declared.family.Family.{Family};
+ghost use Rattle.table_model.specs.declared.family.Family.{Family};
 ghost use Rattle.fib_addr.specs.Views.{addr_as};
 ghost use Rattle.step_model.specs.Rows.{printed_number};
 ghost use Rattle.step_model.specs.Machine.{World, State, Opens, Goes};

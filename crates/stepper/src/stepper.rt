@@ -64,7 +64,7 @@ fn row_of_store(is_made: bool) -> Row
 
 impl Stepper {
     ghost use Rattle.std.specs.Prelude.{◌≡◌, ◌<◌, ◌≤◌, suc, Some, None, map, length, option_map, IfOk, IfErr, OnOk, OnErr};
-    ghost use Rattle.address_model.specs.declared.family.Family.{Family};
+    ghost use Rattle.table_model.specs.declared.family.Family.{Family};
     ghost use Rattle.fib_addr.specs.Views.{addr_as, entry_as, prefix_as};
     ghost use Rattle.orig_tree.specs.Views.{InPlace};
     ghost use Rattle.poptrie_update.specs.Pendings.{IsTokenOf};

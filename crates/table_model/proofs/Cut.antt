@@ -2,7 +2,7 @@
 use Rattle.std.proofs.Common.{◌≡◌, ℕ, suc, ◌+◌, ◌≤◌, List, [], ◌∷◌, Bool, true, false, not, cond, Option, Some, None, length, refl, ◌≢◌, ap, ◌∙◌, arith, inl, inr}
 use Rattle.std.specs.List.{AllByRecursion, filter}
 use Rattle.std.proofs.lemmas.Bool.{cond-true, cond-false, lt-ltb, le-ltb, cases_lt}
-use Rattle.address_model.specs.Bits.{begins}
+use Rattle.table_model.specs.Bits.{begins}
 use Rattle.table_model.specs.Table.{Entry, Table, longer, longest, hop_or, containing, lpm, Distinct, root, inherit, half, here}
 
 abbrev pub entry : List Bool → ℕ → Entry

@@ -5,10 +5,10 @@ use Rattle.std.specs.List.Sorted.{IsStrictlySortedBy}
 use Rattle.std.specs.Map.{keys_of}
 use Rattle.std.specs.Ordering.{ordering_reverse}
 use Rattle.std.specs.declared.cmp.Ordering.TheVariants.{Less, Greater}
-use Rattle.address_model.specs.Address.{Prefix, same_prefix}
-use Rattle.address_model.specs.Order.{prefix_cmp}
-use Rattle.address_model.proofs.Ordered.{prefix_total}
-use Rattle.address_model.proofs.Same.{same_prefix_is}
+use Rattle.table_model.specs.Address.{Prefix, same_prefix}
+use Rattle.table_model.specs.Order.{prefix_cmp}
+use Rattle.table_model.proofs.Ordered.{prefix_total}
+use Rattle.table_model.proofs.SamePrefix.{same_prefix_is}
 use Rattle.table_model.specs.Entries.{Entries, in_order}
 use Rattle.table_model.proofs.Sums.{in_order_sorted}
 

@@ -11,10 +11,10 @@ use Rattle.std.proofs.Common.{append-nil}
 use Rattle.std.specs.declared.cmp.Ordering.{Ordering}
 use Rattle.std.specs.declared.cmp.Ordering.TheVariants.{Less, Equal, Greater}
 use Rattle.std.proofs.lemmas.Cmp.{tied_itself}
-use Rattle.address_model.specs.Address.{Prefix, same_prefix}
-use Rattle.address_model.specs.Order.{prefix_cmp}
-use Rattle.address_model.proofs.Same.{same_prefix_is}
-use Rattle.address_model.proofs.Ordered.{prefix_total}
+use Rattle.table_model.specs.Address.{Prefix, same_prefix}
+use Rattle.table_model.specs.Order.{prefix_cmp}
+use Rattle.table_model.proofs.SamePrefix.{same_prefix_is}
+use Rattle.table_model.proofs.Ordered.{prefix_total}
 use Rattle.table_model.specs.Entries.{Entries, with_entry, in_order}
 use Rattle.table_model.specs.Changes.{additions, is_held, after_changes, sum_of}
 

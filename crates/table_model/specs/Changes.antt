@@ -2,7 +2,7 @@
 use Rattle.std.specs.Prelude.{ℕ, List, [], ◌∷◌, Bool, cond, Option, Some, None, is_some, map}
 use Rattle.std.specs.Option.{option_and_then}
 use Rattle.std.specs.Map.{lookup, remove_entry}
-use Rattle.address_model.specs.Address.{Prefix, same_prefix}
+use Rattle.table_model.specs.Address.{Prefix, same_prefix}
 use Rattle.table_model.specs.Entries.{Entries, with_entry}
 
 pub data Change : Type 0 where

@@ -1,9 +1,9 @@
 -- Tables of both families: prefixes with the numbers of their next hops.
 use Rattle.std.specs.Prelude.{◌≡◌, ℕ, List, [], ◌∷◌, cond, fold, map}
 use Rattle.std.specs.BTreeMap.{insert_entry}
-use Rattle.address_model.specs.Address.{Address, Prefix, IsAddress, same_family}
-use Rattle.address_model.specs.Order.{prefix_cmp}
-use Rattle.address_model.specs.declared.family.Family.{Family}
+use Rattle.table_model.specs.Address.{Address, Prefix, IsAddress, same_family}
+use Rattle.table_model.specs.Order.{prefix_cmp}
+use Rattle.table_model.specs.declared.family.Family.{Family}
 use Rattle.table_model.specs.Table.{Table, lpm}
 
 -- Entries of both families. A drop entry has hop 0.

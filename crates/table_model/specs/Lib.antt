@@ -1,4 +1,15 @@
+pub mod Bits
+pub mod Width
+pub mod Address
+pub mod Halves
+pub mod Order
+pub mod Derived
 pub mod Table
 pub mod Entries
 pub mod Uniform
 pub mod Changes
+pub mod Regions
+pub mod Least
+pub mod Sets
+pub mod Kept
+pub mod Both

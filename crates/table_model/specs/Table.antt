@@ -1,7 +1,7 @@
 -- A table of one family, and longest match, over plain lists of bits.
 use Rattle.std.specs.Prelude.{◌≡◌, ◌≢◌, ℕ, ◌≤◌, List, [], ◌∷◌, Bool, true, false, cond, Option, Some, None, length, nat_lt}
 use Rattle.std.specs.List.{AllByRecursion, filter}
-use Rattle.address_model.specs.Bits.{begins}
+use Rattle.table_model.specs.Bits.{begins}
 
 -- a prefix with its next hop's number; hop 0 drops what it matches
 pub record Entry : Type 0 where

@@ -1,6 +1,6 @@
 -- Whether all addresses of a prefix get one answer from a table, by longest match.
 use Rattle.std.specs.Prelude.{◌≡◌, ◌≢◌, ℕ, true}
-use Rattle.address_model.specs.Address.{Address, Prefix, IsAddress, contains}
+use Rattle.table_model.specs.Address.{Address, Prefix, IsAddress, contains}
 use Rattle.table_model.specs.Entries.{Entries, match_in}
 
 -- every address within the prefix gets the hop

@@ -1,41 +1,19 @@
-//! The model of tables: entries, longest match, changes and their sum, over plain lists.
+//! The model of addresses and tables: over lists of bits, addresses, prefixes and their order; over plain lists, tables, longest
+//! match, changes and their sum; least tables, with what a region costs, its best hops, and the one table that they fix.
 //!
-//! The definitions stand in `specs/`. Each function here is a law: it does nothing, and its clause holds for all values.
+//! The definitions stand in `specs/`; the code is the family, and the laws of what is defined.
 #![tactic(auto)]
 
-ghost use Rattle.std.specs.Prelude.{◌≡◌, ℕ, ◌+◌, List, Bool, false, true, ◌∷◌, length, Some};
-ghost use Rattle.std.specs.List.{AllByRecursion, IsDistinct};
-ghost use Rattle.std.specs.List.Sorted.{IsPermutation, IsStrictlySortedBy};
-ghost use Rattle.std.specs.Map.{keys_of};
-ghost use Rattle.address_model.specs.Address.{IsPrefix, same_prefix};
-ghost use Rattle.address_model.specs.Order.{prefix_cmp};
-ghost use Rattle.table_model.specs.Table.{Table, lpm, Distinct, half, root, inherit, here};
-ghost use Rattle.table_model.specs.Entries.{Entries, in_order};
-ghost use Rattle.table_model.specs.Changes.{additions, sum_of};
+mod address_laws;
+mod family;
+mod least_laws;
+mod table_laws;
 
-/// Longest match goes on in the half of the address's first bit, which inherits the entry at the root.
-pub fn cutting_law()
-    ensures { (L : Table) (b : Bool) (a : List Bool) (h : ℕ)
-        → lpm L (b ∷ a) h ≡ lpm (half b L) a (inherit (root L) h) }
-{}
-
-/// A table has as many entries as its entry at the root, if any, and its halves together.
-pub fn parts_law()
-    ensures { (L : Table) → Distinct L → length L ≡ length (here (root L)) + length (half false L)
-        + length (half true L) }
-{}
-
-/// Entries with distinct prefixes, put in order, stand in the order of prefixes and are the same entries; those that are in order
-/// stay as they are.
-pub fn order_law()
-    ensures sorted { (L : Entries) → IsStrictlySortedBy prefix_cmp (keys_of (in_order L)) }
-    ensures same { (L : Entries) → AllByRecursion IsPrefix (keys_of L)
-        → IsDistinct same_prefix (keys_of L) → IsPermutation L (in_order L) }
-    ensures again { (L : Entries) → IsStrictlySortedBy prefix_cmp (keys_of L) → in_order L ≡ L }
-{}
-
-/// The sum of additions of entries in order is these entries.
-pub fn sum_law()
-    ensures { (L : Entries) → IsStrictlySortedBy prefix_cmp (keys_of L)
-        → sum_of (additions L) ≡ Some L }
-{}
+pub use address_laws::{family_order_law, path_law};
+pub use family::Family;
+pub use least_laws::{
+    aggregate_law, aggregate_order_law, best_law, both_law, bound_law, cost_law, entry_law,
+    fresh_law, halves_law, join_law, joining_law, kept_law, leaf_law, not_least_law, patch_alike,
+    patch_law, patch_least, region_law, same_law,
+};
+pub use table_laws::{cutting_law, entry_order_law, parts_law, sum_law};

@@ -1,7 +1,7 @@
 //! What the tests of several crates make: a prefix, and a count of steps.
 
 ghost use Rattle.std.specs.Prelude.{◌≡◌, ◌≤◌};
-ghost use Rattle.address_model.specs.declared.family.Family.TheVariants.{V4};
+ghost use Rattle.table_model.specs.declared.family.Family.TheVariants.{V4};
 
 use fib_addr::{Addr, Prefix};
 use orig_tree::Counter;

@@ -2,7 +2,7 @@
 //! the definitions.
 
 ghost use Rattle.std.specs.Prelude.{◌≡◌, IfOk};
-ghost use Rattle.address_model.specs.declared.family.Family.TheVariants.{V4};
+ghost use Rattle.table_model.specs.declared.family.Family.TheVariants.{V4};
 
 use crate::common::Seen;
 use fib_addr::{Addr, Entry, Family, Hop, Prefix};

@@ -1,7 +1,7 @@
 //! Routes and entries come and go.
 
 ghost use Rattle.std.specs.Prelude.{◌≡◌, IfOk};
-ghost use Rattle.address_model.specs.declared.family.Family.TheVariants.{V4};
+ghost use Rattle.table_model.specs.declared.family.Family.TheVariants.{V4};
 
 use crate::common::{Seen, prefix};
 use fib_addr::{Addr, Answers, Entry, Family, Hop, Prefix};

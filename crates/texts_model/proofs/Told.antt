@@ -6,9 +6,9 @@ use Rattle.std.specs.Ordering.{ordering_reverse, match_ordering}
 use Rattle.std.specs.declared.cmp.Ordering.{Ordering}
 use Rattle.std.specs.declared.cmp.Ordering.TheVariants.{Less, Equal, Greater}
 use Rattle.std.proofs.lemmas.Cmp.{nat_cmp_total, on_total, then_total}
-use Rattle.address_model.specs.Bits.{value_of}
-use Rattle.address_model.specs.Width.{width}
-use Rattle.address_model.specs.Address.{Address}
+use Rattle.table_model.specs.Bits.{value_of}
+use Rattle.table_model.specs.Width.{width}
+use Rattle.table_model.specs.Address.{Address}
 use Rattle.table_model.specs.Entries.{Entries, match_in, AlikeInBoth}
 use Rattle.cert_model.specs.Verdict.{address_cmp, IsLeastDiffering}
 use Rattle.texts_model.specs.Texts.{Difference, IsLeastDifference, IsDifferenceOf, ComesTo, EveryTwo, SameBefore, lesser}

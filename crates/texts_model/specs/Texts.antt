@@ -4,12 +4,12 @@ use Rattle.std.specs.List.{AllByRecursion}
 use Rattle.std.specs.Option.{option_or}
 use Rattle.std.specs.Ordering.{match_ordering}
 use Rattle.std.specs.declared.cmp.Ordering.TheVariants.{Less}
-use Rattle.address_model.specs.Address.{Address, IsAddress}
-use Rattle.address_model.specs.Width.{width}
-use Rattle.address_model.specs.declared.family.Family.{Family}
-use Rattle.address_model.specs.declared.family.Family.TheVariants.{V4, V6}
+use Rattle.table_model.specs.Address.{Address, IsAddress}
+use Rattle.table_model.specs.Width.{width}
+use Rattle.table_model.specs.declared.family.Family.{Family}
+use Rattle.table_model.specs.declared.family.Family.TheVariants.{V4, V6}
 use Rattle.table_model.specs.Entries.{Entries, match_in, of_family, AlikeInBoth}
-use Rattle.least_model.specs.Sets.{answers}
+use Rattle.table_model.specs.Sets.{answers}
 use Rattle.cert_model.specs.Verdict.{address_cmp, least_differing, IsLeastDiffering}
 
 -- a table that differs from the first, by its number among the others, from 0, and an address at which it does

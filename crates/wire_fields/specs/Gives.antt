@@ -2,7 +2,7 @@
 use Rattle.std.specs.Prelude.{◌≡◌, ℕ, List, drop, Result, Ok, Err}
 use Rattle.fib_addr.specs.declared.prefix.Prefix as code
 use Rattle.fib_addr.specs.Views.{prefix_as}
-use Rattle.address_model.specs.Address.{Prefix}
+use Rattle.table_model.specs.Address.{Prefix}
 use Rattle.wire_model.specs.Wire.{Nlri}
 use Rattle.wire_fields.specs.declared.wire_prefix.Nlri as code_nlri
 use Rattle.wire_fields.specs.declared.refusal.Refusal.{Refusal}

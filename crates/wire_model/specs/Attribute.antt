@@ -1,9 +1,9 @@
 -- Attribute lists (RFC 4271, 4.3 and 5; RFC 4760, 3 and 4; RFC 6396, 4.3.4).
 use Rattle.std.specs.Prelude.{ℕ, zero, suc, List, [], ◌∷◌, length, take, Option, Some, None, unwrap_or, Result, Ok, Err, Bool, true, false, not, bit_and, ◌==◌, ◌||◌, ◌&&◌, if◌then◌else◌}
-use Rattle.address_model.specs.declared.family.Family.{Family}
-use Rattle.address_model.specs.declared.family.Family.TheVariants.{V4, V6}
-use Rattle.address_model.specs.Address.{Address, Prefix, same_family}
-use Rattle.address_model.specs.Bits.{octet_bits}
+use Rattle.table_model.specs.declared.family.Family.{Family}
+use Rattle.table_model.specs.declared.family.Family.TheVariants.{V4, V6}
+use Rattle.table_model.specs.Address.{Address, Prefix, same_family}
+use Rattle.table_model.specs.Bits.{octet_bits}
 use Rattle.octet_fields.specs.Field.{◌>>=◌, refuse, octet_at, octets_at, number_at, until_end}
 use Rattle.wire_model.specs.declared.place.Place.{Place}
 use Rattle.wire_model.specs.declared.place.Place.TheVariants.{Rib, Update}

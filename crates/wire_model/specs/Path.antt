@@ -1,6 +1,6 @@
 -- AS_PATH (RFC 4271, 4.3; RFC 5065, 3): how long a path is (RFC 4271, 9.1.2.2 a; RFC 5065, 5.3), and in which AS the route originates (RFC 6811, 2).
 use Rattle.std.specs.Prelude.{ℕ, ◌+◌, ◌-◌, ◌*◌, List, length, drop, Option, Some, None, Result, Ok, Bool, nat_lt, not, ◌==◌, ◌||◌, ◌&&◌, if◌then◌else◌}
-use Rattle.address_model.specs.Bits.{number}
+use Rattle.table_model.specs.Bits.{number}
 use Rattle.octet_fields.specs.Field.{◌>>=◌, refuse, octet_at, octets_at, until_end}
 use Rattle.wire_model.specs.declared.rule.Rule.{Rule}
 use Rattle.wire_model.specs.declared.rule.Rule.TheVariants.{AttributeValue}

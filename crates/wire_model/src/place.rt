@@ -1,6 +1,6 @@
 //! Where an attribute list stands.
 
-use address_model::Family;
+use table_model::Family;
 
 /// Where an attribute list stands, which decides how some of its attributes are read.
 #[derive(Clone, Copy, Debug, PartialEq, Eq)]

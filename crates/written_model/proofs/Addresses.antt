@@ -2,12 +2,12 @@
 use Rattle.std.proofs.Common.{◌≡◌, ℕ, zero, suc, ◌*◌, ◌^◌, ◌<◌, List, ◌∷◌, ◌++◌, length, Ok, refl, sym, ap, ◌∙◌, mod-eq_of_lt, get_or, subst, arith}
 use Rattle.std.specs.Int.{bytes_high_first, byte_at}
 use Rattle.std.proofs.lemmas.Nat.{mod_below}
-use Rattle.address_model.specs.declared.family.Family.{Family}
-use Rattle.address_model.specs.declared.family.Family.TheVariants.{V4, V6}
-use Rattle.address_model.specs.Address.{Address, IsAddress}
-use Rattle.address_model.specs.Bits.{bits_of, value_of, number, octet_bits}
-use Rattle.address_model.specs.Width.{width}
-use Rattle.address_model.proofs.BitLaws.{AreOctets, length-bits_of, value-bits_of, value-lt, bits_from_value, bits_of-number, octets_pow}
+use Rattle.table_model.specs.declared.family.Family.{Family}
+use Rattle.table_model.specs.declared.family.Family.TheVariants.{V4, V6}
+use Rattle.table_model.specs.Address.{Address, IsAddress}
+use Rattle.table_model.specs.Bits.{bits_of, value_of, number, octet_bits}
+use Rattle.table_model.specs.Width.{width}
+use Rattle.table_model.proofs.BitLaws.{AreOctets, length-bits_of, value-bits_of, value-lt, bits_from_value, bits_of-number, octets_pow}
 use Rattle.wire_model.specs.declared.rule.Rule.{Rule}
 use Rattle.wire_model.specs.Wire.{octets_for, address_at}
 use Rattle.written_model.specs.Octets.{number_octets, address_octets}

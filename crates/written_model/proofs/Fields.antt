@@ -6,7 +6,7 @@ use Rattle.std.proofs.lemmas.Bool.{le-ltb}
 use Rattle.std.proofs.lemmas.List.{take_at, drop_at}
 use Rattle.byteorder.specs.Endian.{big_number}
 use Rattle.byteorder.specs.Numbers.{length-bytes_high_first, big_from-bytes}
-use Rattle.address_model.specs.Bits.{number}
+use Rattle.table_model.specs.Bits.{number}
 use Rattle.octet_fields.specs.Field.{octets_at, number_at, until_end}
 use Rattle.octet_fields.proofs.Numbers.{number_of_all}
 use Rattle.octet_fields.proofs.Steps.{left_at_start, left_after, left_at_end}

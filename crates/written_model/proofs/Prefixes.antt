@@ -3,13 +3,13 @@ use Rattle.std.proofs.Common.{◌≡◌, ℕ, zero, suc, ◌+◌, ◌-◌, ◌*�
 use Rattle.std.specs.Prelude.{nat_lt}
 use Rattle.std.proofs.lemmas.Bool.{le-ltb}
 use Rattle.std.proofs.lemmas.List.{take_at, take-take, take_all, length-take-le, length-replicate}
-use Rattle.address_model.specs.declared.family.Family.{Family}
-use Rattle.address_model.specs.declared.family.Family.TheVariants.{V4}
-use Rattle.address_model.specs.Address.{Prefix, IsPrefix}
-use Rattle.address_model.specs.Bits.{bits_of, value_of, number, octet_bits}
-use Rattle.address_model.specs.Order.{filled}
-use Rattle.address_model.specs.Width.{width}
-use Rattle.address_model.proofs.BitLaws.{length-bits_of, value-bits_of, value-lt, bits_from_value, bits_of-number, octets_pow}
+use Rattle.table_model.specs.declared.family.Family.{Family}
+use Rattle.table_model.specs.declared.family.Family.TheVariants.{V4}
+use Rattle.table_model.specs.Address.{Prefix, IsPrefix}
+use Rattle.table_model.specs.Bits.{bits_of, value_of, number, octet_bits}
+use Rattle.table_model.specs.Order.{filled}
+use Rattle.table_model.specs.Width.{width}
+use Rattle.table_model.proofs.BitLaws.{length-bits_of, value-bits_of, value-lt, bits_from_value, bits_of-number, octets_pow}
 use Rattle.octet_fields.specs.Field.{one_more}
 use Rattle.wire_model.specs.declared.rule.Rule.{Rule}
 use Rattle.wire_model.specs.Wire.{octets_for, prefix_at, nlri_at, nlris}

@@ -1,10 +1,10 @@
 -- How numbers, addresses, prefixes, attributes and records are written as octets.
 use Rattle.std.specs.Prelude.{ℕ, List, ◌∷◌, ◌++◌, length, take, replicate, flat_map, Some, None, ◌==◌, if◌then◌else◌}
 use Rattle.std.specs.Int.{bytes_high_first}
-use Rattle.address_model.specs.Address.{Address, Prefix}
-use Rattle.address_model.specs.Bits.{value_of}
-use Rattle.address_model.specs.Order.{filled}
-use Rattle.address_model.specs.Width.{width}
+use Rattle.table_model.specs.Address.{Address, Prefix}
+use Rattle.table_model.specs.Bits.{value_of}
+use Rattle.table_model.specs.Order.{filled}
+use Rattle.table_model.specs.Width.{width}
 use Rattle.wire_model.specs.Path.{Path}
 use Rattle.wire_model.specs.Wire.{octets_for}
 

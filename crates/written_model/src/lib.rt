@@ -4,7 +4,7 @@
 #![tactic(auto)]
 
 ghost use Rattle.std.specs.Prelude.{◌≡◌, ◌<◌, ◌≤◌, ◌^◌, ◌++◌, ℕ, List, length, Ok};
-ghost use Rattle.address_model.specs.Address.{Address, IsAddress, Prefix, IsPrefix};
+ghost use Rattle.table_model.specs.Address.{Address, IsAddress, Prefix, IsPrefix};
 ghost use Rattle.octet_fields.specs.Field.{number_at};
 ghost use Rattle.wire_model.specs.declared.rule.Rule.{Rule};
 ghost use Rattle.wire_model.specs.Path.{path_of, path_length_of};

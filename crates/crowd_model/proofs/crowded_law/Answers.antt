@@ -2,7 +2,7 @@ use Rattle.std.proofs.Common.{◌≡◌, ℕ, ◌+◌, ◌^◌, ◌≤◌, List,
 use Rattle.block_pool.specs.Arrays.{Array, places_of}
 use Rattle.block_pool.specs.Blocks.{blocks_of}
 use Rattle.fib_regions.specs.Answers.{all_answers, part}
-use Rattle.address_model.specs.Bits.{bits_of}
+use Rattle.table_model.specs.Bits.{bits_of}
 use Rattle.poptrie_build.specs.Strides.{strides}
 use Rattle.poptrie_build.specs.Tries.{rest, node_need, leaf_need}
 use Rattle.poptrie_copy.proofs.Retiring.{slots_places}

@@ -1,5 +1,5 @@
 use Rattle.std.proofs.Common.{refl}
-use Rattle.address_model.specs.Bits.{bits_of, value_of, same_bits}
+use Rattle.table_model.specs.Bits.{bits_of, value_of, same_bits}
 use Rattle.written_model.specs.Octets.{number_octets, prefix_octets, attribute_octets, as_path_octets, record_octets}
 use Rattle.saved_model.specs.Entries.{table_peer, path_octets, path_attribute, hop_attribute, attributes_of, entry_octets}
 use Rattle.saved_model.specs.Checkpoint.{table_body, piece_body, piece_record, piece_records}

@@ -1,5 +1,5 @@
 use Rattle.std.proofs.Common.{◌∙◌, ◌^◌}
-use Rattle.address_model.specs.Width.{width}
+use Rattle.table_model.specs.Width.{width}
 use Rattle.cert_check.proofs.Aparts.{no_of_is, start_below}
 use Rattle.cert_check.proofs.alike.differ_in.Goals as goal
 

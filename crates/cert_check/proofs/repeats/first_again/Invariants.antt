@@ -3,7 +3,7 @@ use Rattle.std.specs.Prelude.{option_map}
 use Rattle.std.specs.List.{list_any}
 use Rattle.std.specs.Map.{keys_of}
 use Rattle.std.specs.BTreeSet as set
-use Rattle.address_model.specs.Address.{same_prefix}
+use Rattle.table_model.specs.Address.{same_prefix}
 use Rattle.cert_model.specs.Verdict.{twice}
 use Rattle.fib_addr.specs.Order.{code_cmp}
 use Rattle.fib_addr.specs.Views.{entry_as, prefix_as}

@@ -1,5 +1,5 @@
 use Rattle.std.proofs.Common.{◌≡◌, ◌∙◌, length}
-use Rattle.address_model.specs.Width.{width}
+use Rattle.table_model.specs.Width.{width}
 use Rattle.fib_addr.specs.Views.{prefix_as}
 use Rattle.fib_addr.proofs.Parts.{length_prefix}
 use Rattle.cert_check.proofs.Holding.{prefix_short}

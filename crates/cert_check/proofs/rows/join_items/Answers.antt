@@ -1,6 +1,6 @@
 use Rattle.std.proofs.Common.{◌≡◌, ◌∙◌, ℕ, ◌+◌, List, [], ◌∷◌, ◌++◌, ap, refl, eq-eqb}
-use Rattle.address_model.specs.Address.{Prefix as ModelPrefix}
-use Rattle.least_model.specs.Sets.{common, one_if_empty, or_else, joint}
+use Rattle.table_model.specs.Address.{Prefix as ModelPrefix}
+use Rattle.table_model.specs.Sets.{common, one_if_empty, or_else, joint}
 use Rattle.cert_model.specs.Right.{join_item, joint_k}
 use Rattle.cert_model.specs.Right.{Item as ModelItem}
 use Rattle.fib_addr.specs.Views.{prefix_as}

@@ -1,5 +1,5 @@
 use Rattle.std.proofs.Common.{◌≡◌, ◌+◌, ◌≤◌, [], ◌∷◌, map, drop}
-use Rattle.address_model.specs.declared.family.Family.TheVariants.{V4, V6}
+use Rattle.table_model.specs.declared.family.Family.TheVariants.{V4, V6}
 use Rattle.table_model.specs.Entries.{Entries}
 use Rattle.cert_model.specs.Verdict.{wrong_row}
 use Rattle.cert_rows.specs.Views.{row_as}

@@ -1,5 +1,5 @@
 use Rattle.std.proofs.Common.{◌≡◌, ℕ, ◌+◌, ◌-◌, ◌/◌, ◌^◌, ◌≤◌, true, not, nat_eq, sym, subst, ◌↔◌}
-use Rattle.address_model.specs.Width.{width}
+use Rattle.table_model.specs.Width.{width}
 use Rattle.cert_check.proofs.Holding.{past_is}
 use Rattle.cert_check.proofs.runs.is_past.Goals as goal
 

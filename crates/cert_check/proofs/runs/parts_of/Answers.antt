@@ -1,9 +1,9 @@
 use Rattle.std.proofs.Common.{◌≡◌, ap, sym, refl, ◌∙◌}
 use denote.Enum.Bare.{sameb}
-use Rattle.address_model.specs.Address.{same_family}
-use Rattle.address_model.specs.contracts.family.Family.{the_type}
-use Rattle.address_model.specs.declared.family.Family.{Family}
-use Rattle.address_model.specs.declared.family.Family.TheVariants.{V4, V6}
+use Rattle.table_model.specs.Address.{same_family}
+use Rattle.table_model.specs.contracts.family.Family.{the_type}
+use Rattle.table_model.specs.declared.family.Family.{Family}
+use Rattle.table_model.specs.declared.family.Family.TheVariants.{V4, V6}
 use Rattle.cert_check.proofs.Deals.{this_family, other_family}
 use Rattle.cert_check.proofs.runs.parts_of.Goals.{then-eq+in_ok-push, else-eq}
 use Rattle.cert_check.proofs.runs.parts_of.Goals as goal

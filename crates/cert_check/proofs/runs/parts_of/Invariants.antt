@@ -1,5 +1,5 @@
 use Rattle.std.proofs.Common.{◌≡◌, map, take}
-use Rattle.address_model.specs.Width.{width}
+use Rattle.table_model.specs.Width.{width}
 use Rattle.table_model.specs.Entries.{of_family}
 use Rattle.fib_addr.specs.Views.{entry_as}
 use Rattle.cert_check.specs.Runs.{table_of}

@@ -1,5 +1,5 @@
 use Rattle.std.proofs.Common.{[], ℕ, subst, List}
-use Rattle.address_model.specs.Width.{width}
+use Rattle.table_model.specs.Width.{width}
 use Rattle.std.specs.Prelude.{map}
 use Rattle.fib_addr.specs.Views.{entry_as}
 use Rattle.cert_check.specs.declared.runs.Run.{Run}

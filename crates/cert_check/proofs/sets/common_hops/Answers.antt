@@ -2,7 +2,7 @@ use Rattle.std.proofs.Common.{◌≡◌, ℕ, ◌+◌, ◌<◌, List, [], ◌∷
 use Rattle.std.proofs.lemmas.Bool.{ne_eqb}
 use Rattle.std.proofs.lemmas.List.{get_or_read}
 use Rattle.std.proofs.lemmas.List.Elements.{filter_more}
-use Rattle.least_model.specs.Sets.{common, is_in}
+use Rattle.table_model.specs.Sets.{common, is_in}
 use Rattle.cert_check.proofs.sets.common_hops.Goals.{then-index-stamp+in_ok-push, else-index-stamp}
 use Rattle.cert_check.proofs.sets.common_hops.Goals as goal
 

@@ -1,5 +1,5 @@
 use Rattle.std.proofs.Common.{◌≡◌, take}
-use Rattle.least_model.specs.Sets.{common}
+use Rattle.table_model.specs.Sets.{common}
 use Rattle.cert_check.proofs.sets.common_hops.Given as goal
 
 abbrev pub invariant-loop-hop : goal.invariant-loop-hop

@@ -3,7 +3,7 @@ use Rattle.std.specs.Prelude.{◌||◌}
 use Rattle.std.proofs.lemmas.Bool.{eqb-true, eqb-false, or_right}
 use Rattle.std.proofs.lemmas.List.{get_or-set_same, get_or-set_other}
 use Rattle.std.proofs.lemmas.List.Folds.{list_any_more}
-use Rattle.least_model.specs.Sets.{is_in}
+use Rattle.table_model.specs.Sets.{is_in}
 use Rattle.cert_check.specs.Marks.{AreMarks}
 use Rattle.cert_check.proofs.sets.mark.Goals as goal
 

@@ -1,5 +1,5 @@
 use Rattle.std.proofs.Common.{◌≡◌, ◌+◌, ◌<◌, ℕ, take, get_or, nat_eq}
-use Rattle.least_model.specs.Sets.{is_in}
+use Rattle.table_model.specs.Sets.{is_in}
 use Rattle.cert_check.specs.Marks.{AreMarks}
 use Rattle.cert_check.proofs.sets.mark.Given as goal
 

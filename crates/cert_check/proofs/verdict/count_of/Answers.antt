@@ -1,6 +1,6 @@
 use Rattle.std.proofs.Common.{◌≡◌, ◌≤◌, sym, ◌∙◌, length, arith}
 use Rattle.cert_check.proofs.Counts.{back_test, counted_this, counted_other, count_most}
-use Rattle.address_model.specs.Address.{same_family}
+use Rattle.table_model.specs.Address.{same_family}
 use Rattle.cert_check.proofs.verdict.count_of.Goals.{then-eq, else-eq}
 use Rattle.cert_check.proofs.verdict.count_of.Goals as goal
 

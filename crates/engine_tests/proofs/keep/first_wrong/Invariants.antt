@@ -1,5 +1,5 @@
 use Rattle.std.proofs.Common.{◌≡◌}
-use Rattle.address_model.specs.declared.family.Family.TheVariants.{V4}
+use Rattle.table_model.specs.declared.family.Family.TheVariants.{V4}
 use Rattle.engine_tests.proofs.keep.first_wrong.Given as goal
 
 abbrev pub invariant-loop-place : goal.invariant-loop-place

@@ -1,6 +1,6 @@
 use Rattle.std.proofs.Common.{◌≡◌, List, map, sym, subst}
 use Rattle.std.proofs.lemmas.Result.{IfOk-weaker}
-use Rattle.address_model.specs.Width.{width}
+use Rattle.table_model.specs.Width.{width}
 use Rattle.table_model.specs.Entries.{of_family}
 use Rattle.delta_model.specs.Between.{between}
 use Rattle.fib_addr.specs.Views.{prefix_as}

@@ -1,7 +1,7 @@
 use Rattle.std.proofs.Common.{ap, arith, true, false}
 use Rattle.std.proofs.lemmas.Result.{IfOk-weaker}
-use Rattle.address_model.specs.Address.{Prefix}
-use Rattle.address_model.specs.Width.{width}
+use Rattle.table_model.specs.Address.{Prefix}
+use Rattle.table_model.specs.Width.{width}
 use Rattle.orig_tree.specs.Spots.{answers_in}
 use Rattle.orig_tree.specs.Walk.{behind}
 use Rattle.orig_tree.proofs.Telling.{half_longer}

@@ -2,8 +2,8 @@ use Rattle.std.proofs.Common.{◌≡◌, ◌≤◌, length, drop, sym, ap, ◌�
 use Rattle.std.specs.Prelude.{◌⊎◌}
 use Rattle.std.specs.Ordering.{ordering_reverse}
 use Rattle.std.specs.declared.cmp.Ordering.TheVariants.{Less, Equal, Greater}
-use Rattle.address_model.specs.Order.{prefix_cmp}
-use Rattle.address_model.proofs.Ordered.{prefix_total, equal_are_same}
+use Rattle.table_model.specs.Order.{prefix_cmp}
+use Rattle.table_model.proofs.Ordered.{prefix_total, equal_are_same}
 use Rattle.fib_addr.specs.Views.{prefix_as}
 use Rattle.fib_addr.proofs.Ordering.{cmp_is}
 use Rattle.fib_delta.proofs.Held.{is_prefix}

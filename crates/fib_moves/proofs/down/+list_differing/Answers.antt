@@ -1,8 +1,8 @@
 use Rattle.std.proofs.Common.{refl, ap, ◌∙◌, arith, true, false}
 use Rattle.orig_tree.specs.Spots.{answers_in}
 use Rattle.moves_model.specs.Sets.{inner_set, new_entry}
-use Rattle.address_model.specs.Address.{Prefix}
-use Rattle.address_model.specs.Width.{width}
+use Rattle.table_model.specs.Address.{Prefix}
+use Rattle.table_model.specs.Width.{width}
 use Rattle.fib_addr.specs.Views.{prefix_as}
 use Rattle.orig_tree.proofs.Telling.{half_longer}
 use Rattle.fib_moves.proofs.Passing.{knows_down, table_down, own_due, pass_end, pass_join}

@@ -1,7 +1,7 @@
 use Rattle.std.proofs.Common.{◌≡◌, List, length, map, refl, sym, ap, subst, ◌∙◌}
 use Rattle.std.proofs.lemmas.List.{length-map}
-use Rattle.address_model.specs.Address.{Prefix}
-use Rattle.address_model.specs.declared.family.Family.{Family}
+use Rattle.table_model.specs.Address.{Prefix}
+use Rattle.table_model.specs.declared.family.Family.{Family}
 use Rattle.table_model.specs.Changes.{Change}
 use Rattle.cert_model.specs.Rows.{CertRow, whole_prefix}
 use Rattle.fib_addr.specs.Views.{prefix_as}

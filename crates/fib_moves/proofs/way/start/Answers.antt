@@ -1,10 +1,10 @@
 use Rattle.std.proofs.Common.{◌≡◌, [], refl, sym, ap, ◌∙◌, arith}
-use Rattle.address_model.specs.Address.{Prefix}
-use Rattle.address_model.specs.Width.{width}
+use Rattle.table_model.specs.Address.{Prefix}
+use Rattle.table_model.specs.Width.{width}
 use Rattle.table_model.specs.Table.{root, cut}
 use Rattle.table_model.specs.Entries.{of_family}
-use Rattle.least_model.specs.Regions.{above}
-use Rattle.least_model.proofs.Both.{family_is}
+use Rattle.table_model.specs.Regions.{above}
+use Rattle.table_model.proofs.Both.{family_is}
 use Rattle.cert_model.specs.Rows.{whole_prefix}
 use Rattle.fib_addr.specs.Views.{prefix_as}
 use Rattle.orig_tree.proofs.Telling.{whole_len}

@@ -1,5 +1,5 @@
 use Rattle.std.proofs.Common.{arith}
-use Rattle.address_model.specs.Bits.{bits_of}
+use Rattle.table_model.specs.Bits.{bits_of}
 use Rattle.table_model.specs.Entries.{of_family}
 use Rattle.fib_addr.specs.Views.{prefix_as}
 use Rattle.fib_moves.proofs.Ways.{gone_on, gone_all, gone_more, long_enough}

@@ -1,5 +1,5 @@
 use Rattle.std.proofs.Common.{◌≤◌}
-use Rattle.address_model.specs.Bits.{bits_of}
+use Rattle.table_model.specs.Bits.{bits_of}
 use Rattle.table_model.specs.Entries.{of_family}
 use Rattle.fib_moves.specs.Ways.{IsGone}
 use Rattle.fib_moves.proofs.way.walk.Given as goal

@@ -1,7 +1,7 @@
 use Rattle.std.proofs.Common.{◌-◌, sym, ap, ◌∙◌, arith}
-use Rattle.address_model.specs.Address.{same_prefix}
-use Rattle.address_model.specs.Regions.{is_within}
-use Rattle.address_model.proofs.Same.{same_prefix_is}
+use Rattle.table_model.specs.Address.{same_prefix}
+use Rattle.table_model.specs.Halves.{is_within}
+use Rattle.table_model.proofs.SamePrefix.{same_prefix_is}
 use Rattle.fib_addr.specs.Views.{prefix_as}
 use Rattle.fib_rov.specs.declared.numbered.Numbered.{Numbered}
 use Rattle.fib_rov.specs.Index.{prefix_of}

@@ -1,5 +1,5 @@
 use Rattle.std.proofs.Common.{◌-◌, sym, ap, ◌∙◌, arith}
-use Rattle.address_model.specs.Regions.{is_within}
+use Rattle.table_model.specs.Halves.{is_within}
 use Rattle.fib_addr.specs.Views.{prefix_as}
 use Rattle.fib_rov.specs.declared.numbered.Numbered.{Numbered}
 use Rattle.fib_rov.specs.Index.{prefix_of}

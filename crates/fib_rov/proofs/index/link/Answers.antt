@@ -1,6 +1,6 @@
 use Rattle.std.proofs.Common.{◌-◌, get_or, sym, ap, subst, ◌∙◌, arith}
-use Rattle.address_model.specs.Address.{same_prefix}
-use Rattle.address_model.proofs.Same.{same_prefix_is}
+use Rattle.table_model.specs.Address.{same_prefix}
+use Rattle.table_model.proofs.SamePrefix.{same_prefix_is}
 use Rattle.fib_addr.specs.Views.{prefix_as}
 use Rattle.fib_addr.specs.declared.prefix.Prefix as code
 use Rattle.fib_rov.specs.declared.numbered.Numbered.{Numbered}

@@ -1,8 +1,8 @@
 use Rattle.std.proofs.Common.{rules}
 use Rattle.std.proofs.lemmas.List.Sorted.{answers_always, ranks_by}
 use Rattle.std.specs.Ordering.{is_lt}
-use Rattle.address_model.specs.Order.{prefix_cmp}
-use Rattle.address_model.proofs.Ordered.{prefix_total}
+use Rattle.table_model.specs.Order.{prefix_cmp}
+use Rattle.table_model.proofs.Ordered.{prefix_total}
 use Rattle.fib_addr.specs.Views.{prefix_as}
 use Rattle.fib_rov.specs.declared.numbered.Numbered.{Numbered}
 use Rattle.fib_rov.specs.Index.{prefix_of}

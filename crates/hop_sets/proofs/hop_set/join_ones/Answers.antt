@@ -1,5 +1,5 @@
 use Rattle.std.proofs.Common.{refl, sym, ap, ◌∙◌}
-use Rattle.least_model.specs.Sets.{is_in}
+use Rattle.table_model.specs.Sets.{is_in}
 use Rattle.hop_sets.proofs.Ones.{ones_meet, ones_joint, ones_apart, ones_all}
 use Rattle.hop_sets.proofs.hop_set.join_ones.Goals as goal
 

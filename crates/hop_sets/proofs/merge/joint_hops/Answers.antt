@@ -1,5 +1,5 @@
 use Rattle.std.proofs.Common.{◌≡◌, ℕ, List, [], ◌+◌, arith, refl, subst, sym}
-use Rattle.least_model.specs.Sets.{common}
+use Rattle.table_model.specs.Sets.{common}
 use Rattle.hop_sets.proofs.Merging.{AllLeft, all_low, all_high, common_low, common_high, rest_row_ascends, met_some, met_order, met_hops, none_low, none_high, none_hops}
 use Rattle.hop_sets.proofs.merge.joint_hops.Goals as goal
 use Rattle.hop_sets.proofs.merge.joint_hops.Goals.{then-loop-i-test+else-j-high, else-loop-i-test}

@@ -1,6 +1,6 @@
 use Rattle.std.proofs.Common.{ap, ◌∙◌, arith, true, false}
-use Rattle.address_model.specs.Address.{Prefix}
-use Rattle.address_model.specs.Width.{width}
+use Rattle.table_model.specs.Address.{Prefix}
+use Rattle.table_model.specs.Width.{width}
 use Rattle.table_model.specs.Table.{inherit}
 use Rattle.fib_addr.specs.Views.{prefix_as}
 use Rattle.orig_tree.proofs.Telling.{half_longer}

@@ -1,5 +1,5 @@
 use Rattle.std.proofs.Common.{map, refl, sym, ap, ◌∙◌}
-use Rattle.address_model.specs.Bits.{bits_of}
+use Rattle.table_model.specs.Bits.{bits_of}
 use Rattle.fib_addr.specs.Views.{entry_as}
 use Rattle.kept_pass.proofs.Apart.{none_if}
 use Rattle.kept_pass.proofs.Within.{repair_place, repaired}

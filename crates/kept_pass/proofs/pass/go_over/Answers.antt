@@ -1,5 +1,5 @@
 use Rattle.std.proofs.Common.{◌≡◌, [], map, refl, ap, ◌∙◌}
-use Rattle.address_model.specs.Address.{Prefix}
+use Rattle.table_model.specs.Address.{Prefix}
 use Rattle.fib_addr.specs.Views.{prefix_as, entry_as}
 use Rattle.kept_pass.proofs.Apart.{whole_place, whole_apart, none_if}
 use Rattle.kept_pass.proofs.pass.go_over.Goals as goal

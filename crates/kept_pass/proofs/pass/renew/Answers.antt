@@ -2,7 +2,7 @@ use Rattle.std.proofs.Common.{◌≡◌, List, IfOk, map, sym, ap, subst, ◌∙
 use Rattle.std.specs.List.{AllByRecursion}
 use Rattle.std.proofs.lemmas.Result.{IfOk-weaker}
 use Rattle.table_model.specs.Entries.{Entries}
-use Rattle.least_model.specs.Both.{aggregate_in}
+use Rattle.table_model.specs.Both.{aggregate_in}
 use Rattle.delta_model.specs.Between.{AreEntries, between, place_of}
 use Rattle.table_model.specs.Changes.{Change}
 use Rattle.fib_addr.specs.Views.{entry_as}

@@ -1,4 +1,4 @@
-use Rattle.address_model.specs.Bits.{bits_of}
+use Rattle.table_model.specs.Bits.{bits_of}
 use Rattle.fib_addr.specs.Views.{prefix_as}
 use Rattle.orig_tree.specs.Walk.{behind}
 use Rattle.kept_pass.proofs.Seeking.{found_at}

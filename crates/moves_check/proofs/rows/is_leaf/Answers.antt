@@ -1,6 +1,6 @@
 use Rattle.std.proofs.Common.{◌≡◌, sym, ap, subst, ◌∙◌, true}
 use Rattle.std.specs.Prelude.{◌&&◌}
-use Rattle.address_model.specs.declared.family.Family.{Family}
+use Rattle.table_model.specs.declared.family.Family.{Family}
 use Rattle.cert_model.specs.Verdict.{all_get}
 use Rattle.cert_check.specs.Runs.{RunsTell}
 use Rattle.fib_addr.specs.Views.{prefix_as}

@@ -1,5 +1,5 @@
 use Rattle.std.proofs.Common.{ap, ◌∙◌, ◌++◌}
-use Rattle.address_model.specs.declared.family.Family.TheVariants.{V4, V6}
+use Rattle.table_model.specs.declared.family.Family.TheVariants.{V4, V6}
 use Rattle.fib_addr.specs.Views.{addr_as}
 use Rattle.written_model.specs.Octets.{number_octets, address_octets}
 use Rattle.octet_put.proofs.Written.{after_put, last_put}

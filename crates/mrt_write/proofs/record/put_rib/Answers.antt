@@ -1,5 +1,5 @@
 use Rattle.std.proofs.Common.{◌≡◌, ap, sym, ◌∙◌, ◌++◌, ◌%◌, ◌^◌, arith}
-use Rattle.address_model.specs.Address.{Prefix}
+use Rattle.table_model.specs.Address.{Prefix}
 use Rattle.fib_addr.specs.Views.{prefix_as}
 use Rattle.written_model.specs.Octets.{number_octets, record_octets}
 use Rattle.mrt_write.proofs.Written.{on_ok, body_is, body_few, record_is}

@@ -1,6 +1,6 @@
 use Rattle.std.proofs.Common.{sym, ap, ◌∙◌, subst, refl, []}
-use Rattle.least_model.specs.Sets.{is_in}
-use Rattle.address_model.specs.Bits.{bits_of}
+use Rattle.table_model.specs.Sets.{is_in}
+use Rattle.table_model.specs.Bits.{bits_of}
 use Rattle.table_model.specs.Table.{lpm}
 use Rattle.orig_tree.specs.Edits.{put}
 use Rattle.orig_tree.specs.Bests.{Stands}

@@ -1,7 +1,7 @@
 use Rattle.std.proofs.Common.{◌-◌, ◌∷◌, [], true, false, ap, map, arith, refl, length}
 use Rattle.std.proofs.lemmas.List.{length-append}
-use Rattle.address_model.specs.Regions.{half_at}
-use Rattle.address_model.specs.Width.{width}
+use Rattle.table_model.specs.Halves.{half_at}
+use Rattle.table_model.specs.Width.{width}
 use Rattle.fib_addr.specs.Views.{entry_as, prefix_as}
 use Rattle.orig_tree.specs.Arena.{cells_of, blank}
 use Rattle.orig_tree.specs.Bests.{best_in}

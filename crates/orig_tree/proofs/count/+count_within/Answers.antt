@@ -1,5 +1,5 @@
 use Rattle.std.proofs.Common.{arith, ap, sym, ◌∙◌, ◌-◌, suc}
-use Rattle.address_model.specs.Bits.{bits_of}
+use Rattle.table_model.specs.Bits.{bits_of}
 use Rattle.orig_tree.specs.Arena.{cells_of, walks_at, from_half}
 use Rattle.orig_tree.specs.Within.{nodes_in, told}
 use Rattle.orig_tree.proofs.Counting.{within_end, within_step, none_in}

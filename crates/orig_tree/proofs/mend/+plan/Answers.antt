@@ -1,9 +1,9 @@
 use Rattle.std.proofs.Common.{◌-◌, ℕ, suc, List, Bool, not, refl, arith, ap, ◌∙◌, subst}
 use Rattle.std.proofs.lemmas.Result.{IfOk-weaker}
-use Rattle.address_model.specs.Bits.{bits_of}
+use Rattle.table_model.specs.Bits.{bits_of}
 use Rattle.table_model.specs.Table.{lpm}
 use Rattle.orig_tree.specs.Edits.{edit}
-use Rattle.least_model.specs.Sets.{side}
+use Rattle.table_model.specs.Sets.{side}
 use Rattle.orig_tree.specs.Arena.{cells_of, half_place, Place, IfHalf, IsTree, walks_at, from_half}
 use Rattle.orig_tree.specs.Bests.{Stands, best_one, best_in, best_behind, kept_or, changed, AreBest, Untouched, IsMended, HalfMended}
 use Rattle.orig_tree.specs.declared.best.Best.{Best}

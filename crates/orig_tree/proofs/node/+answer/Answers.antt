@@ -1,7 +1,7 @@
 use Rattle.std.proofs.Common.{ap, sym, ◌∙◌, ◌-◌}
 use Rattle.std.specs.Option.{unwrap_or}
 use Rattle.table_model.specs.Table.{lpm}
-use Rattle.address_model.specs.Bits.{bits_of}
+use Rattle.table_model.specs.Bits.{bits_of}
 use Rattle.orig_tree.specs.Walk.{rows_of}
 use Rattle.orig_tree.specs.Arena.{cells_of, from_half, walks_at}
 use Rattle.orig_tree.proofs.Arena.{answer_at_end, answer_step, no_rows}

@@ -1,5 +1,5 @@
 use Rattle.std.proofs.Common.{◌-◌, [], None, refl, sym, subst, ◌∙◌, arith}
-use Rattle.address_model.specs.Bits.{bits_of}
+use Rattle.table_model.specs.Bits.{bits_of}
 use Rattle.table_model.specs.Table.{lpm}
 use Rattle.orig_tree.specs.Edits.{edit}
 use Rattle.orig_tree.specs.declared.best.Best.{Best}

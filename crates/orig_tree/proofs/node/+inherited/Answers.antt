@@ -1,6 +1,6 @@
 use Rattle.std.proofs.Common.{ap, sym, ◌∙◌, ◌-◌}
-use Rattle.least_model.specs.Regions.{above}
-use Rattle.address_model.specs.Bits.{bits_of}
+use Rattle.table_model.specs.Regions.{above}
+use Rattle.table_model.specs.Bits.{bits_of}
 use Rattle.orig_tree.specs.declared.node.Label.TheVariants.{Entry}
 use Rattle.orig_tree.specs.Arena.{cells_of, from_half, walks_at}
 use Rattle.orig_tree.proofs.Above.{above_here}

@@ -1,5 +1,5 @@
 use Rattle.std.proofs.Common.{ap, sym, ◌∙◌, ◌-◌}
-use Rattle.address_model.specs.Bits.{bits_of}
+use Rattle.table_model.specs.Bits.{bits_of}
 use Rattle.orig_tree.specs.Walk.{has_node}
 use Rattle.orig_tree.specs.Arena.{cells_of, from_half, walks_at}
 use Rattle.orig_tree.proofs.Rooms.{end_node, step_node, no_node}

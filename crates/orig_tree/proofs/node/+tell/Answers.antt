@@ -1,5 +1,5 @@
 use Rattle.std.proofs.Common.{arith, ◌∙◌}
-use Rattle.address_model.specs.Regions.{half_at}
+use Rattle.table_model.specs.Halves.{half_at}
 use Rattle.fib_addr.specs.Views.{prefix_as}
 use Rattle.orig_tree.specs.Arena.{cells_of}
 use Rattle.orig_tree.proofs.Telling.{half_longer, half_most}

@@ -1,6 +1,6 @@
 use Rattle.std.proofs.Common.{◌≤◌, ◌-◌, ℕ, ap, sym, subst, ◌∙◌, Option}
 use Rattle.std.specs.Option.{unwrap_or}
-use Rattle.address_model.specs.Bits.{bits_of}
+use Rattle.table_model.specs.Bits.{bits_of}
 use Rattle.orig_tree.specs.Views.{Fits}
 use Rattle.orig_tree.specs.Walk.{rows_of}
 use Rattle.orig_tree.specs.Uniform.{IsUniform}

@@ -1,6 +1,6 @@
 use Rattle.std.proofs.Common.{◌-◌, arith, sym, ap, ◌∙◌}
-use Rattle.address_model.specs.Bits.{bits_of}
-use Rattle.least_model.specs.Regions.{entry_at}
+use Rattle.table_model.specs.Bits.{bits_of}
+use Rattle.table_model.specs.Regions.{entry_at}
 use Rattle.orig_tree.specs.Arena.{cells_of, from_half, walks_at}
 use Rattle.orig_tree.specs.declared.node.Label.TheVariants.{Route}
 use Rattle.orig_tree.proofs.Branching.{own_hop}

@@ -1,9 +1,9 @@
 use Rattle.std.proofs.Common.{◌≡◌, ◌-◌, arith, sym, ap, ◌∙◌, subst}
-use Rattle.address_model.specs.Bits.{bits_of}
-use Rattle.address_model.specs.Width.{width}
+use Rattle.table_model.specs.Bits.{bits_of}
+use Rattle.table_model.specs.Width.{width}
 use Rattle.table_model.specs.Table.{Table, cut}
 use Rattle.table_model.specs.Entries.{of_table}
-use Rattle.least_model.specs.Regions.{lift}
+use Rattle.table_model.specs.Regions.{lift}
 use Rattle.fib_addr.specs.Views.{prefix_as}
 use Rattle.orig_tree.specs.Views.{Fits}
 use Rattle.orig_tree.specs.Arena.{cells_of, from_half, walks_at}

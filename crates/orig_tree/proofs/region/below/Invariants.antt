@@ -1,5 +1,5 @@
 use Rattle.std.proofs.Common.{◌≡◌, ◌≤◌, ◌+◌, ◌++◌, List, Bool}
-use Rattle.address_model.specs.Bits.{bits_of}
+use Rattle.table_model.specs.Bits.{bits_of}
 use Rattle.table_model.specs.Table.{cut}
 use Rattle.orig_tree.specs.Spots.{answers_in}
 use Rattle.orig_tree.specs.Within.{nodes_in}

@@ -1,5 +1,5 @@
 use Rattle.std.proofs.Common.{unwrap_or, ◌-◌, ap, map, arith, ◌∙◌}
-use Rattle.address_model.specs.Width.{width}
+use Rattle.table_model.specs.Width.{width}
 use Rattle.fib_addr.specs.Views.{entry_as, prefix_as}
 use Rattle.orig_tree.specs.Arena.{cells_of}
 use Rattle.orig_tree.specs.Bests.{best_in}

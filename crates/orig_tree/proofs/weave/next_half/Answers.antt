@@ -1,6 +1,6 @@
 use Rattle.std.proofs.Common.{◌-◌, map, nat_eq, sym, ap, ◌∙◌, arith}
 use Rattle.std.specs.Int.{bit_at}
-use Rattle.address_model.specs.Regions.{half_at}
+use Rattle.table_model.specs.Halves.{half_at}
 use Rattle.fib_addr.specs.Views.{entry_as, prefix_as}
 use Rattle.orig_tree.specs.Woven.{starts_within}
 use Rattle.orig_tree.proofs.Heading.{next_some, next_short, next_other}

@@ -1,5 +1,5 @@
 use Rattle.std.proofs.Common.{◌≡◌, ◌∷◌, refl, sym, ap, ◌∙◌, subst, map, take, drop, ◌-◌, length}
-use Rattle.address_model.specs.Address.{Prefix}
+use Rattle.table_model.specs.Address.{Prefix}
 use Rattle.table_model.specs.Entries.{Entries}
 use Rattle.fib_addr.specs.Views.{entry_as, prefix_as}
 use Rattle.orig_tree.specs.Arena.{cells_of}

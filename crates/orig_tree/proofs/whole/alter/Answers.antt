@@ -3,7 +3,7 @@ use Rattle.orig_tree.specs.Arena.{cells_of}
 use Rattle.orig_tree.specs.Bests.{best_in, kept_or}
 use Rattle.orig_tree.proofs.Laying.{is_altered}
 use Rattle.orig_tree.proofs.Undoing.{takes_back}
-use Rattle.address_model.specs.Bits.{bits_of}
+use Rattle.table_model.specs.Bits.{bits_of}
 use Rattle.orig_tree.proofs.Costing.{cost_laid}
 use Rattle.orig_tree.proofs.whole.alter.Goals as goal
 

@@ -1,5 +1,5 @@
 use Rattle.orig_tree.specs.Arena.{cells_of}
-use Rattle.address_model.specs.Bits.{bits_of}
+use Rattle.table_model.specs.Bits.{bits_of}
 use Rattle.orig_tree.proofs.Roots.{trim_whole}
 use Rattle.orig_tree.proofs.whole.drop_unused.Goals as goal
 

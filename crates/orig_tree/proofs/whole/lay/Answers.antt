@@ -1,5 +1,5 @@
 use Rattle.std.proofs.Common.{arith, vec_len}
-use Rattle.address_model.specs.Bits.{bits_of}
+use Rattle.table_model.specs.Bits.{bits_of}
 use Rattle.orig_tree.specs.Arena.{cells_of}
 use Rattle.orig_tree.specs.Bests.{best_in, kept_or}
 use Rattle.orig_tree.proofs.Laying.{is_laid}

@@ -1,5 +1,5 @@
 use Rattle.std.proofs.Common.{◌≡◌, [], refl, ap, ◌∙◌}
-use Rattle.address_model.specs.Address.{Prefix}
+use Rattle.table_model.specs.Address.{Prefix}
 use Rattle.fib_addr.specs.Views.{prefix_as}
 use Rattle.table_model.specs.Entries.{of_family}
 use Rattle.ortc.proofs.Falling.{handed_all}

@@ -1,7 +1,7 @@
 use Rattle.std.proofs.Common.{◌++◌, map, ap, ◌∙◌}
 use Rattle.fib_addr.specs.Views.{entry_as}
 use Rattle.table_model.specs.Entries.{of_family}
-use Rattle.least_model.specs.Both.{aggregate_in}
+use Rattle.table_model.specs.Both.{aggregate_in}
 use Rattle.ortc.proofs.Falling.{fresh_least, fresh_best, fresh_sorted}
 use Rattle.ortc.proofs.down.least_table.Goals as goal
 

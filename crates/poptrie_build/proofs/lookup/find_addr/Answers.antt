@@ -1,5 +1,5 @@
 use Rattle.std.proofs.Common.{rules, arith, ◌+◌, ◌≤◌, ap, ◌∙◌}
-use Rattle.address_model.specs.Width.{width}
+use Rattle.table_model.specs.Width.{width}
 use Rattle.poptrie_build.specs.Strides.{trie_visits}
 use Rattle.poptrie_build.proofs.Filled.{address_is, at_most_128}
 use Rattle.poptrie_build.proofs.lookup.find_addr.Goals as goal

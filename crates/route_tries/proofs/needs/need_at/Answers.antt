@@ -1,6 +1,6 @@
 use Rattle.std.proofs.Common.{◌≤◌, subst, refl}
-use Rattle.address_model.specs.Width.{width}
-use Rattle.address_model.specs.declared.family.Family.{Family}
+use Rattle.table_model.specs.Width.{width}
+use Rattle.table_model.specs.declared.family.Family.{Family}
 use Rattle.fib_addr.specs.Views.{prefix_as}
 use Rattle.orig_tree.specs.Spots.{answers_in}
 use Rattle.fib_regions.proofs.Prefixes.{prefix_length}

@@ -1,5 +1,5 @@
 use Rattle.std.proofs.Common.{ap, sym, ◌∙◌}
-use Rattle.address_model.specs.declared.family.Family.{Family}
+use Rattle.table_model.specs.declared.family.Family.{Family}
 use Rattle.fib_regions.specs.Answers.{all_answers}
 use Rattle.route_tries.proofs.tries.build_one.Goals as goal
 

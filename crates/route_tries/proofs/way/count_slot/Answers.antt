@@ -1,4 +1,4 @@
-use Rattle.address_model.specs.Bits.{bits_of}
+use Rattle.table_model.specs.Bits.{bits_of}
 use Rattle.route_tries.proofs.Ways.{none_nodes, none_leaves}
 use Rattle.route_tries.proofs.way.count_slot.Goals as goal
 

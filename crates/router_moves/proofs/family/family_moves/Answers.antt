@@ -1,7 +1,7 @@
 use Rattle.std.proofs.Common.{◌≡◌, length, map, sym, ap, subst, ◌∙◌}
 use Rattle.std.specs.List.Sorted.{IsStrictlySortedBy}
-use Rattle.address_model.specs.Order.{prefix_cmp}
-use Rattle.address_model.specs.declared.family.Family.{Family}
+use Rattle.table_model.specs.Order.{prefix_cmp}
+use Rattle.table_model.specs.declared.family.Family.{Family}
 use Rattle.table_model.specs.Entries.{in_order}
 use Rattle.delta_model.specs.Between.{place_of}
 use Rattle.delta_model.proofs.Places.{in_places}

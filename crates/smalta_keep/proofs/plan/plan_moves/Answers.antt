@@ -1,6 +1,6 @@
 use Rattle.std.proofs.Common.{List, Bool, Option, None, map, refl, sym, ap, subst, ◌∙◌}
 use Rattle.std.specs.Prelude.{option_map}
-use Rattle.address_model.specs.declared.family.Family.{Family}
+use Rattle.table_model.specs.declared.family.Family.{Family}
 use Rattle.delta_model.proofs.Alike.{none_between}
 use Rattle.fib_addr.specs.Views.{prefix_as}
 use Rattle.fib_delta.specs.declared.change.Change as code
@@ -14,7 +14,7 @@ use Rattle.smalta_keep.specs.declared.repair.Repair.{Repair}
 use Rattle.smalta_keep.proofs.Making.{kept_room}
 use Rattle.smalta_keep.proofs.Tables.{renewed_placed}
 use Rattle.smalta_keep.proofs.Planned.{is_off, is_on, places, set_over, set_room, set_still, mend_there, mended_is, repaired_there, renewed_there, before_set}
-use Rattle.address_model.specs.Address.{Prefix}
+use Rattle.table_model.specs.Address.{Prefix}
 use Rattle.smalta_keep.specs.Known.{IsKnownToMend, IsTouchedAt}
 use Rattle.smalta_keep.proofs.Knowing.{known_at, known_more, known_planned, known_to_mend, reach_family, more_at, marked_twice}
 use Rattle.smalta_keep.proofs.Settled.{route_family, family_of, settled_moves}

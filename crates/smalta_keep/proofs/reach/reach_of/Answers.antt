@@ -1,6 +1,6 @@
 use Rattle.std.proofs.Common.{◌≡◌, sym, ap, ◌∙◌}
-use Rattle.address_model.specs.Address.{Prefix}
-use Rattle.address_model.specs.Regions.{is_within}
+use Rattle.table_model.specs.Address.{Prefix}
+use Rattle.table_model.specs.Halves.{is_within}
 use Rattle.delta_model.specs.Between.{place_of}
 use Rattle.fib_addr.specs.Views.{prefix_as}
 use Rattle.smalta_keep.proofs.Making.{one_at}

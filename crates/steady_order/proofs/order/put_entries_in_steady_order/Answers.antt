@@ -2,8 +2,8 @@ use Rattle.std.proofs.Common.{List, rules, sym, ap, subst, ◌∙◌}
 use Rattle.std.specs.List.Sorted.{IsStrictlySortedBy}
 use Rattle.std.specs.Ordering.{is_lt}
 use Rattle.std.proofs.lemmas.List.Sorted.{answers_always, ranks_by}
-use Rattle.address_model.specs.Address.{Prefix}
-use Rattle.address_model.specs.Order.{prefix_cmp}
+use Rattle.table_model.specs.Address.{Prefix}
+use Rattle.table_model.specs.Order.{prefix_cmp}
 use Rattle.steady_model.specs.Steady.{in_steady_order}
 use Rattle.steady_model.specs.Turns.{steady_cmp}
 use Rattle.steady_model.proofs.Sorted.{steady_total, sorted_steady}

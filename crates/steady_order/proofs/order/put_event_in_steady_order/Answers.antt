@@ -1,7 +1,7 @@
 use Rattle.std.proofs.Common.{◌≡◌, ◌++◌, List, map, sym, ap, subst, ◌∙◌}
 use Rattle.std.proofs.lemmas.List.{map-append}
 use Rattle.std.specs.List.Sorted.{IsStrictlySortedBy}
-use Rattle.address_model.specs.Order.{prefix_cmp}
+use Rattle.table_model.specs.Order.{prefix_cmp}
 use Rattle.table_model.specs.Changes.{Change}
 use Rattle.delta_model.specs.Between.{place_of}
 use Rattle.steady_model.specs.Steady.{in_steady_order}

@@ -2,7 +2,7 @@ use Rattle.std.proofs.Common.{◌≡◌, List, map, rules, sym, ap, subst, ◌�
 use Rattle.std.specs.List.Sorted.{IsStrictlySortedBy}
 use Rattle.std.specs.Ordering.{is_lt}
 use Rattle.std.proofs.lemmas.List.Sorted.{answers_always, ranks_by}
-use Rattle.address_model.specs.Order.{prefix_cmp}
+use Rattle.table_model.specs.Order.{prefix_cmp}
 use Rattle.table_model.specs.Entries.{in_order}
 use Rattle.table_model.specs.Changes.{Change}
 use Rattle.delta_model.specs.Between.{between, place_of}

@@ -1,6 +1,6 @@
 use Rattle.std.proofs.Common.{ℕ, ap, ◌∙◌}
 use Rattle.std.specs.Ordering.{nat_cmp, ordering_then}
-use Rattle.address_model.specs.Order.{prefix_cmp}
+use Rattle.table_model.specs.Order.{prefix_cmp}
 use Rattle.fib_addr.specs.Views.{prefix_as}
 use Rattle.steady_model.specs.Turns.{turn_of}
 use Rattle.steady_order.proofs.Turned.{set_is, added}

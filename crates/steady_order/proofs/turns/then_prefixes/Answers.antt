@@ -1,6 +1,6 @@
 use Rattle.std.proofs.Common.{sym, ap, ◌∙◌}
 use Rattle.std.specs.Ordering.{ordering_then}
-use Rattle.address_model.specs.Order.{prefix_cmp}
+use Rattle.table_model.specs.Order.{prefix_cmp}
 use Rattle.fib_addr.specs.Views.{prefix_as}
 use Rattle.fib_addr.proofs.Ordering.{cmp_is}
 use Rattle.steady_order.proofs.turns.then_prefixes.Goals as goal

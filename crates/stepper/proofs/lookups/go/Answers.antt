@@ -1,6 +1,6 @@
 use Rattle.std.proofs.Common.{ap, ◌∙◌}
 use Rattle.std.specs.Prelude.{List}
-use Rattle.address_model.specs.Address.{Address}
+use Rattle.table_model.specs.Address.{Address}
 use Rattle.fib_addr.specs.Hops.{hop_at}
 use Rattle.step_model.specs.Rows.{went_on, not_open}
 use Rattle.stepper.proofs.Looking.{printed_as, answered_as}

@@ -1,5 +1,5 @@
 use Rattle.std.proofs.Common.{ap, arith}
-use Rattle.address_model.specs.Address.{Address}
+use Rattle.table_model.specs.Address.{Address}
 use Rattle.fib_addr.proofs.Fronts.{bits_of_octets}
 use Rattle.fib_addr.proofs.addr.Addr.from_octets.Goals as goal
 

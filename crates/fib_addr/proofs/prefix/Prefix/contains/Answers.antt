@@ -1,5 +1,5 @@
 use Rattle.std.proofs.Common.{sym, rules}
-use Rattle.address_model.specs.contracts.family.Family.{the_type}
+use Rattle.table_model.specs.contracts.family.Family.{the_type}
 use Rattle.fib_addr.proofs.Parts.{contains_is}
 use Rattle.fib_addr.proofs.prefix.Prefix.contains.Goals as goal
 use denote.Enum.Bare.{same_true}

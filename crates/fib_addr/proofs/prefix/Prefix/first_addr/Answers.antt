@@ -1,6 +1,6 @@
 use Rattle.std.proofs.Common.{ap}
-use Rattle.address_model.specs.Address.{Address}
-use Rattle.address_model.specs.Width.{width}
+use Rattle.table_model.specs.Address.{Address}
+use Rattle.table_model.specs.Width.{width}
 use Rattle.fib_addr.proofs.Parts.{bits_filled}
 use Rattle.fib_addr.proofs.prefix.Prefix.first_addr.Goals as goal
 

@@ -1,5 +1,5 @@
 use Rattle.std.proofs.Common.{arith, refl}
-use Rattle.address_model.specs.Width.{width}
+use Rattle.table_model.specs.Width.{width}
 use Rattle.fib_addr.proofs.RegionLemmas.{half_fits, half_cleared, half_is}
 use Rattle.fib_addr.proofs.prefix.Prefix.half.Goals as goal
 

@@ -1,7 +1,7 @@
 use Rattle.std.proofs.Common.{◌≤◌, ◌<◌, ◌∙◌, ap, arith, length}
 use Rattle.std.proofs.lemmas.Bool.{lt-leb}
-use Rattle.address_model.specs.Address.{contains}
-use Rattle.address_model.specs.Width.{width}
+use Rattle.table_model.specs.Address.{contains}
+use Rattle.table_model.specs.Width.{width}
 use Rattle.fib_addr.specs.Views.{prefix_as}
 use Rattle.fib_addr.proofs.Parts.{length_prefix}
 use Rattle.fib_addr.proofs.RegionLemmas.{within_first, longer_is_not_within}

@@ -1,5 +1,5 @@
 use Rattle.std.proofs.Common.{ap}
-use Rattle.address_model.specs.Address.{Prefix}
+use Rattle.table_model.specs.Address.{Prefix}
 use Rattle.fib_addr.proofs.Parts.{prefix_is}
 use Rattle.fib_addr.proofs.prefix.Prefix.new.Goals as goal
 

@@ -1,6 +1,6 @@
 use Rattle.std.proofs.Common.{ap, ◌∙◌}
 use Rattle.std.specs.Map.{remove_entry}
-use Rattle.address_model.specs.Address.{same_prefix}
+use Rattle.table_model.specs.Address.{same_prefix}
 use Rattle.table_model.specs.Entries.{Entries}
 use Rattle.fib_addr.specs.Views.{prefix_as}
 use Rattle.fib_delta.specs.Views.{held_as}

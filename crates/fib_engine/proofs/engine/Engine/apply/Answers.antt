@@ -1,9 +1,9 @@
 use Rattle.std.proofs.Common.{◌≡◌, ◌∷◌, ◌+◌, List, [], Bool, true, Some, None, Err, length, map, refl, sym, ap, subst, ◌∙◌}
-use Rattle.address_model.specs.Address.{Address}
+use Rattle.table_model.specs.Address.{Address}
 use Rattle.route_model.specs.Choice.{Candidates, after_elem}
 use Rattle.route_model.specs.Events.{Elem}
 use Rattle.std.proofs.lemmas.Result.{err_from_is_err_and}
-use Rattle.address_model.specs.declared.family.Family.TheVariants.{V4, V6}
+use Rattle.table_model.specs.declared.family.Family.TheVariants.{V4, V6}
 use Rattle.table_model.specs.Entries.{Entries}
 use Rattle.feed_model.specs.Feed.{entries_of, hops_after}
 use Rattle.orig_tree.specs.Views.{InPlace}

@@ -1,7 +1,7 @@
 use Rattle.std.proofs.Common.{◌≡◌, ◌++◌, map, ap, ◌∙◌}
 use Rattle.std.proofs.lemmas.Result.{IfOk-weaker}
-use Rattle.address_model.specs.declared.family.Family.TheVariants.{V4, V6}
-use Rattle.least_model.specs.Both.{aggregate_in, aggregate_in_both}
+use Rattle.table_model.specs.declared.family.Family.TheVariants.{V4, V6}
+use Rattle.table_model.specs.Both.{aggregate_in, aggregate_in_both}
 use Rattle.cert_model.specs.Rows.{certificate_of, family_rows}
 use Rattle.feed_model.specs.Feed.{entries_of}
 use Rattle.fib_addr.specs.Views.{entry_as}

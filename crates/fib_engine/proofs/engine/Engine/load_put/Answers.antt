@@ -1,5 +1,5 @@
 use Rattle.std.proofs.Common.{◌≡◌, ◌∷◌, List, [], ◌≤◌, false, length, sym, subst, ap, ◌∙◌}
-use Rattle.address_model.specs.Address.{Address}
+use Rattle.table_model.specs.Address.{Address}
 use Rattle.route_model.specs.Choice.{after_elem}
 use Rattle.table_model.specs.Entries.{Entries}
 use Rattle.feed_model.specs.Feed.{entries_of, hops_after}

@@ -1,5 +1,5 @@
 use Rattle.std.proofs.Common.{OnOk, true, ap, subst, ◌∙◌}
-use Rattle.least_model.specs.Both.{aggregate_in_both}
+use Rattle.table_model.specs.Both.{aggregate_in_both}
 use Rattle.fib_engine.specs.Settled.{Rests}
 use Rattle.fib_engine.specs.Tables.{both_routes}
 use Rattle.fib_engine.proofs.Taking.{both_least}

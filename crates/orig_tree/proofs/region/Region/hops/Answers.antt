@@ -1,6 +1,6 @@
 use Rattle.std.proofs.Common.{◌≡◌, sym, ap, ◌∙◌}
 use Rattle.std.proofs.lemmas.Result.{IfOk-weaker}
-use Rattle.least_model.specs.Sets.{set_of, is_in}
+use Rattle.table_model.specs.Sets.{set_of, is_in}
 use Rattle.hop_sets.specs.Hops.{SameHops}
 use Rattle.orig_tree.specs.Arena.{cells_of}
 use Rattle.orig_tree.specs.Bests.{best_in}

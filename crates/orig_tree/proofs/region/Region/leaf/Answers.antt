@@ -1,6 +1,6 @@
 use Rattle.std.proofs.Common.{◌≡◌, ◌≢◌, List, Bool, length, subst}
 use Rattle.std.specs.Prelude.{IfSome, IfNone}
-use Rattle.least_model.specs.Sets.{k_of}
+use Rattle.table_model.specs.Sets.{k_of}
 use Rattle.orig_tree.specs.Arena.{cells_of}
 use Rattle.orig_tree.specs.Spots.{Spot, answers_in}
 use Rattle.orig_tree.proofs.Regions.{spot_one, spot_two, spot_nodes, where_none}

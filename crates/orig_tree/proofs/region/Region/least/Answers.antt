@@ -1,5 +1,5 @@
 use Rattle.std.proofs.Common.{ap, sym, ◌∙◌}
-use Rattle.least_model.specs.Sets.{set_of, smallest}
+use Rattle.table_model.specs.Sets.{set_of, smallest}
 use Rattle.orig_tree.specs.Arena.{cells_of}
 use Rattle.orig_tree.specs.Bests.{best_in}
 use Rattle.orig_tree.specs.Spots.{Spot, answers_in, spot_at}

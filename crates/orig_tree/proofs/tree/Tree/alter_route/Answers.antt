@@ -1,9 +1,9 @@
 use Rattle.std.proofs.Common.{◌≡◌, ◌≤◌, List, suc, Option, refl, sym, ap, subst, arith, ◌∙◌, length}
-use Rattle.address_model.specs.Bits.{bits_of}
-use Rattle.address_model.specs.Width.{width}
-use Rattle.address_model.specs.Address.{Prefix}
-use Rattle.address_model.proofs.BitLaws.{length-bits_of}
-use Rattle.least_model.specs.Regions.{entry_at}
+use Rattle.table_model.specs.Bits.{bits_of}
+use Rattle.table_model.specs.Width.{width}
+use Rattle.table_model.specs.Address.{Prefix}
+use Rattle.table_model.proofs.BitLaws.{length-bits_of}
+use Rattle.table_model.specs.Regions.{entry_at}
 use Rattle.orig_tree.specs.Edits.{routed}
 use Rattle.orig_tree.specs.Walk.{Walks, Allowed, has_node}
 use Rattle.orig_tree.specs.Views.{Labels}

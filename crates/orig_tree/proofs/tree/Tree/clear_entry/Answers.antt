@@ -1,6 +1,6 @@
 use Rattle.std.proofs.Common.{arith, sym, ap, ◌∙◌}
-use Rattle.address_model.specs.Bits.{bits_of}
-use Rattle.address_model.specs.Address.{Prefix, same_prefix}
+use Rattle.table_model.specs.Bits.{bits_of}
+use Rattle.table_model.specs.Address.{Prefix, same_prefix}
 use Rattle.std.specs.Map.{remove_entry}
 use Rattle.orig_tree.specs.Walk.{Walks}
 use Rattle.table_model.specs.Entries.{of_table}

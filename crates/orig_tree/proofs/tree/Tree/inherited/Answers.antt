@@ -1,8 +1,8 @@
 use Rattle.orig_tree.specs.Arena.{cells_of}
 use Rattle.std.proofs.Common.{sym, ap, ◌∙◌}
-use Rattle.address_model.specs.Bits.{bits_of}
+use Rattle.table_model.specs.Bits.{bits_of}
 use Rattle.table_model.specs.Entries.{of_family}
-use Rattle.least_model.specs.Regions.{above}
+use Rattle.table_model.specs.Regions.{above}
 use Rattle.fib_addr.specs.Views.{prefix_as}
 use Rattle.orig_tree.specs.Views.{Labels}
 use Rattle.orig_tree.proofs.Asked.{short}

@@ -1,6 +1,6 @@
 use Rattle.std.proofs.Common.{suc, sym, ap, ◌∙◌}
-use Rattle.address_model.specs.Bits.{bits_of}
-use Rattle.address_model.specs.Width.{width}
+use Rattle.table_model.specs.Bits.{bits_of}
+use Rattle.table_model.specs.Width.{width}
 use Rattle.fib_addr.specs.Views.{prefix_as}
 use Rattle.orig_tree.specs.Walk.{has_node}
 use Rattle.orig_tree.specs.Arena.{cells_of, whole}

@@ -1,7 +1,7 @@
 use Rattle.std.proofs.Common.{suc, sym, ap, ◌∙◌}
 use Rattle.std.specs.Prelude.{option_map}
-use Rattle.address_model.specs.Bits.{bits_of}
-use Rattle.address_model.specs.Width.{width}
+use Rattle.table_model.specs.Bits.{bits_of}
+use Rattle.table_model.specs.Width.{width}
 use Rattle.fib_addr.specs.declared.entry.Hop.{Hop}
 use Rattle.orig_tree.specs.Arena.{cells_of, whole}
 use Rattle.orig_tree.specs.Views.{Labels}

@@ -1,8 +1,8 @@
 use Rattle.std.proofs.Common.{Option, ◌≡◌, ◌≤◌, sym, ap, ◌∙◌, arith, length}
-use Rattle.address_model.specs.Bits.{bits_of}
-use Rattle.address_model.specs.Width.{width}
-use Rattle.address_model.specs.Address.{Prefix}
-use Rattle.address_model.proofs.BitLaws.{length-bits_of}
+use Rattle.table_model.specs.Bits.{bits_of}
+use Rattle.table_model.specs.Width.{width}
+use Rattle.table_model.specs.Address.{Prefix}
+use Rattle.table_model.proofs.BitLaws.{length-bits_of}
 use Rattle.table_model.specs.Entries.{with_entry}
 use Rattle.orig_tree.specs.Walk.{Walks, has_node}
 use Rattle.orig_tree.specs.Views.{Labels}

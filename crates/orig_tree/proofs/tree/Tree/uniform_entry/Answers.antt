@@ -1,5 +1,5 @@
 use Rattle.std.proofs.Common.{sym, ap, ◌∙◌}
-use Rattle.address_model.specs.Bits.{bits_of}
+use Rattle.table_model.specs.Bits.{bits_of}
 use Rattle.orig_tree.specs.Views.{Labels}
 use Rattle.orig_tree.specs.Arena.{cells_of, whole}
 use Rattle.orig_tree.proofs.Asked.{asked_one, asked_none, short}

@@ -1,5 +1,5 @@
 use Rattle.std.proofs.Common.{◌≡◌, ℕ, List, true, false, ◌-◌, sym, ap, ◌∙◌, subst}
-use Rattle.address_model.specs.Width.{width}
+use Rattle.table_model.specs.Width.{width}
 use Rattle.block_pool.specs.Places.{is_out}
 use Rattle.block_pool.specs.Blocks.{blocks_of}
 use Rattle.block_pool.proofs.Parting.{part_right}

@@ -1,5 +1,5 @@
 use Rattle.std.proofs.Common.{◌≡◌, ◌∙◌, false, sym, ap, subst}
-use Rattle.address_model.specs.declared.family.Family.{Family}
+use Rattle.table_model.specs.declared.family.Family.{Family}
 use Rattle.fib_regions.specs.Answers.{all_answers}
 use Rattle.poptrie_set.specs.Lives.{Seen, ShowsIn}
 use Rattle.poptrie_set.proofs.Ready.{err_map, if_err_map, both_ok}

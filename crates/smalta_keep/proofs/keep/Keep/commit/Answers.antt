@@ -7,7 +7,7 @@ use Rattle.fib_delta.specs.Views.{change_as}
 use Rattle.orig_tree.specs.Views.{Labels}
 use Rattle.smalta_keep.specs.Rooms.{HaveRoom}
 use Rattle.smalta_keep.specs.Views.{repair_as, snapshot_as}
-use Rattle.address_model.specs.declared.family.Family.{Family}
+use Rattle.table_model.specs.declared.family.Family.{Family}
 use Rattle.fib_addr.specs.Views.{prefix_as}
 use Rattle.smalta_keep.specs.Known.{AreLeft}
 use Rattle.smalta_keep.specs.Plans.{IsPlanned}

@@ -1,8 +1,8 @@
 use Rattle.std.proofs.Common.{filter, map, sym, ap, subst, ◌∙◌}
-use Rattle.address_model.specs.Address.{same_family}
-use Rattle.address_model.specs.declared.family.Family.{Family}
+use Rattle.table_model.specs.Address.{same_family}
+use Rattle.table_model.specs.declared.family.Family.{Family}
 use Rattle.table_model.specs.Entries.{Entries, in_order}
-use Rattle.least_model.specs.Both.{aggregate_in}
+use Rattle.table_model.specs.Both.{aggregate_in}
 use Rattle.fib_addr.specs.Views.{entry_as}
 use Rattle.orig_tree.specs.Views.{Labels}
 use Rattle.smalta_keep.specs.Known.{IsOfFamily}

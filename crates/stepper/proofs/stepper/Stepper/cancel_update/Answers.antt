@@ -1,4 +1,4 @@
-use Rattle.address_model.specs.declared.family.Family.TheVariants.{V4, V6}
+use Rattle.table_model.specs.declared.family.Family.TheVariants.{V4, V6}
 use Rattle.step_model.specs.Script.{cancels}
 use Rattle.stepper.proofs.Assembled.{leads_as, update_as}
 use Rattle.stepper.proofs.Events.{cancel_update as update_over}

@@ -1,5 +1,5 @@
 use Rattle.std.proofs.Common.{Some}
-use Rattle.address_model.specs.declared.family.Family.TheVariants.{V4, V6}
+use Rattle.table_model.specs.declared.family.Family.TheVariants.{V4, V6}
 use Rattle.stepper.specs.declared.begun.Begun.TheVariants as begun
 use Rattle.stepper.proofs.Assembled.{with_begun}
 use Rattle.stepper.proofs.Preparing.{early_in}

@@ -1,4 +1,4 @@
-use Rattle.address_model.specs.declared.family.Family.TheVariants.{V4, V6}
+use Rattle.table_model.specs.declared.family.Family.TheVariants.{V4, V6}
 use Rattle.fib_addr.specs.Views.{prefix_as}
 use Rattle.stepper.proofs.Preparing.{few_in, early, takes_all, stops_all}
 use Rattle.stepper.proofs.stepper.Stepper.prepare_update.Goals as goal

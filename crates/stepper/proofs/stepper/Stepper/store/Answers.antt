@@ -1,6 +1,6 @@
 use Rattle.std.proofs.Common.{ap, ◌∙◌, Some}
-use Rattle.address_model.specs.declared.family.Family.{Family}
-use Rattle.address_model.specs.declared.family.Family.TheVariants.{V4, V6}
+use Rattle.table_model.specs.declared.family.Family.{Family}
+use Rattle.table_model.specs.declared.family.Family.TheVariants.{V4, V6}
 use Rattle.step_model.specs.Script.{stores}
 use Rattle.stepper.specs.declared.begun.Begun.{Begun}
 use Rattle.stepper.specs.declared.begun.Begun.TheVariants as begun

@@ -1,4 +1,0 @@
-pub mod BitLaws
-pub mod Same
-pub mod Ordered
-pub mod Families

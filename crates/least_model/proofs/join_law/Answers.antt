@@ -1,5 +1,0 @@
-use Rattle.least_model.proofs.Laws.{set_join, k_join}
-use Rattle.least_model.proofs.join_law.Goals as goal
-
-pub returns : goal.returns
-returns c = λ w R p s. (set_join w R p s, k_join w R p s)

@@ -1,5 +1,0 @@
-use Rattle.least_model.proofs.Laws.{set_leaf, k_leaf}
-use Rattle.least_model.proofs.leaf_law.Goals as goal
-
-pub returns : goal.returns
-returns c = λ w R p h s e. (set_leaf w R p h s e, k_leaf w R p h s e)

@@ -1,5 +1,0 @@
-use Rattle.least_model.proofs.Patch.{patch_table, patch_alike}
-use Rattle.least_model.proofs.patch_alike.Goals as goal
-
-pub returns : goal.returns
-returns c = λ w T R p s h e. (patch_table w T R p s h, patch_alike w T R p e)
