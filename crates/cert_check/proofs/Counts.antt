@@ -12,9 +12,9 @@ use Rattle.table_model.specs.Entries.{Entries, of_family}
 use Rattle.cert_model.specs.Verdict.{No, RowFits}
 use Rattle.fib_addr.specs.declared.entry.Entry.{Entry}
 use Rattle.fib_addr.specs.Views.{entry_as}
-use Rattle.cert_rows.specs.declared.row.Row.{Row}
-use Rattle.cert_rows.specs.declared.row.Row.TheVariants as row
-use Rattle.cert_rows.specs.Views.{row_as}
+use Rattle.cert_model.specs.declared.row.Row.{Row}
+use Rattle.cert_model.specs.declared.row.Row.TheVariants as row
+use Rattle.cert_model.specs.Views.{row_as}
 use Rattle.cert_check.proofs.Deals.{family_next}
 use Rattle.cert_check.proofs.Holding.{prefix_short}
 

@@ -9,7 +9,7 @@ ghost use Rattle.cert_model.specs.Right.{IsCertificate};
 ghost use Rattle.cert_model.specs.Verdict.{Twice, twice, wrong_row, too_many_in, verdict};
 ghost use Rattle.cert_model.specs.Verdict.{not_same as model_not_same};
 ghost use Rattle.fib_addr.specs.Views.{entry_as};
-ghost use Rattle.cert_rows.specs.Views.{row_as};
+ghost use Rattle.cert_model.specs.Views.{row_as};
 ghost use Rattle.cert_check.specs.Views.{differ_as, no_as, IfNo};
 ghost use Rattle.cert_check.specs.Runs.{AreOfBoth, TellsBoth};
 ghost use Rattle.cert_check.specs.Stack.{bound_due};
@@ -20,7 +20,7 @@ use crate::repeats::first_twice;
 use crate::rows::{Reading, read_rows};
 use crate::sets::no_marks;
 use crate::table_runs::TableRuns;
-use cert_rows::Row;
+use cert_model::Row;
 use fib_addr::{Entry, Family};
 use std::alloc::{AllocError, Global};
 

@@ -2,3 +2,5 @@ pub mod Rows
 pub mod Right
 pub mod Verdict
 pub mod Renamed
+pub mod Taken
+pub mod Views

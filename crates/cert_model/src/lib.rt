@@ -3,6 +3,9 @@
 //! The definitions stand in `specs/`. Each function here is a law: it does nothing, and its clause holds for all values.
 #![tactic(auto)]
 
+mod row;
+mod sink;
+
 ghost use Rattle.std.specs.Prelude.{◌≡◌, ◌≢◌, ◌<◌, ◌≤◌, ℕ, ◌↔◌, List, Bool, Some, None, length};
 ghost use Rattle.std.specs.List.{AllByRecursion, IsDistinct};
 ghost use Rattle.std.specs.Map.{keys_of};
@@ -17,6 +20,9 @@ ghost use Rattle.cert_model.specs.Rows.{CertRow, whole_prefix, one_answer, certi
 ghost use Rattle.cert_model.specs.Right.{IsRight, bound_by, IsCertificate};
 ghost use Rattle.cert_model.specs.Renamed.{renamed, renamed_rows, hops_of_entries, KeepsApart};
 ghost use Rattle.cert_model.specs.Verdict.{No, NotSame, IsLeastDiffering, RowFits, twice, not_same, too_many_in, verdict};
+
+pub use row::Row;
+pub use sink::RowSink;
 
 /// The one answer of a region is found where there is one.
 pub fn one_answer_law()

@@ -9,7 +9,7 @@ use Rattle.printed_model.specs.Reading.{AnnouncedTexts, VrpTexts}
 use Rattle.printed_model.specs.Texts.{BadLine}
 use Rattle.printed_model.specs.Used.{Used}
 use Rattle.printed_model.specs.Kinds.{KindEntries}
-use Rattle.cert_rows.specs.Views.{row_as}
+use Rattle.cert_model.specs.Views.{row_as}
 use Rattle.cost_cert.specs.declared.fields.AnnouncedTexts as code_announced_texts
 use Rattle.cost_cert.specs.declared.fields.VrpTexts as code_vrp_texts
 use Rattle.cost_cert.specs.declared.invalid.Announced as code_announced

@@ -16,7 +16,7 @@ mod printed;
 mod printed_row;
 pub mod why;
 
-pub use cert_rows::Row;
+pub use cert_model::Row;
 pub use error::{BadRow, PrintedError};
 pub use invalid::{Announced, PrintedVrp};
 pub use kind_rows::read_rows;

@@ -13,7 +13,7 @@ use crate::error::{BadRow, PrintedError};
 use crate::printed_row::{PrintedRow, read_row};
 use crate::why;
 use bstr::ByteSlice;
-use cert_rows::Row;
+use cert_model::Row;
 use fib_addr::{Addr, Entry, Hop, HopError, HopTable};
 use std::alloc::Global;
 

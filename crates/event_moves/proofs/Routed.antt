@@ -8,7 +8,7 @@ use Rattle.table_model.specs.Table.{Alike}
 use Rattle.table_model.specs.Entries.{Entries, of_family}
 use Rattle.route_model.proofs.Keyed.{lookup-put, lookup-cut}
 use Rattle.route_model.proofs.Places.{prefix_key}
-use Rattle.delta_model.specs.Between.{hop_at}
+use Rattle.kept_model.specs.Between.{hop_at}
 use Rattle.kept_model.specs.Patched.{with_route}
 use Rattle.kept_model.proofs.Patches.{family_hop}
 use Rattle.orig_tree.specs.Views.{InPlace}

@@ -8,7 +8,7 @@ use Rattle.table_model.specs.Table.{Table, IsTable, root, half, here, inherit}
 use Rattle.table_model.specs.Regions.{entry_at}
 use Rattle.table_model.specs.Sets.{side}
 use Rattle.table_model.proofs.Same.{cut_nil}
-use Rattle.stays_model.specs.Parts.{ArePart}
+use Rattle.kept_model.specs.Parts.{ArePart}
 use Rattle.fib_addr.specs.Views.{entry_as}
 use Rattle.orig_tree.specs.Spots.{Spot, answers_in}
 use Rattle.orig_tree.specs.Walk.{behind}

@@ -3,7 +3,7 @@
 ghost use Rattle.std.specs.Prelude.{◌≡◌, ◌≤◌, ◌+◌, map, IfOk};
 ghost use Rattle.table_model.specs.Width.{width};
 ghost use Rattle.table_model.specs.Entries.{of_family};
-ghost use Rattle.delta_model.specs.Between.{between};
+ghost use Rattle.kept_model.specs.Between.{between};
 ghost use Rattle.fib_addr.specs.Views.{prefix_as};
 ghost use Rattle.fib_delta.specs.Views.{change_as};
 ghost use Rattle.orig_tree.specs.Spots.{answers_in};

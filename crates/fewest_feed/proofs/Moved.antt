@@ -13,14 +13,14 @@ use Rattle.table_model.proofs.Same.{same_answers}
 use Rattle.route_model.specs.Events.{Elem, elem_prefix}
 use Rattle.route_model.specs.Choice.{Candidates, AreCandidates, IsElem, after_elem, after_elems, chosen_for}
 use Rattle.route_model.proofs.Said.{candidates_after}
-use Rattle.delta_model.proofs.Held.{Placed}
+use Rattle.kept_model.proofs.Held.{Placed}
 use Rattle.kept_model.specs.Patched.{after_repair, patch_of}
 use Rattle.kept_model.proofs.Patches.{patched_elsewhere}
-use Rattle.feed_model.specs.Feed.{entries_of}
-use Rattle.feed_model.proofs.Tables.{at_prefix}
-use Rattle.kept_feed.specs.Kept.{is_other, changed_at, is_due, snapshot_if}
-use Rattle.kept_feed.proofs.Sums.{by_placed, renewed_placed}
-use Rattle.kept_feed.proofs.Alike.{repaired_alike, snapshot_least}
+use Rattle.kept_model.specs.Feed.{entries_of}
+use Rattle.kept_model.proofs.Tables.{at_prefix}
+use Rattle.kept_model.specs.Kept.{is_other, changed_at, is_due, snapshot_if}
+use Rattle.kept_model.proofs.FeedSums.{by_placed, renewed_placed}
+use Rattle.kept_model.proofs.FeedAlike.{repaired_alike, snapshot_least}
 use Rattle.fewest_feed.specs.Moved.{with_nearest, after_move, moved_by, table_by, table_from}
 use Rattle.fewest_feed.proofs.Nearest.{nearest_placed, nearest_alike, nearest_elsewhere}
 

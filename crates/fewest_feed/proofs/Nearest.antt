@@ -16,9 +16,9 @@ use Rattle.table_model.specs.Sets.{answers}
 use Rattle.table_model.proofs.Same.{same_answers}
 use Rattle.route_model.proofs.Keyed.{all_filter, sorted_filter}
 use Rattle.table_model.specs.Order.{prefix_cmp}
-use Rattle.delta_model.specs.Between.{AreEntries, hop_at, between}
-use Rattle.delta_model.proofs.Held.{Placed}
-use Rattle.delta_model.proofs.Alike.{hop_in_replaced, made_placed, part_changes, placed_are, replaced_placed}
+use Rattle.kept_model.specs.Between.{AreEntries, hop_at, between}
+use Rattle.kept_model.proofs.Held.{Placed}
+use Rattle.kept_model.proofs.Alike.{hop_in_replaced, made_placed, part_changes, placed_are, replaced_placed}
 use Rattle.kept_model.proofs.Patches.{family_hop, table_hop}
 use Rattle.kept_model.proofs.Repairs.{table_entries}
 use Rattle.moves_model.specs.Nearest.{nearest, near_bound}

@@ -10,8 +10,8 @@ use Rattle.table_model.specs.Entries.{Entries, in_order, of_family, of_table}
 use Rattle.table_model.proofs.Cut.{entry}
 use Rattle.route_model.proofs.Keyed.{same_entries}
 use Rattle.route_model.proofs.Places.{prefix_key}
-use Rattle.delta_model.specs.Between.{hop_at}
-use Rattle.delta_model.proofs.Held.{Placed, all_folded, hop_in_order, in_order_placed}
+use Rattle.kept_model.specs.Between.{hop_at}
+use Rattle.kept_model.proofs.Held.{Placed, all_folded, hop_in_order, in_order_placed}
 use Rattle.kept_model.specs.Patched.{IsPair}
 use Rattle.kept_model.proofs.Families.{AllOf, hop_low, hop_high, placed_both, table_of}
 use Rattle.moves_model.specs.Nearest.{nearest}

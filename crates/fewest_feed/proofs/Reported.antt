@@ -8,15 +8,15 @@ use Rattle.table_model.specs.Entries.{Entries}
 use Rattle.table_model.specs.Changes.{Change, after_changes, sum_of}
 use Rattle.route_model.specs.Events.{Elem}
 use Rattle.route_model.specs.Choice.{Candidates, IsElem, after_elem, after_elems}
-use Rattle.delta_model.specs.Between.{between, place_of}
-use Rattle.delta_model.proofs.Held.{Placed}
-use Rattle.delta_model.proofs.Alike.{all_between, made_placed, none_between}
+use Rattle.kept_model.specs.Between.{between, place_of}
+use Rattle.kept_model.proofs.Held.{Placed}
+use Rattle.kept_model.proofs.Alike.{all_between, made_placed, none_between}
 use Rattle.steady_model.specs.Steady.{in_steady_order}
 use Rattle.steady_model.proofs.Goes.{same_changes, steady_placed}
-use Rattle.feed_model.specs.Feed.{AreNumbered, entries_of, hops_after, at_event, changes_in}
-use Rattle.feed_model.proofs.Numbers.{entries_stay}
-use Rattle.kept_feed.specs.Kept.{AreNumberedAlong, changed_at, is_due, snapshot_if, kept_at_load, kept_by, kept_from}
-use Rattle.kept_feed.proofs.Sums.{snapshot_placed}
+use Rattle.kept_model.specs.Feed.{AreNumbered, entries_of, hops_after, at_event, changes_in}
+use Rattle.kept_model.proofs.Numbers.{entries_stay}
+use Rattle.kept_model.specs.Kept.{AreNumberedAlong, changed_at, is_due, snapshot_if, kept_at_load, kept_by, kept_from}
+use Rattle.kept_model.proofs.FeedSums.{snapshot_placed}
 use Rattle.steady_feed.specs.Told.{steady_if, events_told}
 use Rattle.steady_feed.proofs.Blocks.{in_at_event, in_both, after_more}
 use Rattle.steady_feed.proofs.Told.{none_placed}

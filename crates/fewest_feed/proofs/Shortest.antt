@@ -7,15 +7,15 @@ use Rattle.table_model.specs.Entries.{Entries, of_family}
 use Rattle.table_model.specs.Changes.{Change}
 use Rattle.route_model.specs.Events.{Elem}
 use Rattle.route_model.specs.Choice.{Candidates, IsElem, after_elem, after_elems}
-use Rattle.delta_model.specs.Between.{between, place_of}
-use Rattle.delta_model.proofs.Held.{Placed}
-use Rattle.delta_model.proofs.Alike.{all_between, placed_are}
+use Rattle.kept_model.specs.Between.{between, place_of}
+use Rattle.kept_model.proofs.Held.{Placed}
+use Rattle.kept_model.proofs.Alike.{all_between, placed_are}
 use Rattle.moves_model.specs.Dist.{distance}
 use Rattle.moves_cert.specs.Shortest.{AreShortest}
 use Rattle.moves_cert.proofs.Sound.{changes_dist_most}
-use Rattle.feed_model.specs.Feed.{entries_of}
-use Rattle.kept_feed.specs.Kept.{changed_at, kept_at_load}
-use Rattle.kept_feed.proofs.Steps.{elems_more}
+use Rattle.kept_model.specs.Feed.{entries_of}
+use Rattle.kept_model.specs.Kept.{changed_at, kept_at_load}
+use Rattle.kept_model.proofs.FeedSteps.{elems_more}
 use Rattle.fewest_feed.specs.Moved.{with_nearest, after_move, table_by, table_of_run}
 use Rattle.fewest_feed.specs.Reported.{counted_at, first_changes, moves_from}
 use Rattle.fewest_feed.specs.Fewest.{IsFewest}

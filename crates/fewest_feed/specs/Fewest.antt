@@ -7,8 +7,8 @@ use Rattle.table_model.specs.Entries.{of_family}
 use Rattle.route_model.specs.Events.{Elem}
 use Rattle.route_model.specs.Choice.{Candidates, after_elem, after_elems}
 use Rattle.moves_model.specs.Dist.{distance}
-use Rattle.feed_model.specs.Feed.{entries_of}
-use Rattle.kept_feed.specs.Kept.{changed_at}
+use Rattle.kept_model.specs.Feed.{entries_of}
+use Rattle.kept_model.specs.Kept.{changed_at}
 use Rattle.fewest_feed.specs.Moved.{moved_by, table_of_run}
 
 -- Of a run that asks for the fewest changes, with these elementary events after the load, the number of an event and that of its

@@ -9,8 +9,8 @@ use Rattle.route_model.specs.Events.{Elem}
 use Rattle.route_model.specs.Choice.{Candidates, after_elem}
 use Rattle.kept_model.specs.Patched.{after_repair}
 use Rattle.moves_cert.specs.Rows.{near_in}
-use Rattle.feed_model.specs.Feed.{entries_of}
-use Rattle.kept_feed.specs.Kept.{changed_at, is_due, kept_at_load, snapshot_if}
+use Rattle.kept_model.specs.Feed.{entries_of}
+use Rattle.kept_model.specs.Kept.{changed_at, is_due, kept_at_load, snapshot_if}
 
 -- the entries that aren't of the family
 abbrev pub entries_not_of : Family → Entries → Entries

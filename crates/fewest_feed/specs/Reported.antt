@@ -5,9 +5,9 @@ use Rattle.table_model.specs.Entries.{Entries}
 use Rattle.table_model.specs.Changes.{Change}
 use Rattle.route_model.specs.Events.{Elem}
 use Rattle.route_model.specs.Choice.{Candidates, after_elem}
-use Rattle.delta_model.specs.Between.{between}
-use Rattle.feed_model.specs.Feed.{at_event}
-use Rattle.kept_feed.specs.Kept.{changed_at, kept_at_load}
+use Rattle.kept_model.specs.Between.{between}
+use Rattle.kept_model.specs.Feed.{at_event}
+use Rattle.kept_model.specs.Kept.{changed_at, kept_at_load}
 use Rattle.steady_feed.specs.Told.{steady_if, load_told}
 use Rattle.fewest_feed.specs.Moved.{moved_by, table_by}
 

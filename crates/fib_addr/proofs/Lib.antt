@@ -16,3 +16,6 @@ pub mod Ordering
 pub mod Fronts
 pub mod UniformLemmas
 pub mod Backs
+pub mod OneAnswer
+pub mod Differing
+pub mod Prefixes

@@ -4,3 +4,5 @@ pub mod Text
 pub mod Hops
 pub mod Order
 pub mod OrderLaws
+pub mod Answers
+pub mod Taken

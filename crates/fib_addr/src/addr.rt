@@ -3,8 +3,8 @@
 ghost use Rattle.std.specs.Prelude.{◌≡◌, ◌^◌, ◌*◌, ◌<◌, length};
 ghost use Rattle.table_model.specs.Width.{width};
 
-use table_model::Family;
 use byteorder::{BigEndian, ByteOrder};
+use table_model::Family;
 
 /// An address: the number of its bits, below 2 to the family's width.
 #[derive(Clone, Copy, Debug, PartialEq, Eq, PartialOrd, Ord, Hash)]

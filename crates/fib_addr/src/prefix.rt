@@ -6,9 +6,9 @@ ghost use Rattle.table_model.specs.Bits.{bits_of, octet_bits};
 ghost use Rattle.table_model.specs.Width.{width};
 
 use crate::addr::Addr;
-use table_model::Family;
 use byteorder::{BigEndian, ByteOrder};
 use std::cmp::Ordering;
+use table_model::Family;
 
 /// A prefix: its first `len` bits filled with zeros as a number. Prefixes are ordered by family, then by that number, then
 /// the shorter first. The number stands first here, so that a prefix takes 32 octets.

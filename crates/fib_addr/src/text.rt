@@ -14,8 +14,8 @@ ghost use Rattle.fib_addr.specs.Text.{address_in, ipv4_in, is_dot, is_slash, num
 use crate::addr::Addr;
 use crate::ipv6::{put_ipv6, read_ipv6};
 use crate::prefix::Prefix;
-use table_model::Family;
 use itoa::write_digits;
+use table_model::Family;
 
 /// The octets of a buffer that holds the text of any address or prefix: the longest takes 39 of an IPv6 address and `/128`.
 pub const MOST_TEXT: usize = 43;

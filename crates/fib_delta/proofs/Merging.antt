@@ -17,8 +17,8 @@ use Rattle.fib_addr.specs.Views.{prefix_as, entry_as}
 use Rattle.fib_delta.specs.declared.change.Change as code_change
 use Rattle.fib_delta.specs.Views.{change_as}
 use Rattle.fib_delta.specs.Order.{ComesAfter}
-use Rattle.delta_model.specs.Between.{change_at, between}
-use Rattle.delta_model.proofs.Merged.{Below, first_old, first_new, first_both}
+use Rattle.kept_model.specs.Between.{change_at, between}
+use Rattle.kept_model.proofs.Merged.{Below, first_old, first_new, first_both}
 
 abbrev pub Sorted : List code_entry.Entry → Type 0
 Sorted xs = IsStrictlySortedBy prefix_cmp (keys_of (map entry_as xs))

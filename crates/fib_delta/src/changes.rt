@@ -5,7 +5,7 @@ ghost use Rattle.std.specs.List.Sorted.{IsStrictlySortedBy};
 ghost use Rattle.std.specs.Map.{keys_of};
 ghost use Rattle.table_model.specs.Order.{prefix_cmp};
 ghost use Rattle.table_model.specs.Entries.{in_order};
-ghost use Rattle.delta_model.specs.Between.{AreEntries, change_at, between};
+ghost use Rattle.kept_model.specs.Between.{AreEntries, change_at, between};
 ghost use Rattle.fib_addr.specs.Views.{prefix_as, entry_as};
 ghost use Rattle.fib_delta.specs.Views.{change_as};
 ghost use Rattle.fib_delta.specs.Order.{ComesAfter};

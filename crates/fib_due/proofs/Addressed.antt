@@ -26,17 +26,17 @@ use Rattle.table_model.proofs.Laws.{lpm_candidate}
 use Rattle.cert_model.specs.Rows.{CertRow, same_hop, one_answer, leaf_or, region_rows, family_rows, certificate_of}
 use Rattle.route_model.specs.Events.{Elem}
 use Rattle.route_model.specs.Choice.{Candidates, after_elem, after_elems, routes_of}
-use Rattle.delta_model.specs.Between.{between, change_at, changes_at, hop_at}
+use Rattle.kept_model.specs.Between.{between, change_at, changes_at, hop_at}
 use Rattle.kept_model.specs.Patched.{after_repair, entries_outside, patch_of, region_aggregate}
-use Rattle.kept_feed.specs.Kept.{changed_at, is_due, kept_at_load, snapshot_if, snapshot_of}
+use Rattle.kept_model.specs.Kept.{changed_at, is_due, kept_at_load, snapshot_if, snapshot_of}
 use Rattle.steady_feed.specs.Told.{load_told, steady_if}
 use Rattle.moves_model.specs.Sets.{Allowed, any, these, allowed_by_both, inner_set, is_allowed, least_allowed, near_of, new_entry, set_over}
 use Rattle.moves_cert.specs.Rows.{near_in}
 use Rattle.fewest_feed.specs.Moved.{after_move, entries_not_of, moved_by, table_by, table_from, with_nearest}
 use Rattle.fewest_feed.specs.Reported.{told_from, told_of}
 use Rattle.steady_feed.proofs.Told.{all_told}
-use Rattle.feed_model.specs.Feed.{at_event, entries_of, hops_after, number_in}
-use Rattle.feed_model.proofs.Numbers.{hops_distinct, entries_have}
+use Rattle.kept_model.specs.Feed.{at_event, entries_of, hops_after, number_in}
+use Rattle.kept_model.proofs.Numbers.{hops_distinct, entries_have}
 use Rattle.fib_report.specs.Views.{Answer}
 use Rattle.fib_due.specs.Refusals.{Limits}
 use Rattle.fib_due.specs.Due.{Feed, answers_to, kept_of, printed}

@@ -6,7 +6,7 @@ use Rattle.table_model.specs.Address.{Address}
 use Rattle.route_model.specs.Events.{Elem, Event}
 use Rattle.route_model.specs.Choice.{after_elems, elems_after}
 use Rattle.route_model.proofs.Elems.{elems_more}
-use Rattle.feed_model.specs.Feed.{entries_of, hops_after}
+use Rattle.kept_model.specs.Feed.{entries_of, hops_after}
 use Rattle.printed_model.specs.Rows.{Vrp}
 use Rattle.reading_model.specs.Input.{Progress, input}
 use Rattle.fib_io.specs.Pieces.{octets_read}

@@ -14,27 +14,27 @@ use Rattle.table_model.specs.Changes.{Change, sum_of}
 use Rattle.table_model.specs.Table.{Alike}
 use Rattle.table_model.specs.Regions.{SameOutside}
 use Rattle.table_model.specs.Both.{LeastInBoth}
-use Rattle.delta_model.specs.Between.{AreEntries, hop_at}
-use Rattle.delta_model.proofs.Held.{Placed}
+use Rattle.kept_model.specs.Between.{AreEntries, hop_at}
+use Rattle.kept_model.proofs.Held.{Placed}
 use Rattle.kept_model.specs.Patched.{after_repair, entries_outside, patch_of, region_aggregate}
 use Rattle.kept_model.proofs.Patches.{family_table, hop_patched, patched_least, placed_patched}
 use Rattle.route_model.specs.Events.{Elem, elem_prefix}
 use Rattle.route_model.specs.Choice.{AreCandidates, Candidates, IsElem, after_elem, after_elems, chosen_for}
 use Rattle.route_model.proofs.Keyed.{all_filter, lookup-filter, same_entries, sorted_filter}
 use Rattle.route_model.proofs.Places.{prefix_key}
-use Rattle.feed_model.specs.Feed.{at_event, changes_in, entries_of, hops_after}
-use Rattle.feed_model.proofs.Tables.{at_prefix}
-use Rattle.kept_feed.specs.Kept.{AreNumberedAlong, changed_at, is_due, is_other, kept_at_load, kept_by, repaired_by, snapshot_if}
+use Rattle.kept_model.specs.Feed.{at_event, changes_in, entries_of, hops_after}
+use Rattle.kept_model.proofs.Tables.{at_prefix}
+use Rattle.kept_model.specs.Kept.{AreNumberedAlong, changed_at, is_due, is_other, kept_at_load, kept_by, repaired_by, snapshot_if}
 use Rattle.steady_feed.specs.Told.{load_told}
 use Rattle.steady_feed.proofs.Told.{load_told_stays}
 use Rattle.fewest_feed.specs.Moved.{moved_by, table_by, table_from}
 use Rattle.fewest_feed.specs.Reported.{moves_from, moves_of, told_from, told_of}
 use Rattle.fewest_feed.proofs.Moved.{from_alike, renewed_least}
 use Rattle.fewest_feed.proofs.Reported.{moves_from_stay, moves_step, run_sum, table_from_stays, told_from_stays, told_more, told_step}
-use Rattle.kept_feed.proofs.Alike.{loaded_alike, snapshot_least}
-use Rattle.kept_feed.proofs.Sums.{snapshot_placed}
-use Rattle.kept_feed.proofs.Stays.{load_stays}
-use Rattle.kept_feed.proofs.Steps.{numbered_along, numbered_later}
+use Rattle.kept_model.proofs.FeedAlike.{loaded_alike, snapshot_least}
+use Rattle.kept_model.proofs.FeedSums.{snapshot_placed}
+use Rattle.kept_model.proofs.FeedStays.{load_stays}
+use Rattle.kept_model.proofs.FeedSteps.{numbered_along, numbered_later}
 use Rattle.fib_due.specs.Due.{changes_of, kept_of, moves_of as run_moves}
 use Rattle.fib_due.specs.Keeps.{changes_to, entries_besides, has_snapshot}
 

@@ -14,16 +14,16 @@ use Rattle.table_model.specs.Changes.{Change, after_changes, sum_of}
 use Rattle.route_model.specs.Events.{Elem}
 use Rattle.route_model.specs.Choice.{AreCandidates, Candidates, IsElem, after_elem, after_elems}
 use Rattle.route_model.proofs.Elems.{candidates_stay}
-use Rattle.delta_model.specs.Between.{between, place_of}
-use Rattle.delta_model.proofs.Alike.{all_between, made_placed}
-use Rattle.delta_model.proofs.Held.{Placed}
+use Rattle.kept_model.specs.Between.{between, place_of}
+use Rattle.kept_model.proofs.Alike.{all_between, made_placed}
+use Rattle.kept_model.proofs.Held.{Placed}
 use Rattle.steady_model.specs.Steady.{in_steady_order}
 use Rattle.steady_model.proofs.Goes.{same_changes, steady_placed}
 use Rattle.moves_model.specs.Dist.{distance}
-use Rattle.feed_model.specs.Feed.{at_event, changes_in, entries_of}
-use Rattle.kept_feed.specs.Kept.{changed_at, kept_at_load}
-use Rattle.kept_feed.proofs.Alike.{loaded_alike}
-use Rattle.kept_feed.proofs.Steps.{elems_more}
+use Rattle.kept_model.specs.Feed.{at_event, changes_in, entries_of}
+use Rattle.kept_model.specs.Kept.{changed_at, kept_at_load}
+use Rattle.kept_model.proofs.FeedAlike.{loaded_alike}
+use Rattle.kept_model.proofs.FeedSteps.{elems_more}
 use Rattle.steady_feed.specs.Told.{load_told, steady_if}
 use Rattle.steady_feed.proofs.Blocks.{after_more, in_at_event}
 use Rattle.fewest_feed.specs.Moved.{moved_by, table_by, table_from}

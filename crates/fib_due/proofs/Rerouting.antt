@@ -9,7 +9,7 @@ use Rattle.table_model.specs.Address.{Address, Prefix, IsPrefix}
 use Rattle.table_model.specs.declared.family.Family.TheVariants.{V4, V6}
 use Rattle.table_model.specs.Entries.{Entries}
 use Rattle.table_model.specs.Changes.{Change}
-use Rattle.delta_model.specs.Between.{place_of}
+use Rattle.kept_model.specs.Between.{place_of}
 use Rattle.printed_model.specs.declared.kind.Kind.{Kind}
 use Rattle.printed_model.specs.declared.kind.Kind.TheVariants.{Route, Table, Least}
 use Rattle.printed_model.specs.Kinds.{KindEntries, kind_entries, kind_hops, kind_in}

@@ -21,10 +21,10 @@ use Rattle.table_model.proofs.Both.{aggregates_are, aggregates_sorted}
 use Rattle.table_model.specs.Width.{width}
 use Rattle.table_model.specs.Table.{Alike}
 use Rattle.table_model.specs.Both.{LeastInBoth}
-use Rattle.delta_model.proofs.Held.{Placed}
-use Rattle.feed_model.specs.Feed.{hops_after, entries_of}
-use Rattle.feed_model.proofs.Tables.{entries_sorted}
-use Rattle.kept_feed.specs.Kept.{changed_at, kept_at_load, kept_by}
+use Rattle.kept_model.proofs.Held.{Placed}
+use Rattle.kept_model.specs.Feed.{hops_after, entries_of}
+use Rattle.kept_model.proofs.Tables.{entries_sorted}
+use Rattle.kept_model.specs.Kept.{changed_at, kept_at_load, kept_by}
 use Rattle.steady_feed.specs.Meanwhile.{AnswerMeanwhile}
 use Rattle.fewest_feed.specs.Moved.{table_by}
 use Rattle.fewest_feed.specs.Reported.{moves_of_run, told_of_run}

@@ -9,13 +9,13 @@ use Rattle.cert_model.specs.Rows.{certificate_of}
 use Rattle.route_model.specs.Events.{Elem, Event}
 use Rattle.route_model.specs.Choice.{Candidates, Offer, Place, after_elems, elems_after}
 use Rattle.reading_model.specs.Input.{Progress, Stopped, input}
-use Rattle.feed_model.specs.Feed.{hops_after, entries_of}
+use Rattle.kept_model.specs.Feed.{hops_after, entries_of}
 use Rattle.fewest_feed.specs.Moved.{table_of_run}
 use Rattle.fewest_feed.specs.Reported.{moves_of_run, told_of_run}
 use Rattle.poptrie_build.specs.Tries.{visits_of}
 use Rattle.route_tries.specs.Sizes.{Sizes, needs_of, shortage}
 use Rattle.route_tries.specs.declared.needs.FamilyNeeds.{FamilyNeeds}
-use Rattle.made_model.specs.Files.{dump_octets, updates_octets}
+use Rattle.made_input.specs.Files.{dump_octets, updates_octets}
 use Rattle.fib_report.specs.Views.{Answer, Told}
 use Rattle.fib_report.specs.Rows.{report_text, run_text}
 use Rattle.fib_report.specs.declared.run.Report.{Report}

@@ -9,12 +9,12 @@ use Rattle.table_model.specs.Entries.{Entries, AlikeInBoth, of_family}
 use Rattle.table_model.specs.Changes.{Change, sum_of}
 use Rattle.table_model.specs.Regions.{SameOutside}
 use Rattle.table_model.specs.Both.{LeastInBoth}
-use Rattle.delta_model.specs.Between.{AreEntries}
+use Rattle.kept_model.specs.Between.{AreEntries}
 use Rattle.kept_model.specs.Patched.{entries_outside}
 use Rattle.route_model.specs.Events.{Elem}
 use Rattle.route_model.specs.Choice.{Candidates, after_elems}
-use Rattle.feed_model.specs.Feed.{changes_in, entries_of}
-use Rattle.kept_feed.specs.Kept.{changed_at, is_due}
+use Rattle.kept_model.specs.Feed.{changes_in, entries_of}
+use Rattle.kept_model.specs.Kept.{changed_at, is_due}
 use Rattle.moves_model.specs.Dist.{distance}
 use Rattle.steady_feed.specs.Meanwhile.{AnswerMeanwhile, earlier_routes, event_routes}
 use Rattle.fib_due.specs.Due.{Printed}

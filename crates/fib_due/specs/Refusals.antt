@@ -4,7 +4,7 @@ use Rattle.table_model.specs.Entries.{Entries}
 use Rattle.route_model.specs.Events.{Elem}
 use Rattle.route_model.specs.Choice.{after_elems}
 use Rattle.fib_addr.specs.Hops.{most_hops}
-use Rattle.feed_model.specs.Feed.{hops_after, entries_of}
+use Rattle.kept_model.specs.Feed.{hops_after, entries_of}
 use Rattle.route_tries.specs.Sizes.{Sizes, Shortage, shortage}
 use Rattle.fib_due.specs.declared.outcome.MrtInput.{MrtInput}
 use Rattle.fib_due.specs.declared.outcome.MrtInput.TheVariants.{Dump, Updates}

@@ -11,7 +11,7 @@ use Rattle.table_model.specs.Both.{LeastInBoth, AggregateInBoth}
 use Rattle.cert_model.specs.Right.{IsCertificate}
 use Rattle.cert_model.specs.Rows.{CertRow, leaf_row, join_row, bound_row}
 use Rattle.printed_model.specs.Numbered.{HaveHops}
-use Rattle.feed_model.specs.Feed.{changes_in}
+use Rattle.kept_model.specs.Feed.{changes_in}
 use Rattle.poptrie_build.specs.Tries.{visits_of}
 use Rattle.fib_report.specs.Views.{Answer, Told}
 use Rattle.fib_due.specs.Stops.{Stop}

@@ -16,11 +16,11 @@ use Rattle.table_model.specs.Least.{aggregate}
 use Rattle.table_model.specs.Both.{aggregate_in, aggregate_in_both}
 use Rattle.route_model.proofs.Keyed.{same_entries, all_filter, sorted_filter, lookup-filter, lookup-put, lookup-cut, all_put, all_cut, sorted_put, sorted_cut}
 use Rattle.route_model.proofs.Places.{prefix_key}
-use Rattle.delta_model.specs.Between.{between, hop_at}
+use Rattle.kept_model.specs.Between.{between, hop_at}
 use Rattle.kept_model.specs.Patched.{with_route, patch_of, after_snapshot}
 use Rattle.kept_model.proofs.Families.{AllOf, between_both, hop_high, hop_low, placed_both, patched_low, patched_high, patched_of}
-use Rattle.kept_feed.specs.Kept.{snapshot_if}
-use Rattle.kept_feed.proofs.Steps.{snapshot_is}
+use Rattle.kept_model.specs.Kept.{snapshot_if}
+use Rattle.kept_model.proofs.FeedSteps.{snapshot_is}
 use Rattle.orig_tree.specs.Views.{InPlace}
 use Rattle.smalta_keep.proofs.Tables.{renewed_placed, renewed_family, patched_placed}
 use Rattle.fib_addr.specs.declared.entry.Entry as code

@@ -4,7 +4,7 @@ use Rattle.std.specs.Prelude.{option_map, unwrap_or, ◌||◌, not, IfSome, IsSo
 use Rattle.std.specs.List.{list_any, AllByRecursion}
 use Rattle.table_model.specs.Address.{Address, Prefix, same_address}
 use Rattle.table_model.proofs.SamePrefix.{same_address_is}
-use Rattle.feed_model.specs.Feed.{IsNumbered, number_in, hops_after}
+use Rattle.kept_model.specs.Feed.{IsNumbered, number_in, hops_after}
 use Rattle.fib_addr.specs.Hops.{number_of, with_hop, most_hops}
 use Rattle.fib_addr.specs.Views.{addr_as}
 use Rattle.fib_addr.specs.declared.addr.Addr.{Addr}
@@ -16,7 +16,7 @@ use Rattle.fib_prefix.specs.Views.{elem_as}
 use Rattle.fib_prefix.specs.declared.event.Via as code_via
 use Rattle.fib_prefix.specs.declared.event.Elem as code_elem
 use Rattle.fib_prefix.specs.declared.event.Elem.TheVariants as code_variant
-use Rattle.kept_feed.specs.Kept.{is_other}
+use Rattle.kept_model.specs.Kept.{is_other}
 use Rattle.fib_engine.specs.Numbers.{IsNewNumber, IsOwnNumber, numbered}
 
 -- ---- one hop too many

@@ -18,20 +18,20 @@ use Rattle.route_model.specs.Events.{Elem, elem_prefix}
 use Rattle.route_model.specs.Choice.{Candidates, AreCandidates, IsElem, after_elem, after_elems, chosen_for}
 use Rattle.route_model.proofs.Said.{candidates_after, none_yet}
 use Rattle.route_model.proofs.Elems.{candidates_stay}
-use Rattle.feed_model.specs.Feed.{AreNumbered, IsNumbered, entries_of, hops_after, number_in}
-use Rattle.feed_model.proofs.Numbers.{hops_more, entries_stay, routes_numbered, chosen_numbered}
-use Rattle.feed_model.proofs.Tables.{at_prefix, entries_sorted, entries_at_prefixes, entry_after, new_entry}
-use Rattle.feed_model.proofs.Tables.{entry_at as routed_at}
+use Rattle.kept_model.specs.Feed.{AreNumbered, IsNumbered, entries_of, hops_after, number_in}
+use Rattle.kept_model.proofs.Numbers.{hops_more, entries_stay, routes_numbered, chosen_numbered}
+use Rattle.kept_model.proofs.Tables.{at_prefix, entries_sorted, entries_at_prefixes, entry_after, new_entry}
+use Rattle.kept_model.proofs.Tables.{entry_at as routed_at}
 use Rattle.table_model.specs.Both.{aggregate_in, aggregate_in_both}
 use Rattle.table_model.specs.Sets.{answers}
 use Rattle.table_model.specs.Least.{bound}
 use Rattle.cert_model.specs.Rows.{CertRow, bound_row, certificate_of, family_rows, region_rows, whole_prefix}
-use Rattle.delta_model.specs.Between.{between, hop_at}
+use Rattle.kept_model.specs.Between.{between, hop_at}
 use Rattle.kept_model.specs.Patched.{with_route, after_snapshot}
 use Rattle.kept_model.proofs.Families.{placed_both}
-use Rattle.kept_feed.specs.Kept.{AreNumberedAlong, is_other, is_due, changed_at, snapshot_if, kept_at_load}
-use Rattle.kept_feed.proofs.Steps.{elems_more, numbered_along, numbered_later, snapshot_is}
-use Rattle.kept_feed.proofs.Stays.{load_stays}
+use Rattle.kept_model.specs.Kept.{AreNumberedAlong, is_other, is_due, changed_at, snapshot_if, kept_at_load}
+use Rattle.kept_model.proofs.FeedSteps.{elems_more, numbered_along, numbered_later, snapshot_is}
+use Rattle.kept_model.proofs.FeedStays.{load_stays}
 use Rattle.moves_cert.specs.Shortest.{AreShortest}
 use Rattle.fewest_feed.specs.Moved.{after_move, table_by, table_from}
 use Rattle.fewest_feed.specs.Reported.{first_changes, told_of}

@@ -11,10 +11,10 @@ use Rattle.route_model.specs.Events.{Elem, IsEvent, elem_prefix}
 use Rattle.route_model.specs.Choice.{Candidates, IsElem, after_elem, after_elems, chosen_for, elems_of, routes_of}
 use Rattle.route_model.proofs.Elems.{all_more, candidates_stay, elems_of_event}
 use Rattle.route_model.proofs.Said.{none_yet}
-use Rattle.feed_model.specs.Feed.{AreNumbered, IsNumbered, full_at, hops_after}
-use Rattle.feed_model.proofs.Numbers.{full_behind, full_in_front, hops_more, routes_numbered, stays}
-use Rattle.kept_feed.specs.Kept.{AreNumberedAlong, is_other}
-use Rattle.kept_feed.proofs.Steps.{elems_more, numbered_along}
+use Rattle.kept_model.specs.Feed.{AreNumbered, IsNumbered, full_at, hops_after}
+use Rattle.kept_model.proofs.Numbers.{full_behind, full_in_front, hops_more, routes_numbered, stays}
+use Rattle.kept_model.specs.Kept.{AreNumberedAlong, is_other}
+use Rattle.kept_model.proofs.FeedSteps.{elems_more, numbered_along}
 use Rattle.fib_addr.specs.Hops.{most_hops}
 use Rattle.fib_addr.specs.Views.{addr_as, prefix_as}
 use Rattle.route_choice.specs.Held.{IsChoice}

@@ -8,7 +8,7 @@ use Rattle.table_model.specs.declared.family.Family.TheVariants.{V4, V6}
 use Rattle.table_model.specs.Entries.{Entries}
 use Rattle.route_model.specs.Events.{Elem}
 use Rattle.route_model.specs.Choice.{Candidates, IsElem, after_elems}
-use Rattle.feed_model.specs.Feed.{entries_of, hops_after}
+use Rattle.kept_model.specs.Feed.{entries_of, hops_after}
 use Rattle.fib_addr.specs.Hops.{most_hops}
 use Rattle.orig_tree.specs.Views.{Labels, InPlace}
 use Rattle.smalta_keep.specs.Answers.{IsAlike}

@@ -8,8 +8,8 @@ use Rattle.fib_addr.specs.declared.prefix.Prefix as code_prefix
 use Rattle.fib_addr.specs.declared.entry.Hop as code_hop
 use Rattle.fib_prefix.specs.declared.event.Elem as code_elem
 use Rattle.fib_prefix.specs.declared.event.Elem.TheVariants as code_variant
-use Rattle.feed_model.specs.Feed.{IsNumbered, number_in}
-use Rattle.kept_feed.specs.Kept.{is_other}
+use Rattle.kept_model.specs.Feed.{IsNumbered, number_in}
+use Rattle.kept_model.specs.Kept.{is_other}
 use Rattle.route_choice.specs.declared.choice.Choice.{Choice}
 
 -- the number that a hop gets which had none of the first numbers and has one of the second

@@ -4,8 +4,8 @@ use Rattle.std.specs.List.{AllByRecursion}
 use Rattle.table_model.specs.Changes.{Change}
 use Rattle.route_model.specs.Events.{Elem}
 use Rattle.route_model.specs.Choice.{IsElem, after_elem, after_elems}
-use Rattle.feed_model.specs.Feed.{entries_of, hops_after}
-use Rattle.kept_feed.specs.Kept.{changed_at, kept_at_load}
+use Rattle.kept_model.specs.Feed.{entries_of, hops_after}
+use Rattle.kept_model.specs.Kept.{changed_at, kept_at_load}
 use Rattle.fewest_feed.specs.Moved.{table_by, table_from}
 use Rattle.fewest_feed.specs.Reported.{first_changes, told_of}
 use Rattle.fib_addr.specs.Hops.{most_hops}

@@ -4,8 +4,8 @@ use Rattle.std.specs.List.{AllByRecursion}
 use Rattle.table_model.specs.Address.{Address, Prefix}
 use Rattle.route_model.specs.Events.{Elem, elem_prefix}
 use Rattle.route_model.specs.Choice.{Candidates, IsElem, after_elem, after_elems, chosen_for}
-use Rattle.feed_model.specs.Feed.{full_at, hops_after}
-use Rattle.kept_feed.specs.Kept.{changed_at}
+use Rattle.kept_model.specs.Feed.{full_at, hops_after}
+use Rattle.kept_model.specs.Kept.{changed_at}
 use Rattle.fib_addr.specs.Hops.{most_hops}
 use Rattle.fib_addr.specs.Views.{prefix_as}
 use Rattle.fib_engine.specs.Numbers.{HasNumber, number_or_none}

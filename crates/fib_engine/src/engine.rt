@@ -6,15 +6,15 @@ ghost use Rattle.table_model.specs.Both.{aggregate_in_both};
 ghost use Rattle.cert_model.specs.Rows.{certificate_of};
 ghost use Rattle.route_model.specs.Events.{Elem as model_elem};
 ghost use Rattle.route_model.specs.Choice.{elems_of};
-ghost use Rattle.feed_model.specs.Feed.{hops_after, number_in};
-ghost use Rattle.kept_feed.specs.Kept.{changed_at, is_due as due_at, is_other};
+ghost use Rattle.kept_model.specs.Feed.{hops_after, number_in};
+ghost use Rattle.kept_model.specs.Kept.{changed_at, is_due as due_at, is_other};
 ghost use Rattle.moves_cert.specs.Shortest.{AreShortest};
 ghost use Rattle.fib_addr.specs.Hops.{most_hops, number_of, with_hop};
 ghost use Rattle.fib_addr.specs.Views.{addr_as, entry_as};
 ghost use Rattle.fib_prefix.specs.Views.{elem_as, event_as};
 ghost use Rattle.route_choice.specs.Held.{put_as};
 ghost use Rattle.fib_delta.specs.Views.{change_as};
-ghost use Rattle.cert_rows.specs.Views.{row_as};
+ghost use Rattle.cert_model.specs.Views.{row_as};
 ghost use Rattle.route_tries.specs.Sizes.{AreFew, needs_of, shortage, sizes_as};
 ghost use Rattle.route_tries.specs.Tries.{AreTriesOf};
 ghost use Rattle.route_tries.specs.declared.sizes.TrieFull.{TrieFull};
@@ -65,7 +65,7 @@ pub struct Engine {
 }
 
 impl Model for Engine {
-    ghost use Rattle.feed_model.specs.Feed.{entries_of};
+    ghost use Rattle.kept_model.specs.Feed.{entries_of};
     ghost use Rattle.route_tries.specs.Sizes.{sizes_as};
     ghost use Rattle.fib_engine.specs.Held.{Held, IsSound, AreKeptNeeds, if_loaded};
     ghost use Rattle.fib_engine.specs.Tables.{table_of};

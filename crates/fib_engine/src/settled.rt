@@ -7,8 +7,8 @@ ghost use Rattle.route_tries.specs.Sizes.{AreFew, needs_of};
 ghost use Rattle.route_tries.specs.Tries.{AreTriesOf};
 
 use crate::tables::Tables;
-use cert_rows::RowSink;
-use entry_rows::EntrySink;
+use cert_model::RowSink;
+use fib_addr::EntrySink;
 use fib_prefix::Family;
 use route_tries::{FamilyNeeds, Sizes, Tries, TriesError};
 use std::alloc::{AllocError, Global};

@@ -7,13 +7,13 @@ ghost use Rattle.table_model.specs.Both.{aggregate_in};
 ghost use Rattle.cert_model.specs.Rows.{family_rows};
 ghost use Rattle.fib_addr.specs.Views.{entry_as};
 ghost use Rattle.fib_delta.specs.Views.{change_as};
-ghost use Rattle.cert_rows.specs.Views.{row_as};
+ghost use Rattle.cert_model.specs.Views.{row_as};
 ghost use Rattle.smalta_keep.specs.Views.{moved_of};
 ghost use Rattle.route_tries.specs.Sizes.{told_needs};
 ghost use Rattle.fib_engine.specs.Tables.{AreAlike, AreBoth, AreTold, ArePlanned, ArePut, AreUndone, Given, both_firsts, gathered, needs_in, route_in, labels_of, table_of, both_routes, KeepRoutes, KeepTables, MadeBy};
 
-use cert_rows::RowSink;
-use entry_rows::EntrySink;
+use cert_model::RowSink;
+use fib_addr::EntrySink;
 use fib_delta::Change;
 use fib_prefix::{Entry, Family, Hop, Prefix};
 use orig_tree::Tree;

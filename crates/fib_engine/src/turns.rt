@@ -3,7 +3,7 @@
 ghost use Rattle.std.specs.Prelude.{◌≡◌, ◌≤◌, [], ◌∷◌, ◌++◌, List, length, map, false, OnOk};
 ghost use Rattle.route_model.specs.Events.{Elem as model_elem};
 ghost use Rattle.route_model.specs.Choice.{after_elems, elems_of};
-ghost use Rattle.feed_model.specs.Feed.{hops_after};
+ghost use Rattle.kept_model.specs.Feed.{hops_after};
 ghost use Rattle.fib_addr.specs.Hops.{most_hops};
 ghost use Rattle.fib_prefix.specs.Views.{elem_as, event_as};
 ghost use Rattle.fib_engine.specs.Numbers.{IsNewNumber, IsOwnNumber};

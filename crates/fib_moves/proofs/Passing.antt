@@ -12,8 +12,8 @@ use Rattle.table_model.specs.Sets.{side}
 use Rattle.table_model.proofs.Join.{root_join, low_join, high_join, table_join}
 use Rattle.table_model.proofs.Patch.{table_half, no_half}
 use Rattle.table_model.proofs.Sets.{in_first, in_single}
-use Rattle.stays_model.specs.Parts.{BothOrNeither, ArePart}
-use Rattle.stays_model.proofs.Parting.{part_here, part_join}
+use Rattle.kept_model.specs.Parts.{BothOrNeither, ArePart}
+use Rattle.kept_model.proofs.Parting.{part_here, part_join}
 use Rattle.fib_addr.specs.Views.{prefix_as, entry_as}
 use Rattle.fib_addr.specs.declared.prefix.Prefix as code
 use Rattle.orig_tree.specs.Spots.{Spot, answers_in}

@@ -18,12 +18,12 @@ use Rattle.table_model.proofs.Join.{distinct_lift, short_lift}
 use Rattle.table_model.proofs.Region.{begins_append, cut_lift}
 use Rattle.table_model.proofs.Patch.{cut_cut, begins_rest}
 use Rattle.table_model.proofs.Same.{cut_nil}
-use Rattle.delta_model.specs.Between.{AreEntries, hop_at, change_at, between}
-use Rattle.delta_model.proofs.Alike.{alike_changes, placed_are}
+use Rattle.kept_model.specs.Between.{AreEntries, hop_at, change_at, between}
+use Rattle.kept_model.proofs.Alike.{alike_changes, placed_are}
 use Rattle.kept_model.proofs.Families.{hop_none, table_of}
 use Rattle.kept_model.proofs.Repairs.{table_entries}
 use Rattle.kept_model.proofs.Patches.{table_hop, family_hop, family_table}
-use Rattle.stays_model.specs.Parts.{BothOrNeither, ArePart}
+use Rattle.kept_model.specs.Parts.{BothOrNeither, ArePart}
 use Rattle.fib_addr.specs.Views.{prefix_as}
 use Rattle.fib_addr.specs.declared.prefix.Prefix as code
 use Rattle.orig_tree.specs.Views.{Labels, InPlace}

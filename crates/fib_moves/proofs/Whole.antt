@@ -14,12 +14,12 @@ use Rattle.table_model.specs.Regions.{entry_at, lift}
 use Rattle.table_model.specs.Sets.{answers}
 use Rattle.table_model.proofs.Both.{family_is}
 use Rattle.table_model.proofs.Region.{cut_lift}
-use Rattle.delta_model.specs.Between.{AreEntries, hop_at, change_at, between}
-use Rattle.delta_model.proofs.Alike.{alike_changes, placed_are}
+use Rattle.kept_model.specs.Between.{AreEntries, hop_at, change_at, between}
+use Rattle.kept_model.proofs.Alike.{alike_changes, placed_are}
 use Rattle.kept_model.proofs.Families.{hop_none, table_of}
 use Rattle.kept_model.proofs.Repairs.{table_entries}
 use Rattle.kept_model.proofs.Patches.{table_hop, family_hop, family_table}
-use Rattle.stays_model.specs.Parts.{BothOrNeither, ArePart}
+use Rattle.kept_model.specs.Parts.{BothOrNeither, ArePart}
 use Rattle.cert_model.specs.Rows.{CertRow, bound_row, whole_prefix}
 use Rattle.fib_addr.specs.Views.{prefix_as, entry_as}
 use Rattle.fib_addr.specs.declared.prefix.Prefix as code

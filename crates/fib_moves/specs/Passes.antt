@@ -4,10 +4,10 @@ use Rattle.table_model.specs.Address.{Prefix}
 use Rattle.table_model.specs.Table.{Table, IsTable, half}
 use Rattle.table_model.specs.Entries.{of_table}
 use Rattle.table_model.specs.Regions.{lift}
-use Rattle.stays_model.specs.Parts.{ArePart}
+use Rattle.kept_model.specs.Parts.{ArePart}
 use Rattle.table_model.specs.declared.family.Family.{Family}
 use Rattle.table_model.specs.Changes.{Change}
-use Rattle.delta_model.specs.Between.{between}
+use Rattle.kept_model.specs.Between.{between}
 use Rattle.fib_addr.specs.Views.{entry_as}
 use Rattle.orig_tree.specs.Spots.{Spot, answers_in}
 use Rattle.moves_model.specs.Sets.{near_of}

@@ -5,8 +5,8 @@ use Rattle.table_model.specs.Table.{Table, IsTable, here, inherit}
 use Rattle.table_model.specs.Entries.{of_table}
 use Rattle.table_model.specs.Changes.{Change}
 use Rattle.table_model.specs.Regions.{lift}
-use Rattle.stays_model.specs.Parts.{BothOrNeither, ArePart}
-use Rattle.delta_model.specs.Between.{between}
+use Rattle.kept_model.specs.Parts.{BothOrNeither, ArePart}
+use Rattle.kept_model.specs.Between.{between}
 use Rattle.fib_addr.specs.Views.{prefix_as, entry_as}
 use Rattle.fib_addr.specs.declared.prefix.Prefix as code
 use Rattle.orig_tree.specs.Spots.{Spot, answers_in}

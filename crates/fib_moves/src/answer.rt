@@ -1,6 +1,6 @@
 //! The shortest list of changes with what proves it.
 
-use cert_rows::Row;
+use cert_model::Row;
 use fib_delta::Change;
 
 /// The shortest list of changes that makes a tree's entries answer as its routes do.

@@ -4,7 +4,7 @@ ghost use Rattle.std.specs.Prelude.{◌≡◌, ◌+◌, ◌≢◌, true, false, 
 ghost use Rattle.std.specs.Option.{option_copied};
 ghost use Rattle.table_model.specs.Width.{width};
 ghost use Rattle.table_model.specs.Table.{IsTable, inherit};
-ghost use Rattle.stays_model.specs.Parts.{BothOrNeither};
+ghost use Rattle.kept_model.specs.Parts.{BothOrNeither};
 ghost use Rattle.fib_addr.specs.Views.{prefix_as};
 ghost use Rattle.orig_tree.specs.Spots.{answers_in};
 ghost use Rattle.fib_moves.specs.Needs.{Knows, AreFound};

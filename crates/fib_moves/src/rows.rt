@@ -5,13 +5,13 @@ ghost use Rattle.table_model.specs.Width.{width};
 ghost use Rattle.table_model.specs.Table.{IsTable};
 ghost use Rattle.fib_addr.specs.Views.{prefix_as};
 ghost use Rattle.orig_tree.specs.Spots.{answers_in};
-ghost use Rattle.cert_rows.specs.Views.{row_as};
+ghost use Rattle.cert_model.specs.Views.{row_as};
 ghost use Rattle.moves_cert.specs.Demands.{is_bare};
 ghost use Rattle.moves_cert.specs.Rows.{leaf_answer, near_region_rows};
 ghost use Rattle.fib_moves.specs.Needs.{Knows};
 
 use crate::needs::{RegionNeeds, changes_of, half_of};
-use cert_rows::Row;
+use cert_model::Row;
 use fib_addr::{Hop, Prefix};
 use orig_tree::Region;
 use std::alloc::AllocError;

@@ -6,7 +6,7 @@ use Rattle.table_model.specs.Changes.{Change}
 use Rattle.cert_model.specs.Rows.{CertRow}
 use Rattle.printed_model.specs.Rows.{Announced, Vrp}
 use Rattle.fib_addr.specs.Views.{addr_as, entry_as, prefix_as}
-use Rattle.cert_rows.specs.Views.{row_as}
+use Rattle.cert_model.specs.Views.{row_as}
 use Rattle.fib_delta.specs.Views.{change_as}
 use Rattle.fib_report.specs.declared.run.Report.{Report}
 use Rattle.fib_report.specs.declared.run.Answer as code_answer

@@ -22,7 +22,7 @@ ghost use Rattle.std.specs.Option.{option_to_list};
 ghost use Rattle.std.specs.List.{AllByRecursion};
 ghost use Rattle.fib_addr.specs.Views.{entry_as};
 ghost use Rattle.cost_cert.specs.Printed.{printed_row_as};
-ghost use Rattle.cert_rows.specs.Views.{row_as};
+ghost use Rattle.cert_model.specs.Views.{row_as};
 ghost use Rattle.printed_model.specs.Rows.{IsRow, text_of, line};
 ghost use Rattle.fib_report.specs.Rows.{of_answer, of_change, of_invalid, of_moves, report_rows, report_text, section_rows};
 ghost use Rattle.printed_model.specs.Numbered.{of_cert};

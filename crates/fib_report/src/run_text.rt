@@ -6,7 +6,7 @@
 ghost use Rattle.std.specs.Prelude.{◌≡◌, [], ◌++◌, ◌∷◌, flat_map, map, IfOk, OnOk};
 ghost use Rattle.fib_addr.specs.Views.{entry_as};
 ghost use Rattle.fib_delta.specs.Views.{change_as};
-ghost use Rattle.cert_rows.specs.Views.{row_as};
+ghost use Rattle.cert_model.specs.Views.{row_as};
 ghost use Rattle.printed_model.specs.Numbered.{of_cert};
 ghost use Rattle.fib_report.specs.Rows.{of_answer, of_change, of_invalid, of_moves, report_rows, section_rows};
 ghost use Rattle.fib_report.specs.Views.{answer_as, invalid_as, moves_as};
@@ -18,7 +18,7 @@ use crate::rows::{
 };
 use crate::run::{Answer, Invalid, Moves, Report};
 use crate::section::Section;
-use cert_rows::{Row, RowSink};
+use cert_model::{Row, RowSink};
 use csv::Writer;
 use fib_addr::{Entry, HopTable};
 use fib_delta::Change;

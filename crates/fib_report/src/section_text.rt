@@ -4,8 +4,7 @@ ghost use Rattle.std.specs.Prelude.{◌≡◌};
 
 use crate::run_text::RunText;
 use crate::section::Section;
-use entry_rows::EntrySink;
-use fib_addr::Entry;
+use fib_addr::{Entry, EntrySink};
 use std::alloc::AllocError;
 
 /// The text of a run within a section: it writes the rows of the entries that it takes, and counts these, also those without a

@@ -8,7 +8,7 @@ use Rattle.std.specs.declared.string.String.{String}
 use Rattle.std.specs.declared.vec.Vec.{Vec}
 use Rattle.fib_io.specs.Held.{held_under}
 use Rattle.fib_io.specs.Causes.{Rose}
-use Rattle.made_model.specs.Files.{dump_octets, updates_octets}
+use Rattle.made_input.specs.Files.{dump_octets, updates_octets}
 use Rattle.fib_report.specs.Rows.{report_text}
 use Rattle.fib_words.specs.Commands.{Named, Asked, Check, Run, Make}
 use Rattle.fib_due.specs.declared.outcome.Outcome.{Outcome}

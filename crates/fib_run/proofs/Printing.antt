@@ -13,9 +13,9 @@ use Rattle.route_model.specs.Events.{Elem}
 use Rattle.route_model.specs.Choice.{Candidates, IsElem, after_elems}
 use Rattle.route_model.proofs.Elems.{candidates_stay}
 use Rattle.route_model.proofs.Said.{none_yet}
-use Rattle.feed_model.specs.Feed.{entries_of, hops_after}
-use Rattle.feed_model.proofs.Numbers.{hops_distinct, entries_have}
-use Rattle.feed_model.proofs.Tables.{entries_sorted}
+use Rattle.kept_model.specs.Feed.{entries_of, hops_after}
+use Rattle.kept_model.proofs.Numbers.{hops_distinct, entries_have}
+use Rattle.kept_model.proofs.Tables.{entries_sorted}
 use Rattle.fib_addr.specs.Hops.{most_hops}
 use Rattle.printed_model.specs.Rows.{PrintedRow, IsRow, text_of as rows_text}
 use Rattle.printed_model.specs.Numbered.{of_route, of_least, of_cert, IsOther, Proves, rows_with}

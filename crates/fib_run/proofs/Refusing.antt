@@ -4,7 +4,7 @@ use Rattle.std.specs.Prelude.{option_map}
 use Rattle.std.proofs.lemmas.Bool.{lt-ltb, le-ltb}
 use Rattle.route_model.specs.Events.{Elem}
 use Rattle.fib_addr.specs.Hops.{most_hops}
-use Rattle.feed_model.specs.Feed.{hops_after}
+use Rattle.kept_model.specs.Feed.{hops_after}
 use Rattle.route_tries.specs.Sizes.{Sizes, Shortage, shortage}
 use Rattle.fib_due.specs.declared.outcome.MrtInput.{MrtInput}
 use Rattle.fib_due.specs.declared.outcome.MrtInput.TheVariants.{Dump, Updates}

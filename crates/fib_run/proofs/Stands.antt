@@ -21,7 +21,7 @@ use Rattle.fib_due.specs.Owned.{StopsAt}
 use Rattle.fib_due.specs.declared.outcome.Which.TheVariants as which
 use Rattle.fib_run.specs.declared.state.FeedError.{FeedError}
 use Rattle.fib_run.specs.declared.state.FeedError.TheVariants as feed
-use Rattle.feed_model.specs.Feed.{at_event, entries_of, hops_after}
+use Rattle.kept_model.specs.Feed.{at_event, entries_of, hops_after}
 use Rattle.fib_addr.specs.Views.{entry_as}
 use Rattle.fib_due.proofs.Due.{Content, due_feed, load_lacks, load_short}
 

@@ -16,15 +16,15 @@ use Rattle.table_model.specs.Entries.{Entries}
 use Rattle.route_model.specs.Events.{Elem, Event}
 use Rattle.route_model.specs.Choice.{Candidates, after_elem, after_elems, elems_of, elems_after}
 use Rattle.route_model.proofs.Elems.{elems_more}
-use Rattle.delta_model.specs.Between.{between}
-use Rattle.delta_model.proofs.Merged.{first_new}
-use Rattle.feed_model.specs.Feed.{hops_after, entries_of, at_event}
-use Rattle.feed_model.proofs.Numbers.{hops_more}
-use Rattle.kept_feed.specs.Kept.{kept_at_load}
+use Rattle.kept_model.specs.Between.{between}
+use Rattle.kept_model.proofs.Merged.{first_new}
+use Rattle.kept_model.specs.Feed.{hops_after, entries_of, at_event}
+use Rattle.kept_model.proofs.Numbers.{hops_more}
+use Rattle.kept_model.specs.Kept.{kept_at_load}
 use Rattle.steady_feed.specs.Told.{steady_if}
 use Rattle.fewest_feed.specs.Reported.{counted_at, first_changes, moves_from, moves_of, told_from, told_of as event_told}
-use Rattle.kept_feed.specs.Kept.{changed_at}
-use Rattle.kept_feed.proofs.Sums.{snapshot_placed}
+use Rattle.kept_model.specs.Kept.{changed_at}
+use Rattle.kept_model.proofs.FeedSums.{snapshot_placed}
 use Rattle.fib_addr.specs.Views.{entry_as}
 use Rattle.fib_addr.specs.Hops.{most_hops}
 use Rattle.fib_due.specs.declared.outcome.MrtInput.{MrtInput}

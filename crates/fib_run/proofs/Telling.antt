@@ -9,7 +9,7 @@ use Rattle.table_model.specs.Both.{aggregate_in_both}
 use Rattle.cert_model.specs.Rows.{certificate_of}
 use Rattle.route_model.specs.Events.{Elem}
 use Rattle.route_model.specs.Choice.{Candidates, after_elem, after_elems}
-use Rattle.feed_model.specs.Feed.{hops_after, entries_of}
+use Rattle.kept_model.specs.Feed.{hops_after, entries_of}
 use Rattle.fib_addr.specs.declared.entry.Entry.{Entry}
 use Rattle.fib_addr.specs.Views.{entry_as}
 use Rattle.fib_engine.specs.Held.{Held, if_loaded, routes_in, routes_told}

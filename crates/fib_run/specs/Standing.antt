@@ -30,7 +30,7 @@ use Rattle.fib_run.specs.Told.{told_changes, told_moves}
 use Rattle.fib_due.specs.Stops.{Stop, IsDueIfTold, FailsDue, event_in, input_of}
 use Rattle.fib_due.specs.Refusals.{Limits, ManyHops, Refusal, Short, routes_by, stop_at, too_much}
 use Rattle.fib_due.specs.Due.{Feed, changes_of, feeds_at, limits_of, moves_of}
-use Rattle.made_model.specs.Files.{dump_octets, updates_octets}
+use Rattle.made_input.specs.Files.{dump_octets, updates_octets}
 use Rattle.fib_io.specs.Held.{held_under}
 use Rattle.fib_io.specs.declared.memory_inputs.SureInputs.{SureInputs}
 use Rattle.fib_words.specs.Commands.{Named}

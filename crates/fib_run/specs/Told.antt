@@ -1,7 +1,7 @@
 -- What a clause sees of a state that inputs build.
 use Rattle.std.specs.Prelude.{Bool, true, false, ℕ, ◌+◌, ◌++◌, List, [], ◌∷◌, map, Option, Some, None}
 use Rattle.table_model.specs.Changes.{Change, additions}
-use Rattle.feed_model.specs.Feed.{at_event}
+use Rattle.kept_model.specs.Feed.{at_event}
 use Rattle.fib_addr.specs.Views.{entry_as}
 use Rattle.fib_delta.specs.declared.change.Change as code_change
 use Rattle.fib_report.specs.declared.run.Report.{Report}

@@ -7,7 +7,7 @@ ghost use Rattle.std.specs.Map.{keys_of};
 ghost use Rattle.table_model.specs.Order.{prefix_cmp};
 ghost use Rattle.table_model.specs.Entries.{Entries};
 ghost use Rattle.table_model.specs.Changes.{additions};
-ghost use Rattle.delta_model.specs.Between.{between};
+ghost use Rattle.kept_model.specs.Between.{between};
 ghost use Rattle.steady_feed.specs.Told.{steady_if};
 ghost use Rattle.fib_addr.specs.Views.{entry_as};
 ghost use Rattle.fib_delta.specs.Views.{change_as};

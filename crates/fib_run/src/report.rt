@@ -9,7 +9,7 @@ ghost use Rattle.std.specs.Prelude.{◌≡◌, ◌++◌, ℕ, [], true, IfOk, On
 ghost use Rattle.table_model.specs.Entries.{Entries};
 ghost use Rattle.table_model.specs.Both.{aggregate_in_both};
 ghost use Rattle.table_model.specs.Changes.{additions};
-ghost use Rattle.feed_model.specs.Feed.{at_event};
+ghost use Rattle.kept_model.specs.Feed.{at_event};
 ghost use Rattle.fib_addr.specs.Views.{addr_as, entry_as};
 ghost use Rattle.fib_due.specs.Due.{answers_to, Feed, printed, printed_text};
 ghost use Rattle.fib_report.specs.Rows.{of_answer, of_change, of_invalid, of_moves, report_text, table_entry_row};
@@ -28,6 +28,7 @@ ghost use Rattle.cert_model.specs.Rows.{certificate_of};
 
 use crate::feed::Counts;
 use crate::state::State;
+use fib_addr::Steps;
 use fib_delta::Change;
 use fib_engine::{FamilyNeeds, Settled, Tries};
 use fib_prefix::{Addr, Entry};
@@ -35,7 +36,6 @@ use fib_report::{Answer, Moves, Report, RunText, Section, report_text};
 use std::alloc::{AllocError, Global};
 use std::marker::Brand;
 use std::sync::ledger::{Blank, Ledger};
-use step_count::Steps;
 
 /// The answers of tries, looked up one by one.
 fn look_up_all<L: Ledger>(

@@ -6,7 +6,7 @@ ghost use Rattle.fib_prefix.specs.Views.{elem_as, event_as};
 ghost use Rattle.fib_prefix.specs.declared.event.Elem.TheVariants.{Put};
 ghost use Rattle.route_model.specs.Events.{Elem as model_elem, Event as model_event};
 ghost use Rattle.route_model.specs.Choice.{Candidates, after_elem, elems_of};
-ghost use Rattle.feed_model.specs.Feed.{at_event};
+ghost use Rattle.kept_model.specs.Feed.{at_event};
 ghost use Rattle.fib_run.specs.Counts.{CountsFit, CountsOn};
 ghost use Rattle.fib_run.specs.Feeds.{IsNumbered};
 ghost use Rattle.fib_due.specs.Refusals.{Limits as ends};

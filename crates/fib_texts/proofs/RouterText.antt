@@ -4,7 +4,7 @@ use Rattle.std.proofs.lemmas.List.{map-append}
 use Rattle.table_model.specs.Address.{Address}
 use Rattle.table_model.specs.Changes.{Change}
 use Rattle.cert_model.specs.Rows.{CertRow}
-use Rattle.feed_model.specs.Feed.{at_event}
+use Rattle.kept_model.specs.Feed.{at_event}
 use Rattle.printed_model.specs.Rows.{PrintedRow, moves_row}
 use Rattle.printed_model.specs.Numbered.{of_cert}
 use Rattle.fib_report.specs.Rows.{of_change, of_moves}

@@ -22,10 +22,10 @@ use Rattle.table_model.proofs.Cut.{entry}
 use Rattle.route_model.proofs.Keyed.{same_entries, all_filter}
 use Rattle.route_model.proofs.Places.{prefix_key}
 use Rattle.table_model.specs.Halves.{is_within}
-use Rattle.delta_model.specs.Between.{AreEntries, place_of, hop_at, change_at, between}
-use Rattle.delta_model.proofs.Held.{Placed, first, all_both, all_folded}
-use Rattle.delta_model.proofs.Alike.{same_changes, all_between, placed_are}
-use Rattle.delta_model.proofs.Places.{at, in_places, each_at}
+use Rattle.kept_model.specs.Between.{AreEntries, place_of, hop_at, change_at, between}
+use Rattle.kept_model.proofs.Held.{Placed, first, all_both, all_folded}
+use Rattle.kept_model.proofs.Alike.{same_changes, all_between, placed_are}
+use Rattle.kept_model.proofs.Places.{at, in_places, each_at}
 use Rattle.kept_model.specs.Patched.{entries_outside, region_aggregate, patch_of}
 use Rattle.kept_model.proofs.Patches.{hop_patched, placed_patched}
 

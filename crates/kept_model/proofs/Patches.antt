@@ -16,9 +16,9 @@ use Rattle.table_model.specs.Least.{aggregate, patch}
 use Rattle.table_model.proofs.Patch.{patch_table, patch_alike, patch_least, begins_rest, same_length}
 use Rattle.table_model.proofs.Same.{cut_nil, same_answers, patch_keeps, patch_repairs}
 use Rattle.table_model.specs.Halves.{is_within}
-use Rattle.delta_model.specs.Between.{AreEntries, hop_at}
-use Rattle.delta_model.proofs.Held.{Placed}
-use Rattle.delta_model.proofs.Alike.{hop_in_replaced, replaced_placed, placed_are}
+use Rattle.kept_model.specs.Between.{AreEntries, hop_at}
+use Rattle.kept_model.proofs.Held.{Placed}
+use Rattle.kept_model.proofs.Alike.{hop_in_replaced, replaced_placed, placed_are}
 use Rattle.kept_model.specs.Patched.{region_aggregate, patch_of}
 use Rattle.kept_model.proofs.Repairs.{mended_entries, mended_within}
 

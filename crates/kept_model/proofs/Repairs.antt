@@ -20,8 +20,8 @@ use Rattle.table_model.proofs.Region.{within_lift}
 use Rattle.std.proofs.Common.{◌-◌}
 use Rattle.table_model.specs.Table.{cut}
 use Rattle.table_model.specs.Halves.{is_within}
-use Rattle.delta_model.specs.Between.{AreEntries, between}
-use Rattle.delta_model.proofs.Alike.{part_changes, part_changes_back}
+use Rattle.kept_model.specs.Between.{AreEntries, between}
+use Rattle.kept_model.proofs.Alike.{part_changes, part_changes_back}
 use Rattle.kept_model.specs.Patched.{entries_within, region_aggregate, patch_of}
 
 not_true : (b : Bool) → (b ≡ true → ⊥) → b ≡ false

@@ -1,6 +1,6 @@
 -- Repairs and snapshots of a kept table, one that answers as the routes and is made least again now and then (after Uzmi and
 -- others, 'SMALTA: Practical and Near-Optimal FIB Aggregation', CoNEXT 2011; the rule of repair is our own). Its parts are
--- the aggregates of `least_model` (Draves and others, 'Constructing Optimal IP Routing Tables', INFOCOM 1999, section 3).
+-- the aggregates of `table_model` (Draves and others, 'Constructing Optimal IP Routing Tables', INFOCOM 1999, section 3).
 -- R are the routes, T is the kept table; both hold entries of both families.
 use Rattle.std.specs.Prelude.{◌≡◌, ℕ, zero, suc, ◌++◌, Bool, true, false, not, Option, Some, None}
 use Rattle.std.specs.List.{filter, AllByRecursion}

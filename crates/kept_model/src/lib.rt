@@ -1,7 +1,13 @@
-//! The model of a kept table: what a repair and a snapshot make of it, over plain lists of entries of both families.
+//! The model of a kept table, over plain lists of entries of both families: the changes between two tables, what a repair and a
+//! snapshot make of a table, what a pass over a least table leaves as it is, and what elementary events come to.
 //!
 //! The definitions stand in `specs/`. Each function here is a law: it does nothing, and its clauses hold for all values.
 #![tactic(auto)]
+
+mod between_laws;
+mod feed_laws;
+mod kept_laws;
+mod stays_laws;
 
 ghost use Rattle.std.specs.Prelude.{◌≡◌, ◌≤◌, ◌++◌, List, Bool, false, length};
 ghost use Rattle.std.specs.List.Sorted.{IsStrictlySortedBy};
@@ -14,9 +20,16 @@ ghost use Rattle.table_model.specs.Table.{lpm, Alike};
 ghost use Rattle.table_model.specs.Regions.{SameEntries, SameOutside};
 ghost use Rattle.table_model.specs.Order.{prefix_cmp};
 ghost use Rattle.table_model.specs.Entries.{Entries, of_family};
-ghost use Rattle.delta_model.specs.Between.{AreEntries, between};
+ghost use Rattle.kept_model.specs.Between.{AreEntries, between};
 ghost use Rattle.table_model.specs.declared.family.Family.TheVariants.{V4, V6};
 ghost use Rattle.kept_model.specs.Patched.{entries_within, region_aggregate, patch_of, IsPair};
+
+pub use between_laws::{part_law, places_law, sum_law};
+pub use feed_laws::{feed_sum_law, numbers_law};
+pub use kept_laws::{
+    kept_alike_law, kept_numbers_law, kept_stays_law, kept_step_law, kept_sum_law, snapshot_law,
+};
+pub use stays_laws::{again_law, change_law, halves_law, mended_law, settled_law};
 
 /// The changes of a repair are those within its prefix, between what was there and the aggregate.
 pub fn repair_law()

@@ -16,15 +16,15 @@ use Rattle.table_model.specs.Sets.{agg, answers}
 use Rattle.table_model.specs.Least.{aggregate}
 use Rattle.table_model.specs.Both.{aggregate_in}
 use Rattle.table_model.proofs.Both.{family_is}
-use Rattle.delta_model.specs.Between.{AreEntries, place_of, hop_at, change_at, between}
-use Rattle.delta_model.proofs.Alike.{all_between, alike_changes, placed_are}
+use Rattle.kept_model.specs.Between.{AreEntries, place_of, hop_at, change_at, between}
+use Rattle.kept_model.proofs.Alike.{all_between, alike_changes, placed_are}
 use Rattle.kept_model.proofs.Families.{hop_none, table_of}
 use Rattle.kept_model.proofs.Repairs.{table_entries}
 use Rattle.kept_model.proofs.Patches.{table_hop, family_hop, family_table}
-use Rattle.stays_model.specs.Stays.{Settled}
-use Rattle.stays_model.specs.Parts.{BothOrNeither, ArePart}
-use Rattle.stays_model.proofs.Again.{agg_same}
-use Rattle.stays_model.proofs.Settling.{settled_alike}
+use Rattle.kept_model.specs.Stays.{Settled}
+use Rattle.kept_model.specs.Parts.{BothOrNeither, ArePart}
+use Rattle.kept_model.proofs.Again.{agg_same}
+use Rattle.kept_model.proofs.Settling.{settled_alike}
 use Rattle.fib_addr.specs.Views.{prefix_as, entry_as}
 use Rattle.fib_addr.proofs.Parts.{length_prefix}
 use Rattle.fib_addr.specs.declared.prefix.Prefix as code

@@ -14,11 +14,11 @@ use Rattle.table_model.proofs.Join.{table_join}
 use Rattle.table_model.proofs.Patch.{table_half}
 use Rattle.table_model.proofs.Same.{cut_nil}
 use Rattle.table_model.proofs.Cost.{agg_root}
-use Rattle.stays_model.specs.Stays.{Stays, Settled, is_wide}
-use Rattle.stays_model.specs.Parts.{BothOrNeither, ArePart, IsEnd}
-use Rattle.stays_model.proofs.Again.{agg_same, agg_half}
-use Rattle.stays_model.proofs.Settling.{settled_half, settled_clean}
-use Rattle.stays_model.proofs.Parting.{part_none, part_here, part_join, end_no_bit, end_bare}
+use Rattle.kept_model.specs.Stays.{Stays, Settled, is_wide}
+use Rattle.kept_model.specs.Parts.{BothOrNeither, ArePart, IsEnd}
+use Rattle.kept_model.proofs.Again.{agg_same, agg_half}
+use Rattle.kept_model.proofs.Settling.{settled_half, settled_clean}
+use Rattle.kept_model.proofs.Parting.{part_none, part_here, part_join, end_no_bit, end_bare}
 use Rattle.fib_addr.specs.Views.{prefix_as, entry_as}
 use Rattle.fib_addr.specs.declared.prefix.Prefix as code
 use Rattle.orig_tree.specs.Spots.{Spot, answers_in}

@@ -6,7 +6,7 @@ use Rattle.table_model.specs.Table.{Table, root, half, cut}
 use Rattle.table_model.specs.declared.family.Family.{Family}
 use Rattle.table_model.specs.Entries.{Entries, of_family, of_table}
 use Rattle.table_model.proofs.Both.{family_is}
-use Rattle.stays_model.specs.Stays.{is_wide, NoneAround}
+use Rattle.kept_model.specs.Stays.{is_wide, NoneAround}
 use Rattle.orig_tree.proofs.Paths.{no_bits, first_bit}
 use Rattle.kept_pass.specs.Places.{IsUnmarked}
 

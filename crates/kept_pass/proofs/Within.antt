@@ -17,16 +17,16 @@ use Rattle.table_model.proofs.Join.{distinct_lift, short_lift, half_same, half_o
 use Rattle.table_model.proofs.Patch.{begins_rest, cut_cut, table_half}
 use Rattle.table_model.proofs.Region.{cut_lift, lpm_region}
 use Rattle.table_model.proofs.Same.{cut_nil, same_answers}
-use Rattle.delta_model.specs.Between.{AreEntries, hop_at, between}
-use Rattle.delta_model.proofs.Alike.{alike_changes, placed_are}
+use Rattle.kept_model.specs.Between.{AreEntries, hop_at, between}
+use Rattle.kept_model.proofs.Alike.{alike_changes, placed_are}
 use Rattle.kept_model.specs.Patched.{region_aggregate, patch_of}
 use Rattle.kept_model.proofs.Families.{hop_none, table_of}
 use Rattle.kept_model.proofs.Repairs.{table_entries}
 use Rattle.kept_model.proofs.Patches.{table_hop, family_hop, family_table, hop_patched, placed_patched}
-use Rattle.stays_model.specs.Stays.{Settled, NoneAround}
-use Rattle.stays_model.specs.Parts.{BothOrNeither}
-use Rattle.stays_model.proofs.Again.{agg_same}
-use Rattle.stays_model.proofs.Settling.{settled_cut}
+use Rattle.kept_model.specs.Stays.{Settled, NoneAround}
+use Rattle.kept_model.specs.Parts.{BothOrNeither}
+use Rattle.kept_model.proofs.Again.{agg_same}
+use Rattle.kept_model.proofs.Settling.{settled_cut}
 use Rattle.fib_addr.specs.Views.{prefix_as, entry_as}
 use Rattle.fib_addr.proofs.Parts.{length_prefix}
 use Rattle.fib_delta.proofs.Held.{is_prefix}

@@ -6,7 +6,7 @@ use Rattle.table_model.specs.declared.family.Family.{Family}
 use Rattle.table_model.specs.Entries.{Entries, of_family}
 use Rattle.table_model.specs.Regions.{entry_at}
 use Rattle.table_model.specs.Sets.{answers}
-use Rattle.stays_model.specs.Stays.{Settled}
+use Rattle.kept_model.specs.Stays.{Settled}
 use Rattle.orig_tree.specs.Views.{Labels}
 
 -- each region that is off the marks has entries that a snapshot would leave as they are, under what it inherits

@@ -8,9 +8,9 @@ use Rattle.table_model.specs.Table.{Table, IsTable}
 use Rattle.table_model.specs.Entries.{of_family, of_table}
 use Rattle.table_model.specs.Regions.{lift}
 use Rattle.table_model.specs.Sets.{agg, answers}
-use Rattle.delta_model.specs.Between.{AreEntries, between}
+use Rattle.kept_model.specs.Between.{AreEntries, between}
 use Rattle.kept_model.specs.Patched.{patch_of}
-use Rattle.stays_model.specs.Parts.{ArePart}
+use Rattle.kept_model.specs.Parts.{ArePart}
 use Rattle.fib_addr.specs.Views.{entry_as}
 use Rattle.orig_tree.specs.Spots.{Spot, answers_in}
 use Rattle.orig_tree.specs.Views.{Labels}

@@ -1,7 +1,7 @@
 -- Regions on the way down.
 use Rattle.std.specs.Prelude.{◌≡◌, ℕ, List, [], ◌∷◌, Bool, true, false, is_some}
 use Rattle.table_model.specs.Table.{Table, IsTable, lpm, root, half}
-use Rattle.stays_model.specs.Stays.{Settled, is_wide}
+use Rattle.kept_model.specs.Stays.{Settled, is_wide}
 use Rattle.orig_tree.specs.Spots.{Spot, answers_in}
 use Rattle.orig_tree.specs.Walk.{behind}
 use Rattle.kept_pass.specs.declared.place.Place.{Place}

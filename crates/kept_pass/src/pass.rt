@@ -7,11 +7,11 @@
 ghost use Rattle.std.specs.Prelude.{◌≡◌, ◌+◌, map, IfOk, OnOk};
 ghost use Rattle.table_model.specs.Both.{aggregate_in};
 ghost use Rattle.std.specs.List.{AllByRecursion};
-ghost use Rattle.delta_model.specs.Between.{between, place_of};
+ghost use Rattle.kept_model.specs.Between.{between, place_of};
 ghost use Rattle.fib_delta.specs.Views.{change_as};
 ghost use Rattle.table_model.specs.Width.{width};
 ghost use Rattle.table_model.specs.Table.{inherit};
-ghost use Rattle.stays_model.specs.Parts.{BothOrNeither};
+ghost use Rattle.kept_model.specs.Parts.{BothOrNeither};
 ghost use Rattle.fib_addr.specs.Views.{prefix_as};
 ghost use Rattle.orig_tree.specs.Views.{InPlace};
 ghost use Rattle.kept_pass.specs.Known.{IsKnown, IsKnownBefore};

@@ -3,12 +3,12 @@
 ghost use Rattle.std.specs.Prelude.{◌≡◌};
 
 use crate::key::Key;
+use fib_addr::Steps;
 use fib_engine::{Engine, Found, Tries};
 use fib_prefix::Hop;
 use std::alloc::AllocError;
 use std::marker::Brand;
 use std::sync::ledger::{Blank, Ledger};
-use step_count::Steps;
 
 /// How often all addresses are looked up, in each way.
 #[derive(Clone, Copy, Debug, PartialEq, Eq)]

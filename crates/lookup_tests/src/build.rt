@@ -6,13 +6,12 @@ ghost use Rattle.table_model.specs.Entries.{Entries};
 ghost use Rattle.poptrie_build.specs.Tries.{StandsFor};
 
 use crate::common::OneRoute;
-use fib_addr::{Addr, Hop, Prefix};
+use fib_addr::{Addr, Hop, Prefix, Steps};
 use poptrie_build::{Found, Trie, TrieFull};
 use std::alloc::{AllocError, Global};
 use std::marker::Brand;
 use std::sync::ledger::{Blank, Ledger};
 use std::test::Fail;
-use step_count::Steps;
 
 /// How large a trie is: its direct bits, and the orders of its arenas.
 #[derive(Clone, Copy)]

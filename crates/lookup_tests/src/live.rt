@@ -7,8 +7,7 @@ ghost use Rattle.poptrie_update.specs.Lives.{Shows, is_pending};
 ghost use Rattle.poptrie_update.specs.Pendings.{IsTokenOf};
 
 use crate::common::OneRoute;
-use fib_addr::{Addr, Hop, Prefix};
-use fib_regions::PrefixRegion;
+use fib_addr::{Addr, Hop, Prefix, PrefixRegion};
 use poptrie_update::{Live, NotReady, Oldest, Pending};
 use std::alloc::{AllocError, Global};
 use std::test::Fail;

@@ -5,8 +5,7 @@ ghost use Rattle.poptrie_set.specs.Lives.{IsTokenIn};
 
 use crate::common::OneRoute;
 use buddy_arena::Full;
-use fib_addr::{Addr, Hop, Prefix};
-use fib_regions::PrefixRegion;
+use fib_addr::{Addr, Hop, Prefix, PrefixRegion};
 use poptrie_build::TrieFull;
 use poptrie_set::{At, NotReady, Oldest, Pending, TrieSet};
 use std::alloc::{AllocError, Global};

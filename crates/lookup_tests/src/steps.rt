@@ -2,10 +2,10 @@
 
 ghost use Rattle.std.specs.Prelude.{◌≡◌};
 
+use fib_addr::Steps;
 use std::marker::Brand;
 use std::sync::ledger::{Blank, Ledger};
 use std::test::Fail;
-use step_count::Steps;
 
 fn two_steps<L: Ledger>(blank: Blank) -> Steps<L>
     requires name { blank.name ≡ L.name }

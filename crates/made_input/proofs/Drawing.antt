@@ -6,8 +6,8 @@ use Rattle.table_model.specs.declared.family.Family.TheVariants.{V4}
 use Rattle.table_model.specs.Address.{first_bits}
 use Rattle.table_model.specs.Bits.{bits_of}
 use Rattle.table_model.proofs.BitLaws.{bits_take}
-use Rattle.made_model.specs.Draws.{next_state, state_after, draw}
-use Rattle.made_model.specs.Drawn.{Route, Offer, route, offer}
+use Rattle.made_input.specs.Draws.{next_state, state_after, draw}
+use Rattle.made_input.specs.Drawn.{Route, Offer, route, offer}
 
 -- the product and the sum, each kept in 64 bits
 pub stepped : (x : ℕ) → (x * 6364136223846793005 % 2 ^ 64 + 1442695040888963407) % 2 ^ 64 ≡ state_after x 1

@@ -7,11 +7,11 @@ use Rattle.std.proofs.lemmas.List.FromFn.{map-range_with_len_more, get_or-map-ra
 use Rattle.std.proofs.lemmas.Nat.{mod_below}
 use Rattle.table_model.specs.Bits.{bits_of}
 use Rattle.table_model.proofs.BitLaws.{length-bits_of}
-use Rattle.made_model.specs.Draws.{state_after, draw}
-use Rattle.made_model.specs.Drawn.{Route, Offer, route, offer, entry_route, update_state, is_withdrawal, update_route, update_offer}
+use Rattle.made_input.specs.Draws.{state_after, draw}
+use Rattle.made_input.specs.Drawn.{Route, Offer, route, offer, entry_route, update_state, is_withdrawal, update_route, update_offer}
 use Rattle.written_model.specs.Octets.{record_octets}
-use Rattle.made_model.specs.Files.{message_octets, session_body, update_body, update_record, updates_octets}
-use Rattle.made_model.proofs.Bounds.{IsRoute, IsOffer}
+use Rattle.made_input.specs.Files.{message_octets, session_body, update_body, update_record, updates_octets}
+use Rattle.made_input.proofs.Bounds.{IsRoute, IsOffer}
 use Rattle.made_input.specs.Views.{route_as, offer_as, next_update}
 use Rattle.made_input.specs.declared.route.Route as code_route
 use Rattle.made_input.specs.declared.route.Offer as code_offer

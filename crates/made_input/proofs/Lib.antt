@@ -2,3 +2,8 @@ pub mod Drawing
 pub mod Written
 pub mod Records
 pub mod Following
+pub mod AttributeReading
+pub mod Bounds
+pub mod DumpReading
+pub mod UpdatesReading
+pub mod MadeReading

@@ -8,10 +8,10 @@ use Rattle.table_model.specs.Address.{Prefix, first_bits}
 use Rattle.table_model.specs.Bits.{bits_of}
 use Rattle.table_model.proofs.BitLaws.{length-bits_of}
 use Rattle.written_model.proofs.Prefixes.{length-prefix}
-use Rattle.made_model.specs.Drawn.{Route, Offer, peer_octets, peer_as}
+use Rattle.made_input.specs.Drawn.{Route, Offer, peer_octets, peer_as}
 use Rattle.written_model.specs.Octets.{number_octets, behind_length, prefix_octets}
-use Rattle.made_model.specs.Files.{offer_attributes, peer_entry, peer_table_body, rib_body, message_octets, session_body, update_body}
-use Rattle.made_model.proofs.Attributes.{length-attributes}
+use Rattle.made_input.specs.Files.{offer_attributes, peer_entry, peer_table_body, rib_body, message_octets, session_body, update_body}
+use Rattle.made_input.proofs.AttributeReading.{length-attributes}
 
 -- the piece of one more number
 pub pieces_more : (f : ℕ → List ℕ) (a n j : ℕ) → a + n ≡ j → flat_map f (range_with_len a (n + 1)) ≡ flat_map f (range_with_len a n) ++ f j

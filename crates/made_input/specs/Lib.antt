@@ -1,1 +1,4 @@
 pub mod Views
+pub mod Draws
+pub mod Drawn
+pub mod Files

@@ -3,10 +3,10 @@ use Rattle.std.specs.Prelude.{ℕ, ◌%◌, List, length, get_or, ◌==◌}
 use Rattle.table_model.specs.declared.family.Family.TheVariants.{V4}
 use Rattle.table_model.specs.Address.{first_bits}
 use Rattle.table_model.specs.Bits.{bits_of}
-use Rattle.made_model.specs.Draws.{state_after, draw}
-use Rattle.made_model.specs.Drawn as drawn
+use Rattle.made_input.specs.Draws.{state_after, draw}
+use Rattle.made_input.specs.Drawn as drawn
 use Rattle.written_model.specs.Octets.{record_octets}
-use Rattle.made_model.specs.Files.{rib_body, update_record}
+use Rattle.made_input.specs.Files.{rib_body, update_record}
 use Rattle.made_input.specs.declared.route.Route as code_route
 use Rattle.made_input.specs.declared.route.Offer as code_offer
 

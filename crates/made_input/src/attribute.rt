@@ -1,9 +1,9 @@
 //! The path attributes of an offer.
 
 ghost use Rattle.std.specs.Prelude.{◌≡◌, ◌<◌, ◌≤◌, ◌+◌, ◌++◌, ◌∷◌, [], length, OnOk};
-ghost use Rattle.made_model.specs.Drawn as drawn;
+ghost use Rattle.made_input.specs.Drawn as drawn;
 ghost use Rattle.written_model.specs.Octets.{attribute_octets, as_path_octets};
-ghost use Rattle.made_model.specs.Files.{offer_attributes};
+ghost use Rattle.made_input.specs.Files.{offer_attributes};
 ghost use Rattle.made_input.specs.Views.{offer_as};
 
 use crate::route::Offer;

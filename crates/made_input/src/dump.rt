@@ -2,9 +2,9 @@
 
 ghost use Rattle.std.specs.Prelude.{◌≡◌, ◌<◌, ◌≤◌, ◌+◌, ◌*◌, ◌++◌, length, map, IfOk, OnOk};
 ghost use Rattle.std.specs.List.{range_with_len};
-ghost use Rattle.made_model.specs.Draws.{state_after};
-ghost use Rattle.made_model.specs.Drawn.{route, entry_route};
-ghost use Rattle.made_model.specs.Files.{peer_entry, peer_table_body, rib_body, dump_octets};
+ghost use Rattle.made_input.specs.Draws.{state_after};
+ghost use Rattle.made_input.specs.Drawn.{route, entry_route};
+ghost use Rattle.made_input.specs.Files.{peer_entry, peer_table_body, rib_body, dump_octets};
 ghost use Rattle.made_input.specs.Views.{route_as, offer_as, entry_record};
 
 use crate::attribute::{peer_as, peer_octets, put_attributes};

@@ -1,7 +1,7 @@
 //! Draws from a number.
 
 ghost use Rattle.std.specs.Prelude.{◌≡◌, ◌<◌, ◌^◌};
-ghost use Rattle.made_model.specs.Draws as drawing;
+ghost use Rattle.made_input.specs.Draws as drawing;
 
 /// The multiplier of Knuth's MMIX (The Art of Computer Programming, volume 2, section 3.3.4, table 1).
 const MULTIPLIER: u64 = 6_364_136_223_846_793_005;

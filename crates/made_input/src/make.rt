@@ -1,7 +1,7 @@
 //! Both files.
 
 ghost use Rattle.std.specs.Prelude.{◌≡◌, ◌≤◌, IfOk};
-ghost use Rattle.made_model.specs.Files.{dump_octets, updates_octets};
+ghost use Rattle.made_input.specs.Files.{dump_octets, updates_octets};
 
 use crate::dump::make_dump;
 use crate::generator::Generator;

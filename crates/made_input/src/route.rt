@@ -32,8 +32,8 @@ pub struct Offer {
 }
 
 impl Route {
-    ghost use Rattle.made_model.specs.Draws.{state_after};
-    ghost use Rattle.made_model.specs.Drawn as drawn;
+    ghost use Rattle.made_input.specs.Draws.{state_after};
+    ghost use Rattle.made_input.specs.Drawn as drawn;
     ghost use Rattle.made_input.specs.Views.{route_as};
 
     /// The route of the next three draws: the prefix's length, its address, the peer.
@@ -54,8 +54,8 @@ impl Route {
 }
 
 impl Offer {
-    ghost use Rattle.made_model.specs.Draws.{state_after};
-    ghost use Rattle.made_model.specs.Drawn as drawn;
+    ghost use Rattle.made_input.specs.Draws.{state_after};
+    ghost use Rattle.made_input.specs.Drawn as drawn;
     ghost use Rattle.made_input.specs.Views.{offer_as};
 
     /// The offer of the next two draws: the path's length, the next hop.

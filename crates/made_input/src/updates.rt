@@ -2,9 +2,9 @@
 
 ghost use Rattle.std.specs.Prelude.{◌≡◌, ◌<◌, ◌≤◌, ◌+◌, ◌*◌, ◌++◌, ℕ, length, map, IfOk, OnOk};
 ghost use Rattle.std.specs.List.{range_with_len};
-ghost use Rattle.made_model.specs.Draws.{state_after};
-ghost use Rattle.made_model.specs.Drawn.{entry_route};
-ghost use Rattle.made_model.specs.Files.{message_octets, session_body, update_body, updates_octets};
+ghost use Rattle.made_input.specs.Draws.{state_after};
+ghost use Rattle.made_input.specs.Drawn.{entry_route};
+ghost use Rattle.made_input.specs.Files.{message_octets, session_body, update_body, updates_octets};
 ghost use Rattle.made_input.specs.Views.{route_as, offer_as, next_update};
 
 use crate::attribute::{peer_as, peer_octets, put_attributes};

@@ -21,8 +21,8 @@ use Rattle.table_model.proofs.Cut.{entry}
 use Rattle.table_model.specs.Regions.{entry_at}
 use Rattle.route_model.proofs.Keyed.{lookup-put, lookup-below, not_same_greater}
 use Rattle.route_model.proofs.Places.{prefix_key}
-use Rattle.delta_model.specs.Between.{AreEntries, hop_at, change_at, changes_at, between}
-use Rattle.delta_model.proofs.Held.{all_folded, hop_in_order}
+use Rattle.kept_model.specs.Between.{AreEntries, hop_at, change_at, changes_at, between}
+use Rattle.kept_model.proofs.Held.{all_folded, hop_in_order}
 use Rattle.kept_model.proofs.Patches.{family_hop}
 use Rattle.moves_model.specs.Dist.{differs, how_many, distance}
 use Rattle.moves_model.proofs.Counts.{tally}

@@ -16,9 +16,9 @@ use Rattle.table_model.specs.Regions.{entry_at, SameEntries}
 use Rattle.table_model.proofs.Patch.{table_half, no_half}
 use Rattle.route_model.proofs.Keyed.{all_put, sorted_put, lookup-put, all_cut, sorted_cut, lookup-cut}
 use Rattle.route_model.proofs.Places.{prefix_key}
-use Rattle.delta_model.specs.Between.{AreEntries, place_of, hop_at}
-use Rattle.delta_model.proofs.Held.{Placed, in_order_placed, hop_in_order}
-use Rattle.delta_model.proofs.Alike.{placed_are}
+use Rattle.kept_model.specs.Between.{AreEntries, place_of, hop_at}
+use Rattle.kept_model.proofs.Held.{Placed, in_order_placed, hop_in_order}
+use Rattle.kept_model.proofs.Alike.{placed_are}
 use Rattle.kept_model.proofs.Patches.{family_hop, family_table}
 use Rattle.moves_model.specs.Dist.{differs, distance}
 use Rattle.moves_model.proofs.Counts.{one_if, tally, tally_itself, dist_cut}

@@ -11,9 +11,9 @@ use Rattle.table_model.specs.Entries.{Entries, in_order, of_family}
 use Rattle.table_model.specs.Changes.{Change}
 use Rattle.table_model.proofs.Both.{family_is}
 use Rattle.table_model.proofs.Same.{same_answers}
-use Rattle.delta_model.specs.Between.{AreEntries, place_of, between}
-use Rattle.delta_model.proofs.Sums.{made}
-use Rattle.delta_model.proofs.Held.{hop_in_order}
+use Rattle.kept_model.specs.Between.{AreEntries, place_of, between}
+use Rattle.kept_model.proofs.Sums.{made}
+use Rattle.kept_model.proofs.Held.{hop_in_order}
 use Rattle.kept_model.proofs.Families.{table_of}
 use Rattle.kept_model.proofs.Patches.{family_hop, family_table}
 use Rattle.kept_model.proofs.Repairs.{table_entries}

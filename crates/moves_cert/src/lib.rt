@@ -12,7 +12,7 @@ ghost use Rattle.table_model.specs.declared.family.Family.{Family};
 ghost use Rattle.table_model.specs.Table.{Table, IsTable, Alike};
 ghost use Rattle.table_model.specs.Entries.{Entries, of_family};
 ghost use Rattle.table_model.specs.Changes.{Change};
-ghost use Rattle.delta_model.specs.Between.{AreEntries, place_of, between};
+ghost use Rattle.kept_model.specs.Between.{AreEntries, place_of, between};
 ghost use Rattle.cert_model.specs.Rows.{CertRow};
 ghost use Rattle.cert_model.specs.Verdict.{RowFits};
 ghost use Rattle.moves_model.specs.Dist.{distance};

@@ -9,8 +9,8 @@ use Rattle.table_model.specs.declared.family.Family.{Family}
 use Rattle.table_model.specs.Entries.{Entries}
 use Rattle.cert_model.specs.Rows.{CertRow, leaf_row, join_row, bound_row, whole_prefix}
 use Rattle.cert_model.specs.Verdict.{all_get}
-use Rattle.cert_rows.specs.declared.row.Row.{Row}
-use Rattle.cert_rows.specs.Views.{row_as}
+use Rattle.cert_model.specs.declared.row.Row.{Row}
+use Rattle.cert_model.specs.Views.{row_as}
 use Rattle.moves_model.specs.Sets.{Allowed, any, these, is_allowed, allowed_by_both, gap, set_over, k_over}
 use Rattle.moves_cert.specs.Demands.{old_at, none_below, demand_over, leaf_demand, join_demand, change_bound}
 use Rattle.moves_cert.specs.Demands.{Demand as ModelDemand}

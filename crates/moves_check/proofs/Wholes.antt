@@ -14,8 +14,8 @@ use Rattle.table_model.specs.Regions.{entry_at, SameEntries}
 use Rattle.table_model.proofs.Same.{cut_nil}
 use Rattle.table_model.proofs.Patch.{cut_cut}
 use Rattle.table_model.proofs.Cut.{entry}
-use Rattle.delta_model.specs.Between.{AreEntries}
-use Rattle.delta_model.proofs.Held.{hop_in_order, in_order_placed}
+use Rattle.kept_model.specs.Between.{AreEntries}
+use Rattle.kept_model.proofs.Held.{hop_in_order, in_order_placed}
 use Rattle.kept_model.proofs.Patches.{family_hop}
 use Rattle.cert_model.specs.Rows.{CertRow}
 use Rattle.cert_model.specs.Verdict.{RowFits, twice}

@@ -1,12 +1,12 @@
 //! Tables, changes and rows, written down shortly: a prefix by its family's first 32 bits and its length.
 
 ghost use Rattle.std.specs.Prelude.{◌≡◌, ◌∷◌, [], map, IfOk, OnOk};
-ghost use Rattle.cert_rows.specs.Views.{row_as};
+ghost use Rattle.cert_model.specs.Views.{row_as};
 ghost use Rattle.fib_addr.specs.Views.{entry_as};
 ghost use Rattle.fib_delta.specs.Views.{change_as};
 ghost use Rattle.moves_check.specs.Views.{AreEntriesOf, AreChangesOf, AreRowsOf};
 
-use cert_rows::Row;
+use cert_model::Row;
 use fib_addr::{Addr, Entry, Family, Hop, Prefix};
 use fib_delta::Change;
 use std::alloc::{AllocError, Global};

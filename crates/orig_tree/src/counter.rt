@@ -2,8 +2,8 @@
 
 ghost use Rattle.std.specs.Prelude.{◌≡◌, ◌+◌, ◌≤◌, ℕ};
 
+use fib_addr::Steps;
 use std::sync::ledger::Ledger;
-use step_count::Steps;
 
 /// What a call is handed that says what it costs: `Steps` counts its steps, `Uncounted` doesn't.
 pub trait Counter {

@@ -21,8 +21,7 @@ ghost use Rattle.orig_tree.specs.Placed.{Climbs, IsPlaced, route_set};
 use crate::best::{Best, Bests, exchange, fresh, lengthen};
 use crate::counter::{Counter, Uncounted};
 use crate::cover::{Cover, Slot};
-use entry_rows::{EntrySink, hand_entry};
-use fib_addr::{Prefix, bit_at};
+use fib_addr::{EntrySink, Prefix, bit_at, hand_entry};
 use std::alloc::{AllocError, Global};
 
 /// Which of a node's labels.

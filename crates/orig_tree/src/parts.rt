@@ -12,8 +12,7 @@ ghost use Rattle.orig_tree.specs.Views.{Fits};
 ghost use Rattle.orig_tree.specs.Walk.{has_node};
 
 use crate::node::{Label, Nodes, read, tell};
-use entry_rows::EntrySink;
-use fib_addr::{Prefix, bit_at};
+use fib_addr::{EntrySink, Prefix, bit_at};
 use std::alloc::AllocError;
 
 /// What a tree has at a path: whether it is a node, and the hop of its own route.

@@ -16,7 +16,7 @@ ghost use Rattle.table_model.specs.Least.{Least, LeastWithin, aggregate};
 ghost use Rattle.table_model.specs.Both.{aggregate_in};
 ghost use Rattle.cert_model.specs.Rows.{family_rows};
 ghost use Rattle.fib_addr.specs.Views.{entry_as, prefix_as};
-ghost use Rattle.cert_rows.specs.Views.{row_as};
+ghost use Rattle.cert_model.specs.Views.{row_as};
 ghost use Rattle.orig_tree.specs.Spots.{answers_in};
 ghost use Rattle.orig_tree.specs.Within.{nodes_in};
 ghost use Rattle.ortc.specs.Proved.{ProveLeast};
@@ -24,8 +24,7 @@ ghost use Rattle.ortc.specs.Tables.{IsAggregateOf};
 
 use crate::rows::certify;
 use crate::table::Fresh;
-use entry_rows::{EntrySink, hand_entry};
-use fib_addr::{Entry, Hop, Prefix};
+use fib_addr::{Entry, EntrySink, Hop, Prefix, hand_entry};
 use orig_tree::{Counter, Region, Tree, Uncounted};
 use std::alloc::{AllocError, Global};
 

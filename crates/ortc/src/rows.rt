@@ -11,7 +11,7 @@ ghost use Rattle.cert_model.specs.Right.{bound_by};
 ghost use Rattle.fib_addr.specs.Views.{prefix_as};
 ghost use Rattle.orig_tree.specs.Spots.{answers_in};
 
-use cert_rows::{Row, RowSink};
+use cert_model::{Row, RowSink};
 use fib_addr::{Hop, Prefix};
 use orig_tree::{Region, Tree};
 use std::alloc::AllocError;

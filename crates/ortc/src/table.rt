@@ -1,6 +1,6 @@
 //! What a fresh table comes with.
 
-use cert_rows::Row;
+use cert_model::Row;
 use fib_addr::Entry;
 
 /// A fresh table.

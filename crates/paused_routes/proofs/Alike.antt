@@ -5,7 +5,7 @@ use Rattle.table_model.specs.Entries.{Entries}
 use Rattle.buddy_arena.specs.Space.{Space}
 use Rattle.block_pool.specs.Arrays.{Array, places_of}
 use Rattle.block_pool.specs.Places.{count_free}
-use Rattle.fib_regions.specs.Answers.{all_answers}
+use Rattle.fib_addr.specs.Answers.{all_answers}
 use Rattle.poptrie_build.specs.Need.{trie_nodes, trie_leaves}
 use Rattle.poptrie_build.specs.Stands.{TrieStands}
 use Rattle.poptrie_build.specs.Strides.{strides}

@@ -2,7 +2,7 @@
 use Rattle.std.proofs.Common.{◌≡◌, ℕ, zero, suc, ◌+◌, ◌≤◌, List, [], ◌∷◌, ◌++◌, Bool, true, false, cond, drop, length, length-append, refl, sym, ap, ◌∙◌, arith}
 use Rattle.table_model.specs.declared.family.Family.{Family}
 use Rattle.table_model.specs.Entries.{Entries}
-use Rattle.crowd_model.specs.Crowds.{sum}
+use Rattle.poptrie_set.specs.Crowds.{sum}
 use Rattle.step_model.specs.Machine.{World, is_in, changes_before, needs_between}
 use Rattle.paused_routes.specs.Paused.{needs_before}
 

@@ -19,7 +19,7 @@ use Rattle.poptrie_update.specs.Prepares.{IsRetiredAfter, RunsShort, refusal_in,
 use Rattle.poptrie_update.specs.declared.live.Other.{Other}
 use Rattle.poptrie_update.specs.declared.live.Other.TheVariants as other
 use Rattle.poptrie_cursor.specs.Cursors.{Dues, IsFirst}
-use Rattle.crowd_model.specs.Crowds.{IsStill, sum}
+use Rattle.poptrie_set.specs.Crowds.{IsStill, sum}
 use Rattle.step_model.specs.Machine.{World, State, Lookup, is_in, changes_before, IsCrowded, MayPin}
 use Rattle.paused_routes.specs.declared.routes.PausedRoutes.{PausedRoutes}
 use Rattle.paused_routes.specs.Paused.{needs_before, IsSame, IsIn}

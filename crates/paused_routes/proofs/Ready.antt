@@ -6,7 +6,7 @@ use Rattle.table_model.specs.declared.family.Family.{Family}
 use Rattle.table_model.proofs.SamePrefix.{same_family_itself}
 use Rattle.table_model.specs.Entries.{Entries}
 use Rattle.kept_model.specs.Patched.{with_route}
-use Rattle.fib_regions.specs.Answers.{all_answers}
+use Rattle.fib_addr.specs.Answers.{all_answers}
 use Rattle.orig_tree.specs.Views.{Labels}
 use Rattle.buddy_arena.specs.Space.{Space}
 use Rattle.buddy_arena.specs.declared.arena.Full.{Full}
@@ -31,7 +31,7 @@ use Rattle.poptrie_update.specs.declared.pending.NotReady.{NotReady}
 use Rattle.poptrie_update.specs.declared.pending.NotReady.TheVariants as why
 use Rattle.poptrie_cursor.specs.Cursors.{Dues, FitsAll, IsFirst}
 use Rattle.poptrie_cursor.proofs.Opened.{since_fits}
-use Rattle.crowd_model.specs.Crowds.{IsStill, sum}
+use Rattle.poptrie_set.specs.Crowds.{IsStill, sum}
 use Rattle.step_model.specs.Machine.{World, State, Begun, HasRoom, is_in}
 use Rattle.paused_routes.specs.declared.routes.PausedRoutes.{PausedRoutes}
 use Rattle.paused_routes.specs.Paused.{is_own, shown_after, stores_in, IsBegun, IsIn}

@@ -6,7 +6,7 @@ use Rattle.table_model.specs.Entries.{Entries, match_in}
 use Rattle.kept_model.specs.Patched.{with_route}
 use Rattle.fib_addr.specs.Hops.{hop_at}
 use Rattle.fib_addr.specs.declared.entry.Hop.{Hop}
-use Rattle.fib_regions.specs.Answers.{all_answers}
+use Rattle.fib_addr.specs.Answers.{all_answers}
 use Rattle.orig_tree.specs.Views.{Labels}
 use Rattle.poptrie_build.specs.Tries.{node_need, leaf_need, IsTooMuch}
 use Rattle.poptrie_build.specs.declared.filling.TrieFull.{TrieFull}

@@ -4,7 +4,7 @@ use Rattle.table_model.specs.Address.{Prefix}
 use Rattle.table_model.specs.declared.family.Family.{Family}
 use Rattle.table_model.specs.Entries.{Entries, match_in}
 use Rattle.fib_addr.specs.Views.{addr_as}
-use Rattle.fib_regions.specs.Answers.{all_answers}
+use Rattle.fib_addr.specs.Answers.{all_answers}
 use Rattle.orig_tree.specs.Views.{Labels}
 use Rattle.poptrie_build.specs.Tries.{visits_of, node_need, leaf_need}
 use Rattle.poptrie_set.specs.Lives.{Seen}

@@ -8,11 +8,11 @@ ghost use Rattle.paused_routes.specs.Paused.{IsTrieAt};
 ghost use Rattle.paused_routes.specs.Calls.{IsWorldOf, IsWhyNot};
 ghost use Rattle.paused_routes.specs.declared.routes.PausedError.TheVariants.{NoMemory as IsNoMemory};
 
-use crowd_model::crowded_law;
 use fib_addr::{Addr, Hop, Prefix};
 use orig_tree::Tree;
 use poptrie_build::TrieFull;
 use poptrie_cursor::{Cursors, CursorsFull, NotOpen};
+use poptrie_set::crowded_law;
 use poptrie_update::{Live, NotReady, Pending};
 use route_tries::{RouteRegion, Sizes};
 use std::alloc::{AllocError, Global};

@@ -3,7 +3,7 @@ use Rattle.std.proofs.Common.{◌≡◌, ℕ, zero, suc, ◌+◌, ◌-◌, ◌*�
 use Rattle.std.proofs.lemmas.Bool.{cases_lt}
 use Rattle.buddy_arena.specs.Space.{Space, IsSized, OneEach, blocks}
 use Rattle.buddy_arena.specs.Space as arena
-use Rattle.fib_regions.specs.Answers.{one_answer, part}
+use Rattle.fib_addr.specs.Answers.{one_answer, part}
 use Rattle.poptrie_build.specs.Strides.{slots, slot, mixed, starts, or_earlier, leaf_before, run_start, total}
 use Rattle.block_pool.specs.Powers.{up}
 use Rattle.poptrie_build.specs.Need.{children, runs, if_mixed, need_nodes, need_leaves}
@@ -16,7 +16,7 @@ use Rattle.table_model.proofs.BitLaws.{length-bits_of}
 use Rattle.block_pool.specs.Places.{count_free, IsFresh, Takes}
 use Rattle.block_pool.proofs.Powers.{up_above}
 use Rattle.poptrie_build.specs.declared.node.Node.{Node}
-use Rattle.fib_regions.proofs.OneAnswer.{mixed_bits}
+use Rattle.fib_addr.proofs.OneAnswer.{mixed_bits}
 
 -- ---- the same slots
 total_same : (g h : ℕ → ℕ) (n : ℕ) → ((u : ℕ) → u < n → g u ≡ h u) → total g n ≡ total h n

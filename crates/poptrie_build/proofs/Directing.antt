@@ -7,7 +7,7 @@ use Rattle.std.proofs.Math.Pow.{pow_mono}
 use Rattle.table_model.specs.Bits.{bits_of}
 use Rattle.table_model.proofs.BitLaws.{length-bits_of}
 use Rattle.buddy_arena.specs.Space.{Space, IsSized}
-use Rattle.fib_regions.specs.Answers.{side, part, one_answer}
+use Rattle.fib_addr.specs.Answers.{side, part, one_answer}
 use Rattle.poptrie_build.specs.Strides.{mixed}
 use Rattle.block_pool.specs.Powers.{up, up_from}
 use Rattle.poptrie_build.specs.Need.{told, need_nodes, need_leaves, trie_nodes, trie_leaves}
@@ -15,7 +15,7 @@ use Rattle.poptrie_build.specs.Stands.{BySlot, node_at, blank}
 use Rattle.block_pool.specs.Places.{Keeps, Takes, since}
 use Rattle.poptrie_build.specs.Build.{StandsIn, WordIn, WordsIn}
 use Rattle.poptrie_build.specs.declared.node.Node.{Node}
-use Rattle.fib_regions.proofs.OneAnswer.{one_answer_part}
+use Rattle.fib_addr.proofs.OneAnswer.{one_answer_part}
 use Rattle.poptrie_build.proofs.Slotting.{double, low_bits, high_bits}
 use Rattle.poptrie_build.proofs.Carry.{Carries, map_slot, carry}
 use Rattle.block_pool.proofs.Parting.{since_now, since_not}

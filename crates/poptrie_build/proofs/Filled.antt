@@ -13,7 +13,7 @@ use Rattle.table_model.specs.Entries.{Entries}
 use Rattle.buddy_arena.specs.Space.{Space, IsSized, empty}
 use Rattle.buddy_arena.proofs.Others.{one_whole}
 use Rattle.buddy_arena.proofs.Totals.{total_whole, total_le}
-use Rattle.fib_regions.specs.Answers.{one_answer, part, all_answers}
+use Rattle.fib_addr.specs.Answers.{one_answer, part, all_answers}
 use Rattle.poptrie_build.specs.Strides.{Region, strides, address}
 use Rattle.fib_addr.specs.Views.{addr_as}
 use Rattle.fib_addr.specs.declared.addr.Addr.{Addr}
@@ -29,7 +29,7 @@ use Rattle.poptrie_build.specs.Tries.{Shown, StandsFor, IsTooMuch, rest}
 use Rattle.poptrie_build.specs.declared.node.Node.{Node}
 use Rattle.poptrie_build.proofs.Bits.{bits_take}
 use Rattle.poptrie_build.proofs.Address.{shl_shr, bits_mod}
-use Rattle.fib_regions.proofs.OneAnswer.{one_answer_from}
+use Rattle.fib_addr.proofs.OneAnswer.{one_answer_from}
 use Rattle.poptrie_build.proofs.Carry.{map_slot, stands_at}
 use Rattle.poptrie_build.proofs.Directing.{no_trie_nodes, no_trie_leaves}
 

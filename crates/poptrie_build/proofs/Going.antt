@@ -6,7 +6,7 @@ use Rattle.std.proofs.Math.ListN.{set, length-set}
 use Rattle.std.proofs.lemmas.List.{get_or-set_other, get_or-set_same}
 use Rattle.std.proofs.lemmas.Bool.{cases_eq, eqb-true}
 use Rattle.poptrie_build.specs.Bits.{rank_of}
-use Rattle.fib_regions.specs.Answers.{one_answer}
+use Rattle.fib_addr.specs.Answers.{one_answer}
 use Rattle.poptrie_build.specs.Strides.{slots, slot, mixed, starts, or_earlier, leaf_before, run_start}
 use Rattle.block_pool.specs.Powers.{up}
 use Rattle.poptrie_build.specs.Need.{children, runs}
@@ -19,7 +19,7 @@ use Rattle.block_pool.proofs.Parting.{since_now, since_not}
 use Rattle.poptrie_build.proofs.Carry.{carry}
 use Rattle.poptrie_build.proofs.So_far.{rank_total}
 use Rattle.poptrie_build.proofs.Walk.{leaf_ranked, node_ranked, rank_more}
-use Rattle.fib_regions.proofs.OneAnswer.{mixed_bits}
+use Rattle.fib_addr.proofs.OneAnswer.{mixed_bits}
 
 pub record State : Type 0 where
   pub nodes : List Node

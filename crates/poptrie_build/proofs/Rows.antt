@@ -1,7 +1,7 @@
 -- Worked rows: the definitions at a region of one more bit, of which the last stride's slots are two addresses.
 use Rattle.std.proofs.Common.{◌≡◌, ℕ, List, [], ◌∷◌, Bool, true, cond, Some, None, refl}
 use Rattle.table_model.specs.Bits.{bits_of}
-use Rattle.fib_regions.specs.Answers.{one_answer}
+use Rattle.fib_addr.specs.Answers.{one_answer}
 use Rattle.poptrie_build.specs.Strides.{slots, visits, leaf_before, total}
 use Rattle.block_pool.specs.Powers.{up, up_from}
 use Rattle.poptrie_build.specs.Need.{need_nodes, need_leaves}

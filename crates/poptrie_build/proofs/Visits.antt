@@ -1,8 +1,8 @@
 -- The visits of an address in a uniform region.
 use Rattle.std.proofs.Common.{◌≡◌, ℕ, zero, suc, ◌+◌, ◌-◌, List, Bool, Some, length, take, drop, refl, sym, ap, ◌∙◌, arith, length-append}
 use Rattle.std.proofs.lemmas.List.{take-append-drop, length-drop}
-use Rattle.fib_regions.specs.Answers.{part, one_answer}
-use Rattle.fib_regions.proofs.OneAnswer.{one_answer_part}
+use Rattle.fib_addr.specs.Answers.{part, one_answer}
+use Rattle.fib_addr.proofs.OneAnswer.{one_answer_part}
 use Rattle.poptrie_build.specs.Strides.{mixed, visits}
 
 -- no node is on the way through a uniform region

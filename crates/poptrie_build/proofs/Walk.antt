@@ -4,12 +4,12 @@ use Rattle.std.specs.Int.{bit_at}
 use Rattle.std.proofs.lemmas.Nat.{shr_below}
 use Rattle.std.proofs.lemmas.List.{take-append-drop}
 use Rattle.poptrie_build.specs.Bits.{rank_of}
-use Rattle.fib_regions.specs.Answers.{part, one_answer}
+use Rattle.fib_addr.specs.Answers.{part, one_answer}
 use Rattle.poptrie_build.specs.Strides.{Region, slot, slots, mixed, visits, trie_visits, address, leaf_before, or_earlier, starts, run_start}
 use Rattle.poptrie_build.specs.Stands.{Stands, BySlot, IsLeaf, node_at, blank}
 use Rattle.poptrie_build.specs.declared.node.Node.{Node}
 use Rattle.poptrie_build.proofs.Address.{first_bits, rest_bits, length_address, front, behind, whole}
-use Rattle.fib_regions.proofs.OneAnswer.{one_answer_is, mixed_bits}
+use Rattle.fib_addr.proofs.OneAnswer.{one_answer_is, mixed_bits}
 use Rattle.poptrie_build.proofs.Visits.{visits_none}
 
 pub rank_more : (n v : ℕ) → rank_of n (v + 1) ≡ bit_at n v + rank_of n v

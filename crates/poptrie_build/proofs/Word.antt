@@ -3,13 +3,13 @@ use Rattle.std.proofs.Common.{◌≡◌, ℕ, ◌+◌, ◌-◌, ◌*◌, ◌/◌
 use Rattle.std.specs.Prelude.{◌⊎◌}
 use Rattle.std.proofs.Math.Pow.{pow_mono}
 use Rattle.std.proofs.lemmas.Nat.{shr-shr}
-use Rattle.fib_regions.specs.Answers.{part, one_answer}
+use Rattle.fib_addr.specs.Answers.{part, one_answer}
 use Rattle.poptrie_build.specs.Strides.{Region, trie_visits, address}
 use Rattle.poptrie_build.specs.Stands.{Stands, BySlot, TrieStands, WordStands}
 use Rattle.poptrie_build.specs.declared.node.Node.{Node}
 use Rattle.poptrie_build.proofs.Bits.{bits_take, short}
 use Rattle.poptrie_build.proofs.Address.{length_address, whole}
-use Rattle.fib_regions.proofs.OneAnswer.{one_answer_is}
+use Rattle.fib_addr.proofs.OneAnswer.{one_answer_is}
 use Rattle.poptrie_build.proofs.Visits.{visits_none}
 use Rattle.poptrie_build.proofs.Walk.{below_visits}
 

@@ -2,7 +2,7 @@
 use Rattle.std.specs.Prelude.{◌≡◌, ℕ, zero, suc, ◌+◌, ◌-◌, ◌^◌, ◌<◌, List, Bool, true, None, length, slice_index}
 use Rattle.table_model.specs.Bits.{bits_of}
 use Rattle.poptrie_build.specs.Bits.{rank_of}
-use Rattle.fib_regions.specs.Answers.{one_answer, part}
+use Rattle.fib_addr.specs.Answers.{one_answer, part}
 use Rattle.poptrie_build.specs.Strides.{slots, slot}
 use Rattle.poptrie_build.specs.Stands.{IsCanonical, IsLeaf, BySlot, node_at}
 use Rattle.poptrie_build.specs.declared.node.Node.{Node}

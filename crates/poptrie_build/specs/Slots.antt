@@ -1,7 +1,7 @@
 -- What the slots of a region are told to be.
 use Rattle.std.specs.Prelude.{◌≡◌, ℕ, ◌-◌, ◌^◌, ◌<◌, List, Bool, Option, None, take, slice_index_or}
 use Rattle.table_model.specs.Bits.{bits_of}
-use Rattle.fib_regions.specs.Answers.{one_answer, part}
+use Rattle.fib_addr.specs.Answers.{one_answer, part}
 
 -- the one answer of each part of a region of d more bits with the answers f, of the parts that j of these bits tell apart; where
 -- fewer than j follow, several parts are one address

@@ -3,7 +3,7 @@ use Rattle.std.specs.Prelude.{◌≡◌, ℕ, zero, suc, ◌+◌, ◌-◌, ◌^�
 use Rattle.std.specs.Int.{bit_at}
 use Rattle.table_model.specs.Bits.{bits_of}
 use Rattle.poptrie_build.specs.Bits.{rank_of}
-use Rattle.fib_regions.specs.Answers.{one_answer, part}
+use Rattle.fib_addr.specs.Answers.{one_answer, part}
 use Rattle.poptrie_build.specs.Strides.{slots, slot, mixed, run_start}
 use Rattle.poptrie_build.specs.declared.node.Node.{Node}
 

@@ -1,7 +1,7 @@
 -- Regions by strides of six bits: their slots, how many nodes an address visits, and runs of leaves.
 use Rattle.std.specs.Prelude.{ℕ, zero, suc, ◌+◌, ◌-◌, ◌/◌, List, Bool, cond, Option, Some, None, nat_eq, take, drop}
 use Rattle.table_model.specs.Bits.{bits_of}
-use Rattle.fib_regions.specs.Answers.{part, one_answer}
+use Rattle.fib_addr.specs.Answers.{part, one_answer}
 
 -- the region of a slot has the bits of the slot's number, of which those past the region's end are not looked at: in the
 -- last stride several slots are one address

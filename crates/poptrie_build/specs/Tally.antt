@@ -1,7 +1,7 @@
 -- What is counted of a node's slots while a walk goes over them.
 use Rattle.std.specs.Prelude.{◌≡◌, ℕ, ◌+◌, ◌-◌, ◌^◌, ◌<◌, List, Bool, Option, Some, take}
 use Rattle.table_model.specs.Bits.{bits_of}
-use Rattle.fib_regions.specs.Answers.{one_answer, part}
+use Rattle.fib_addr.specs.Answers.{one_answer, part}
 use Rattle.poptrie_build.specs.Strides.{mixed, leaf_before, run_start, total}
 use Rattle.poptrie_build.specs.Need.{told, need_nodes, need_leaves}
 use Rattle.poptrie_build.specs.declared.counts.Needs.{Needs}

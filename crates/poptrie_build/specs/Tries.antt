@@ -5,7 +5,7 @@ use Rattle.table_model.specs.Address.{Address}
 use Rattle.table_model.specs.declared.family.Family.{Family}
 use Rattle.table_model.specs.Entries.{Entries}
 use Rattle.buddy_arena.specs.Space.{Space, IsSized}
-use Rattle.fib_regions.specs.Answers.{all_answers}
+use Rattle.fib_addr.specs.Answers.{all_answers}
 use Rattle.poptrie_build.specs.Strides.{strides, trie_visits}
 use Rattle.poptrie_build.specs.Need.{told, trie_nodes, trie_leaves}
 use Rattle.poptrie_build.specs.Stands.{TrieStands}

@@ -2,7 +2,7 @@
 
 ghost use Rattle.std.specs.Prelude.{◌≡◌, ℕ, ◌+◌, ◌*◌, ◌≤◌, None, IfSome, IsSome};
 ghost use Rattle.buddy_arena.specs.Space.{IsSized};
-ghost use Rattle.fib_regions.specs.Answers.{one_answer};
+ghost use Rattle.fib_addr.specs.Answers.{one_answer};
 ghost use Rattle.poptrie_build.specs.Stands.{blank};
 ghost use Rattle.poptrie_build.specs.Need.{need_nodes, need_leaves};
 ghost use Rattle.block_pool.specs.Places.{Keeps, is_out, count_free, IsFresh, since};
@@ -15,7 +15,7 @@ use crate::node::{Node, rank};
 use crate::slots::{ask, descend};
 use block_pool::{put, take_places};
 use buddy_arena::Arena;
-use fib_regions::Region;
+use fib_addr::Region;
 
 /// The node that stands for the region, by places that come out; nothing where a block is refused. What was out keeps what
 /// it holds.

@@ -1,12 +1,12 @@
 //! How many places a trie's nodes and leaves need, counted without building it.
 
 ghost use Rattle.std.specs.Prelude.{◌≡◌, ℕ, ◌+◌, ◌-◌, ◌*◌, ◌^◌, ◌≤◌, List, Bool, None};
-ghost use Rattle.fib_regions.specs.Answers.{one_answer};
+ghost use Rattle.fib_addr.specs.Answers.{one_answer};
 ghost use Rattle.poptrie_build.specs.Need.{told, need_nodes, need_leaves, trie_nodes, trie_leaves};
 ghost use Rattle.poptrie_build.specs.Tally.{AreParts, IsWholeTally};
 
 use crate::tally::Tally;
-use fib_regions::Region;
+use fib_addr::Region;
 
 /// Places of nodes and of leaves; more than a u64 holds is its greatest number.
 #[derive(Clone, Copy, Debug, PartialEq, Eq)]

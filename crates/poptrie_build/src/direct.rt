@@ -1,7 +1,7 @@
 //! The direct words: a slot's hop beside the top bit, or the place of its node.
 
 ghost use Rattle.std.specs.Prelude.{◌≡◌, ℕ, ◌+◌, ◌-◌, ◌*◌, ◌^◌, ◌<◌, ◌≤◌, true, length, ◌∷◌, None, IfSome, IsSome};
-ghost use Rattle.fib_regions.specs.Answers.{one_answer};
+ghost use Rattle.fib_addr.specs.Answers.{one_answer};
 ghost use Rattle.buddy_arena.specs.Space.{IsSized};
 ghost use Rattle.poptrie_build.specs.Stands.{blank, node_at};
 ghost use Rattle.poptrie_build.specs.Need.{trie_nodes, trie_leaves};
@@ -14,8 +14,7 @@ use crate::building::build_node;
 use crate::node::Node;
 use block_pool::{put, take_places};
 use buddy_arena::Arena;
-use fib_addr::Hop;
-use fib_regions::Region;
+use fib_addr::{Hop, Region};
 
 /// The top bit of a direct word, which a hop stands beside.
 pub const HOP: u32 = 1 << 31;

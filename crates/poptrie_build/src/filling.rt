@@ -13,7 +13,7 @@ use crate::counts::count_words;
 use crate::direct::{HOP, fill_words};
 use crate::node::Node;
 use buddy_arena::Arena;
-use fib_regions::Region;
+use fib_addr::Region;
 use thiserror::Error;
 
 /// The places of an arena are fewer than what a trie needs.

@@ -4,7 +4,7 @@ ghost use Rattle.std.specs.Prelude.{◌≡◌, ◌+◌, ◌*◌, ◌≤◌, ◌<
 ghost use Rattle.table_model.specs.Width.{width};
 ghost use Rattle.fib_addr.specs.Views.{addr_as};
 ghost use Rattle.buddy_arena.specs.Space.{IsSized};
-ghost use Rattle.fib_regions.specs.Answers.{part};
+ghost use Rattle.fib_addr.specs.Answers.{part};
 ghost use Rattle.poptrie_build.specs.Strides.{Region, address, trie_visits};
 ghost use Rattle.poptrie_build.specs.Stands.{Stands, TrieStands};
 ghost use Rattle.poptrie_build.specs.Keys.{key_as};
@@ -13,9 +13,8 @@ use crate::direct::HOP;
 use crate::key::Key;
 use crate::node::{Node, rank};
 use buddy_arena::Arena;
-use fib_addr::{Addr, Family, Hop};
+use fib_addr::{Addr, Family, Hop, Steps};
 use std::sync::ledger::Ledger;
-use step_count::Steps;
 
 /// An answer, and how many nodes were visited for it.
 #[derive(Clone, Copy, Debug, PartialEq, Eq)]

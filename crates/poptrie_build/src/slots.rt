@@ -2,10 +2,10 @@
 
 ghost use Rattle.std.specs.Prelude.{◌≡◌, ◌+◌, ◌^◌, ◌<◌, ◌≤◌, length};
 ghost use Rattle.table_model.specs.Bits.{bits_of};
-ghost use Rattle.fib_regions.specs.Answers.{part};
+ghost use Rattle.fib_addr.specs.Answers.{part};
 ghost use Rattle.poptrie_build.specs.Slots.{AreSlots};
 
-use fib_regions::Region;
+use fib_addr::Region;
 
 /// The one hop of each part of a region that `depth` more bits tell apart, or nothing where it has none.
 pub fn ask<R: Region>(region: &R, depth: u8, slots: &mut [Option<u16>])

@@ -7,12 +7,10 @@ use crate::filling::{TrieFull, fill_all};
 use crate::lookup::{Found, find_addr};
 use crate::node::Node;
 use buddy_arena::Arena;
-use fib_addr::{Addr, Answers, Family};
-use fib_regions::{PrefixRegion, Region};
+use fib_addr::{Addr, Answers, Family, PrefixRegion, Region, Steps};
 use std::alloc::{AllocError, Global};
 use std::marker::Model;
 use std::sync::ledger::Ledger;
-use step_count::Steps;
 
 /// A Poptrie: direct words for the first bits of an address, then nodes of 64 slots and leaves in arenas.
 ///
@@ -56,7 +54,7 @@ impl Trie {
     ghost use Rattle.fib_addr.specs.Views.{addr_as};
     ghost use Rattle.table_model.specs.Entries.{Entries, match_in};
     ghost use Rattle.poptrie_build.specs.Need.{told};
-    ghost use Rattle.fib_regions.specs.Answers.{all_answers};
+    ghost use Rattle.fib_addr.specs.Answers.{all_answers};
     ghost use Rattle.poptrie_build.specs.Strides.{strides};
     ghost use Rattle.poptrie_build.specs.Tries.{StandsFor, IsRefused, node_need, leaf_need, rest, visits_of};
 

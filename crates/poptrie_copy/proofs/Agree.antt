@@ -6,7 +6,7 @@ use Rattle.std.proofs.lemmas.Bool.{cases_lt}
 use Rattle.table_model.specs.Bits.{bits_of}
 use Rattle.poptrie_build.specs.Bits.{rank_of}
 use Rattle.poptrie_build.specs.Strides.{slots, slot, slot_bits, total}
-use Rattle.fib_regions.specs.Answers.{side, same_hop, one_answer}
+use Rattle.fib_addr.specs.Answers.{side, same_hop, one_answer}
 use Rattle.block_pool.specs.Powers.{up}
 use Rattle.poptrie_build.specs.Need.{children, runs, if_mixed, need_nodes, need_leaves}
 use Rattle.poptrie_build.specs.Stands.{Stands, BySlot, IsLeaf, node_at}

@@ -7,7 +7,7 @@ use Rattle.table_model.specs.Bits.{bits_of}
 use Rattle.buddy_arena.specs.Space.{Space}
 use Rattle.block_pool.specs.Places.{count_free, is_out}
 use Rattle.block_pool.specs.Arrays.{Array, places_of}
-use Rattle.fib_regions.specs.Answers.{part, side, one_answer}
+use Rattle.fib_addr.specs.Answers.{part, side, one_answer}
 use Rattle.poptrie_build.specs.Strides.{slots, slot, mixed, total}
 use Rattle.poptrie_build.specs.Need.{children, runs, need_nodes, need_leaves, trie_nodes, trie_leaves}
 use Rattle.poptrie_build.specs.declared.node.Node.{Node}

@@ -5,8 +5,8 @@ use Rattle.buddy_arena.specs.Space.{Space}
 use Rattle.block_pool.specs.Places.{Keeps, is_out}
 use Rattle.block_pool.specs.Refusals.{IsRefusal}
 use Rattle.block_pool.specs.declared.blocks.Refused.{Refused}
-use Rattle.fib_regions.specs.Answers.{one_answer}
-use Rattle.fib_regions.proofs.OneAnswer.{mixed_bits}
+use Rattle.fib_addr.specs.Answers.{one_answer}
+use Rattle.fib_addr.proofs.OneAnswer.{mixed_bits}
 use Rattle.poptrie_build.specs.Strides.{slots, slot}
 use Rattle.poptrie_build.specs.Need.{children, runs}
 use Rattle.poptrie_build.specs.Stands.{blank}

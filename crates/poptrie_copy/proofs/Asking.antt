@@ -7,7 +7,7 @@ use Rattle.block_pool.specs.Refusals.{IsRefusal}
 use Rattle.block_pool.specs.declared.blocks.Refused.{Refused}
 use Rattle.block_pool.specs.declared.blocks.Refused.TheVariants as refused
 use Rattle.block_pool.proofs.Sets.{both_left, both_right, both}
-use Rattle.fib_regions.specs.Answers.{one_answer, side}
+use Rattle.fib_addr.specs.Answers.{one_answer, side}
 use Rattle.poptrie_build.specs.Strides.{slots, slot}
 use Rattle.poptrie_build.specs.Need.{children, runs}
 use Rattle.poptrie_copy.specs.declared.blocks.Refusal.{Refusal}

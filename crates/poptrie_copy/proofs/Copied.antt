@@ -1,7 +1,7 @@
 -- A node that is made anew beside an old one: how many places are taken and put aside.
 use Rattle.std.proofs.Common.{◌≡◌, ℕ, zero, suc, ◌+◌, ◌-◌, ◌<◌, List, Bool, true, Option, Some, None, length, refl, ap, ◌∙◌, arith, subst}
 use Rattle.poptrie_build.specs.Bits.{rank_of}
-use Rattle.fib_regions.specs.Answers.{one_answer}
+use Rattle.fib_addr.specs.Answers.{one_answer}
 use Rattle.poptrie_build.specs.Strides.{slots, slot, total, mixed}
 use Rattle.block_pool.specs.Powers.{up}
 use Rattle.poptrie_build.specs.Need.{children, need_nodes}

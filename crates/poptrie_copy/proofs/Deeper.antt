@@ -2,7 +2,7 @@
 use Rattle.std.proofs.Common.{◌≡◌, ℕ, zero, suc, ◌+◌, ◌-◌, ◌*◌, ◌^◌, ◌<◌, ◌≤◌, List, [], ◌∷◌, Bool, true, false, Option, Some, None, length, refl, ap, arith}
 use Rattle.std.specs.Prelude.{nat_lt, cond}
 use Rattle.block_pool.specs.Arrays.{Array, AreApart}
-use Rattle.fib_regions.specs.Answers.{one_answer, side}
+use Rattle.fib_addr.specs.Answers.{one_answer, side}
 use Rattle.poptrie_build.specs.Bits.{rank_of}
 use Rattle.block_pool.specs.Powers.{up}
 use Rattle.poptrie_build.specs.Strides.{slots, slot}

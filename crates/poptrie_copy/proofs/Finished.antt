@@ -10,7 +10,7 @@ use Rattle.block_pool.specs.Arrays.{Array, Has, IsIn, AreApart, has, among}
 use Rattle.block_pool.proofs.Powers.{up_above}
 use Rattle.block_pool.proofs.Parting.{apart_cons, part_left}
 use Rattle.block_pool.proofs.Sets.{places_append, both, both_left, both_right, not_true, was_false, place_is, apart_less}
-use Rattle.fib_regions.specs.Answers.{one_answer}
+use Rattle.fib_addr.specs.Answers.{one_answer}
 use Rattle.poptrie_build.specs.Bits.{rank_of}
 use Rattle.poptrie_build.specs.Strides.{slots, slot, mixed, run_start}
 use Rattle.poptrie_build.specs.Need.{children, runs}

@@ -4,7 +4,7 @@ use Rattle.std.specs.Prelude.{nat_lt}
 use Rattle.table_model.specs.Bits.{bits_of}
 use Rattle.poptrie_build.specs.Bits.{rank_of}
 use Rattle.poptrie_build.specs.Strides.{slots, slot, mixed}
-use Rattle.fib_regions.specs.Answers.{part, one_answer}
+use Rattle.fib_addr.specs.Answers.{part, one_answer}
 use Rattle.poptrie_build.specs.Stands.{Stands, BySlot, TrieStands, IsLeaf, node_at}
 use Rattle.poptrie_build.specs.Build.{StandsIn, WordsIn}
 use Rattle.poptrie_build.specs.Arrays.{node_arrays, leaf_arrays, word_arrays, word_leaf_arrays}

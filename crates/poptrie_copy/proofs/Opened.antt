@@ -12,8 +12,8 @@ use Rattle.block_pool.specs.Arrays.{Array, AreApart, places_of}
 use Rattle.block_pool.proofs.Powers.{up_zero}
 use Rattle.block_pool.proofs.Parting.{part_right}
 use Rattle.block_pool.proofs.Sets.{places_append}
-use Rattle.fib_regions.specs.Answers.{one_answer}
-use Rattle.fib_regions.proofs.OneAnswer.{one_answer_part}
+use Rattle.fib_addr.specs.Answers.{one_answer}
+use Rattle.fib_addr.proofs.OneAnswer.{one_answer_part}
 use Rattle.poptrie_build.specs.Bits.{rank_of}
 use Rattle.poptrie_build.specs.Strides.{slots, slot, slot_bits, mixed, run_start, total}
 use Rattle.poptrie_build.specs.Need.{children, runs}

@@ -11,8 +11,8 @@ use Rattle.block_pool.specs.Places.{Takes, count_free, is_out}
 use Rattle.block_pool.proofs.Powers.{up_above}
 use Rattle.block_pool.specs.Arrays.{Array}
 use Rattle.block_pool.specs.Blocks.{Held}
-use Rattle.fib_regions.specs.Answers.{one_answer}
-use Rattle.fib_regions.proofs.OneAnswer.{mixed_bits}
+use Rattle.fib_addr.specs.Answers.{one_answer}
+use Rattle.fib_addr.proofs.OneAnswer.{mixed_bits}
 use Rattle.poptrie_build.specs.Bits.{rank_of}
 use Rattle.poptrie_build.specs.Strides.{slots, slot}
 use Rattle.poptrie_build.specs.Need.{children, runs}

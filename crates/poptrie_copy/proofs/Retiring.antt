@@ -9,7 +9,7 @@ use Rattle.block_pool.specs.Places.{count_free, is_out}
 use Rattle.block_pool.specs.Arrays.{Array, places_of}
 use Rattle.block_pool.specs.Blocks.{Held}
 use Rattle.block_pool.proofs.Sets.{places_append}
-use Rattle.fib_regions.specs.Answers.{part, one_answer}
+use Rattle.fib_addr.specs.Answers.{part, one_answer}
 use Rattle.poptrie_build.specs.Strides.{slots, slot, mixed, total}
 use Rattle.poptrie_build.specs.Need.{children, runs, need_nodes, need_leaves, trie_nodes, trie_leaves}
 use Rattle.poptrie_build.specs.declared.node.Node.{Node}

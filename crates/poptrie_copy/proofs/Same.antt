@@ -6,7 +6,7 @@ use Rattle.std.proofs.lemmas.Bool.{cases_lt, cases_eq}
 use Rattle.std.proofs.lemmas.List.{length-append, length-take-le, length-drop, length-replicate, take_all, take_at, take-take, take-append-le, take-append-drop, drop_all, append-nil}
 use Rattle.table_model.specs.Bits.{bits_of, value_of}
 use Rattle.table_model.proofs.BitLaws.{length-bits_of, value-bits_of, value-lt, bits_from_value}
-use Rattle.fib_regions.proofs.OneAnswer.{one_answer_is}
+use Rattle.fib_addr.proofs.OneAnswer.{one_answer_is}
 use Rattle.poptrie_build.specs.Bits.{rank_of}
 use Rattle.poptrie_build.specs.Strides.{slots, slot, mixed}
 use Rattle.poptrie_build.specs.Stands.{IsLeaf, BySlot, node_at, blank}

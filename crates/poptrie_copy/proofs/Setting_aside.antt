@@ -7,15 +7,15 @@ use Rattle.buddy_arena.specs.Space.{Space}
 use Rattle.block_pool.specs.Places.{Keeps, is_out}
 use Rattle.block_pool.specs.Arrays.{Array, AreApart}
 use Rattle.block_pool.specs.Blocks.{Held}
-use Rattle.fib_regions.specs.Answers.{one_answer}
-use Rattle.fib_regions.proofs.OneAnswer.{one_answer_from}
+use Rattle.fib_addr.specs.Answers.{one_answer}
+use Rattle.fib_addr.proofs.OneAnswer.{one_answer_from}
 use Rattle.poptrie_build.specs.Strides.{slot}
 use Rattle.poptrie_build.specs.Need.{need_nodes, need_leaves}
 use Rattle.poptrie_build.specs.Stands.{blank}
 use Rattle.poptrie_build.specs.Build.{StandsIn}
 use Rattle.poptrie_build.specs.declared.node.Node.{Node}
 use Rattle.poptrie_build.proofs.Counting.{no_nodes, no_leaves}
-use Rattle.fib_regions.proofs.OneAnswer.{mixed_bits}
+use Rattle.fib_addr.proofs.OneAnswer.{mixed_bits}
 use Rattle.poptrie_copy.specs.Kids.{IsKid, StandsAs, kid_at, kid_in, kid_arrays, kid_leaf_arrays}
 use Rattle.poptrie_copy.specs.Changes.{Part, Replaces}
 use Rattle.poptrie_copy.specs.Aside.{OnlyAside, children_of, leaves_of}

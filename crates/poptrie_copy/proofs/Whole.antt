@@ -8,7 +8,7 @@ use Rattle.block_pool.specs.Places.{count_free, is_out}
 use Rattle.block_pool.specs.Arrays.{Array, AreApart, places_of}
 use Rattle.block_pool.proofs.Parting.{part_right}
 use Rattle.block_pool.proofs.Sets.{swap}
-use Rattle.fib_regions.specs.Answers.{part, side}
+use Rattle.fib_addr.specs.Answers.{part, side}
 use Rattle.poptrie_build.specs.Strides.{total}
 use Rattle.poptrie_build.specs.Need.{trie_nodes, trie_leaves}
 use Rattle.poptrie_build.specs.Stands.{TrieStands}

@@ -7,7 +7,7 @@ use Rattle.buddy_arena.specs.Space.{Space}
 use Rattle.block_pool.specs.Places.{Keeps, is_out}
 use Rattle.block_pool.specs.Refusals.{IsRefusal}
 use Rattle.block_pool.specs.declared.blocks.Refused.{Refused}
-use Rattle.fib_regions.specs.Answers.{one_answer, part, side}
+use Rattle.fib_addr.specs.Answers.{one_answer, part, side}
 use Rattle.poptrie_build.specs.Stands.{blank, BySlot, node_at}
 use Rattle.poptrie_build.specs.Build.{StandsIn, WordIn}
 use Rattle.poptrie_build.specs.declared.node.Node.{Node}

@@ -12,7 +12,7 @@ use Rattle.block_pool.specs.Arrays.{Array, AreApart, places_of}
 use Rattle.block_pool.specs.Blocks.{Held}
 use Rattle.block_pool.proofs.Sets.{places_append, apart_less}
 use Rattle.block_pool.proofs.Parting.{part_left}
-use Rattle.fib_regions.specs.Answers.{one_answer}
+use Rattle.fib_addr.specs.Answers.{one_answer}
 use Rattle.poptrie_build.specs.Strides.{mixed}
 use Rattle.poptrie_build.specs.Need.{trie_nodes, trie_leaves}
 use Rattle.poptrie_build.specs.Stands.{BySlot, node_at, blank}

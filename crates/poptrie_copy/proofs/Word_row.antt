@@ -8,7 +8,7 @@ use Rattle.block_pool.specs.Places.{Keeps, count_free, is_out}
 use Rattle.block_pool.specs.Arrays.{Array, AreApart, places_of}
 use Rattle.block_pool.proofs.Sets.{places_append}
 use Rattle.block_pool.proofs.Parting.{part_left}
-use Rattle.fib_regions.specs.Answers.{one_answer}
+use Rattle.fib_addr.specs.Answers.{one_answer}
 use Rattle.poptrie_build.specs.Strides.{total}
 use Rattle.poptrie_build.specs.Need.{trie_nodes, trie_leaves}
 use Rattle.poptrie_build.specs.Arrays.{gather, node_arrays, leaf_arrays}

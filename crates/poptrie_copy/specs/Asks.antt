@@ -8,7 +8,7 @@ use Rattle.block_pool.specs.declared.blocks.Refused.TheVariants as refused
 use Rattle.block_pool.specs.Places.{is_out}
 use Rattle.poptrie_build.specs.declared.node.Node.{Node}
 use Rattle.poptrie_copy.specs.Kids.{StandsAs}
-use Rattle.fib_regions.specs.Answers.{one_answer, side, part}
+use Rattle.fib_addr.specs.Answers.{one_answer, side, part}
 use Rattle.table_model.specs.Bits.{bits_of}
 use Rattle.poptrie_build.specs.Build.{WordIn}
 use Rattle.poptrie_build.specs.Strides.{slots, slot}

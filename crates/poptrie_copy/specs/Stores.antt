@@ -5,7 +5,7 @@ use Rattle.table_model.specs.Bits.{bits_of}
 use Rattle.buddy_arena.specs.Space.{Space}
 use Rattle.block_pool.specs.Arrays.{Array}
 use Rattle.block_pool.specs.Blocks.{Held}
-use Rattle.fib_regions.specs.Answers.{part}
+use Rattle.fib_addr.specs.Answers.{part}
 use Rattle.poptrie_build.specs.declared.node.Node.{Node}
 use Rattle.poptrie_copy.specs.declared.slots.Store.{Store}
 use Rattle.poptrie_copy.specs.Words.{WordRow, KeepsWord}

@@ -2,7 +2,7 @@
 
 ghost use Rattle.std.specs.Prelude.{◌≡◌, ℕ, ◌++◌, ◌<◌, List, Bool, Some, None, OnOk, length};
 ghost use Rattle.buddy_arena.specs.Space.{Space, IsSized};
-ghost use Rattle.fib_regions.specs.Answers.{one_answer};
+ghost use Rattle.fib_addr.specs.Answers.{one_answer};
 ghost use Rattle.poptrie_copy.specs.Kids.{IsKid, kid_at, kid_in};
 ghost use Rattle.poptrie_copy.specs.Changes.{Replaces};
 ghost use Rattle.poptrie_copy.specs.Aside.{OnlyAside, children_of, leaves_of};

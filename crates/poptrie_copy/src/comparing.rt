@@ -6,7 +6,7 @@ ghost use Rattle.poptrie_build.specs.Build.{StandsIn};
 ghost use Rattle.poptrie_copy.specs.Alike.{Alike, IsNode};
 
 use buddy_arena::Arena;
-use fib_regions::Region;
+use fib_addr::Region;
 use poptrie_build::{Node, ask, descend, rank};
 
 /// Whether every address of the region gets what it gets from the node: it ends at the first slot where two differ.

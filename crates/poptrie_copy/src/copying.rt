@@ -2,7 +2,7 @@
 
 ghost use Rattle.std.specs.Prelude.{◌≡◌, ℕ, ◌-◌, ◌<◌, Option, Some, None, IfOk, IfErr};
 ghost use Rattle.buddy_arena.specs.Space.{IsSized};
-ghost use Rattle.fib_regions.specs.Answers.{one_answer};
+ghost use Rattle.fib_addr.specs.Answers.{one_answer};
 ghost use Rattle.poptrie_build.specs.Strides.{slots};
 ghost use Rattle.poptrie_build.specs.Strides as strides;
 ghost use Rattle.poptrie_build.specs.Stands.{blank};
@@ -17,7 +17,7 @@ use crate::children::write_slots;
 use crate::comparing::is_same;
 use block_pool::Blocks;
 use buddy_arena::Arena;
-use fib_regions::Region;
+use fib_addr::Region;
 use poptrie_build::{Node, ask, descend, make_vectors};
 
 /// The node that stands for a region with two different answers, of so many more bits, made anew beside the old one; there is none

@@ -12,7 +12,7 @@ use crate::blocks::Refusal;
 use crate::words::copy_word;
 use block_pool::Blocks;
 use buddy_arena::Arena;
-use fib_regions::Region;
+use fib_addr::Region;
 use poptrie_build::Node;
 
 /// A direct word to be stored.

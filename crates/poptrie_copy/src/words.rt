@@ -2,7 +2,7 @@
 
 ghost use Rattle.std.specs.Prelude.{◌≡◌, ℕ, ◌+◌, ◌++◌, ◌^◌, ◌<◌, List, Bool, Option, Some, None, IfOk, IfErr, OnOk};
 ghost use Rattle.buddy_arena.specs.Space.{Space, IsSized};
-ghost use Rattle.fib_regions.specs.Answers.{one_answer};
+ghost use Rattle.fib_addr.specs.Answers.{one_answer};
 ghost use Rattle.poptrie_build.specs.Stands.{blank};
 ghost use Rattle.poptrie_copy.specs.Changes.{Gains};
 ghost use Rattle.poptrie_copy.specs.Aside.{OnlyAside};
@@ -15,8 +15,7 @@ use crate::comparing::is_same;
 use crate::copying::copy_node;
 use block_pool::{Blocks, put};
 use buddy_arena::{Arena, Block};
-use fib_addr::Hop;
-use fib_regions::Region;
+use fib_addr::{Hop, Region};
 use poptrie_build::{HOP, Node};
 use std::alloc::AllocError;
 

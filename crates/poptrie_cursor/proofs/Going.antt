@@ -6,7 +6,7 @@ use Rattle.fib_addr.specs.declared.addr.Addr.{Addr}
 use Rattle.fib_addr.specs.declared.entry.Hop.{Hop}
 use Rattle.fib_addr.specs.Views.{addr_as}
 use Rattle.table_model.specs.Entries.{Entries}
-use Rattle.fib_regions.specs.Answers.{one_answer, part}
+use Rattle.fib_addr.specs.Answers.{one_answer, part}
 use Rattle.block_pool.specs.Places.{is_out}
 use Rattle.poptrie_build.specs.Strides.{strides, visits, mixed}
 use Rattle.poptrie_build.specs.Tries.{rest, visits_of}

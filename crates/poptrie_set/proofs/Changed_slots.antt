@@ -9,8 +9,8 @@ use Rattle.table_model.specs.Width.{width}
 use Rattle.table_model.specs.declared.family.Family.{Family}
 use Rattle.table_model.proofs.BitLaws.{length-bits_of}
 use Rattle.table_model.specs.Entries.{Entries, match_in}
-use Rattle.fib_regions.specs.Answers.{part, one_answer, all_answers}
-use Rattle.fib_regions.proofs.OneAnswer.{one_answer_is}
+use Rattle.fib_addr.specs.Answers.{part, one_answer, all_answers}
+use Rattle.fib_addr.proofs.OneAnswer.{one_answer_is}
 use Rattle.poptrie_build.specs.Bits.{rank_of}
 use Rattle.poptrie_build.specs.Strides.{slots, slot, mixed}
 use Rattle.poptrie_build.specs.Stands.{BySlot, IsLeaf, node_at}

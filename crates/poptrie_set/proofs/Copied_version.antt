@@ -13,7 +13,7 @@ use Rattle.block_pool.specs.Places.{count_free, is_out, since}
 use Rattle.block_pool.specs.Arrays.{Array, AreApart, places_of}
 use Rattle.block_pool.specs.Blocks.{Held, blocks_of}
 use Rattle.block_pool.proofs.Parting.{part_right}
-use Rattle.fib_regions.specs.Answers.{all_answers, part}
+use Rattle.fib_addr.specs.Answers.{all_answers, part}
 use Rattle.poptrie_build.specs.Strides.{strides}
 use Rattle.poptrie_build.specs.Stands.{TrieStands, blank}
 use Rattle.poptrie_build.specs.Arrays.{word_arrays, word_leaf_arrays}

@@ -6,7 +6,7 @@ use Rattle.table_model.specs.declared.family.Family.{Family}
 use Rattle.table_model.specs.Entries.{Entries}
 use Rattle.buddy_arena.specs.Space.{Space}
 use Rattle.poptrie_build.specs.Strides.{strides, visits, address}
-use Rattle.fib_regions.specs.Answers.{part, one_answer, all_answers}
+use Rattle.fib_addr.specs.Answers.{part, one_answer, all_answers}
 use Rattle.poptrie_build.specs.Stands.{blank, node_at, BySlot}
 use Rattle.block_pool.specs.Places.{is_out}
 use Rattle.block_pool.specs.Arrays.{Array, AreApart, among, has}

@@ -8,7 +8,7 @@ use Rattle.table_model.specs.declared.family.Family.TheVariants.{V4, V6}
 use Rattle.fib_addr.specs.declared.addr.Addr.{Addr}
 use Rattle.fib_addr.specs.Views.{addr_as}
 use Rattle.table_model.specs.Entries.{Entries, match_in}
-use Rattle.fib_regions.specs.Answers.{all_answers, part}
+use Rattle.fib_addr.specs.Answers.{all_answers, part}
 use Rattle.poptrie_build.specs.Keys.{key_as}
 use Rattle.poptrie_build.specs.Strides.{strides, visits, trie_visits, address}
 use Rattle.poptrie_build.specs.Stands.{TrieStands}

@@ -17,3 +17,7 @@ pub mod Copied_version
 pub mod Changed_slots
 pub mod Ready
 pub mod Ticked
+pub mod Ranges
+pub mod Late
+pub mod Short
+pub mod Crowded

@@ -4,7 +4,7 @@ use Rattle.table_model.specs.Width.{width}
 use Rattle.fib_addr.specs.declared.addr.Addr.{Addr}
 use Rattle.fib_addr.specs.Views.{addr_as}
 use Rattle.table_model.specs.Entries.{Entries, match_in}
-use Rattle.fib_regions.specs.Answers.{one_answer, part}
+use Rattle.fib_addr.specs.Answers.{one_answer, part}
 use Rattle.poptrie_build.specs.Strides.{strides, visits, mixed}
 use Rattle.poptrie_build.specs.Tries.{rest, visits_of}
 use Rattle.poptrie_build.specs.declared.node.Node.{Node}

@@ -4,12 +4,12 @@ use Rattle.std.specs.Int.{bit_at}
 use Rattle.std.proofs.lemmas.Nat.{shr_below}
 use Rattle.poptrie_build.specs.Bits.{rank_of}
 use Rattle.poptrie_build.specs.Strides.{slots, slot, mixed, address, visits}
-use Rattle.fib_regions.specs.Answers.{one_answer}
+use Rattle.fib_addr.specs.Answers.{one_answer}
 use Rattle.poptrie_build.specs.Stands.{BySlot, IsLeaf, node_at, blank}
 use Rattle.poptrie_build.specs.Build.{StandsIn}
 use Rattle.poptrie_build.specs.declared.node.Node.{Node}
 use Rattle.poptrie_build.proofs.Carry.{Carries}
-use Rattle.fib_regions.proofs.OneAnswer.{one_answer_is}
+use Rattle.fib_addr.proofs.OneAnswer.{one_answer_is}
 use Rattle.poptrie_build.proofs.Visits.{visits_none}
 use Rattle.poptrie_build.proofs.Address.{length_address}
 use Rattle.poptrie_build.proofs.Walk.{answer_is, visits_more, leaf_ranked, node_ranked}

@@ -17,7 +17,7 @@ use Rattle.block_pool.specs.Places.{is_out}
 use Rattle.block_pool.specs.Arrays.{Array, AreApart, places_of}
 use Rattle.block_pool.specs.Blocks.{Held, Retired, AreHeldIn, blocks_of, cancelled}
 use Rattle.block_pool.proofs.Sets.{places_append}
-use Rattle.fib_regions.specs.Answers.{part, all_answers}
+use Rattle.fib_addr.specs.Answers.{part, all_answers}
 use Rattle.poptrie_build.specs.Build.{WordIn}
 use Rattle.poptrie_build.specs.Strides.{strides}
 use Rattle.poptrie_build.specs.Stands.{blank}

@@ -14,7 +14,7 @@ use Rattle.block_pool.specs.Places.{is_out}
 use Rattle.block_pool.specs.Arrays.{Array}
 use Rattle.block_pool.specs.Blocks.{Held}
 use Rattle.block_pool.proofs.Parting.{part_right}
-use Rattle.fib_regions.specs.Answers.{part}
+use Rattle.fib_addr.specs.Answers.{part}
 use Rattle.poptrie_build.specs.Build.{WordIn}
 use Rattle.poptrie_build.specs.Arrays.{gather}
 use Rattle.poptrie_build.specs.declared.node.Node.{Node}

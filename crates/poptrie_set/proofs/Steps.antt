@@ -13,7 +13,7 @@ use Rattle.buddy_arena.specs.Space.{Space}
 use Rattle.poptrie_build.specs.Stands.{TrieStands}
 use Rattle.poptrie_build.specs.Strides.{strides}
 use Rattle.poptrie_build.specs.Tries.{rest}
-use Rattle.fib_regions.specs.Answers.{all_answers}
+use Rattle.fib_addr.specs.Answers.{all_answers}
 use Rattle.block_pool.specs.Places.{is_out}
 use Rattle.block_pool.specs.Arrays.{Array, AreApart}
 use Rattle.poptrie_build.specs.Arrays.{word_arrays, word_leaf_arrays}

@@ -8,3 +8,4 @@ pub mod Fits
 pub mod Renewals
 pub mod Reasons
 pub mod Prepares
+pub mod Crowds

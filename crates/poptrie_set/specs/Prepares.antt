@@ -7,7 +7,7 @@ use Rattle.table_model.specs.declared.family.Family.{Family}
 use Rattle.table_model.specs.Entries.{Entries, match_in}
 use Rattle.buddy_arena.specs.Space.{Space, IsSized}
 use Rattle.block_pool.specs.Blocks.{Gives, blocks_of, early}
-use Rattle.fib_regions.specs.Answers.{part, all_answers}
+use Rattle.fib_addr.specs.Answers.{part, all_answers}
 use Rattle.poptrie_build.specs.Strides.{strides}
 use Rattle.poptrie_build.specs.Tries.{rest, node_need, leaf_need}
 use Rattle.poptrie_build.specs.declared.node.Node.{Node}

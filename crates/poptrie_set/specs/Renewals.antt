@@ -5,7 +5,7 @@ use Rattle.buddy_arena.specs.Space.{Space, IsSized}
 use Rattle.block_pool.specs.Places.{Keeps, is_out}
 use Rattle.block_pool.specs.Arrays.{Array, AreApart}
 use Rattle.block_pool.specs.Blocks.{Held}
-use Rattle.fib_regions.specs.Answers.{part}
+use Rattle.fib_addr.specs.Answers.{part}
 use Rattle.poptrie_build.specs.declared.node.Node.{Node}
 use Rattle.poptrie_copy.specs.declared.slots.Store.{Store}
 use Rattle.poptrie_copy.specs.Alike.{Alike}

@@ -9,7 +9,7 @@ use Rattle.block_pool.specs.Places.{count_free, is_out}
 use Rattle.block_pool.specs.Arrays.{Array, AreApart}
 use Rattle.poptrie_build.specs.Arrays.{word_arrays, word_leaf_arrays}
 use Rattle.poptrie_build.specs.Tries.{rest, node_need, leaf_need}
-use Rattle.fib_regions.specs.Answers.{all_answers}
+use Rattle.fib_addr.specs.Answers.{all_answers}
 use Rattle.poptrie_build.specs.declared.node.Node.{Node}
 use Rattle.block_pool.specs.Arrays.{places_of}
 

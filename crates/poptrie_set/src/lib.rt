@@ -8,11 +8,13 @@
 //! is refused. `poptrie_update` has two of these sets for that.
 #![tactic(auto)]
 
+mod crowd_laws;
 mod reading;
 mod reasons;
 mod renewing;
 mod trie_set;
 
+pub use crowd_laws::crowded_law;
 pub use reading::At;
 pub use reasons::NotReady;
 pub use trie_set::{Oldest, Pending, TrieSet};

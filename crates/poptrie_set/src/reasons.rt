@@ -6,7 +6,7 @@ ghost use Rattle.poptrie_build.specs.Need.{trie_nodes, trie_leaves};
 ghost use Rattle.poptrie_set.specs.Reasons.{Explains};
 
 use buddy_arena::{Arena, Full};
-use fib_regions::Region;
+use fib_addr::Region;
 use poptrie_build::{Node, TrieFull, count_words};
 use poptrie_copy::Refusal;
 use thiserror::Error;

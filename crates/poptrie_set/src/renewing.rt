@@ -8,7 +8,7 @@ ghost use Rattle.block_pool.specs.Places.{is_out};
 ghost use Rattle.block_pool.specs.Arrays.{AreApart};
 ghost use Rattle.block_pool.specs.Blocks.{blocks_of, cancelled};
 ghost use Rattle.fib_addr.specs.Views.{prefix_as};
-ghost use Rattle.fib_regions.specs.Answers.{part};
+ghost use Rattle.fib_addr.specs.Answers.{part};
 ghost use Rattle.poptrie_build.specs.Stands.{blank};
 ghost use Rattle.poptrie_copy.specs.Changes.{Gains};
 ghost use Rattle.poptrie_copy.specs.Words.{IsWord};
@@ -17,8 +17,7 @@ ghost use Rattle.poptrie_set.specs.Renewals.{Renews, SetsAside, MeetsRenewal, Me
 
 use block_pool::Blocks;
 use buddy_arena::Arena;
-use fib_addr::Prefix;
-use fib_regions::Region;
+use fib_addr::{Prefix, Region};
 use poptrie_build::Node;
 use poptrie_copy::{Refusal, Store, copy_slots};
 

@@ -5,14 +5,12 @@ use crate::reasons::{NotReady, reason};
 use crate::renewing::renew_or_undo;
 use block_pool::Blocks;
 use buddy_arena::Arena;
-use fib_addr::{Addr, Answers, Family, Hop, Prefix};
-use fib_regions::{PrefixRegion, Region};
+use fib_addr::{Addr, Answers, Family, Hop, Prefix, PrefixRegion, Region, Steps};
 use poptrie_build::{Found, HOP, Node, TrieFull, clear_all, empty_words, fill_all, key_of};
 use poptrie_copy::Store;
 use std::alloc::{AllocError, Global};
 use std::marker::Model;
 use std::sync::ledger::Ledger;
-use step_count::Steps;
 
 /// The open lookup that started first.
 #[derive(Clone, Copy, Debug, PartialEq, Eq)]
@@ -77,7 +75,7 @@ impl TrieSet {
     ghost use Rattle.table_model.specs.Width.{width};
     ghost use Rattle.fib_addr.specs.Views.{addr_as, prefix_as};
     ghost use Rattle.table_model.specs.Entries.{Entries, match_in};
-    ghost use Rattle.fib_regions.specs.Answers.{all_answers};
+    ghost use Rattle.fib_addr.specs.Answers.{all_answers};
     ghost use Rattle.block_pool.specs.Blocks.{Gives, late};
     ghost use Rattle.poptrie_build.specs.Tries.{node_need, leaf_need, visits_of};
     ghost use Rattle.poptrie_set.specs.Lives.{Seen, ShowsIn, HasSizesOf, IsTokenIn, IsTooMuchFor};

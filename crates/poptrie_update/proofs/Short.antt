@@ -5,7 +5,7 @@ use Rattle.std.proofs.lemmas.Nat.{pow_below}
 use Rattle.table_model.specs.Entries.{Entries}
 use Rattle.buddy_arena.specs.declared.arena.Full.{Full}
 use Rattle.table_model.specs.Bits.{bits_of}
-use Rattle.fib_regions.specs.Answers.{part, all_answers}
+use Rattle.fib_addr.specs.Answers.{part, all_answers}
 use Rattle.poptrie_build.specs.Strides.{strides}
 use Rattle.poptrie_build.specs.Tries.{rest}
 use Rattle.poptrie_copy.specs.Asks.{Ask, Frees, RunsOut}

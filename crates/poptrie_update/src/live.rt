@@ -4,15 +4,13 @@ ghost use Rattle.std.specs.Prelude.{◌≡◌, ◌^◌, ◌<◌};
 ghost use Rattle.poptrie_update.specs.Reads.{IsInSet};
 
 use crate::pending::{NotReady, Pending, Stores};
-use fib_addr::{Addr, Answers, Family, Hop, Prefix};
-use fib_regions::{PrefixRegion, Region};
+use fib_addr::{Addr, Answers, Family, Hop, Prefix, PrefixRegion, Region, Steps};
 use poptrie_build::{Found, TrieFull};
 use poptrie_set::{At as Read, NotReady as NotBeside, Oldest, TrieSet};
 use std::alloc::{AllocError, Global};
 use std::marker::Model;
 use std::mem;
 use std::sync::ledger::Ledger;
-use step_count::Steps;
 
 /// What the set that isn't selected holds.
 #[derive(Clone, Copy, Debug, PartialEq, Eq)]
@@ -93,7 +91,7 @@ impl Live {
     ghost use Rattle.table_model.specs.Width.{width};
     ghost use Rattle.fib_addr.specs.Views.{addr_as, prefix_as};
     ghost use Rattle.table_model.specs.Entries.{Entries, match_in};
-    ghost use Rattle.fib_regions.specs.Answers.{all_answers};
+    ghost use Rattle.fib_addr.specs.Answers.{all_answers};
     ghost use Rattle.poptrie_build.specs.Tries.{node_need, leaf_need, visits_of};
     ghost use Rattle.poptrie_set.specs.Lives.{IsTooMuchFor};
     ghost use Rattle.poptrie_set.specs.Fits.{until};

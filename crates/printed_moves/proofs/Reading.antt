@@ -8,7 +8,7 @@ use Rattle.table_model.specs.Changes.{Change}
 use Rattle.cert_model.specs.Rows.{CertRow}
 use Rattle.fib_addr.specs.Hops.{Hops, most_hops}
 use Rattle.fib_delta.specs.Views.{change_as}
-use Rattle.cert_rows.specs.Views.{row_as}
+use Rattle.cert_model.specs.Views.{row_as}
 use Rattle.printed_model.specs.Reading.{line_in}
 use Rattle.cost_cert.specs.declared.error.PrintedError.{PrintedError}
 use Rattle.cost_cert.specs.declared.error.PrintedError.TheVariants as error

@@ -2,7 +2,7 @@
 use Rattle.std.specs.Prelude.{◌≡◌, Result, Ok, Err, map}
 use Rattle.fib_addr.specs.Hops.{Hops}
 use Rattle.fib_delta.specs.Views.{change_as}
-use Rattle.cert_rows.specs.Views.{row_as}
+use Rattle.cert_model.specs.Views.{row_as}
 use Rattle.printed_model.specs.Texts.{BadLine}
 use Rattle.cost_cert.specs.Printed.{bad_as}
 use Rattle.cost_cert.specs.declared.error.PrintedError as code_error

@@ -10,7 +10,7 @@ ghost use Rattle.printed_moves.specs.Steps.{hops_after_move, said_after};
 ghost use Rattle.printed_moves.specs.Views.{IsSaid, said_as};
 
 use bstr::ByteSlice;
-use cert_rows::Row;
+use cert_model::Row;
 use cost_cert::{PrintedError, PrintedRow, hop_refused, number_hop, row_of};
 use fib_addr::{HopError, HopTable};
 use fib_delta::Change;

@@ -4,7 +4,7 @@ use Rattle.std.specs.Prelude.{map, slice_get}
 use Rattle.std.proofs.lemmas.List.{map-append}
 use Rattle.table_model.specs.Address.{Address}
 use Rattle.table_model.specs.Entries.{Entries}
-use Rattle.feed_model.specs.Feed.{number_in}
+use Rattle.kept_model.specs.Feed.{number_in}
 use Rattle.fib_addr.specs.Views.{addr_as, entry_as, prefix_as}
 use Rattle.fib_addr.specs.declared.entry.Entry.{Entry}
 use Rattle.fib_addr.specs.declared.entry.Hop.{Hop}

@@ -4,7 +4,7 @@ use Rattle.std.specs.List.{AllByRecursion, list_any}
 use Rattle.std.specs.BTreeMap.{is_at}
 use Rattle.table_model.specs.Address.{Address, Prefix, same_prefix}
 use Rattle.table_model.specs.Entries.{Entries}
-use Rattle.feed_model.specs.Feed.{number_in}
+use Rattle.kept_model.specs.Feed.{number_in}
 use Rattle.fib_addr.specs.Views.{prefix_as}
 use Rattle.route_model.specs.Choice as model
 use Rattle.route_model.specs.Choice.{Place, Candidates, chosen_for}

@@ -5,7 +5,7 @@ ghost use Rattle.fib_addr.specs.Views.{addr_as, entry_as, prefix_as, route_as};
 ghost use Rattle.std.specs.List.{AllByRecursion};
 ghost use Rattle.fib_prefix.specs.Views.{IsOfOctets, cand_as, peer_as, event_as, elem_as};
 ghost use Rattle.route_model.specs.Choice.{AreCandidates, after_elem, elems_of, chosen_for, routes_of};
-ghost use Rattle.feed_model.specs.Feed.{entries_of};
+ghost use Rattle.kept_model.specs.Feed.{entries_of};
 ghost use Rattle.cand_rows.specs.Taken.{Takes};
 ghost use Rattle.flat_base.specs.Seats.{held_in};
 ghost use Rattle.flat_base.specs.Flat.{IsFlat, AreApart, flat_seats, both};

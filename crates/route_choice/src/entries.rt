@@ -2,7 +2,7 @@
 
 ghost use Rattle.std.specs.Prelude.{◌≡◌, ◌++◌, ◌∷◌, [], map, IfOk, None, OnOk};
 ghost use Rattle.fib_addr.specs.Views.{addr_as, entry_as};
-ghost use Rattle.feed_model.specs.Feed.{entries_of as model_entries, number_in};
+ghost use Rattle.kept_model.specs.Feed.{entries_of as model_entries, number_in};
 ghost use Rattle.flat_base.specs.Seats.{Seats, held_in};
 ghost use Rattle.flat_base.specs.Bests.{IsBest};
 ghost use Rattle.flat_base.specs.Flat.{IsFlat, AreApart, flat_seats, both};

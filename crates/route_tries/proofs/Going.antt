@@ -7,8 +7,8 @@ use Rattle.table_model.specs.Entries.{Entries, of_family}
 use Rattle.table_model.proofs.Cut.{lpm_cut}
 use Rattle.table_model.specs.Sets.{answers, k_of}
 use Rattle.table_model.proofs.Cost.{k_uniform}
-use Rattle.fib_regions.specs.Answers.{one_answer, side, part, all_answers}
-use Rattle.fib_regions.proofs.OneAnswer.{one_answer_is}
+use Rattle.fib_addr.specs.Answers.{one_answer, side, part, all_answers}
+use Rattle.fib_addr.proofs.OneAnswer.{one_answer_is}
 use Rattle.orig_tree.specs.Spots.{Spot, answers_in}
 
 same_function : (f g : List Bool → ℕ) → ((a : List Bool) → f a ≡ g a) → f ≡ g

@@ -8,8 +8,8 @@ use Rattle.table_model.specs.declared.family.Family.{Family}
 use Rattle.table_model.specs.declared.family.Family.TheVariants.{V4, V6}
 use Rattle.table_model.specs.Entries.{Entries}
 use Rattle.poptrie_build.specs.Need.{told}
-use Rattle.fib_regions.specs.Answers.{all_answers}
-use Rattle.fib_regions.proofs.OneAnswer.{one_answer_from}
+use Rattle.fib_addr.specs.Answers.{all_answers}
+use Rattle.fib_addr.proofs.OneAnswer.{one_answer_from}
 use Rattle.poptrie_build.specs.Strides.{strides}
 use Rattle.poptrie_build.specs.Tries.{node_need, leaf_need, rest}
 use Rattle.poptrie_build.specs.declared.counts.Needs.{Needs}

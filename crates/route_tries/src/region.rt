@@ -3,11 +3,10 @@
 ghost use Rattle.std.specs.Prelude.{◌≡◌, ◌≤◌, ◌+◌, take};
 ghost use Rattle.table_model.specs.Width.{width};
 ghost use Rattle.fib_addr.specs.Views.{prefix_as};
-ghost use Rattle.fib_regions.specs.Answers.{all_answers, part};
+ghost use Rattle.fib_addr.specs.Answers.{all_answers, part};
 ghost use Rattle.orig_tree.specs.Spots.{answers_in};
 
-use fib_addr::{Hop, Prefix};
-use fib_regions::Region;
+use fib_addr::{Hop, Prefix, Region};
 use orig_tree::{Region as TreeRegion, Tree};
 
 /// The region of a prefix in a tree of routes. A half is one step down, and what all addresses get costs no walk: a tree keeps

@@ -12,13 +12,12 @@ ghost use Rattle.route_tries.specs.declared.tries.TriesError.TheVariants.{Full a
 
 use crate::region::RouteRegion;
 use crate::sizes::{Sizes, TrieFull};
-use fib_addr::{Addr, Family};
+use fib_addr::{Addr, Family, Steps};
 use orig_tree::Tree;
 use poptrie_build::{Found, Trie};
 use std::alloc::{AllocError, Global};
 use std::marker::Model;
 use std::sync::ledger::Ledger;
-use step_count::Steps;
 use thiserror::Error;
 
 /// Why tries weren't built.

@@ -2,14 +2,14 @@
 
 ghost use Rattle.std.specs.Prelude.{◌≡◌, ℕ, ◌+◌, ◌*◌, ◌^◌, ◌≤◌, ◌<◌, List, Bool, None};
 ghost use Rattle.table_model.specs.Bits.{bits_of};
-ghost use Rattle.fib_regions.specs.Answers.{one_answer};
+ghost use Rattle.fib_addr.specs.Answers.{one_answer};
 ghost use Rattle.poptrie_build.specs.Need.{told};
 ghost use Rattle.poptrie_build.specs.Strides.{mixed};
 ghost use Rattle.poptrie_build.specs.Tally.{AreParts, IsTally};
 ghost use Rattle.route_tries.specs.Parts.{way_nodes, way_leaves};
 ghost use Rattle.route_tries.specs.Way.{AreOnWay, AreBeside};
 
-use fib_regions::Region;
+use fib_addr::Region;
 use poptrie_build::{Needs, Tally};
 
 /// What the node of a region with two answers needs below it on the way to a path and within it: its own places, and what the

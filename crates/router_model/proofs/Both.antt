@@ -11,7 +11,7 @@ use Rattle.table_model.specs.Entries.{AlikeInBoth, Entries, in_order, of_family}
 use Rattle.table_model.specs.Changes.{Change, after_changes}
 use Rattle.table_model.proofs.Sums.{in_order_again}
 use Rattle.table_model.specs.Sets.{answers}
-use Rattle.delta_model.proofs.Held.{Placed}
+use Rattle.kept_model.proofs.Held.{Placed}
 use Rattle.moves_model.specs.Dist.{distance}
 use Rattle.moves_cert.specs.Shortest.{AreShortest}
 use Rattle.router_model.specs.Both.{AreShortestInBoth, both_distance, family_table}

@@ -15,10 +15,10 @@ use Rattle.table_model.specs.Changes.{Change, after_changes}
 use Rattle.table_model.proofs.Sums.{in_order_again}
 use Rattle.table_model.proofs.Same.{same_answers}
 use Rattle.route_model.proofs.Keyed.{all_filter}
-use Rattle.delta_model.specs.Between.{AreEntries, between, place_of}
-use Rattle.delta_model.proofs.Alike.{placed_are}
-use Rattle.delta_model.proofs.Held.{all_folded, hop_in_order, in_order_placed}
-use Rattle.delta_model.proofs.Reordered.{between_in_order}
+use Rattle.kept_model.specs.Between.{AreEntries, between, place_of}
+use Rattle.kept_model.proofs.Alike.{placed_are}
+use Rattle.kept_model.proofs.Held.{all_folded, hop_in_order, in_order_placed}
+use Rattle.kept_model.proofs.Reordered.{between_in_order}
 use Rattle.kept_model.proofs.Families.{AllOf, table_of as all_of_table}
 use Rattle.kept_model.proofs.Patches.{family_hop}
 use Rattle.cert_model.specs.Rows.{CertRow}

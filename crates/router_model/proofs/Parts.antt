@@ -14,8 +14,8 @@ use Rattle.table_model.proofs.Cut.{entry}
 use Rattle.table_model.proofs.Sums.{all_placed}
 use Rattle.route_model.proofs.Keyed.{all_filter, lookup-put, same_entries}
 use Rattle.route_model.proofs.Places.{prefix_key}
-use Rattle.delta_model.specs.Between.{hop_at}
-use Rattle.delta_model.proofs.Held.{Placed, all_folded, in_order_placed}
+use Rattle.kept_model.specs.Between.{hop_at}
+use Rattle.kept_model.proofs.Held.{Placed, all_folded, in_order_placed}
 use Rattle.kept_model.proofs.Families.{AllOf, hop_low, hop_high, placed_both}
 use Rattle.router_model.specs.Both.{family_table, own_entries}
 

@@ -15,8 +15,8 @@ use Rattle.table_model.specs.Changes.{Change, Add, Replace, Remove, after_change
 use Rattle.table_model.proofs.Sums.{all_placed}
 use Rattle.route_model.proofs.Keyed.{all_cut, lookup-cut, lookup-put, same_entries, sorted_cut, sorted_put}
 use Rattle.route_model.proofs.Places.{prefix_key}
-use Rattle.delta_model.specs.Between.{hop_at, place_of}
-use Rattle.delta_model.proofs.Held.{Placed}
+use Rattle.kept_model.specs.Between.{hop_at, place_of}
+use Rattle.kept_model.proofs.Held.{Placed}
 use Rattle.kept_model.proofs.Families.{AllOf, hop_low, hop_high, placed_both}
 
 -- ---- one change: whether it is possible, and what it makes

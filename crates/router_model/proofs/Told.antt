@@ -12,11 +12,11 @@ use Rattle.table_model.specs.Table.{Alike}
 use Rattle.table_model.specs.Entries.{AlikeInBoth, Entries, in_order, of_family}
 use Rattle.table_model.specs.Changes.{Change, Add, Replace, Remove, after_changes}
 use Rattle.table_model.proofs.Sums.{in_order_again}
-use Rattle.delta_model.specs.Between.{AreEntries, between, place_of}
-use Rattle.delta_model.proofs.Alike.{all_between, placed_are}
-use Rattle.delta_model.proofs.Held.{Placed, all_folded, in_order_placed}
-use Rattle.delta_model.proofs.Reordered.{between_in_order}
-use Rattle.delta_model.proofs.Sums.{made}
+use Rattle.kept_model.specs.Between.{AreEntries, between, place_of}
+use Rattle.kept_model.proofs.Alike.{all_between, placed_are}
+use Rattle.kept_model.proofs.Held.{Placed, all_folded, in_order_placed}
+use Rattle.kept_model.proofs.Reordered.{between_in_order}
+use Rattle.kept_model.proofs.Sums.{made}
 use Rattle.steady_model.specs.Steady.{AnswerSteadily, has_length, in_steady_order, longest_first, removes, sets, shortest_first, steady_of}
 use Rattle.steady_model.proofs.Goes.{answer_steadily, goes_between, goes_sum, goes_to, same_changes, steady}
 use Rattle.steady_model.proofs.Turns.{all_steady}

@@ -6,7 +6,7 @@ use Rattle.table_model.specs.declared.family.Family.{Family}
 use Rattle.table_model.specs.declared.family.Family.TheVariants.{V4, V6}
 use Rattle.table_model.specs.Entries.{AlikeInBoth, Entries, in_order, of_family}
 use Rattle.table_model.specs.Changes.{Change, after_changes}
-use Rattle.delta_model.specs.Between.{between}
+use Rattle.kept_model.specs.Between.{between}
 use Rattle.steady_model.specs.Steady.{in_steady_order}
 use Rattle.cert_model.specs.Rows.{CertRow}
 use Rattle.moves_model.specs.Dist.{distance}

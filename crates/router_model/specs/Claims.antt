@@ -8,7 +8,7 @@ use Rattle.table_model.specs.declared.family.Family.{Family}
 use Rattle.table_model.specs.declared.family.Family.TheVariants.{V4, V6}
 use Rattle.table_model.specs.Entries.{Entries, in_order}
 use Rattle.table_model.specs.Changes.{Change}
-use Rattle.delta_model.specs.Between.{place_of}
+use Rattle.kept_model.specs.Between.{place_of}
 use Rattle.cert_model.specs.Rows.{CertRow, leaf_row, join_row, bound_row}
 use Rattle.cert_model.specs.Verdict.{RowFits}
 use Rattle.moves_cert.specs.Shortest.{AreProvedShortest}

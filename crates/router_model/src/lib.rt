@@ -10,7 +10,7 @@ ghost use Rattle.table_model.specs.Address.{IsPrefix};
 ghost use Rattle.table_model.specs.declared.family.Family.TheVariants.{V4, V6};
 ghost use Rattle.table_model.specs.Entries.{Entries, in_order};
 ghost use Rattle.table_model.specs.Changes.{Change};
-ghost use Rattle.delta_model.specs.Between.{place_of};
+ghost use Rattle.kept_model.specs.Between.{place_of};
 ghost use Rattle.steady_model.specs.Steady.{AnswerSteadily};
 ghost use Rattle.moves_cert.specs.Shortest.{AreShortest};
 ghost use Rattle.router_model.specs.Both.{AreShortestInBoth, both_changes, family_table, told_in};

@@ -8,7 +8,7 @@ use Rattle.table_model.specs.declared.family.Family.{Family}
 use Rattle.table_model.specs.declared.family.Family.TheVariants.{V4, V6}
 use Rattle.table_model.specs.Entries.{Entries, in_order}
 use Rattle.table_model.specs.Changes.{Change}
-use Rattle.delta_model.specs.Between.{place_of}
+use Rattle.kept_model.specs.Between.{place_of}
 use Rattle.steady_model.specs.Steady.{AnswerSteadily}
 use Rattle.cert_model.specs.Rows.{CertRow}
 use Rattle.fib_addr.specs.Views.{entry_as}
@@ -18,7 +18,7 @@ use Rattle.fib_delta.specs.declared.change.Change as code_change
 use Rattle.fib_delta.specs.declared.change.Change.TheVariants as code
 use Rattle.fib_delta.proofs.Held.{is_prefix}
 use Rattle.fib_moves.specs.declared.answer.Near.{Near}
-use Rattle.cert_rows.specs.Views.{row_as}
+use Rattle.cert_model.specs.Views.{row_as}
 use Rattle.moves_cert.specs.Shortest.{AreProvedShortest, AreShortest}
 use Rattle.router_model.specs.Both.{AreShortestInBoth, both_changes, family_changes, family_table, proving_rows, told_in}
 use Rattle.router_model.proofs.Told.{own_proved, own_shortest, shortest_both, steadily_both, told_both}

@@ -9,8 +9,8 @@ use Rattle.fib_addr.specs.Views.{entry_as}
 use Rattle.fib_addr.specs.declared.entry.Entry.{Entry}
 use Rattle.fib_delta.specs.Views.{change_as}
 use Rattle.fib_delta.specs.declared.change.Change.{Change}
-use Rattle.cert_rows.specs.Views.{row_as}
-use Rattle.cert_rows.specs.declared.row.Row.{Row}
+use Rattle.cert_model.specs.Views.{row_as}
+use Rattle.cert_model.specs.declared.row.Row.{Row}
 use Rattle.moves_cert.specs.Shortest.{AreProvedShortest}
 use Rattle.router_model.specs.Both.{own_entries}
 use Rattle.router_model.specs.Claims.{IsProved, IsProvedIn, WrongMoves, own_changes, own_rows, wrong_in}

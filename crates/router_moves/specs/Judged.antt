@@ -2,7 +2,7 @@
 use Rattle.std.specs.Prelude.{◌≡◌, None, map, option_map, Result, Ok, IfSome}
 use Rattle.fib_addr.specs.Views.{entry_as}
 use Rattle.fib_delta.specs.Views.{change_as}
-use Rattle.cert_rows.specs.Views.{row_as}
+use Rattle.cert_model.specs.Views.{row_as}
 use Rattle.moves_check.specs.Views.{no_moves_as}
 use Rattle.fib_same.specs.Due.{Stop}
 use Rattle.fib_same.specs.Gives.{IsDueIfTold}

@@ -5,7 +5,7 @@ use Rattle.table_model.specs.declared.family.Family.TheVariants.{V4, V6}
 use Rattle.table_model.specs.Entries.{Entries, in_order}
 use Rattle.fib_delta.specs.Views.{change_as}
 use Rattle.steady_model.specs.Steady.{AnswerSteadily}
-use Rattle.cert_rows.specs.Views.{row_as}
+use Rattle.cert_model.specs.Views.{row_as}
 use Rattle.moves_cert.specs.Shortest.{AreProvedShortest, AreShortest}
 use Rattle.fib_moves.specs.declared.answer.Near.{Near}
 use Rattle.fib_same.specs.Due.{Stop}

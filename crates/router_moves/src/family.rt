@@ -3,10 +3,10 @@
 ghost use Rattle.std.specs.Prelude.{◌≡◌, IfOk, length, map};
 ghost use Rattle.std.specs.List.Sorted.{IsStrictlySortedBy};
 ghost use Rattle.table_model.specs.Order.{prefix_cmp};
-ghost use Rattle.delta_model.specs.Between.{place_of};
+ghost use Rattle.kept_model.specs.Between.{place_of};
 ghost use Rattle.fib_addr.specs.Views.{entry_as};
 ghost use Rattle.fib_delta.specs.Views.{change_as};
-ghost use Rattle.cert_rows.specs.Views.{row_as};
+ghost use Rattle.cert_model.specs.Views.{row_as};
 ghost use Rattle.router_model.specs.Both.{family_changes, proving_rows, told_in};
 ghost use Rattle.router_moves.specs.Views.{IsShortest};
 

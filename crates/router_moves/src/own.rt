@@ -3,13 +3,13 @@
 ghost use Rattle.std.specs.Prelude.{◌≡◌, IfOk, map};
 ghost use Rattle.fib_addr.specs.Views.{entry_as};
 ghost use Rattle.fib_delta.specs.Views.{change_as};
-ghost use Rattle.cert_rows.specs.Views.{row_as};
-ghost use Rattle.delta_model.specs.Between.{place_of};
+ghost use Rattle.cert_model.specs.Views.{row_as};
+ghost use Rattle.kept_model.specs.Between.{place_of};
 ghost use Rattle.moves_check.specs.Views.{AreChangesOf, AreEntriesOf, AreRowsOf};
 ghost use Rattle.router_model.specs.Both.{own_entries};
 ghost use Rattle.router_model.specs.Claims.{family_of_row, own_changes, own_rows};
 
-use cert_rows::Row;
+use cert_model::Row;
 use fib_addr::{Entry, Family};
 use fib_delta::Change;
 use std::alloc::{AllocError, Global};

@@ -16,14 +16,14 @@ use Rattle.table_model.proofs.Both.{family_is}
 use Rattle.table_model.proofs.Region.{cut_lift}
 use Rattle.route_model.proofs.Keyed.{lookup-put}
 use Rattle.route_model.proofs.Places.{prefix_key}
-use Rattle.delta_model.specs.Between.{hop_at}
+use Rattle.kept_model.specs.Between.{hop_at}
 use Rattle.kept_model.specs.Patched.{with_route, patch_of, after_repair, after_snapshot, region_aggregate}
 use Rattle.kept_model.proofs.Patches.{family_hop, table_hop, hop_patched}
 use Rattle.table_model.proofs.Patch.{cut_cut, same_above}
 use Rattle.table_model.specs.Halves.{is_within}
-use Rattle.stays_model.specs.Stays.{Stays, is_wide, Settled, HasMarks, IsMarked, IsMended}
-use Rattle.stays_model.proofs.Again.{stays_again}
-use Rattle.stays_model.proofs.Settling.{above_nil, all_settled, settled_more, settled_after, settled_mended, stays_same}
+use Rattle.kept_model.specs.Stays.{Stays, is_wide, Settled, HasMarks, IsMarked, IsMended}
+use Rattle.kept_model.proofs.Again.{stays_again}
+use Rattle.kept_model.proofs.Settling.{above_nil, all_settled, settled_more, settled_after, settled_mended, stays_same}
 use Rattle.orig_tree.specs.Views.{Labels, InPlace}
 use Rattle.orig_tree.proofs.Arena.{begins_self}
 use Rattle.table_model.proofs.SamePrefix.{same_family_itself}

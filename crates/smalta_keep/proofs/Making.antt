@@ -10,8 +10,8 @@ use Rattle.table_model.specs.Entries.{Entries, with_entry}
 use Rattle.table_model.specs.Changes.{Change, Add, Replace, Remove, after_change, after_changes}
 use Rattle.route_model.proofs.Keyed.{same_entries, all_put, sorted_put, lookup-put, all_cut, sorted_cut, lookup-cut}
 use Rattle.route_model.proofs.Places.{prefix_key}
-use Rattle.delta_model.specs.Between.{hop_at}
-use Rattle.delta_model.proofs.Held.{Placed}
+use Rattle.kept_model.specs.Between.{hop_at}
+use Rattle.kept_model.proofs.Held.{Placed}
 use Rattle.kept_model.specs.Patched.{with_route}
 use Rattle.fib_delta.specs.declared.change.Change as code
 use Rattle.fib_delta.specs.Views.{change_as}

@@ -21,9 +21,9 @@ use Rattle.table_model.proofs.Both.{sorted_table}
 use Rattle.table_model.proofs.Order.{order_join}
 use Rattle.table_model.proofs.Patch.{begins_trans}
 use Rattle.route_model.proofs.Places.{prefix_key}
-use Rattle.delta_model.specs.Between.{place_of, hop_at, change_at, between}
-use Rattle.delta_model.proofs.Alike.{placed_are, same_changes, all_between}
-use Rattle.delta_model.proofs.Places.{at, each_at, in_places}
+use Rattle.kept_model.specs.Between.{place_of, hop_at, change_at, between}
+use Rattle.kept_model.proofs.Alike.{placed_are, same_changes, all_between}
+use Rattle.kept_model.proofs.Places.{at, each_at, in_places}
 use Rattle.kept_model.proofs.Patches.{family_hop}
 use Rattle.kept_model.proofs.Repairs.{table_entries}
 use Rattle.kept_model.proofs.Families.{table_of}

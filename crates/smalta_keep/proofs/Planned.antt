@@ -4,8 +4,8 @@ use Rattle.std.specs.Prelude.{not, option_map, IsSome}
 use Rattle.std.specs.Option.{option_and_then, ForSome}
 use Rattle.table_model.specs.Entries.{Entries, of_family}
 use Rattle.table_model.specs.Changes.{Change, after_change, after_changes}
-use Rattle.delta_model.specs.Between.{between}
-use Rattle.delta_model.proofs.Alike.{made_placed}
+use Rattle.kept_model.specs.Between.{between}
+use Rattle.kept_model.proofs.Alike.{made_placed}
 use Rattle.table_model.specs.Address.{Prefix}
 use Rattle.fib_addr.specs.Views.{prefix_as}
 use Rattle.fib_addr.specs.declared.prefix.Prefix as code_prefix

@@ -23,8 +23,8 @@ use Rattle.table_model.proofs.Both.{sorted_aggregate}
 use Rattle.table_model.proofs.Laws.{aggregate_table}
 use Rattle.route_model.proofs.Keyed.{all_filter, sorted_filter}
 use Rattle.table_model.specs.Halves.{is_within}
-use Rattle.delta_model.specs.Between.{place_of, between}
-use Rattle.delta_model.proofs.Alike.{replaced_placed, all_between, made_placed}
+use Rattle.kept_model.specs.Between.{place_of, between}
+use Rattle.kept_model.proofs.Alike.{replaced_placed, all_between, made_placed}
 use Rattle.kept_model.specs.Patched.{entries_within, region_aggregate, patch_of}
 use Rattle.kept_model.proofs.Repairs.{mended_entries, table_entries}
 use Rattle.orig_tree.specs.Views.{InPlace}

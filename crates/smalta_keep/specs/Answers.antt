@@ -6,7 +6,7 @@ use Rattle.table_model.specs.Table.{Alike}
 use Rattle.table_model.specs.Entries.{Entries, of_family}
 use Rattle.table_model.specs.Least.{Least}
 use Rattle.table_model.specs.Regions.{SameOutside}
-use Rattle.delta_model.specs.Between.{AreEntries}
+use Rattle.kept_model.specs.Between.{AreEntries}
 use Rattle.fib_addr.specs.declared.prefix.Prefix as code_prefix
 use Rattle.fib_addr.specs.declared.entry.Hop as code_hop
 use Rattle.orig_tree.specs.Views.{Labels}

@@ -3,7 +3,7 @@ use Rattle.std.specs.Prelude.{ℕ, Option, Some, None}
 use Rattle.table_model.specs.Address.{Prefix}
 use Rattle.table_model.specs.Entries.{Entries}
 use Rattle.table_model.specs.Changes.{Change, Add, Replace, Remove}
-use Rattle.delta_model.specs.Between.{hop_at}
+use Rattle.kept_model.specs.Between.{hop_at}
 
 -- the prefix gets this hop in place of another
 abbrev pub replaced_again : Prefix → Option ℕ → Change

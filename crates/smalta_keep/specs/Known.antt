@@ -7,7 +7,7 @@ use Rattle.table_model.specs.Table.{cut}
 use Rattle.table_model.specs.Entries.{Entries, of_family}
 use Rattle.table_model.specs.Regions.{above, entry_at, SameOutside}
 use Rattle.table_model.specs.Sets.{answers}
-use Rattle.stays_model.specs.Stays.{Stays, is_wide, HasMarks, IsMarked, IsMended}
+use Rattle.kept_model.specs.Stays.{Stays, is_wide, HasMarks, IsMarked, IsMended}
 use Rattle.orig_tree.specs.Views.{Labels}
 use Rattle.kept_pass.specs.Known.{IsSettled, IsKnown, IsKnownBefore}
 

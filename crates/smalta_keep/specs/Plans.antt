@@ -6,7 +6,7 @@ use Rattle.table_model.specs.declared.family.Family.{Family}
 use Rattle.table_model.specs.Width.{width}
 use Rattle.table_model.specs.Entries.{Entries, of_family}
 use Rattle.table_model.specs.Changes.{after_changes}
-use Rattle.delta_model.specs.Between.{between}
+use Rattle.kept_model.specs.Between.{between}
 use Rattle.kept_model.specs.Patched.{after_repair, after_snapshot}
 use Rattle.moves_cert.specs.Rows.{near_in}
 use Rattle.event_moves.specs.Event.{AlikeBefore}

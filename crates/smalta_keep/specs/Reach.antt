@@ -4,7 +4,7 @@ use Rattle.std.specs.List.{AllByRecursion}
 use Rattle.table_model.specs.Address.{Prefix}
 use Rattle.table_model.specs.Halves.{is_within}
 use Rattle.table_model.specs.Changes.{Change}
-use Rattle.delta_model.specs.Between.{place_of}
+use Rattle.kept_model.specs.Between.{place_of}
 
 -- the changes are at prefixes within p
 abbrev pub AreWithin : Prefix → List Change → Type 0

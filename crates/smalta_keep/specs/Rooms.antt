@@ -4,7 +4,7 @@ use Rattle.table_model.specs.Address.{Prefix}
 use Rattle.std.specs.List.{AllByRecursion}
 use Rattle.table_model.specs.declared.family.Family.{Family}
 use Rattle.table_model.specs.Changes.{Change, Add, Replace, Remove}
-use Rattle.delta_model.specs.Between.{place_of}
+use Rattle.kept_model.specs.Between.{place_of}
 use Rattle.orig_tree.specs.Walk.{has_node}
 use Rattle.orig_tree.specs.Views.{Labels}
 

@@ -1,7 +1,7 @@
 //! Changes that take others back.
 
 ghost use Rattle.std.specs.Prelude.{◌≡◌, [], IfOk, cond, map};
-ghost use Rattle.delta_model.specs.Between.{hop_at, place_of};
+ghost use Rattle.kept_model.specs.Between.{hop_at, place_of};
 ghost use Rattle.fib_addr.specs.Views.{prefix_as};
 ghost use Rattle.fib_delta.specs.Views.{change_as};
 ghost use Rattle.smalta_keep.specs.Back.{added_again, replaced_again, taken_back};

@@ -2,7 +2,7 @@
 
 ghost use Rattle.std.specs.Prelude.{◌≡◌, List, Bool, true, OnOk, Some, IsSome, map, option_map};
 ghost use Rattle.table_model.specs.Changes.{after_change, after_changes};
-ghost use Rattle.delta_model.specs.Between.{place_of};
+ghost use Rattle.kept_model.specs.Between.{place_of};
 ghost use Rattle.fib_addr.specs.Views.{prefix_as};
 ghost use Rattle.fib_delta.specs.Views.{change_as};
 ghost use Rattle.smalta_keep.specs.Rooms.{HasRoom, HaveRoom, IsNodeAt, AreOf, KeepsRoutes};

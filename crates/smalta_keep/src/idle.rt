@@ -2,7 +2,7 @@
 
 ghost use Rattle.std.specs.Prelude.{◌≡◌, map};
 ghost use Rattle.std.specs.Option.{ForSome};
-ghost use Rattle.delta_model.specs.Between.{place_of};
+ghost use Rattle.kept_model.specs.Between.{place_of};
 ghost use Rattle.fib_delta.specs.Views.{change_as};
 ghost use Rattle.smalta_keep.specs.Rooms.{AreOf, KeepsTables};
 

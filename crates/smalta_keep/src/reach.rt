@@ -2,7 +2,7 @@
 
 ghost use Rattle.std.specs.Prelude.{◌≡◌, true, map};
 ghost use Rattle.table_model.specs.Halves.{is_within};
-ghost use Rattle.delta_model.specs.Between.{place_of};
+ghost use Rattle.kept_model.specs.Between.{place_of};
 ghost use Rattle.fib_addr.specs.Views.{prefix_as};
 ghost use Rattle.fib_delta.specs.Views.{change_as};
 ghost use Rattle.smalta_keep.specs.Rooms.{AreOf};

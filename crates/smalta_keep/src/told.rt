@@ -4,7 +4,7 @@ ghost use Rattle.std.specs.Prelude.{◌≡◌, [], false, Some, IfOk, cond, map,
 ghost use Rattle.std.specs.Option.{ForSome};
 ghost use Rattle.table_model.specs.Width.{width};
 ghost use Rattle.table_model.specs.Entries.{of_family};
-ghost use Rattle.delta_model.specs.Between.{AreEntries, between};
+ghost use Rattle.kept_model.specs.Between.{AreEntries, between};
 ghost use Rattle.kept_model.specs.Patched.{patch_of};
 ghost use Rattle.moves_cert.specs.Rows.{near_in};
 ghost use Rattle.event_moves.specs.Event.{AlikeBefore};

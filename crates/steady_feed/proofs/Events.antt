@@ -8,15 +8,15 @@ use Rattle.table_model.proofs.Sums.{in_order_again}
 use Rattle.route_model.specs.Events.{Elem}
 use Rattle.route_model.specs.Choice.{Candidates, AreCandidates, IsElem, after_elem, after_elems}
 use Rattle.route_model.proofs.Said.{candidates_after}
-use Rattle.delta_model.specs.Between.{between}
-use Rattle.delta_model.proofs.Held.{Placed}
-use Rattle.delta_model.proofs.Alike.{placed_are}
+use Rattle.kept_model.specs.Between.{between}
+use Rattle.kept_model.proofs.Held.{Placed}
+use Rattle.kept_model.proofs.Alike.{placed_are}
 use Rattle.steady_model.specs.Steady.{AnswerSteadily, in_steady_order}
 use Rattle.steady_model.proofs.Goes.{Goes, goes_between, goes_to, goes_both, goes_sum, answer_steadily}
-use Rattle.feed_model.specs.Feed.{entries_of, at_event}
-use Rattle.kept_feed.specs.Kept.{is_due, snapshot_if, kept_at_load, kept_by, repaired_by}
-use Rattle.kept_feed.proofs.Sums.{snapshot_placed, renewed_placed, by_placed}
-use Rattle.kept_feed.proofs.Alike.{snapshot_least, repaired_alike, loaded_alike}
+use Rattle.kept_model.specs.Feed.{entries_of, at_event}
+use Rattle.kept_model.specs.Kept.{is_due, snapshot_if, kept_at_load, kept_by, repaired_by}
+use Rattle.kept_model.proofs.FeedSums.{snapshot_placed, renewed_placed, by_placed}
+use Rattle.kept_model.proofs.FeedAlike.{snapshot_least, repaired_alike, loaded_alike}
 use Rattle.steady_feed.specs.Told.{event_told, events_told, run_told}
 use Rattle.steady_feed.specs.Meanwhile.{AnswerMeanwhile, earlier_routes, event_routes}
 use Rattle.steady_feed.proofs.Told.{event_sum, none_placed}

@@ -7,17 +7,17 @@ use Rattle.table_model.specs.Entries.{Entries}
 use Rattle.table_model.specs.Changes.{Change, after_changes, sum_of}
 use Rattle.route_model.specs.Events.{Elem}
 use Rattle.route_model.specs.Choice.{Candidates, IsElem, after_elem, after_elems}
-use Rattle.delta_model.specs.Between.{between}
-use Rattle.delta_model.proofs.Held.{Placed}
-use Rattle.delta_model.proofs.Alike.{made_placed}
+use Rattle.kept_model.specs.Between.{between}
+use Rattle.kept_model.proofs.Held.{Placed}
+use Rattle.kept_model.proofs.Alike.{made_placed}
 use Rattle.kept_model.specs.Patched.{after_repair}
 use Rattle.steady_model.proofs.Turns.{all_steady}
 use Rattle.steady_model.proofs.Goes.{steady_placed}
-use Rattle.feed_model.specs.Feed.{AreNumbered, entries_of, hops_after, at_event, changes_in}
-use Rattle.feed_model.proofs.Numbers.{entries_stay}
-use Rattle.kept_feed.specs.Kept.{AreNumberedAlong, changed_at, is_due, snapshot_if, kept_at_load, kept_by, kept_from, kept_changes_from, repaired_by}
-use Rattle.kept_feed.proofs.Sums.{by_placed, renewed_placed, snapshot_placed}
-use Rattle.kept_feed.proofs.Stays.{load_stays}
+use Rattle.kept_model.specs.Feed.{AreNumbered, entries_of, hops_after, at_event, changes_in}
+use Rattle.kept_model.proofs.Numbers.{entries_stay}
+use Rattle.kept_model.specs.Kept.{AreNumberedAlong, changed_at, is_due, snapshot_if, kept_at_load, kept_by, kept_from, kept_changes_from, repaired_by}
+use Rattle.kept_model.proofs.FeedSums.{by_placed, renewed_placed, snapshot_placed}
+use Rattle.kept_model.proofs.FeedStays.{load_stays}
 use Rattle.steady_feed.specs.Told.{steady_if, event_told, events_told, load_told, run_told}
 use Rattle.steady_feed.proofs.Blocks.{in_at_event, in_both, after_more}
 

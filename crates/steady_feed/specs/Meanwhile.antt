@@ -5,7 +5,7 @@ use Rattle.table_model.specs.Entries.{Entries, match_in}
 use Rattle.table_model.specs.Changes.{Change, sum_of}
 use Rattle.route_model.specs.Events.{Elem}
 use Rattle.route_model.specs.Choice.{Candidates, after_elems}
-use Rattle.feed_model.specs.Feed.{entries_of, changes_in}
+use Rattle.kept_model.specs.Feed.{entries_of, changes_in}
 
 -- the routes after the event of this number; event 0 is the load, which left these candidates
 abbrev pub event_routes : List Address → Candidates → List Elem → ℕ → Entries

@@ -5,10 +5,10 @@ use Rattle.table_model.specs.Entries.{Entries}
 use Rattle.table_model.specs.Changes.{Change}
 use Rattle.route_model.specs.Events.{Elem}
 use Rattle.route_model.specs.Choice.{Candidates, after_elem}
-use Rattle.delta_model.specs.Between.{between}
+use Rattle.kept_model.specs.Between.{between}
 use Rattle.steady_model.specs.Steady.{in_steady_order}
-use Rattle.feed_model.specs.Feed.{at_event}
-use Rattle.kept_feed.specs.Kept.{kept_at_load, kept_by, repaired_by}
+use Rattle.kept_model.specs.Feed.{at_event}
+use Rattle.kept_model.specs.Kept.{kept_at_load, kept_by, repaired_by}
 
 -- changes that stand in the order of prefixes, as they are told
 abbrev pub steady_if : Bool → List Change → List Change

@@ -15,8 +15,8 @@ ghost use Rattle.table_model.specs.Changes.{after_changes, sum_of};
 ghost use Rattle.route_model.specs.Events.{Elem};
 ghost use Rattle.route_model.specs.Choice.{Candidates, AreCandidates, IsElem, after_elem, after_elems};
 ghost use Rattle.steady_model.specs.Steady.{AnswerSteadily};
-ghost use Rattle.feed_model.specs.Feed.{AreNumbered, at_event, changes_in, entries_of, hops_after};
-ghost use Rattle.kept_feed.specs.Kept.{AreNumberedAlong, kept_at_load, kept_by, kept_changes_from, kept_from, kept_load_changes};
+ghost use Rattle.kept_model.specs.Feed.{AreNumbered, at_event, changes_in, entries_of, hops_after};
+ghost use Rattle.kept_model.specs.Kept.{AreNumberedAlong, kept_at_load, kept_by, kept_changes_from, kept_from, kept_load_changes};
 ghost use Rattle.steady_feed.specs.Told.{event_told, events_told, load_told, run_told};
 ghost use Rattle.steady_feed.specs.Meanwhile.{AnswerMeanwhile, earlier_routes, event_routes};
 

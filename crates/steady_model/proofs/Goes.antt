@@ -10,10 +10,10 @@ use Rattle.table_model.specs.Entries.{Entries, AlikeInBoth, in_order, match_in}
 use Rattle.table_model.specs.Changes.{Change, Replace, after_change, after_changes}
 use Rattle.route_model.proofs.Keyed.{same_entries}
 use Rattle.route_model.proofs.Places.{prefix_key}
-use Rattle.delta_model.specs.Between.{AreEntries, place_of, hop_at, change_at, between}
-use Rattle.delta_model.proofs.Held.{Placed, hop_in_order, in_order_placed}
-use Rattle.delta_model.proofs.Places.{at, each_at}
-use Rattle.delta_model.proofs.Alike.{all_between, placed_are}
+use Rattle.kept_model.specs.Between.{AreEntries, place_of, hop_at, change_at, between}
+use Rattle.kept_model.proofs.Held.{Placed, hop_in_order, in_order_placed}
+use Rattle.kept_model.proofs.Places.{at, each_at}
+use Rattle.kept_model.proofs.Alike.{all_between, placed_are}
 use Rattle.table_model.proofs.Sums.{in_order_again}
 use Rattle.steady_model.specs.Steady.{in_steady_order, AnswerSteadily, LeadSteadily}
 use Rattle.steady_model.specs.Turns.{AreInTurn}

@@ -16,7 +16,7 @@ use Rattle.table_model.specs.Order.{prefix_cmp}
 use Rattle.table_model.specs.Changes.{Change}
 use Rattle.route_model.proofs.Keyed.{not_same_less}
 use Rattle.route_model.proofs.Places.{both_equal, prefix_key}
-use Rattle.delta_model.specs.Between.{place_of}
+use Rattle.kept_model.specs.Between.{place_of}
 use Rattle.steady_model.specs.Steady.{in_steady_order}
 use Rattle.steady_model.specs.Turns.{turn_of, steady_cmp}
 use Rattle.steady_model.proofs.Turns.{ArePlaced, all_turns, in_turn, in_turns, all_filter, all_append, have_turn, not_before, by_turns, steady_same}

@@ -11,9 +11,9 @@ use Rattle.table_model.specs.Entries.{Entries, with_entry, match_in}
 use Rattle.table_model.specs.Changes.{Change, Add, Replace, Remove, after_change}
 use Rattle.route_model.proofs.Keyed.{all_put, sorted_put, lookup-put, all_cut, sorted_cut, lookup-cut}
 use Rattle.route_model.proofs.Places.{prefix_key}
-use Rattle.delta_model.specs.Between.{place_of, hop_at, change_at}
-use Rattle.delta_model.proofs.Held.{Placed}
-use Rattle.delta_model.proofs.Places.{at}
+use Rattle.kept_model.specs.Between.{place_of, hop_at, change_at}
+use Rattle.kept_model.proofs.Held.{Placed}
+use Rattle.kept_model.proofs.Places.{at}
 use Rattle.steady_model.specs.Turns.{set_turn, remove_turn, turn_of, AreInTurn}
 use Rattle.steady_model.proofs.Walks.{up_to, hops_of, match_walk, same_walk, IsStep, past}
 

@@ -10,7 +10,7 @@ use Rattle.table_model.specs.Address.{IsPrefix, same_family}
 use Rattle.table_model.specs.declared.family.Family.{Family}
 use Rattle.table_model.specs.declared.family.Family.TheVariants.{V4, V6}
 use Rattle.table_model.specs.Changes.{Change, Add, Replace, Remove}
-use Rattle.delta_model.specs.Between.{place_of}
+use Rattle.kept_model.specs.Between.{place_of}
 use Rattle.steady_model.specs.Steady.{sets, removes, longest_first, shortest_first, steady_of, in_steady_order}
 use Rattle.steady_model.specs.Turns.{first_turn, set_turn, remove_turn, turn_of, AreInTurn}
 

@@ -8,7 +8,7 @@ use Rattle.table_model.specs.Order.{prefix_cmp}
 use Rattle.table_model.specs.declared.family.Family.{Family}
 use Rattle.table_model.specs.declared.family.Family.TheVariants.{V4, V6}
 use Rattle.table_model.specs.Changes.{Change, Add, Replace, Remove}
-use Rattle.delta_model.specs.Between.{place_of}
+use Rattle.kept_model.specs.Between.{place_of}
 
 -- A family has two turns for each length of its prefixes, of which there are one more than an address has bits: 66 are IPv4's, 258 IPv6's. IPv4's come first.
 abbrev pub first_turn : Family → ℕ

@@ -14,7 +14,7 @@ ghost use Rattle.table_model.specs.Address.{IsPrefix};
 ghost use Rattle.table_model.specs.Order.{prefix_cmp};
 ghost use Rattle.table_model.specs.Entries.{Entries, AlikeInBoth, in_order};
 ghost use Rattle.table_model.specs.Changes.{Change, after_changes};
-ghost use Rattle.delta_model.specs.Between.{AreEntries, place_of, between};
+ghost use Rattle.kept_model.specs.Between.{AreEntries, place_of, between};
 ghost use Rattle.steady_model.specs.Steady.{in_steady_order, LeadSteadily};
 ghost use Rattle.steady_model.specs.Turns.{AreInTurn, steady_cmp};
 

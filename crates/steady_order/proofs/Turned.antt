@@ -6,7 +6,7 @@ use Rattle.std.specs.Map.{keys_of}
 use Rattle.table_model.specs.Width.{width}
 use Rattle.table_model.specs.Address.{IsPrefix}
 use Rattle.table_model.specs.Changes.{Change, Add, additions}
-use Rattle.delta_model.specs.Between.{place_of}
+use Rattle.kept_model.specs.Between.{place_of}
 use Rattle.steady_model.specs.Turns.{set_turn, remove_turn}
 use Rattle.fib_addr.specs.declared.prefix.Prefix as code_prefix
 use Rattle.fib_addr.specs.declared.entry.Entry as code_entry

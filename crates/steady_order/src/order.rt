@@ -6,7 +6,7 @@ ghost use Rattle.std.specs.Map.{keys_of};
 ghost use Rattle.table_model.specs.Order.{prefix_cmp};
 ghost use Rattle.table_model.specs.Entries.{Entries, in_order};
 ghost use Rattle.table_model.specs.Changes.{Change as model_change, additions};
-ghost use Rattle.delta_model.specs.Between.{AreEntries, between, place_of};
+ghost use Rattle.kept_model.specs.Between.{AreEntries, between, place_of};
 ghost use Rattle.steady_model.specs.Steady.{LeadSteadily, in_steady_order};
 ghost use Rattle.fib_addr.specs.Views.{entry_as};
 ghost use Rattle.fib_delta.specs.Views.{change_as};

@@ -4,7 +4,7 @@ ghost use Rattle.std.specs.Prelude.{◌≡◌};
 ghost use Rattle.std.specs.Ordering.{ordering_then};
 ghost use Rattle.table_model.specs.Order.{prefix_cmp};
 ghost use Rattle.table_model.specs.Changes.{Add};
-ghost use Rattle.delta_model.specs.Between.{place_of};
+ghost use Rattle.kept_model.specs.Between.{place_of};
 ghost use Rattle.steady_model.specs.Turns.{first_turn, remove_turn, set_turn, steady_cmp, turn_of};
 ghost use Rattle.fib_addr.specs.Views.{prefix_as};
 ghost use Rattle.fib_delta.specs.Views.{change_as};

@@ -5,7 +5,7 @@ use Rattle.table_model.specs.Address.{Address}
 use Rattle.table_model.specs.Entries.{Entries}
 use Rattle.route_model.specs.Events.{Elem}
 use Rattle.route_model.specs.Choice.{after_elems}
-use Rattle.feed_model.specs.Feed.{entries_of, hops_after}
+use Rattle.kept_model.specs.Feed.{entries_of, hops_after}
 use Rattle.fib_addr.specs.Hops.{Hops}
 use Rattle.fib_addr.specs.declared.prefix.Prefix as code_prefix
 use Rattle.fib_addr.specs.declared.entry.Hop as code_hop
@@ -21,8 +21,8 @@ use Rattle.step_world.specs.World.{hops_in, steps_world}
 use Rattle.step_world.proofs.Turning.{are_turns, starts, starts_placed}
 use Rattle.std.specs.declared.vec.Vec.{Vec}
 use Rattle.step_model.specs.Script.{Step}
-use Rattle.step_rows.specs.declared.row.Row.{Row}
-use Rattle.step_rows.specs.Views.{row_as}
+use Rattle.step_script.specs.declared.row.Row.{Row}
+use Rattle.step_script.specs.RowViews.{row_as}
 use Rattle.stepper.specs.declared.error.StepError.{StepError}
 use Rattle.stepper.specs.declared.stepper.Stepper.{Stepper}
 use Rattle.stepper.specs.Runs.{EndsBy, IsAnywhere, IsAtFirst, IsStart, IsStepper}

@@ -15,8 +15,7 @@ use fib_engine::{Engine, Turns};
 use fib_prefix::Event;
 use route_tries::Sizes;
 use std::alloc::{AllocError, Global};
-use step_rows::rows_text;
-use step_script::Step;
+use step_script::{Step, rows_text};
 use stepper::{StepError, Stepper};
 
 /// What the events after the load do to the routes.

@@ -5,9 +5,13 @@
 //! dropped; an empty line has no step, but is counted.
 #![tactic(auto)]
 
+mod row;
 mod script;
 mod step;
+mod text;
 
 pub use cost_cert::BadRow;
+pub use row::Row;
 pub use script::{ScriptError, read_script};
 pub use step::{Step, read_step};
+pub use text::rows_text;

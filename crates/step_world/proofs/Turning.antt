@@ -9,11 +9,11 @@ use Rattle.route_model.specs.Events.{Elem, elem_prefix}
 use Rattle.route_model.specs.Choice.{Candidates, AreCandidates, IsElem, after_elem, after_elems, chosen_for}
 use Rattle.route_model.proofs.Elems.{candidates_stay}
 use Rattle.route_model.proofs.Said.{candidates_after, none_yet}
-use Rattle.feed_model.specs.Feed.{AreNumbered, entries_of, full_at, hops_after, number_in}
-use Rattle.feed_model.proofs.Numbers.{entries_stay, hops_more, routes_numbered}
-use Rattle.feed_model.proofs.Tables.{at_prefix, entries_at_prefixes, entries_sorted, entry_after, entry_at, new_entry}
-use Rattle.kept_feed.specs.Kept.{AreNumberedAlong, changed_at, is_other}
-use Rattle.kept_feed.proofs.Steps.{numbered_along}
+use Rattle.kept_model.specs.Feed.{AreNumbered, entries_of, full_at, hops_after, number_in}
+use Rattle.kept_model.proofs.Numbers.{entries_stay, hops_more, routes_numbered}
+use Rattle.kept_model.proofs.Tables.{at_prefix, entries_at_prefixes, entries_sorted, entry_after, entry_at, new_entry}
+use Rattle.kept_model.specs.Kept.{AreNumberedAlong, changed_at, is_other}
+use Rattle.kept_model.proofs.FeedSteps.{numbered_along}
 use Rattle.kept_model.specs.Patched.{with_route}
 use Rattle.orig_tree.specs.Views.{InPlace}
 use Rattle.route_tries.specs.Sizes.{Sizes}

@@ -3,8 +3,8 @@ use Rattle.std.specs.Prelude.{ℕ, List, [], ◌∷◌, ◌++◌, Option, None, 
 use Rattle.table_model.specs.Address.{Address, Prefix}
 use Rattle.route_model.specs.Events.{Elem}
 use Rattle.route_model.specs.Choice.{Candidates, after_elems}
-use Rattle.feed_model.specs.Feed.{entries_of, full_at, hops_after}
-use Rattle.kept_feed.specs.Kept.{changed_at}
+use Rattle.kept_model.specs.Feed.{entries_of, full_at, hops_after}
+use Rattle.kept_model.specs.Kept.{changed_at}
 use Rattle.route_tries.specs.Sizes.{Sizes}
 use Rattle.fib_engine.specs.Turns.{taken_of}
 use Rattle.step_model.specs.Machine.{World}

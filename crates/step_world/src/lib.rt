@@ -9,7 +9,7 @@ ghost use Rattle.std.specs.Prelude.{◌≡◌, [], List};
 ghost use Rattle.std.specs.List.{AllByRecursion};
 ghost use Rattle.route_model.specs.Events.{Elem};
 ghost use Rattle.route_model.specs.Choice.{IsElem, after_elems};
-ghost use Rattle.feed_model.specs.Feed.{entries_of, hops_after};
+ghost use Rattle.kept_model.specs.Feed.{entries_of, hops_after};
 ghost use Rattle.orig_tree.specs.Views.{InPlace};
 ghost use Rattle.route_tries.specs.Sizes.{Sizes};
 ghost use Rattle.fib_engine.specs.Turns.{AreTurnsOf, Turning};

@@ -9,7 +9,7 @@ use Rattle.table_model.proofs.SamePrefix.{same_family_itself}
 use Rattle.kept_model.specs.Patched.{with_route}
 use Rattle.fib_addr.specs.declared.prefix.Prefix as code_prefix
 use Rattle.fib_addr.specs.declared.entry.Hop as code_hop
-use Rattle.fib_regions.specs.Answers.{all_answers}
+use Rattle.fib_addr.specs.Answers.{all_answers}
 use Rattle.poptrie_cursor.specs.Cursors.{lookup_of}
 use Rattle.poptrie_cursor.specs.declared.cursors.Lookup as code_lookup
 use Rattle.poptrie_update.specs.Pendings.{IsTokenOf}
@@ -21,8 +21,8 @@ use Rattle.step_model.specs.Rows.{prepared, pinned, printed_number}
 use Rattle.step_model.specs.Machine as machine
 use Rattle.step_model.specs.Machine.{World, State, Lookup, MayStore, Prepares, HasRoom, HasRoomNext, words, is_in, changes_before}
 use Rattle.step_model.specs.Turns.{Turn, turn_at, entries_in}
-use Rattle.step_rows.specs.declared.row.Row.{Row}
-use Rattle.step_rows.specs.Views.{row_as}
+use Rattle.step_script.specs.declared.row.Row.{Row}
+use Rattle.step_script.specs.RowViews.{row_as}
 use Rattle.paused_routes.specs.declared.routes.PausedRoutes.{PausedRoutes}
 use Rattle.paused_routes.specs.Paused.{IsAt, AreSame}
 use Rattle.paused_routes.specs.Calls.{begun_with, IsNext, IsHindered}

@@ -7,8 +7,8 @@ use Rattle.std.proofs.lemmas.List.{map-append, take_more}
 use Rattle.step_model.specs.Script.{Step, opens, goes, prepares, stores, ends, cancels}
 use Rattle.step_model.specs.Rows.{StepRow}
 use Rattle.step_model.specs.Machine.{World, State, Takes, Runs, ComesTo, IsHopsFull, IsTrieFull, at_first}
-use Rattle.step_rows.specs.declared.row.Row.{Row}
-use Rattle.step_rows.specs.Views.{row_as}
+use Rattle.step_script.specs.declared.row.Row.{Row}
+use Rattle.step_script.specs.RowViews.{row_as}
 use Rattle.step_script.specs.declared.step.Step as code_step
 use Rattle.step_script.specs.Steps.{step_as}
 use Rattle.stepper.specs.declared.error.StepError.{StepError}

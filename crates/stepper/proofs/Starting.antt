@@ -16,7 +16,7 @@ use Rattle.route_model.proofs.Keyed.{all_filter, sorted_filter}
 use Rattle.fib_addr.specs.Hops.{Hops}
 use Rattle.fib_addr.specs.declared.prefix.Prefix as code_prefix
 use Rattle.fib_addr.specs.declared.entry.Hop as code_hop
-use Rattle.fib_regions.specs.Answers.{all_answers}
+use Rattle.fib_addr.specs.Answers.{all_answers}
 use Rattle.orig_tree.specs.Views.{InPlace}
 use Rattle.poptrie_build.specs.Need.{told}
 use Rattle.poptrie_build.specs.Tries.{node_need, leaf_need}

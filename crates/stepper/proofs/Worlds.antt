@@ -12,8 +12,8 @@ use Rattle.table_model.specs.Entries.{Entries, match_in, of_family}
 use Rattle.route_model.proofs.Keyed.{all_put, all_cut}
 use Rattle.kept_model.specs.Patched.{with_route}
 use Rattle.kept_model.proofs.Outside.{routes_outside}
-use Rattle.fib_regions.specs.Answers.{all_answers}
-use Rattle.fib_regions.proofs.Prefixes.{is_prefix}
+use Rattle.fib_addr.specs.Answers.{all_answers}
+use Rattle.fib_addr.proofs.Prefixes.{is_prefix}
 use Rattle.fib_addr.specs.Views.{prefix_as}
 use Rattle.fib_addr.specs.declared.prefix.Prefix as code_prefix
 use Rattle.fib_addr.specs.declared.entry.Hop as code_hop

@@ -10,8 +10,8 @@ use Rattle.route_tries.specs.declared.sizes.Sizes.{Sizes}
 use Rattle.step_model.specs.Script.{Step}
 use Rattle.step_model.specs.Rows.{StepRow, printed_number}
 use Rattle.step_model.specs.Machine.{World, State, Takes, changes_before}
-use Rattle.step_rows.specs.declared.row.Row.{Row}
-use Rattle.step_rows.specs.declared.row.Row.TheVariants as row
+use Rattle.step_script.specs.declared.row.Row.{Row}
+use Rattle.step_script.specs.declared.row.Row.TheVariants as row
 use Rattle.paused_routes.specs.declared.routes.PausedRoutes.{PausedRoutes}
 use Rattle.paused_routes.specs.Paused.{IsAt}
 use Rattle.stepper.specs.declared.begun.Begun.{Begun}

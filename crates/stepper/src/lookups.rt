@@ -5,12 +5,12 @@ ghost use Rattle.table_model.specs.declared.family.Family.{Family};
 ghost use Rattle.fib_addr.specs.Views.{addr_as};
 ghost use Rattle.step_model.specs.Rows.{printed_number};
 ghost use Rattle.step_model.specs.Machine.{World, State, Opens, Goes};
-ghost use Rattle.step_rows.specs.Views.{row_as};
+ghost use Rattle.step_script.specs.RowViews.{row_as};
 ghost use Rattle.paused_routes.specs.Paused.{IsAt, IsSomewhere};
 
 use fib_addr::{Addr, Family, HopTable};
 use paused_routes::PausedRoutes;
-use step_rows::Row;
+use step_script::Row;
 
 /// The printed number of a look-up.
 pub(crate) fn printed(family: Family, number: u8) -> u8

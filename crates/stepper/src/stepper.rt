@@ -6,7 +6,7 @@ ghost use Rattle.orig_tree.specs.Views.{InPlace};
 ghost use Rattle.step_model.specs.Machine.{World, at_first};
 ghost use Rattle.step_model.specs.Rows.{stored};
 ghost use Rattle.step_model.specs.Turns.{entries_in};
-ghost use Rattle.step_rows.specs.Views.{row_as};
+ghost use Rattle.step_script.specs.RowViews.{row_as};
 ghost use Rattle.paused_routes.specs.Paused.{IsAt};
 ghost use Rattle.paused_routes.specs.Calls.{IsWorldOf, store_row};
 ghost use Rattle.stepper.specs.Calls.{HasPlaces};
@@ -19,8 +19,7 @@ use orig_tree::Tree;
 use paused_routes::{NotReady, PausedError, PausedRoutes, Pending};
 use route_tries::Sizes;
 use std::alloc::{AllocError, Global};
-use step_rows::Row;
-use step_script::Step;
+use step_script::{Row, Step};
 
 /// The routes of both families with the look-ups that are open, what each event does, and how many have ended.
 pub struct Stepper {
@@ -72,7 +71,7 @@ impl Stepper {
     ghost use Rattle.step_model.specs.Script.{opens, goes, prepares, stores, ends, cancels};
     ghost use Rattle.step_model.specs.Machine.{World, State, Runs, at_first};
     ghost use Rattle.step_model.specs.Turns.{turn_at};
-    ghost use Rattle.step_rows.specs.Views.{row_as};
+    ghost use Rattle.step_script.specs.RowViews.{row_as};
     ghost use Rattle.step_script.specs.Steps.{step_as};
     ghost use Rattle.paused_routes.specs.Calls.{end_row, cancel_row};
     ghost use Rattle.stepper.specs.Runs.{IsStart, IsStepper, IsAnywhere, IsAtFirst, IsPrinted, ArePrinted, IsStop, StopsBy, EndsBy, half_of, turn_as};

@@ -1,7 +1,7 @@
 //! Certificates of four routes that tie, right ones and wrong ones.
 
 use cert_check::{CheckError, Differ, No, check, same};
-use cert_rows::Row;
+use cert_model::Row;
 use fib_addr::{Addr, Entry, Family, Hop, Prefix};
 use std::alloc::{AllocError, Global};
 use std::test::Fail;

@@ -60,13 +60,13 @@ fn listed(alloc: Global, rows: &[Row]) -> Result<Vec<Entry>, AllocError> {
     Ok(list)
 }
 
-fn proof_of(alloc: Global, steps: &[Step]) -> Result<Vec<cert_rows::Row>, AllocError> {
+fn proof_of(alloc: Global, steps: &[Step]) -> Result<Vec<cert_model::Row>, AllocError> {
     let mut rows = Vec::new(alloc);
     for step in steps {
         rows.push(match step {
-            Step::Leaf(bits, len, hop) => cert_rows::Row::Leaf(prefix(*bits, *len), Hop(*hop)),
-            Step::Join(bits, len, k) => cert_rows::Row::Join(prefix(*bits, *len), *k),
-            Step::Bound(entries) => cert_rows::Row::Bound(Family::V4, *entries),
+            Step::Leaf(bits, len, hop) => cert_model::Row::Leaf(prefix(*bits, *len), Hop(*hop)),
+            Step::Join(bits, len, k) => cert_model::Row::Join(prefix(*bits, *len), *k),
+            Step::Bound(entries) => cert_model::Row::Bound(Family::V4, *entries),
         })?;
     }
     Ok(rows)

@@ -1,6 +1,6 @@
 //! A whole text, written out by hand.
 
-use cert_rows::Row;
+use cert_model::Row;
 use fib_addr::{Addr, Entry, Family, Hop, HopTable, Prefix};
 use fib_delta::Change;
 use fib_report::{Answer, Invalid, Moves, Report, Run, RunText, report_text, write_run};

@@ -2,7 +2,7 @@
 
 use fib_addr::Addr;
 use std::test::Fail;
-use step_rows::{Row, rows_text};
+use step_script::{Row, rows_text};
 
 #[test]
 fn rows_are_numbered_from_one(rt: HostRuntime) -> Result<(), Fail> {

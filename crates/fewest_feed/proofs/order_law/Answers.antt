@@ -1,7 +1,7 @@
 use Rattle.std.proofs.Common.{[]}
-use Rattle.feed_model.specs.Feed.{entries_of}
-use Rattle.kept_feed.specs.Kept.{kept_at_load}
-use Rattle.kept_feed.proofs.Sums.{snapshot_placed}
+use Rattle.kept_model.specs.Feed.{entries_of}
+use Rattle.kept_model.specs.Kept.{kept_at_load}
+use Rattle.kept_model.proofs.FeedSums.{snapshot_placed}
 use Rattle.fewest_feed.proofs.Moved.{from_placed}
 use Rattle.fewest_feed.proofs.order_law.Goals as goal
 

@@ -1,5 +1,5 @@
 use Rattle.std.proofs.Common.{ap, ◌++◌}
-use Rattle.kept_feed.specs.Kept.{kept_at_load}
+use Rattle.kept_model.specs.Kept.{kept_at_load}
 use Rattle.steady_feed.specs.Told.{load_told}
 use Rattle.fewest_feed.proofs.Reported.{repaired, repaired_told}
 use Rattle.fewest_feed.proofs.repaired_law.Goals as goal

@@ -1,8 +1,8 @@
 use Rattle.std.proofs.Common.{[], refl}
-use Rattle.feed_model.specs.Feed.{entries_of}
+use Rattle.kept_model.specs.Feed.{entries_of}
 use Rattle.route_model.specs.Choice.{after_elem}
-use Rattle.kept_feed.specs.Kept.{changed_at, kept_at_load}
-use Rattle.kept_feed.proofs.Sums.{snapshot_placed}
+use Rattle.kept_model.specs.Kept.{changed_at, kept_at_load}
+use Rattle.kept_model.proofs.FeedSums.{snapshot_placed}
 use Rattle.fewest_feed.specs.Moved.{table_from}
 use Rattle.fewest_feed.specs.Reported.{first_changes}
 use Rattle.fewest_feed.proofs.Reported.{told_count}

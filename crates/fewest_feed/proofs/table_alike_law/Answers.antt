@@ -1,9 +1,9 @@
 use Rattle.std.proofs.Common.{[]}
-use Rattle.feed_model.specs.Feed.{entries_of}
+use Rattle.kept_model.specs.Feed.{entries_of}
 use Rattle.route_model.specs.Choice.{after_elem}
-use Rattle.kept_feed.specs.Kept.{is_due, kept_at_load}
-use Rattle.kept_feed.proofs.Sums.{snapshot_placed}
-use Rattle.kept_feed.proofs.Alike.{loaded_alike}
+use Rattle.kept_model.specs.Kept.{is_due, kept_at_load}
+use Rattle.kept_model.proofs.FeedSums.{snapshot_placed}
+use Rattle.kept_model.proofs.FeedAlike.{loaded_alike}
 use Rattle.fewest_feed.specs.Moved.{moved_by}
 use Rattle.fewest_feed.proofs.Moved.{from_alike, renewed_least}
 use Rattle.fewest_feed.proofs.table_alike_law.Goals as goal

@@ -1,5 +1,5 @@
 use Rattle.std.proofs.Common.{ap, ◌++◌}
-use Rattle.kept_feed.specs.Kept.{kept_at_load, kept_load_changes}
+use Rattle.kept_model.specs.Kept.{kept_at_load, kept_load_changes}
 use Rattle.steady_feed.proofs.Told.{plain}
 use Rattle.steady_feed.proofs.plain_law.Goals as goal
 

@@ -2,7 +2,7 @@ use Rattle.std.proofs.Common.{[], sym, ap, ◌∙◌}
 use Rattle.std.proofs.lemmas.Result.{IfOk-weaker}
 use Rattle.std.specs.Prelude.{option_map}
 use Rattle.fib_addr.specs.Views.{prefix_as}
-use Rattle.cert_rows.specs.Views.{row_as}
+use Rattle.cert_model.specs.Views.{row_as}
 use Rattle.cert_check.specs.Views.{no_as}
 use Rattle.cert_check.specs.Stack.{stack_as}
 use Rattle.cert_check.proofs.Holding.{prefix_short}

@@ -1,4 +1,4 @@
-use Rattle.std.proofs.Common.{◌≡◌, ◌+◌, ◌≤◌, ◌++◌, ap, ◌∙◌, sym, append_assoc, arith, codes, decimal, drop, length}
+use Rattle.std.proofs.Common.{◌≡◌, ◌≤◌, ◌++◌, ap, ◌∙◌, sym, append_assoc, arith, codes, decimal, drop, length}
 use Rattle.table_model.specs.Width.{width}
 use Rattle.fib_addr.specs.Text.{address_text, first_address}
 use Rattle.fib_addr.specs.Views.{prefix_as}

@@ -5,8 +5,8 @@ use Rattle.std.specs.Map.{keys_of}
 use Rattle.table_model.specs.Order.{prefix_cmp}
 use Rattle.table_model.specs.Entries.{Entries, in_order}
 use Rattle.table_model.proofs.Sums.{in_order_sorted}
-use Rattle.delta_model.specs.Between.{between}
-use Rattle.delta_model.proofs.Reordered.{between_in_order}
+use Rattle.kept_model.specs.Between.{between}
+use Rattle.kept_model.proofs.Reordered.{between_in_order}
 use Rattle.fib_addr.specs.Views.{entry_as}
 use Rattle.fib_delta.specs.Views.{change_as}
 use Rattle.fib_delta.proofs.changes.between.Goals as goal

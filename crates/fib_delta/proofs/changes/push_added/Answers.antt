@@ -1,7 +1,7 @@
 use Rattle.std.proofs.Common.{[], sym, ap, ◌∙◌, refl, arith, append-nil}
 use Rattle.std.proofs.lemmas.List.{drop_all}
 use Rattle.fib_delta.proofs.Merging.{said, told, high_at, nothing}
-use Rattle.delta_model.specs.Between.{between}
+use Rattle.kept_model.specs.Between.{between}
 use Rattle.std.proofs.Common.{◌++◌}
 use Rattle.fib_delta.proofs.changes.push_added.Goals as goal
 

@@ -1,5 +1,5 @@
 use Rattle.std.proofs.Common.{◌≡◌, ◌++◌, [], drop, map}
-use Rattle.delta_model.specs.Between.{between}
+use Rattle.kept_model.specs.Between.{between}
 use Rattle.fib_addr.specs.Views.{entry_as}
 use Rattle.fib_delta.specs.Views.{change_as}
 use Rattle.fib_delta.proofs.changes.push_added.Given as goal

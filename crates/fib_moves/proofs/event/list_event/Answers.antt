@@ -1,7 +1,7 @@
 use Rattle.std.proofs.Common.{◌≡◌, List, map, ap, ◌∙◌}
 use Rattle.std.proofs.lemmas.Result.{IfOk-weaker}
 use Rattle.table_model.specs.Entries.{Entries, of_table}
-use Rattle.delta_model.specs.Between.{between}
+use Rattle.kept_model.specs.Between.{between}
 use Rattle.fib_addr.specs.Views.{entry_as, prefix_as}
 use Rattle.fib_addr.specs.declared.entry.Entry as code
 use Rattle.fib_delta.specs.Views.{change_as}

@@ -4,7 +4,7 @@ use Rattle.table_model.specs.Address.{Prefix}
 use Rattle.table_model.specs.Width.{width}
 use Rattle.table_model.specs.Table.{Table, IsTable}
 use Rattle.table_model.specs.Entries.{of_family}
-use Rattle.delta_model.specs.Between.{between}
+use Rattle.kept_model.specs.Between.{between}
 use Rattle.fib_addr.specs.Views.{prefix_as}
 use Rattle.fib_delta.specs.Views.{change_as}
 use Rattle.moves_cert.specs.Rows.{near_in}

@@ -3,7 +3,7 @@ use Rattle.table_model.specs.Address.{Prefix}
 use Rattle.table_model.specs.Width.{width}
 use Rattle.fib_addr.specs.Views.{prefix_as}
 use Rattle.orig_tree.proofs.Telling.{half_longer}
-use Rattle.cert_rows.specs.Views.{row_as}
+use Rattle.cert_model.specs.Views.{row_as}
 use Rattle.fib_moves.proofs.Passing.{knows_down, table_down}
 use Rattle.fib_moves.proofs.Proving.{listed_leaf, listed_join}
 use Rattle.fib_moves.proofs.rows.+list_rows.Goals as goal

@@ -1,7 +1,7 @@
 use Rattle.std.proofs.Common.{◌≡◌, List, map, refl, sym, ap, subst, ◌∙◌}
 use Rattle.std.proofs.lemmas.Result.{IfOk-weaker}
 use Rattle.table_model.specs.Entries.{Entries}
-use Rattle.delta_model.specs.Between.{AreEntries, between}
+use Rattle.kept_model.specs.Between.{AreEntries, between}
 use Rattle.fib_addr.specs.Views.{entry_as}
 use Rattle.fib_addr.specs.declared.entry.Entry as code
 use Rattle.fib_delta.specs.Views.{change_as}

@@ -6,8 +6,8 @@ use Rattle.table_model.specs.Changes.{Change}
 use Rattle.cert_model.specs.Rows.{CertRow, whole_prefix}
 use Rattle.fib_addr.specs.Views.{prefix_as}
 use Rattle.fib_delta.specs.Views.{change_as}
-use Rattle.cert_rows.specs.Views.{row_as}
-use Rattle.delta_model.specs.Between.{between}
+use Rattle.cert_model.specs.Views.{row_as}
+use Rattle.kept_model.specs.Between.{between}
 use Rattle.moves_cert.specs.Shortest.{AreProvedShortest}
 use Rattle.moves_cert.specs.Rows.{near_in}
 use Rattle.moves_cert.proofs.Whole.{are_shortest}

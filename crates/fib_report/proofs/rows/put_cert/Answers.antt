@@ -1,4 +1,4 @@
-use Rattle.cert_rows.specs.Views.{row_as}
+use Rattle.cert_model.specs.Views.{row_as}
 use Rattle.printed_model.specs.Numbered.{of_cert}
 use Rattle.fib_report.proofs.Loops.{AddsRows-item}
 use Rattle.fib_report.proofs.Proper.{one_proper}

@@ -1,6 +1,6 @@
 use Rattle.std.proofs.Common.{map, take}
 use Rattle.std.specs.List.{AllByRecursion}
-use Rattle.cert_rows.specs.Views.{row_as}
+use Rattle.cert_model.specs.Views.{row_as}
 use Rattle.printed_model.specs.Rows.{IsRow, text_of}
 use Rattle.printed_model.specs.Numbered.{of_cert}
 use Rattle.fib_report.specs.Writing.{AddsRows}

@@ -1,7 +1,7 @@
 use Rattle.std.proofs.Common.{◌≡◌, map, ◌∙◌}
 use Rattle.std.proofs.lemmas.Result.{IfOk-weaker}
 use Rattle.fib_addr.specs.Views.{entry_as}
-use Rattle.cert_rows.specs.Views.{row_as}
+use Rattle.cert_model.specs.Views.{row_as}
 use Rattle.fib_delta.specs.Views.{change_as}
 use Rattle.fib_report.specs.Rows.{run_text}
 use Rattle.fib_report.specs.Sections.{text_in}

@@ -1,5 +1,5 @@
-use Rattle.delta_model.specs.Between.{between}
-use Rattle.delta_model.proofs.Places.{in_places}
+use Rattle.kept_model.specs.Between.{between}
+use Rattle.kept_model.proofs.Places.{in_places}
 use Rattle.fib_run.proofs.order.order_event.Goals as goal
 
 pub returns-then-steady-clause-told : goal.returns-then-steady-clause-told

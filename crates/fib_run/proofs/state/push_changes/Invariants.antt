@@ -1,5 +1,5 @@
 use Rattle.std.proofs.Common.{◌≡◌, ◌++◌, take, map}
-use Rattle.feed_model.specs.Feed.{at_event}
+use Rattle.kept_model.specs.Feed.{at_event}
 use Rattle.fib_delta.specs.Views.{change_as}
 use Rattle.fib_run.specs.Told.{changes_as}
 use Rattle.fib_run.proofs.state.push_changes.Given as goal

@@ -3,7 +3,7 @@ use Rattle.std.specs.List.{AllByRecursion}
 use Rattle.std.proofs.lemmas.Result.{IfOk-weaker}
 use Rattle.table_model.specs.Entries.{Entries}
 use Rattle.table_model.specs.Both.{aggregate_in}
-use Rattle.delta_model.specs.Between.{AreEntries, between, place_of}
+use Rattle.kept_model.specs.Between.{AreEntries, between, place_of}
 use Rattle.table_model.specs.Changes.{Change}
 use Rattle.fib_addr.specs.Views.{entry_as}
 use Rattle.fib_addr.specs.declared.entry.Entry as code

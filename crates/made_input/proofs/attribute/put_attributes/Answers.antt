@@ -1,6 +1,6 @@
 use Rattle.std.proofs.Common.{rules, append_assoc}
 use Rattle.std.proofs.lemmas.Result.{IfOk-equal}
-use Rattle.made_model.specs.Files.{offer_attributes}
+use Rattle.made_input.specs.Files.{offer_attributes}
 use Rattle.made_input.proofs.attribute.put_attributes.Goals as goal
 
 pub returns : goal.returns

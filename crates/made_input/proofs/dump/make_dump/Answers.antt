@@ -1,11 +1,11 @@
 use Rattle.std.proofs.Common.{◌≡◌, ◌++◌, ◌*◌, length, ap, sym, ◌∙◌, append-nil, arith}
 use Rattle.std.specs.Prelude.{map, flat_map}
 use Rattle.std.specs.List.{range_with_len}
-use Rattle.made_model.specs.Draws.{state_after}
-use Rattle.made_model.specs.Drawn.{entry_route}
+use Rattle.made_input.specs.Draws.{state_after}
+use Rattle.made_input.specs.Drawn.{entry_route}
 use Rattle.written_model.specs.Octets.{record_octets}
-use Rattle.made_model.specs.Files.{peer_table_body}
-use Rattle.made_model.proofs.Reading.{length-table, rib_record}
+use Rattle.made_input.specs.Files.{peer_table_body}
+use Rattle.made_input.proofs.MadeReading.{length-table, rib_record}
 use Rattle.made_input.specs.Views.{route_as, entry_record}
 use Rattle.made_input.proofs.Records.{alone, piece_put}
 use Rattle.made_input.proofs.Following.{five_more, routes_more, no_step}

@@ -1,9 +1,9 @@
 use Rattle.std.proofs.Common.{◌++◌, length, ap, ◌∙◌, arith}
-use Rattle.made_model.specs.Draws.{state_after}
-use Rattle.made_model.specs.Drawn.{Route, Offer, route, offer}
+use Rattle.made_input.specs.Draws.{state_after}
+use Rattle.made_input.specs.Drawn.{Route, Offer, route, offer}
 use Rattle.written_model.specs.Octets.{record_octets}
-use Rattle.made_model.specs.Files.{rib_body}
-use Rattle.made_model.proofs.Reading.{length-rib}
+use Rattle.made_input.specs.Files.{rib_body}
+use Rattle.made_input.proofs.MadeReading.{length-rib}
 use Rattle.made_input.specs.Views.{route_as, offer_as}
 use Rattle.made_input.proofs.Drawing.{state-add}
 use Rattle.made_input.proofs.Records.{alone}

@@ -1,7 +1,7 @@
 use Rattle.std.proofs.Common.{◌≡◌, ◌++◌}
 use Rattle.std.specs.Prelude.{flat_map}
 use Rattle.std.specs.List.{range_with_len}
-use Rattle.made_model.specs.Files.{peer_entry}
+use Rattle.made_input.specs.Files.{peer_entry}
 use Rattle.made_input.proofs.dump.put_peers.Given as goal
 
 abbrev pub invariant-loop-peer : goal.invariant-loop-peer

@@ -2,7 +2,7 @@ use Rattle.std.proofs.Common.{◌++◌, ap, ◌∙◌, arith}
 use Rattle.std.proofs.lemmas.Result.{on_ok_weaker}
 use Rattle.made_input.specs.Views.{route_as, offer_as}
 use Rattle.written_model.specs.Octets.{number_octets}
-use Rattle.made_model.specs.Files.{offer_attributes}
+use Rattle.made_input.specs.Files.{offer_attributes}
 use Rattle.made_input.proofs.Records.{alone, attributes_few, rib_put}
 use Rattle.made_input.proofs.dump.put_rib.Goals as goal
 

@@ -1,8 +1,8 @@
 use Rattle.std.proofs.Common.{◌≡◌, ℕ, ◌*◌, length}
 use Rattle.std.specs.Prelude.{map, flat_map}
 use Rattle.std.specs.List.{range_with_len}
-use Rattle.made_model.specs.Draws.{state_after}
-use Rattle.made_model.specs.Drawn.{entry_route}
+use Rattle.made_input.specs.Draws.{state_after}
+use Rattle.made_input.specs.Drawn.{entry_route}
 use Rattle.made_input.specs.Views.{route_as}
 use Rattle.made_input.proofs.Following.{update_of}
 use Rattle.made_input.proofs.updates.make_updates.Given as goal

@@ -1,10 +1,10 @@
 use Rattle.std.proofs.Common.{◌++◌, ◌%◌, length, ap, ◌∙◌, arith}
 use Rattle.std.specs.Prelude.{◌==◌}
 use Rattle.std.proofs.lemmas.Result.{on_ok_weaker}
-use Rattle.made_model.specs.Draws.{state_after}
-use Rattle.made_model.specs.Drawn.{offer}
-use Rattle.made_model.specs.Files.{message_octets, session_body, update_body}
-use Rattle.made_model.proofs.Updates.{length-update, length-message, length-session}
+use Rattle.made_input.specs.Draws.{state_after}
+use Rattle.made_input.specs.Drawn.{offer}
+use Rattle.made_input.specs.Files.{message_octets, session_body, update_body}
+use Rattle.made_input.proofs.UpdatesReading.{length-update, length-message, length-session}
 use Rattle.made_input.specs.Views.{route_as, offer_as}
 use Rattle.made_input.proofs.Drawing.{state-add}
 use Rattle.made_input.proofs.Written.{whenever}

@@ -2,7 +2,7 @@ use Rattle.std.proofs.Common.{◌++◌, ap, sym, ◌∙◌, arith}
 use Rattle.std.proofs.lemmas.Result.{on_ok_weaker}
 use Rattle.made_input.specs.Views.{route_as, offer_as}
 use Rattle.written_model.specs.Octets.{prefix_octets}
-use Rattle.made_model.specs.Files.{offer_attributes, update_body}
+use Rattle.made_input.specs.Files.{offer_attributes, update_body}
 use Rattle.made_input.proofs.Records.{alone, attributes_few, prefix_few, withdrawal_put, announcement_put}
 use Rattle.made_input.proofs.updates.put_update_body.Goals as goal
 

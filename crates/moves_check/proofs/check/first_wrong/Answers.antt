@@ -3,10 +3,10 @@ use Rattle.std.specs.Prelude.{option_map}
 use Rattle.std.specs.Option.{option_or}
 use Rattle.std.proofs.lemmas.Result.{IfOk-weaker}
 use Rattle.table_model.specs.Entries.{Entries, in_order}
-use Rattle.delta_model.specs.Between.{AreEntries}
+use Rattle.kept_model.specs.Between.{AreEntries}
 use Rattle.cert_model.specs.Verdict.{twice}
 use Rattle.cert_check.specs.Runs.{RunsTell}
-use Rattle.cert_rows.specs.Views.{row_as}
+use Rattle.cert_model.specs.Views.{row_as}
 use Rattle.fib_addr.specs.Views.{entry_as}
 use Rattle.fib_delta.specs.Views.{change_as}
 use Rattle.moves_cert.specs.Verdict.{Twice, Apply, first_refused, changed_by_all, answers_differ, wrong_moves_row, too_many}

@@ -1,7 +1,7 @@
 use Rattle.std.proofs.Common.{map, sym, ap, ◌∙◌, length}
 use Rattle.std.specs.Prelude.{option_map}
 use Rattle.std.proofs.lemmas.List.{length-map}
-use Rattle.cert_rows.specs.Views.{row_as}
+use Rattle.cert_model.specs.Views.{row_as}
 use Rattle.cert_check.proofs.Counts.{rows_fit}
 use Rattle.fib_delta.specs.Views.{change_as}
 use Rattle.moves_check.specs.Views.{no_moves_as}

@@ -1,7 +1,7 @@
 use Rattle.std.proofs.Common.{refl, ap, None}
 use Rattle.std.specs.Prelude.{option_map}
 use Rattle.std.proofs.lemmas.Result.{IfOk-weaker}
-use Rattle.cert_rows.specs.Views.{row_as}
+use Rattle.cert_model.specs.Views.{row_as}
 use Rattle.moves_check.specs.Views.{no_moves_as}
 use Rattle.moves_check.specs.Stack.{demands_as}
 use Rattle.moves_check.proofs.Stacks.{row_is}

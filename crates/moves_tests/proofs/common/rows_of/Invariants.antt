@@ -1,5 +1,5 @@
 use Rattle.std.proofs.Common.{map}
-use Rattle.cert_rows.specs.Views.{row_as}
+use Rattle.cert_model.specs.Views.{row_as}
 use Rattle.moves_check.specs.Views.{AreRowsOf}
 use Rattle.moves_tests.proofs.common.rows_of.Given as goal
 

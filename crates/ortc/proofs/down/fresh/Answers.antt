@@ -1,6 +1,6 @@
 use Rattle.std.proofs.Common.{◌++◌, map, ap, ◌∙◌}
 use Rattle.fib_addr.specs.Views.{entry_as}
-use Rattle.cert_rows.specs.Views.{row_as}
+use Rattle.cert_model.specs.Views.{row_as}
 use Rattle.cert_model.specs.Rows.{family_rows}
 use Rattle.ortc.proofs.Proving.{certified}
 use Rattle.ortc.proofs.down.fresh.Goals as goal

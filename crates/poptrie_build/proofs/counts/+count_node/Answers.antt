@@ -1,7 +1,7 @@
 use Rattle.std.proofs.Common.{rules, ◌≡◌, ℕ, ◌+◌, ◌-◌, ◌*◌, ◌^◌, ◌≤◌, ap, arith, subst, sym}
 use Rattle.std.proofs.lemmas.Nat.{pow_pos}
-use Rattle.fib_regions.proofs.OneAnswer.{mixed_bits}
-use Rattle.fib_regions.specs.Answers.{one_answer}
+use Rattle.fib_addr.proofs.OneAnswer.{mixed_bits}
+use Rattle.fib_addr.specs.Answers.{one_answer}
 use Rattle.poptrie_build.specs.Need.{need_nodes, need_leaves}
 use Rattle.poptrie_build.specs.Strides.{slot, slots}
 use Rattle.poptrie_build.specs.Tally.{IsWholeTally}

@@ -1,5 +1,5 @@
 use Rattle.std.proofs.Common.{rules, ◌≡◌, ℕ, ◌-◌, ◌^◌, arith, suc, length, ap}
-use Rattle.fib_regions.proofs.OneAnswer.{mixed_bits}
+use Rattle.fib_addr.proofs.OneAnswer.{mixed_bits}
 use Rattle.poptrie_build.proofs.Slotting.{double, slots_same, slots_none, slots_halves}
 use Rattle.poptrie_build.proofs.slots.+ask.Goals as goal
 

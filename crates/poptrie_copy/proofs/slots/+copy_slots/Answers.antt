@@ -8,7 +8,7 @@ use Rattle.poptrie_copy.specs.Words.{IsWord}
 use Rattle.poptrie_copy.specs.Stores.{stored}
 use Rattle.poptrie_copy.proofs.Gaining.{gains_then}
 use Rattle.std.proofs.lemmas.Result.{err_from_is_err_and}
-use Rattle.fib_regions.specs.Answers.{side}
+use Rattle.fib_addr.specs.Answers.{side}
 use Rattle.std.specs.Prelude.{true}
 use Rattle.poptrie_copy.specs.Asks.{MeetsNotSlots}
 use Rattle.poptrie_copy.proofs.Kept_word.{kept_stored, kept_same, kept_halves}

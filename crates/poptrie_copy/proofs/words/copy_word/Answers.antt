@@ -1,5 +1,5 @@
 use Rattle.std.proofs.Common.{ℕ, refl, sym, ap, ◌∙◌, subst}
-use Rattle.fib_regions.specs.Answers.{one_answer}
+use Rattle.fib_addr.specs.Answers.{one_answer}
 use Rattle.poptrie_build.specs.Stands.{blank}
 use Rattle.poptrie_copy.specs.Words.{ReplacesWord}
 use Rattle.poptrie_copy.proofs.Gaining.{gains_none, only_none}

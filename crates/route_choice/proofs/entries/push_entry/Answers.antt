@@ -1,6 +1,6 @@
 use Rattle.std.proofs.Common.{ap, ◌∙◌}
 use Rattle.fib_addr.specs.Views.{addr_as}
-use Rattle.feed_model.specs.Feed.{number_in}
+use Rattle.kept_model.specs.Feed.{number_in}
 use Rattle.route_choice.proofs.AllEntries.{entry_pushed, no_entry}
 use Rattle.route_choice.proofs.entries.push_entry.Goals as goal
 

@@ -3,7 +3,7 @@ use Rattle.table_model.specs.Width.{width}
 use Rattle.table_model.specs.declared.family.Family.{Family}
 use Rattle.fib_addr.specs.Views.{prefix_as}
 use Rattle.orig_tree.specs.Spots.{answers_in}
-use Rattle.fib_regions.proofs.Prefixes.{prefix_length}
+use Rattle.fib_addr.proofs.Prefixes.{prefix_length}
 use Rattle.route_tries.proofs.Under.{counted_slots, counted_way}
 use Rattle.route_tries.proofs.needs.need_at.Goals as goal
 

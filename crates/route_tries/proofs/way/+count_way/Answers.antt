@@ -2,8 +2,8 @@ use Rattle.std.proofs.Common.{◌≡◌, ◌≢◌, ℕ, ◌+◌, ◌-◌, ◌*�
 use Rattle.std.proofs.lemmas.Bool.{eq-eqb, ne_eqb}
 use Rattle.std.proofs.lemmas.Nat.{pow_pos}
 use Rattle.table_model.specs.Bits.{bits_of}
-use Rattle.fib_regions.specs.Answers.{one_answer}
-use Rattle.fib_regions.proofs.OneAnswer.{mixed_bits}
+use Rattle.fib_addr.specs.Answers.{one_answer}
+use Rattle.fib_addr.proofs.OneAnswer.{mixed_bits}
 use Rattle.poptrie_build.specs.Strides.{slot, slots}
 use Rattle.poptrie_build.specs.Tally.{IsTally}
 use Rattle.poptrie_build.proofs.Slotting.{halved}

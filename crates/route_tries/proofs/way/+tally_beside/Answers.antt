@@ -1,7 +1,7 @@
 use Rattle.std.proofs.Common.{rules, ◌≡◌, ℕ, ◌+◌, ◌-◌, ◌^◌, ap, refl, arith, subst, sym}
 use Rattle.std.proofs.lemmas.Nat.{pow_pos}
-use Rattle.fib_regions.specs.Answers.{one_answer}
-use Rattle.fib_regions.proofs.OneAnswer.{mixed_bits}
+use Rattle.fib_addr.specs.Answers.{one_answer}
+use Rattle.fib_addr.proofs.OneAnswer.{mixed_bits}
 use Rattle.poptrie_build.specs.Tally.{IsTally}
 use Rattle.poptrie_build.proofs.Slotting.{halved}
 use Rattle.poptrie_build.proofs.Tallying.{part_node, parts_low, parts_high}

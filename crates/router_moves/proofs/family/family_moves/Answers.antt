@@ -3,8 +3,8 @@ use Rattle.std.specs.List.Sorted.{IsStrictlySortedBy}
 use Rattle.table_model.specs.Order.{prefix_cmp}
 use Rattle.table_model.specs.declared.family.Family.{Family}
 use Rattle.table_model.specs.Entries.{in_order}
-use Rattle.delta_model.specs.Between.{place_of}
-use Rattle.delta_model.proofs.Places.{in_places}
+use Rattle.kept_model.specs.Between.{place_of}
+use Rattle.kept_model.proofs.Places.{in_places}
 use Rattle.moves_cert.specs.Rows.{near_in}
 use Rattle.fib_addr.specs.Views.{entry_as}
 use Rattle.fib_delta.specs.Views.{change_as}

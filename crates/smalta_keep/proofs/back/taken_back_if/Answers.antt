@@ -1,5 +1,5 @@
 use Rattle.std.proofs.Common.{◌≡◌, map, ap, ◌∙◌}
-use Rattle.delta_model.specs.Between.{place_of}
+use Rattle.kept_model.specs.Between.{place_of}
 use Rattle.fib_delta.specs.Views.{change_as}
 use Rattle.smalta_keep.proofs.Making.{one_at}
 use Rattle.smalta_keep.proofs.Near.{back_more}

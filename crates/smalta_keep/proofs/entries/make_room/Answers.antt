@@ -1,5 +1,5 @@
 use Rattle.std.proofs.Common.{◌≡◌, sym, ◌∙◌}
-use Rattle.delta_model.specs.Between.{place_of}
+use Rattle.kept_model.specs.Between.{place_of}
 use Rattle.smalta_keep.proofs.Making.{one_at, keeps_more, room_more}
 use Rattle.smalta_keep.proofs.entries.make_room.Goals as goal
 

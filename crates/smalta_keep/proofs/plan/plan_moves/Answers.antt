@@ -1,7 +1,7 @@
 use Rattle.std.proofs.Common.{List, Bool, Option, None, map, refl, sym, ap, subst, ◌∙◌}
 use Rattle.std.specs.Prelude.{option_map}
 use Rattle.table_model.specs.declared.family.Family.{Family}
-use Rattle.delta_model.proofs.Alike.{none_between}
+use Rattle.kept_model.proofs.Alike.{none_between}
 use Rattle.fib_addr.specs.Views.{prefix_as}
 use Rattle.fib_delta.specs.declared.change.Change as code
 use Rattle.fib_delta.specs.Views.{change_as}

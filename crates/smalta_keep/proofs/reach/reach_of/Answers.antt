@@ -1,7 +1,7 @@
 use Rattle.std.proofs.Common.{◌≡◌, sym, ap, ◌∙◌}
 use Rattle.table_model.specs.Address.{Prefix}
 use Rattle.table_model.specs.Halves.{is_within}
-use Rattle.delta_model.specs.Between.{place_of}
+use Rattle.kept_model.specs.Between.{place_of}
 use Rattle.fib_addr.specs.Views.{prefix_as}
 use Rattle.smalta_keep.proofs.Making.{one_at}
 use Rattle.smalta_keep.proofs.Near.{within_more}

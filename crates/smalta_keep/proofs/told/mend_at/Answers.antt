@@ -1,6 +1,6 @@
 use Rattle.std.proofs.Common.{List, Option, None, map, refl, sym, ap, subst, ◌∙◌}
 use Rattle.std.specs.Prelude.{option_map}
-use Rattle.delta_model.proofs.Alike.{none_between}
+use Rattle.kept_model.proofs.Alike.{none_between}
 use Rattle.table_model.specs.Entries.{Entries}
 use Rattle.fib_addr.specs.Views.{prefix_as}
 use Rattle.fib_addr.specs.declared.prefix.Prefix as code_prefix
@@ -11,7 +11,7 @@ use Rattle.smalta_keep.specs.Plans.{IsMend, repaired_table}
 use Rattle.smalta_keep.specs.declared.told.Mend.{Mend}
 use Rattle.smalta_keep.proofs.Planned.{nothing_repaired}
 use Rattle.smalta_keep.proofs.Tables.{if_none}
-use Rattle.delta_model.specs.Between.{between}
+use Rattle.kept_model.specs.Between.{between}
 use Rattle.smalta_keep.proofs.told.mend_at.Goals as goal
 
 pub returns-in-None-clause-mend : goal.returns-in-None-clause-mend

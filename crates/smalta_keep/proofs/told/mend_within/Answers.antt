@@ -4,7 +4,7 @@ use Rattle.std.specs.Map.{keys_of}
 use Rattle.table_model.specs.Address.{Prefix}
 use Rattle.table_model.specs.Entries.{Entries}
 use Rattle.table_model.specs.Changes.{Change}
-use Rattle.delta_model.specs.Between.{AreEntries, between}
+use Rattle.kept_model.specs.Between.{AreEntries, between}
 use Rattle.kept_model.specs.Patched.{patch_of}
 use Rattle.kept_model.proofs.Families.{table_of, patched_of}
 use Rattle.fib_addr.specs.Views.{prefix_as, entry_as}

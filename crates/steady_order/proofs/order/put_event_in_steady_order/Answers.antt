@@ -3,7 +3,7 @@ use Rattle.std.proofs.lemmas.List.{map-append}
 use Rattle.std.specs.List.Sorted.{IsStrictlySortedBy}
 use Rattle.table_model.specs.Order.{prefix_cmp}
 use Rattle.table_model.specs.Changes.{Change}
-use Rattle.delta_model.specs.Between.{place_of}
+use Rattle.kept_model.specs.Between.{place_of}
 use Rattle.steady_model.specs.Steady.{in_steady_order}
 use Rattle.fib_delta.specs.Views.{change_as}
 use Rattle.steady_order.proofs.Turned.{parts_are}

@@ -5,8 +5,8 @@ use Rattle.std.proofs.lemmas.List.Sorted.{answers_always, ranks_by}
 use Rattle.table_model.specs.Order.{prefix_cmp}
 use Rattle.table_model.specs.Entries.{in_order}
 use Rattle.table_model.specs.Changes.{Change}
-use Rattle.delta_model.specs.Between.{between, place_of}
-use Rattle.delta_model.proofs.Places.{in_places}
+use Rattle.kept_model.specs.Between.{between, place_of}
+use Rattle.kept_model.proofs.Places.{in_places}
 use Rattle.steady_model.specs.Steady.{LeadSteadily, in_steady_order}
 use Rattle.steady_model.specs.Turns.{steady_cmp}
 use Rattle.steady_model.proofs.Goes.{steady}

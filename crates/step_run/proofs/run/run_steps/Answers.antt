@@ -8,7 +8,7 @@ use Rattle.orig_tree.specs.Views.{InPlace}
 use Rattle.route_tries.specs.Sizes.{shortage, sizes_as}
 use Rattle.fib_engine.specs.Held.{routes_in}
 use Rattle.step_model.specs.Rows.{rows_text}
-use Rattle.step_rows.specs.Views.{row_as}
+use Rattle.step_script.specs.RowViews.{row_as}
 use Rattle.step_script.specs.Steps.{step_as}
 use Rattle.step_world.specs.Stepping.{world_of}
 use Rattle.step_run.proofs.Running.{in_place, somewhere, starts_so}

@@ -5,7 +5,7 @@ use Rattle.route_model.specs.Events.{Elem}
 use Rattle.std.proofs.lemmas.Result.{err_from_is_err_and}
 use Rattle.table_model.specs.declared.family.Family.TheVariants.{V4, V6}
 use Rattle.table_model.specs.Entries.{Entries}
-use Rattle.feed_model.specs.Feed.{entries_of, hops_after}
+use Rattle.kept_model.specs.Feed.{entries_of, hops_after}
 use Rattle.orig_tree.specs.Views.{InPlace}
 use Rattle.smalta_keep.specs.Views.{with_planned}
 use Rattle.route_tries.specs.Sizes.{first_short, needs_of, shortage, shortage_as, sizes_as}

@@ -1,11 +1,11 @@
 use Rattle.std.proofs.Common.{◌≡◌, Bool, true, Some, refl, sym, ap, subst, ◌∙◌}
 use Rattle.std.proofs.lemmas.Result.{err_from_is_err_and}
-use Rattle.feed_model.specs.Feed.{entries_of}
+use Rattle.kept_model.specs.Feed.{entries_of}
 use Rattle.route_tries.specs.Sizes.{needs_of, shortage, shortage_as, sizes_as, told_needs}
 use Rattle.route_tries.specs.declared.sizes.TrieFull.{TrieFull}
 use Rattle.fib_engine.proofs.Needing.{counted, counted_short, needs_known}
 use Rattle.fib_engine.proofs.Erring.{err_is, is_full}
-use Rattle.kept_feed.specs.Kept.{kept_at_load}
+use Rattle.kept_model.specs.Kept.{kept_at_load}
 use Rattle.fib_engine.specs.Held.{Held, IsSound, routes_in}
 use Rattle.fib_engine.specs.Tables.{AreOfRoutes, table_of}
 use Rattle.fib_engine.proofs.Taking.{sound_end, table_end, stands_end}

@@ -3,9 +3,9 @@ use Rattle.std.proofs.lemmas.Result.{IfOk-weaker}
 use Rattle.table_model.specs.declared.family.Family.TheVariants.{V4, V6}
 use Rattle.table_model.specs.Both.{aggregate_in, aggregate_in_both}
 use Rattle.cert_model.specs.Rows.{certificate_of, family_rows}
-use Rattle.feed_model.specs.Feed.{entries_of}
+use Rattle.kept_model.specs.Feed.{entries_of}
 use Rattle.fib_addr.specs.Views.{entry_as}
-use Rattle.cert_rows.specs.Views.{row_as}
+use Rattle.cert_model.specs.Views.{row_as}
 use Rattle.fib_engine.specs.Held.{Held, routes_told}
 use Rattle.fib_engine.proofs.Taking.{both_least, both_rows}
 use Rattle.fib_engine.proofs.engine.Engine.least.Goals as goal

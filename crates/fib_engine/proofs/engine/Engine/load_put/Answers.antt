@@ -2,7 +2,7 @@ use Rattle.std.proofs.Common.{◌≡◌, ◌∷◌, List, [], ◌≤◌, false, 
 use Rattle.table_model.specs.Address.{Address}
 use Rattle.route_model.specs.Choice.{after_elem}
 use Rattle.table_model.specs.Entries.{Entries}
-use Rattle.feed_model.specs.Feed.{entries_of, hops_after}
+use Rattle.kept_model.specs.Feed.{entries_of, hops_after}
 use Rattle.fib_addr.specs.Hops.{most_hops, with_hop}
 use Rattle.fib_addr.specs.Views.{addr_as}
 use Rattle.fib_prefix.specs.declared.event.Elem.TheVariants.{Put}

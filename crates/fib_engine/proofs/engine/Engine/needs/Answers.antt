@@ -3,7 +3,7 @@ use Rattle.route_tries.specs.Sizes.{AreFew, sizes_as, needs_of}
 use Rattle.route_tries.specs.declared.needs.FamilyNeeds.{FamilyNeeds}
 use Rattle.route_tries.proofs.Short.{fit_few}
 use Rattle.fib_engine.specs.Held.{Held, if_loaded, routes_told}
-use Rattle.feed_model.specs.Feed.{entries_of}
+use Rattle.kept_model.specs.Feed.{entries_of}
 use Rattle.std.proofs.Common.{sym}
 use Rattle.fib_engine.proofs.engine.Engine.needs.Goals as goal
 

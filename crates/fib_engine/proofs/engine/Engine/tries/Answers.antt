@@ -2,7 +2,7 @@ use Rattle.std.proofs.Common.{◌≡◌, Option, Some, None, Err, ap, ◌∙◌}
 use Rattle.table_model.specs.declared.family.Family.TheVariants.{V4, V6}
 use Rattle.table_model.specs.Entries.{of_family}
 use Rattle.orig_tree.specs.Views.{Labels}
-use Rattle.feed_model.specs.Feed.{entries_of}
+use Rattle.kept_model.specs.Feed.{entries_of}
 use Rattle.fib_engine.specs.Held.{Held, if_loaded, routes_told}
 use Rattle.route_tries.specs.Sizes.{Shortage, first_short, sizes_as}
 use Rattle.fib_engine.proofs.Holding.{of_only}

@@ -1,5 +1,5 @@
 use Rattle.std.proofs.Common.{◌∷◌, ◌++◌, ◌<◌, ◌≤◌, [], true, length, refl, sym, ap, subst, ◌∙◌}
-use Rattle.feed_model.specs.Feed.{hops_after}
+use Rattle.kept_model.specs.Feed.{hops_after}
 use Rattle.fib_addr.specs.Hops.{most_hops}
 use Rattle.fib_prefix.specs.Views.{elem_as}
 use Rattle.fib_engine.specs.Turns.{AreTurnsOf, Turning}

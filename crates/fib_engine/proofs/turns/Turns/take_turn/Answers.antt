@@ -4,7 +4,7 @@ use Rattle.std.proofs.lemmas.List.{map_push}
 use Rattle.table_model.specs.Address.{Address}
 use Rattle.route_model.specs.Events.{Elem, elem_prefix}
 use Rattle.route_model.specs.Choice.{Candidates, after_elem, chosen_for}
-use Rattle.feed_model.specs.Feed.{hops_after}
+use Rattle.kept_model.specs.Feed.{hops_after}
 use Rattle.fib_addr.specs.Views.{addr_as}
 use Rattle.fib_prefix.specs.Views.{elem_as}
 use Rattle.route_choice.specs.Held.{IsChoice, pick_elem}

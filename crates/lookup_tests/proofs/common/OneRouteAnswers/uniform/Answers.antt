@@ -1,6 +1,6 @@
 use Rattle.std.proofs.Common.{sym, ◌∙◌, arith}
 use Rattle.fib_addr.specs.Views.{prefix_as}
-use Rattle.fib_regions.proofs.Prefixes.{is_prefix}
+use Rattle.fib_addr.proofs.Prefixes.{is_prefix}
 use Rattle.poptrie_build.proofs.OneRoute.{all_of_entry, none_of_entry, hop_of_none, two_of_entry}
 use Rattle.lookup_tests.proofs.common.OneRouteAnswers.uniform.Goals as goal
 

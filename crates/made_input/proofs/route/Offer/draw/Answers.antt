@@ -1,6 +1,6 @@
 use Rattle.std.proofs.Common.{ap, ◌∙◌}
 use Rattle.made_input.proofs.Drawing.{state-add, offer_drawn}
-use Rattle.made_model.specs.Draws.{state_after}
+use Rattle.made_input.specs.Draws.{state_after}
 use Rattle.made_input.proofs.route.Offer.draw.Goals as goal
 
 pub returns-clause-value : goal.returns-clause-value

@@ -1,6 +1,6 @@
 use Rattle.std.proofs.Common.{◌+◌, ◌-◌, ◌%◌, ap, ◌∙◌}
 use Rattle.made_input.proofs.Drawing.{bits_cleared, cleared_below, few_bits, few_peers, route_drawn, state-add}
-use Rattle.made_model.specs.Draws.{state_after}
+use Rattle.made_input.specs.Draws.{state_after}
 use Rattle.made_input.proofs.route.Route.draw.Goals as goal
 
 pub returns-clause-value : goal.returns-clause-value

@@ -1,7 +1,7 @@
 use Rattle.std.proofs.Common.{arith, ◌≡◌, ◌++◌, ap, sym, ◌∙◌, replicate, take, drop, length, ◌^◌}
 use Rattle.std.proofs.lemmas.List.{take_at}
 use Rattle.table_model.specs.Width.{width}
-use Rattle.fib_regions.specs.Answers.{all_answers}
+use Rattle.fib_addr.specs.Answers.{all_answers}
 use Rattle.poptrie_build.specs.Tries.{Shown}
 use Rattle.poptrie_build.proofs.Filled.{stands_none, stands_built, all_ok, all_err}
 use Rattle.poptrie_build.proofs.trie.Trie.fill.Goals as goal

@@ -4,7 +4,7 @@ use Rattle.block_pool.specs.Places.{is_out}
 use Rattle.block_pool.specs.Blocks.{blocks_of}
 use Rattle.block_pool.proofs.Parting.{part_right}
 use Rattle.fib_addr.specs.Views.{prefix_as}
-use Rattle.fib_regions.specs.Answers.{all_answers}
+use Rattle.fib_addr.specs.Answers.{all_answers}
 use Rattle.poptrie_build.specs.Tries.{rest}
 use Rattle.poptrie_set.specs.Lives.{Seen, ShowsIn, stores_of}
 use Rattle.poptrie_set.specs.Fits.{FitsIn}

@@ -1,5 +1,5 @@
 use Rattle.std.proofs.Common.{◌≡◌, false, sym, ap, ◌∙◌}
-use Rattle.fib_regions.specs.Answers.{all_answers}
+use Rattle.fib_addr.specs.Answers.{all_answers}
 use Rattle.poptrie_set.proofs.Ready.{ok_map}
 use Rattle.poptrie_update.specs.Lives.{Living, is_selecting, is_pending}
 use Rattle.poptrie_update.proofs.Pair.{shown_words, quiet_words}

@@ -1,6 +1,6 @@
 use Rattle.std.proofs.Common.{◌≡◌, ◌∙◌, false, sym, ap, subst}
 use Rattle.table_model.specs.declared.family.Family.{Family}
-use Rattle.fib_regions.specs.Answers.{all_answers}
+use Rattle.fib_addr.specs.Answers.{all_answers}
 use Rattle.poptrie_set.specs.Lives.{Seen, ShowsIn}
 use Rattle.poptrie_set.proofs.Ready.{err_map, if_err_map, both_ok}
 use Rattle.poptrie_update.specs.Lives.{Living, Shows, ShowsBy, is_selecting, is_pending, made_of}

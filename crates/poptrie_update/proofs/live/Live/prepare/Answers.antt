@@ -1,6 +1,6 @@
 use Rattle.std.proofs.Common.{◌∙◌, sym, ap}
 use Rattle.table_model.specs.declared.family.Family.{Family}
-use Rattle.fib_regions.specs.Answers.{all_answers}
+use Rattle.fib_addr.specs.Answers.{all_answers}
 use Rattle.poptrie_set.proofs.Ready.{if_err_map}
 use Rattle.poptrie_update.proofs.Rebuilt.{if_ok_map}
 use Rattle.poptrie_update.proofs.Made.{is_made, is_refused}

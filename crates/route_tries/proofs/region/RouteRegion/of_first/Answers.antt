@@ -3,7 +3,7 @@ use Rattle.std.specs.Prelude.{min}
 use Rattle.std.proofs.lemmas.List.{length-take}
 use Rattle.table_model.specs.Address.{Prefix, first_bits}
 use Rattle.fib_addr.specs.Views.{prefix_as}
-use Rattle.fib_regions.proofs.Prefixes.{prefix_length}
+use Rattle.fib_addr.proofs.Prefixes.{prefix_length}
 use Rattle.route_tries.proofs.Going.{prefix_answers, first_taken}
 use Rattle.route_tries.proofs.region.RouteRegion.of_first.Goals as goal
 

@@ -1,7 +1,7 @@
 use Rattle.std.proofs.Common.{◌≡◌, [], length, ap, sym, ◌∙◌, arith}
 use Rattle.table_model.specs.Address.{Prefix}
 use Rattle.fib_addr.specs.Views.{prefix_as}
-use Rattle.fib_regions.proofs.Prefixes.{prefix_length}
+use Rattle.fib_addr.proofs.Prefixes.{prefix_length}
 use Rattle.route_tries.proofs.Going.{prefix_answers}
 use Rattle.route_tries.proofs.region.RouteRegion.whole.Goals as goal
 

@@ -1,4 +1,4 @@
-use Rattle.fib_regions.proofs.OneAnswer.{one_answer_from}
+use Rattle.fib_addr.proofs.OneAnswer.{one_answer_from}
 use Rattle.orig_tree.specs.Spots.{answers_in}
 use Rattle.route_tries.proofs.Going.{not_one}
 use Rattle.route_tries.proofs.region.RouteRegionRegion.only.Goals as goal

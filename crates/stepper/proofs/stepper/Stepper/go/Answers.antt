@@ -1,6 +1,6 @@
 use Rattle.std.proofs.Common.{◌-◌, refl, arith}
 use Rattle.table_model.specs.declared.family.Family.TheVariants.{V4, V6}
-use Rattle.step_rows.specs.Views.{row_as}
+use Rattle.step_script.specs.RowViews.{row_as}
 use Rattle.stepper.proofs.Halves.{goes_moves, moved_v4, moved_v6}
 use Rattle.stepper.proofs.stepper.Stepper.go.Goals as goal
 

@@ -2,7 +2,7 @@ use Rattle.std.proofs.Common.{subst}
 use Rattle.table_model.specs.declared.family.Family.{Family}
 use Rattle.table_model.specs.declared.family.Family.TheVariants.{V4, V6}
 use Rattle.fib_addr.specs.Views.{addr_as}
-use Rattle.step_rows.specs.Views.{row_as}
+use Rattle.step_script.specs.RowViews.{row_as}
 use Rattle.stepper.proofs.Halves.{Moves, opens_moves, moved_v4, moved_v6}
 use Rattle.stepper.proofs.stepper.Stepper.open.Goals as goal
 

@@ -1,5 +1,5 @@
 use Rattle.step_script.specs.Steps.{step_as}
-use Rattle.step_rows.specs.Views.{row_as}
+use Rattle.step_script.specs.RowViews.{row_as}
 use Rattle.stepper.specs.declared.error.StepError.TheVariants as error
 use Rattle.stepper.proofs.Running.{printed_at, going_first, going_on, went, stopped, no_memory, err_is}
 use Rattle.stepper.proofs.stepper.Stepper.run.Goals as goal

@@ -1,4 +1,0 @@
-pub mod Ranges
-pub mod Late
-pub mod Short
-pub mod Crowded

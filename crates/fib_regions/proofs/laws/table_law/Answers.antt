@@ -1,5 +1,0 @@
-use Rattle.fib_regions.proofs.Prefixes.{all_one, two_none}
-use Rattle.fib_regions.proofs.laws.table_law.Goals as goal
-
-pub returns : goal.returns
-returns c = record { one = all_one; none = two_none }

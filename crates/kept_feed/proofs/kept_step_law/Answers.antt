@@ -1,8 +1,0 @@
-use Rattle.kept_feed.proofs.Steps.{kept_step, changes_step}
-use Rattle.kept_feed.proofs.kept_step_law.Goals as goal
-
-pub returns-clause-table : goal.returns-clause-table
-returns-clause-table c = λ every hops held T elems elem. kept_step every hops elem held T elems
-
-pub returns-clause-changes : goal.returns-clause-changes
-returns-clause-changes c = λ every hops held T elems elem. changes_step every hops elem held T elems
