@@ -7,7 +7,7 @@ use Rattle.wire_model.specs.declared.place.Place.{Place}
 use Rattle.wire_model.specs.declared.place.Place.TheVariants.{Rib, Update}
 use Rattle.wire_model.specs.declared.rule.Rule.{Rule}
 use Rattle.wire_model.specs.Path.{as_size, path_of}
-use Rattle.wire_model.specs.Attribute.{Found, judged, is_wide, keep_first, with_as_path}
+use Rattle.wire_model.specs.Attribute.{judged, is_wide, keep_first, with_as_path}
 use Rattle.bgp_attrs.specs.declared.path.Path as code_path
 use Rattle.bgp_attrs.specs.declared.list.Found as code
 use Rattle.bgp_attrs.specs.Views.{path_as, judged_path, found_as}

@@ -6,13 +6,18 @@
 //! (`wire_model::Rule`) that its first wrong field breaks.
 #![tactic(auto)]
 
+mod hop_octets;
 mod hops;
+mod kinds;
 mod list;
 mod multiprotocol;
 mod path;
 mod reach;
+mod rib;
 
+pub use hop_octets::HopOctets;
 pub use list::{Attrs, read_attrs};
 pub use multiprotocol::{Reach, Unreach};
 pub use path::{path_length, path_origin};
+pub use rib::{RibAttrs, read_rib_attrs};
 pub use wire_model::Place;

@@ -1,33 +1,21 @@
 //! Attribute lists.
 
-ghost use Rattle.std.specs.Prelude.{◌≡◌, ◌<◌, ◌^◌, ◌==◌, length, IfOk, option_map, bit_and, if◌then◌else◌};
-ghost use Rattle.octet_fields.specs.Field.{number_at};
+ghost use Rattle.std.specs.Prelude.{◌≡◌, ◌<◌, ◌^◌, length, IfOk, option_map};
 ghost use Rattle.octet_fields.specs.Gives.{Gives};
-ghost use Rattle.wire_model.specs.declared.rule.Rule.TheVariants.{AttributeCut};
 ghost use Rattle.wire_model.specs.Path.{as_size, path_of};
 ghost use Rattle.wire_model.specs.Attribute.{attribute_at, attributes, is_bad, is_wide, judged, listed, next_hop_in, nothing_found, with_as_path, with_next_hop, with_reach, with_unreach, with_value};
 ghost use Rattle.fib_addr.specs.Views.{addr_as};
 ghost use Rattle.bgp_attrs.specs.Views.{found_as, ipv4_as, judged_as, listed_as};
 
+use crate::kinds::{AS_PATH, MP_REACH_NLRI, MP_UNREACH_NLRI, NEXT_HOP, value_len};
 use crate::multiprotocol::{Reach, Unreach};
 use crate::path::{Path, read_path};
 use crate::reach::{reach_in_rib, reach_in_update, unreach_in_update};
 use byteorder::{BigEndian, ByteOrder};
 use fib_addr::Addr;
-use octet_fields::{octet, octets, u16_at};
+use octet_fields::{octet, octets};
 use wire_fields::{Rule, family};
 use wire_model::Place;
-
-const AS_PATH: u8 = 2;
-
-const NEXT_HOP: u8 = 3;
-
-const MP_REACH_NLRI: u8 = 14;
-
-const MP_UNREACH_NLRI: u8 = 15;
-
-/// The flag of an attribute whose length has two octets.
-const EXTENDED_LENGTH: u8 = 0x10;
 
 /// What an attribute list gives.
 #[derive(Clone, Copy, Debug)]
@@ -189,20 +177,6 @@ fn take_value<'a>(
         MP_UNREACH_NLRI => take_mp_unreach(found, place, value),
         _ => Ok(()),
     }
-}
-
-/// The length of a value, in two octets where the flags say so.
-#[inline(always)]
-fn value_len(flags: u8, bytes: &[u8]) -> Result<(u16, &[u8]), Rule>
-    ensures value { Gives (λ x. (x.0, x.1.now)) result (number_at AttributeCut
-        (if bit_and flags 16 == 0 then 1 else 2) bytes.now) }
-    ensures shorter { IfOk result (λ x. length x.1.now < length bytes.now) }
-{
-    if flags & EXTENDED_LENGTH != 0 {
-        return u16_at(Rule::AttributeCut, bytes);
-    }
-    let (len, rest) = octet(Rule::AttributeCut, bytes)?;
-    Ok((u16::from(len), rest))
 }
 
 /// Takes the attribute at the front, and gives what follows it.

@@ -16,14 +16,14 @@ use wire_fields::{Rule, check_nlri};
 pub fn reach_in_rib<'a>(family: Family, value: &'a [u8]) -> Option<Reach<'a>>
     ensures { option_map reached result ≡ reach_of_rib family (rib_hop family value.now) }
 {
-    match next_hop_in_rib(family, value) {
-        Ok((hop, _)) => Some(Reach {
+    match next_hop_in_rib(family, value).addr() {
+        Some(hop) => Some(Reach {
             family,
             hop,
             ids: false,
             nlri: &[],
         }),
-        Err(_) => None,
+        None => None,
     }
 }
 

@@ -1,49 +1,32 @@
 //! Unicast RIB records.
 
-ghost use Rattle.std.specs.Prelude.{◌≡◌, [], option_map, map};
+ghost use Rattle.std.specs.Prelude.{◌≡◌, [], map};
 ghost use Rattle.octet_fields.specs.Field.{one_more, times};
-ghost use Rattle.fib_addr.specs.Views.{addr_as, prefix_as};
+ghost use Rattle.fib_addr.specs.Views.{prefix_as};
 ghost use Rattle.fib_prefix.specs.Views.{peer_as, event_as};
 ghost use Rattle.reading_model.specs.Rib.{rib_entry_at, entry_hop, rib};
-ghost use Rattle.bgp_attrs.specs.Views.{listed_as};
+ghost use Rattle.bgp_attrs.specs.Views.{hop_as, rib_listed_as};
 ghost use Rattle.wire_fields.specs.Gives.{GivesInMemory};
 ghost use Rattle.bgp_update.specs.Adds.{AddsEvents};
 ghost use Rattle.mrt_records.specs.Adds.{AddsEntries, AddsEntry};
 ghost use Rattle.mrt_records.specs.Views.{peers_of};
 
 use crate::peer_table::PeerTable;
-use bgp_attrs::{Attrs, Place, read_attrs};
+use bgp_attrs::{HopOctets, RibAttrs, read_rib_attrs};
 use bgp_update::push_event;
-use fib_prefix::{Addr, Event, Family, Peer, Prefix, Via};
+use fib_prefix::{Event, Family, Peer, Prefix, Via};
 use octet_fields::{octets, u16_at};
 use std::alloc::Global;
 use wire_fields::{Refusal, Rule, path_id, prefix};
 
-/// The next hop of MP_REACH_NLRI.
-#[inline(always)]
-fn reach_hop(attrs: &Attrs<'_>) -> Option<Addr>
-    ensures { option_map addr_as result ≡ option_map (λ reach. reach.hop) (listed_as attrs.now).reach }
-{
-    match &attrs.reach {
-        Some(reach) => Some(reach.hop),
-        None => None,
-    }
-}
-
 /// The next hop of an entry in a record of this family.
 #[inline(always)]
-fn hop_of_entry(family: Family, attrs: &Attrs<'_>) -> Option<Addr>
-    ensures { option_map addr_as result ≡ entry_hop family (listed_as attrs.now) }
+fn hop_of_entry<'a>(family: Family, attrs: &RibAttrs<'a>) -> HopOctets<'a>
+    ensures { hop_as result ≡ entry_hop family (rib_listed_as family attrs.now) }
 {
     match family {
-        Family::V4 => match attrs.hop {
-            Some(hop) => Some(hop),
-            None => reach_hop(attrs),
-        },
-        Family::V6 => match reach_hop(attrs) {
-            Some(hop) => Some(hop),
-            None => attrs.hop,
-        },
+        Family::V4 => attrs.hop.or(attrs.reach),
+        Family::V6 => attrs.reach.or(attrs.hop),
     }
 }
 
@@ -70,13 +53,13 @@ fn push_entry<'a>(
     let (id, rest) = path_id(Rule::RibForm, ids, rest)?;
     let (len, rest) = u16_at(Rule::RibForm, rest)?;
     let (area, rest) = octets(Rule::RibForm, usize::from(len), rest)?;
-    let attrs = read_attrs(area, Place::Rib(family))?;
+    let attrs = read_rib_attrs(area, family)?;
     let via = Via { peer: *peer, id };
     push_event(
         events,
         attrs.path,
         attrs.origin,
-        hop_of_entry(family, &attrs),
+        hop_of_entry(family, &attrs).addr(),
         via,
         prefix,
     )?;
