@@ -1,10 +1,10 @@
 -- What a walk along a path asks beside it, and what is counted from the deepest node on that lasts.
-use Rattle.std.proofs.Common.{◌≡◌, ◌≢◌, ℕ, zero, suc, ◌+◌, ◌-◌, ◌*◌, ◌≤◌, List, [], ◌∷◌, Bool, true, false, cond, Option, Some, None, take, drop, refl, sym, ap, ◌∙◌, arith}
+use Rattle.std.proofs.Common.{◌≡◌, ◌≢◌, ℕ, zero, suc, ◌+◌, ◌-◌, ◌*◌, ◌≤◌, List, ◌∷◌, Bool, true, false, cond, Option, Some, None, take, drop, refl, sym, ap, ◌∙◌, arith}
 use Rattle.std.specs.Prelude.{not, nat_eq}
 use Rattle.std.specs.Int.{bit_at}
 use Rattle.std.proofs.lemmas.Bool.{eq-eqb, eqb-true, eqb-false, ne_eqb}
 use Rattle.table_model.specs.Bits.{bits_of}
-use Rattle.fib_addr.specs.Answers.{side, part, same_hop, one_answer}
+use Rattle.fib_addr.specs.Answers.{side, part, one_answer}
 use Rattle.fib_addr.proofs.OneAnswer.{mixed_bits}
 use Rattle.poptrie_build.specs.Need.{told}
 use Rattle.route_tries.specs.Parts.{half_and, answer_beside, are_two, other_than, lasts, way_nodes, way_leaves, deep_nodes, deep_leaves}

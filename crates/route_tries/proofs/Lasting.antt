@@ -1,17 +1,17 @@
 -- Nodes on the way to a path that last, whatever changes within it.
-use Rattle.std.proofs.Common.{◌≡◌, ℕ, zero, suc, ◌+◌, ◌-◌, ◌*◌, ◌^◌, ◌<◌, ◌≤◌, ◌⊎◌, inl, inr, List, [], ◌∷◌, ◌++◌, Bool, true, false, cond, Option, Some, None, length, take, drop, refl, sym, ap, ◌∙◌, arith}
-use Rattle.std.specs.Prelude.{not, nat_eq, if◌then◌else◌}
-use Rattle.std.proofs.lemmas.Bool.{cases_lt, eq-eqb, eqb-true}
+use Rattle.std.proofs.Common.{◌≡◌, ℕ, zero, suc, ◌+◌, ◌-◌, ◌^◌, ◌<◌, ◌≤◌, ◌⊎◌, inl, inr, List, [], ◌∷◌, ◌++◌, Bool, true, false, cond, Option, Some, None, length, take, drop, refl, sym, ap, ◌∙◌, arith}
+use Rattle.std.specs.Prelude.{not, if◌then◌else◌}
+use Rattle.std.proofs.lemmas.Bool.{eq-eqb}
 use Rattle.std.proofs.lemmas.List.{length-take, length-drop}
-use Rattle.table_model.specs.Bits.{bits_of, begins}
+use Rattle.table_model.specs.Bits.{bits_of}
 use Rattle.table_model.proofs.BitLaws.{length-bits_of}
-use Rattle.fib_addr.specs.Answers.{side, part, same_hop, one_answer}
-use Rattle.fib_addr.proofs.OneAnswer.{one_answer_part, mixed_bits}
+use Rattle.fib_addr.specs.Answers.{side, part, one_answer}
+use Rattle.fib_addr.proofs.OneAnswer.{one_answer_part}
 use Rattle.block_pool.specs.Powers.{up}
 use Rattle.poptrie_build.specs.Strides.{slots, slot, slot_bits, mixed, total}
 use Rattle.poptrie_build.specs.Need.{told, children, runs, if_mixed, need_nodes, need_leaves}
 use Rattle.poptrie_build.proofs.Slotting.{double, low_bits, high_bits}
-use Rattle.route_tries.specs.Parts.{AreMoved, meet, half_and, answer_beside, are_two, lasts, other_than, way_nodes, way_leaves, deep_nodes, deep_leaves}
+use Rattle.route_tries.specs.Parts.{AreMoved, meet, half_and, answer_beside, are_two, lasts, way_nodes, way_leaves, deep_nodes, deep_leaves}
 use Rattle.route_tries.proofs.Meeting.{apart, begins_front, met_is}
 use Rattle.route_tries.proofs.Ways.{same_function, AlikeElse, six, total_moved, own_nodes, own_leaves, nodes_by_slots, leaves_by_slots, no_strides_nodes, no_strides_leaves, no_way_nodes, no_way_leaves, whole_nodes, whole_leaves, nodes_moved_below, leaves_moved_below}
 

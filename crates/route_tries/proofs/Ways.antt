@@ -8,7 +8,7 @@ use Rattle.table_model.proofs.BitLaws.{length-bits_of}
 use Rattle.block_pool.specs.Powers.{up}
 use Rattle.fib_addr.specs.Answers.{one_answer}
 use Rattle.fib_addr.proofs.OneAnswer.{one_answer_part, mixed_bits}
-use Rattle.poptrie_build.specs.Strides.{slots, slot, slot_bits, mixed, total}
+use Rattle.poptrie_build.specs.Strides.{slots, slot, slot_bits, total}
 use Rattle.poptrie_build.specs.Need.{told, children, runs, if_mixed, need_nodes, need_leaves}
 use Rattle.poptrie_build.proofs.Counting.{nodes_at, leaves_at, need_nodes_is, need_leaves_is, no_nodes, no_leaves}
 use Rattle.poptrie_build.specs.Tally.{IsNeed}

@@ -1,4 +1,4 @@
-use Rattle.std.proofs.Common.{◌≡◌, ◌≢◌, arith}
+use Rattle.std.proofs.Common.{◌≢◌, arith}
 use Rattle.route_tries.proofs.Beside.{along_step, along_end}
 use Rattle.route_tries.proofs.deep.+along.Goals as goal
 
