@@ -33,11 +33,13 @@ const WHOLE: [((u32, u8), u8, (u64, u64)); 3] = [
     ((TEN + 1, 32), 16, (3, 6)),
 ];
 
-/// A prefix's bits and length, and what the trie of 10.0.0.1/32 needs at it.
-const ON_THE_WAY: [((u32, u8), (u64, u64)); 5] = [
+/// A prefix's bits and length, and what the trie of 10.0.0.1/32 needs at it: from the node on of 10.0.0.0/28 or of 10.0.0.0/22 where
+/// that lasts, as 10.0.0.1 is beside the prefix.
+const ON_THE_WAY: [((u32, u8), (u64, u64)); 6] = [
     ((TEN, 0), (3, 6)),
-    ((TEN + 7, 30), (3, 6)),
-    ((TEN + 64, 26), (3, 2)),
+    ((TEN + 7, 30), (1, 4)),
+    ((TEN + 64, 26), (2, 1)),
+    ((TEN + 1, 32), (3, 6)),
     ((TEN + 32768, 17), (2, 1)),
     ((OTHER, 20), (0, 0)),
 ];

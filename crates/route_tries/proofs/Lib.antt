@@ -1,7 +1,9 @@
 pub mod Going
 pub mod Meeting
 pub mod Ways
+pub mod Lasting
 pub mod Halves
+pub mod Beside
 pub mod Under
 pub mod Short
 pub mod Same

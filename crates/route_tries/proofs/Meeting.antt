@@ -1,5 +1,5 @@
 -- Paths that meet, and the bits of numbers that are paths.
-use Rattle.std.proofs.Common.{◌≡◌, ℕ, zero, suc, ◌-◌, List, [], ◌∷◌, ◌++◌, Bool, true, false, length, drop, refl, ap, ◌∙◌, arith}
+use Rattle.std.proofs.Common.{◌≡◌, ℕ, zero, suc, ◌-◌, ◌≤◌, List, [], ◌∷◌, ◌++◌, Bool, true, false, length, take, drop, refl, ap, ◌∙◌, arith}
 use Rattle.table_model.specs.Bits.{bits_of, begins}
 use Rattle.route_tries.specs.Parts.{meet}
 
@@ -28,6 +28,23 @@ pub meet_none : (q : List Bool) → meet q [] ≡ true
 meet_none [] = refl
 meet_none (true ∷ q) = refl
 meet_none (false ∷ q) = refl
+
+-- what follows the front of a path begins with the path where the rest begins with what is left of it
+pub begins_front : (n : ℕ) (p a : List Bool) → begins p (take n p ++ a) ≡ begins (drop n p) a
+begins_front zero p a = refl
+begins_front (suc n) [] a = refl
+begins_front (suc n) (true ∷ p) a = begins_front n p a
+begins_front (suc n) (false ∷ p) a = begins_front n p a
+
+-- a path that meets one as long or longer is its front
+pub met_is : (q p : List Bool) → length q ≤ length p → meet q p ≡ true → q ≡ take (length q) p
+met_is [] p l e = refl
+met_is (true ∷ q) [] l e = absurd (omega arith)
+met_is (false ∷ q) [] l e = absurd (omega arith)
+met_is (true ∷ q) (true ∷ p) l e = ap (λ x. true ∷ x) (met_is q p (omega arith) e)
+met_is (false ∷ q) (false ∷ p) l e = ap (λ x. false ∷ x) (met_is q p (omega arith) e)
+met_is (true ∷ q) (false ∷ p) l e = cc
+met_is (false ∷ q) (true ∷ p) l e = cc
 
 -- ---- paths of numbers
 pub bits_drop : (a n q : ℕ) → drop a (bits_of n q) ≡ bits_of (n - a) q

@@ -15,9 +15,10 @@ use Rattle.poptrie_build.specs.Tries.{rest, node_need, leaf_need}
 use Rattle.poptrie_build.specs.declared.counts.Needs.{Needs}
 use Rattle.poptrie_build.proofs.Filled.{strides_do, wide_enough}
 use Rattle.route_tries.specs.Sizes.{told_need}
-use Rattle.route_tries.specs.Parts.{AreAlikeOutside, AreMoved, way_nodes, way_leaves, trie_way_nodes, trie_way_leaves, nodes_on_way, leaves_on_way, need_at}
+use Rattle.route_tries.specs.Parts.{AreAlikeOutside, AreMoved, deep_nodes, deep_leaves, trie_way_nodes, trie_way_leaves, nodes_on_way, leaves_on_way, need_at}
 use Rattle.route_tries.proofs.Meeting.{bits_drop}
-use Rattle.route_tries.proofs.Ways.{same_function, AlikeElse, whole_nodes, whole_leaves, nodes_moved_below, leaves_moved_below}
+use Rattle.route_tries.proofs.Ways.{same_function, AlikeElse}
+use Rattle.route_tries.proofs.Lasting.{whole_deep_nodes, whole_deep_leaves, deep_nodes_moved, deep_leaves_moved}
 
 -- A need T of so many more direct bits, and the need V on the way to a path: the sum of both halves', or of those that meet the path.
 module _ (T : ℕ → (List Bool → ℕ) → ℕ) (V : ℕ → (List Bool → ℕ) → List Bool → ℕ) (sum : (s : ℕ) (f : List Bool → ℕ) → T (suc s) f ≡ T s (side false f) + T s (side true f)) (both : (s : ℕ) (f : List Bool → ℕ) → V (suc s) f [] ≡ V s (side false f) [] + V s (side true f) []) (one : (s : ℕ) (f : List Bool → ℕ) (b : Bool) (p : List Bool) → V (suc s) f (b ∷ p) ≡ V s (side b f) p) where
@@ -80,25 +81,25 @@ module _ (k d : ℕ) where
 
   slot_nodes_moved : (f g : List Bool → ℕ) (p : List Bool) → AlikeElse p f g → AreMoved (trie_nodes 0 k d f) (trie_nodes 0 k d g) (trie_way_nodes 0 k d f p) (trie_way_nodes 0 k d g p)
   unfolding trie_nodes trie_way_nodes
-  slot_nodes_moved f g p h = let t = nodes_moved_below k d f g p h in record { few = omega (arith, t.few); same = omega (arith, t.same) }
+  slot_nodes_moved f g p h = let t = deep_nodes_moved k d f g p h in record { few = omega (arith, t.few); same = omega (arith, t.same) }
 
   slot_leaves_moved : (f g : List Bool → ℕ) (p : List Bool) → AlikeElse p f g → AreMoved (trie_leaves 0 k d f) (trie_leaves 0 k d g) (trie_way_leaves 0 k d f p) (trie_way_leaves 0 k d g p)
   unfolding trie_leaves trie_way_leaves
-  slot_leaves_moved f g p h = leaves_moved_below k d f g p h
+  slot_leaves_moved f g p h = deep_leaves_moved k d f g p h
 
   slot_nodes_whole : (f : List Bool → ℕ) → trie_way_nodes 0 k d f [] ≡ trie_nodes 0 k d f
   unfolding trie_nodes trie_way_nodes
-  slot_nodes_whole f = ap (λ n. mixed (one_answer d f) + n) (whole_nodes k d f)
+  slot_nodes_whole f = ap (λ n. mixed (one_answer d f) + n) (whole_deep_nodes k d f)
 
   slot_leaves_whole : (f : List Bool → ℕ) → trie_way_leaves 0 k d f [] ≡ trie_leaves 0 k d f
   unfolding trie_leaves trie_way_leaves
-  slot_leaves_whole f = whole_leaves k d f
+  slot_leaves_whole f = whole_deep_leaves k d f
 
-  slot_nodes_is : (f : List Bool → ℕ) (p : List Bool) → trie_way_nodes 0 k d f p ≡ mixed (one_answer d f) + way_nodes k d f p
+  slot_nodes_is : (f : List Bool → ℕ) (p : List Bool) → trie_way_nodes 0 k d f p ≡ mixed (one_answer d f) + deep_nodes k d f p
   unfolding trie_way_nodes
   slot_nodes_is f p = refl
 
-  slot_leaves_is : (f : List Bool → ℕ) (p : List Bool) → trie_way_leaves 0 k d f p ≡ way_leaves k d f p
+  slot_leaves_is : (f : List Bool → ℕ) (p : List Bool) → trie_way_leaves 0 k d f p ≡ deep_leaves k d f p
   unfolding trie_way_leaves
   slot_leaves_is f p = refl
 
@@ -114,10 +115,10 @@ module _ (k d : ℕ) where
   leaves_short : (s j : ℕ) (f : List Bool → ℕ) (p : List Bool) → j + length p ≡ s → trie_way_leaves s k d f p ≡ trie_leaves j k d (part p f)
   leaves_short = at_short (λ s f. trie_leaves s k d f) (λ s f p. trie_way_leaves s k d f p) leaves_sum leaves_both leaves_one slot_leaves_whole
 
-  nodes_long : (s : ℕ) (f : List Bool → ℕ) (p : List Bool) → s ≤ length p → trie_way_nodes s k d f p ≡ mixed (one_answer d (part (take s p) f)) + way_nodes k d (part (take s p) f) (drop s p)
+  nodes_long : (s : ℕ) (f : List Bool → ℕ) (p : List Bool) → s ≤ length p → trie_way_nodes s k d f p ≡ mixed (one_answer d (part (take s p) f)) + deep_nodes k d (part (take s p) f) (drop s p)
   nodes_long s f p l = at_long (λ s f. trie_nodes s k d f) (λ s f p. trie_way_nodes s k d f p) nodes_sum nodes_both nodes_one s f p l ∙ slot_nodes_is (part (take s p) f) (drop s p)
 
-  leaves_long : (s : ℕ) (f : List Bool → ℕ) (p : List Bool) → s ≤ length p → trie_way_leaves s k d f p ≡ way_leaves k d (part (take s p) f) (drop s p)
+  leaves_long : (s : ℕ) (f : List Bool → ℕ) (p : List Bool) → s ≤ length p → trie_way_leaves s k d f p ≡ deep_leaves k d (part (take s p) f) (drop s p)
   leaves_long s f p l = at_long (λ s f. trie_leaves s k d f) (λ s f p. trie_way_leaves s k d f p) leaves_sum leaves_both leaves_one s f p l ∙ slot_leaves_is (part (take s p) f) (drop s p)
 
 -- ---- the need after a change
@@ -165,7 +166,7 @@ module _ (f : Family) (s c n b : ℕ) (R : Entries) (p : Prefix) (g : List Bool 
       (y k enough ∙ (ap (λ d. told (trie_leaves (s - c) k d g)) bits_left ∙ (ap (λ (h : List Bool → ℕ). told (trie_leaves (s - c) k (rest f s) h)) here ∙ ap told (sym (leaves_short k (rest f s) s (s - c) (all_answers f R) p.bits bits)))))
 
   -- a longer one, of which j bits are left
-  pub counted_way : (q j : ℕ) → bits_of n q ≡ p.bits → s < n → j ≡ n - s → ((k : ℕ) → b ≤ 6 * k → r.nodes ≡ told (mixed (one_answer b g) + way_nodes k b g (bits_of j q))) → ((k : ℕ) → b ≤ 6 * k → r.leaves ≡ told (way_leaves k b g (bits_of j q))) → r ≡ told_need (need_at s R p)
+  pub counted_way : (q j : ℕ) → bits_of n q ≡ p.bits → s < n → j ≡ n - s → ((k : ℕ) → b ≤ 6 * k → r.nodes ≡ told (mixed (one_answer b g) + deep_nodes k b g (bits_of j q))) → ((k : ℕ) → b ≤ 6 * k → r.leaves ≡ told (deep_leaves k b g (bits_of j q))) → r ≡ told_need (need_at s R p)
   counted_way q j path l e x y =
       let k = strides (rest f s) in
       let first : c ≡ s = omega (arith, least) in
@@ -174,5 +175,5 @@ module _ (f : Family) (s c n b : ℕ) (R : Entries) (p : Prefix) (g : List Bool 
       let behind : bits_of j q ≡ drop s p.bits = ap (λ m. bits_of m q) e ∙ (sym (bits_drop s n q) ∙ ap (drop s) path) in
       let long : s ≤ length p.bits = omega (arith, len) in
       both_told
-      (x k (omega (arith, bits, strides_do (rest f s))) ∙ (ap (λ d. told (mixed (one_answer d g) + way_nodes k d g (bits_of j q))) bits ∙ (ap (λ (h : List Bool → ℕ). told (mixed (one_answer (rest f s) h) + way_nodes k (rest f s) h (bits_of j q))) here ∙ (ap (λ (t : List Bool). told (mixed (one_answer (rest f s) (part (take s p.bits) (all_answers f R))) + way_nodes k (rest f s) (part (take s p.bits) (all_answers f R)) t)) behind ∙ ap told (sym (nodes_long k (rest f s) s (all_answers f R) p.bits long))))))
-      (y k (omega (arith, bits, strides_do (rest f s))) ∙ (ap (λ d. told (way_leaves k d g (bits_of j q))) bits ∙ (ap (λ (h : List Bool → ℕ). told (way_leaves k (rest f s) h (bits_of j q))) here ∙ (ap (λ (t : List Bool). told (way_leaves k (rest f s) (part (take s p.bits) (all_answers f R)) t)) behind ∙ ap told (sym (leaves_long k (rest f s) s (all_answers f R) p.bits long))))))
+      (x k (omega (arith, bits, strides_do (rest f s))) ∙ (ap (λ d. told (mixed (one_answer d g) + deep_nodes k d g (bits_of j q))) bits ∙ (ap (λ (h : List Bool → ℕ). told (mixed (one_answer (rest f s) h) + deep_nodes k (rest f s) h (bits_of j q))) here ∙ (ap (λ (t : List Bool). told (mixed (one_answer (rest f s) (part (take s p.bits) (all_answers f R))) + deep_nodes k (rest f s) (part (take s p.bits) (all_answers f R)) t)) behind ∙ ap told (sym (nodes_long k (rest f s) s (all_answers f R) p.bits long))))))
+      (y k (omega (arith, bits, strides_do (rest f s))) ∙ (ap (λ d. told (deep_leaves k d g (bits_of j q))) bits ∙ (ap (λ (h : List Bool → ℕ). told (deep_leaves k (rest f s) h (bits_of j q))) here ∙ (ap (λ (t : List Bool). told (deep_leaves k (rest f s) (part (take s p.bits) (all_answers f R)) t)) behind ∙ ap told (sym (leaves_long k (rest f s) s (all_answers f R) p.bits long))))))

@@ -8,7 +8,7 @@ use Rattle.table_model.proofs.BitLaws.{length-bits_of}
 use Rattle.block_pool.specs.Powers.{up}
 use Rattle.fib_addr.specs.Answers.{one_answer}
 use Rattle.fib_addr.proofs.OneAnswer.{one_answer_part, mixed_bits}
-use Rattle.poptrie_build.specs.Strides.{slots, slot, slot_bits, mixed, total}
+use Rattle.poptrie_build.specs.Strides.{slots, slot, slot_bits, total}
 use Rattle.poptrie_build.specs.Need.{told, children, runs, if_mixed, need_nodes, need_leaves}
 use Rattle.poptrie_build.proofs.Counting.{nodes_at, leaves_at, need_nodes_is, need_leaves_is, no_nodes, no_leaves}
 use Rattle.poptrie_build.specs.Tally.{IsNeed}
@@ -35,7 +35,7 @@ unfolding total
 total_none g zero e = refl
 total_none g (suc n) e = omega (arith, total_none g n e, e n)
 
-total_moved : (n m x y : ℕ → ℕ) (j : ℕ) → ((u : ℕ) → AreMoved (n u) (m u) (x u) (y u)) → AreMoved (total n j) (total m j) (total x j) (total y j)
+pub total_moved : (n m x y : ℕ → ℕ) (j : ℕ) → ((u : ℕ) → AreMoved (n u) (m u) (x u) (y u)) → AreMoved (total n j) (total m j) (total x j) (total y j)
 unfolding total
 total_moved n m x y zero h = record { few = omega arith; same = refl }
 total_moved n m x y (suc j) h =
@@ -50,7 +50,7 @@ take_all zero (x ∷ xs) h = absurd (omega arith)
 take_all (suc n) [] h = refl
 take_all (suc n) (x ∷ xs) h = ap (λ t. x ∷ t) (take_all n xs (omega arith))
 
-six : (d v : ℕ) → 6 ≤ d → slot_bits d v ≡ bits_of 6 v
+pub six : (d v : ℕ) → 6 ≤ d → slot_bits d v ≡ bits_of 6 v
 six d v l = take_all d (bits_of 6 v) (omega (arith, length-bits_of 6 v))
 
 -- a slot of a uniform region is uniform
@@ -110,7 +110,7 @@ module _ (N : ℕ → ℕ → (List Bool → ℕ) → ℕ) (W : ℕ → ℕ → 
 abbrev pub slot_nodes : ℕ → ℕ → (List Bool → ℕ) → List Bool → ℕ → ℕ
 slot_nodes k d f p v = nodes_below 6 k (d - 6) (slot d f v) p v
 
-abbrev own_nodes : ℕ → (List Bool → ℕ) → ℕ
+abbrev pub own_nodes : ℕ → (List Bool → ℕ) → ℕ
 own_nodes d f = if_mixed (one_answer d f) (up (children (slots d f)))
 
 pub no_way_nodes : (k d h : ℕ) (f : List Bool → ℕ) (p : List Bool) → one_answer d f ≡ Some h → way_nodes k d f p ≡ 0
@@ -130,7 +130,7 @@ no_nodes_below k e h v f p o = by (meet (bits_of 6 v) p)
     by true = no_way_nodes k e h f (drop 6 p) o
     by false = refl
 
-nodes_by_slots : (k d : ℕ) (f : List Bool → ℕ) → need_nodes (suc k) d f ≡ own_nodes d f + total (nodes_at k d f) 64
+pub nodes_by_slots : (k d : ℕ) (f : List Bool → ℕ) → need_nodes (suc k) d f ≡ own_nodes d f + total (nodes_at k d f) 64
 nodes_by_slots k d f = by (one_answer d f) refl
   where
     by : (o : Option ℕ) → one_answer d f ≡ o → need_nodes (suc k) d f ≡ own_nodes d f + total (nodes_at k d f) 64
@@ -144,7 +144,7 @@ way_nodes_by_slots k d f p = by (one_answer d f) refl
     by None e = way_nodes_is k d f p e ∙ sym (ap (λ x. if_mixed x (up (children (slots d f))) + total (slot_nodes k d f p) 64) e)
     by (Some h) e = omega (arith, no_way_nodes (suc k) d h f p e, ap (λ x. if_mixed x (up (children (slots d f)))) e, total_none (slot_nodes k d f p) 64 (λ v. no_nodes_below k (d - 6) h v (slot d f v) p (slot_one d h v f e)))
 
-no_strides_nodes : (d : ℕ) (f : List Bool → ℕ) → need_nodes 0 d f ≡ 0
+pub no_strides_nodes : (d : ℕ) (f : List Bool → ℕ) → need_nodes 0 d f ≡ 0
 unfolding need_nodes
 no_strides_nodes d f = refl
 
@@ -162,7 +162,7 @@ nodes_moved_below = way_moved need_nodes way_nodes own_nodes no_strides_nodes no
 abbrev pub slot_leaves : ℕ → ℕ → (List Bool → ℕ) → List Bool → ℕ → ℕ
 slot_leaves k d f p v = leaves_below 6 k (d - 6) (slot d f v) p v
 
-abbrev own_leaves : ℕ → (List Bool → ℕ) → ℕ
+abbrev pub own_leaves : ℕ → (List Bool → ℕ) → ℕ
 own_leaves d f = if_mixed (one_answer d f) (up (runs (slots d f)))
 
 pub no_way_leaves : (k d h : ℕ) (f : List Bool → ℕ) (p : List Bool) → one_answer d f ≡ Some h → way_leaves k d f p ≡ 0
@@ -182,7 +182,7 @@ no_leaves_below k e h v f p o = by (meet (bits_of 6 v) p)
     by true = no_way_leaves k e h f (drop 6 p) o
     by false = refl
 
-leaves_by_slots : (k d : ℕ) (f : List Bool → ℕ) → need_leaves (suc k) d f ≡ own_leaves d f + total (leaves_at k d f) 64
+pub leaves_by_slots : (k d : ℕ) (f : List Bool → ℕ) → need_leaves (suc k) d f ≡ own_leaves d f + total (leaves_at k d f) 64
 leaves_by_slots k d f = by (one_answer d f) refl
   where
     by : (o : Option ℕ) → one_answer d f ≡ o → need_leaves (suc k) d f ≡ own_leaves d f + total (leaves_at k d f) 64
@@ -196,7 +196,7 @@ way_leaves_by_slots k d f p = by (one_answer d f) refl
     by None e = way_leaves_is k d f p e ∙ sym (ap (λ x. if_mixed x (up (runs (slots d f))) + total (slot_leaves k d f p) 64) e)
     by (Some h) e = omega (arith, no_way_leaves (suc k) d h f p e, ap (λ x. if_mixed x (up (runs (slots d f)))) e, total_none (slot_leaves k d f p) 64 (λ v. no_leaves_below k (d - 6) h v (slot d f v) p (slot_one d h v f e)))
 
-no_strides_leaves : (d : ℕ) (f : List Bool → ℕ) → need_leaves 0 d f ≡ 0
+pub no_strides_leaves : (d : ℕ) (f : List Bool → ℕ) → need_leaves 0 d f ≡ 0
 unfolding need_leaves
 no_strides_leaves d f = refl
 
@@ -217,10 +217,3 @@ way_end n d f p none i zero h = absurd (let m = mixed_bits d f none in omega ari
 way_end n d f p none i (suc k) h =
     let all = i k (omega arith) in
     record { nodes = all.nodes ∙ ap told (sym (way_nodes_is k d f p none)); leaves = all.leaves ∙ ap told (sym (way_leaves_is k d f p none)) }
-
--- ---- a slot of the direct bits that has no node
-pub none_nodes : (k d h : ℕ) (f : List Bool → ℕ) (p : List Bool) → one_answer d f ≡ Some h → 0 ≡ told (mixed (one_answer d f) + way_nodes k d f p)
-none_nodes k d h f p e = omega (arith, ap mixed e, no_way_nodes k d h f p e)
-
-pub none_leaves : (k d h : ℕ) (f : List Bool → ℕ) (p : List Bool) → one_answer d f ≡ Some h → 0 ≡ told (way_leaves k d f p)
-none_leaves k d h f p e = omega (arith, no_way_leaves k d h f p e)

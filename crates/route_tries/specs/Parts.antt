@@ -1,11 +1,11 @@
 -- What a trie needs at a prefix.
-use Rattle.std.specs.Prelude.{◌≡◌, ◌≤◌, ℕ, zero, suc, ◌+◌, ◌-◌, List, [], ◌∷◌, Bool, true, false, ◌||◌, if◌then◌else◌, drop}
+use Rattle.std.specs.Prelude.{◌≡◌, ◌≤◌, ℕ, zero, suc, ◌+◌, ◌-◌, List, [], ◌∷◌, Bool, true, false, not, nat_eq, ◌||◌, if◌then◌else◌, Option, Some, None, take, drop}
 use Rattle.table_model.specs.Bits.{bits_of, begins}
 use Rattle.table_model.specs.Address.{Address, Prefix, contains}
 use Rattle.table_model.specs.declared.family.Family.{Family}
 use Rattle.table_model.specs.Entries.{Entries, match_in}
 use Rattle.block_pool.specs.Powers.{up}
-use Rattle.fib_addr.specs.Answers.{all_answers, side, one_answer}
+use Rattle.fib_addr.specs.Answers.{all_answers, side, part, same_hop, one_answer}
 use Rattle.poptrie_build.specs.Strides.{strides, slots, slot, mixed, total}
 use Rattle.poptrie_build.specs.Need.{children, runs, if_mixed}
 use Rattle.poptrie_build.specs.Tries.{rest}
@@ -26,26 +26,68 @@ unfoldable pub way_leaves : ℕ → ℕ → (List Bool → ℕ) → List Bool �
 way_leaves zero d f p = 0
 way_leaves (suc k) d f p = if_mixed (one_answer d f) (up (runs (slots d f)) + total (λ v. if meet (bits_of 6 v) p then way_leaves k (d - 6) (slot d f v) (drop 6 p) else 0) 64)
 
+-- ---- nodes that last
+-- the one answer of a half and of what else is beside a path, if anything is
+abbrev pub half_and : Option ℕ → Option (Option ℕ) → Option ℕ
+half_and o None = o
+half_and o (Some x) = same_hop o x
+
+-- The one answer of a region's addresses of d more bits that are beside the path p, that is, don't begin with it: Some None where two
+-- of them have different answers, None where there is no such address.
+unfoldable pub answer_beside : ℕ → (List Bool → ℕ) → List Bool → Option (Option ℕ)
+answer_beside zero f p = None
+answer_beside (suc d) f [] = None
+answer_beside (suc d) f (b ∷ p) = Some (half_and (one_answer d (side (not b) f)) (answer_beside d (side b f) p))
+
+abbrev pub are_two : Option (Option ℕ) → Bool
+are_two None = false
+are_two (Some None) = true
+are_two (Some (Some h)) = false
+
+-- whether some address has another answer than h
+abbrev pub other_than : ℕ → Option (Option ℕ) → Bool
+other_than h None = false
+other_than h (Some None) = true
+other_than h (Some (Some g)) = not (nat_eq g h)
+
+-- A region's node lasts where two addresses beside the path have different answers: whatever changes within the path, the region has
+-- two answers.
+abbrev pub lasts : ℕ → (List Bool → ℕ) → List Bool → Bool
+lasts d f p = are_two (answer_beside d f p)
+
+-- Below a chunk region, over k strides, what is needed on the way to a path and within it, from the deepest node that lasts on: what the
+-- nodes above it need beside it stays the same where something changes within the path. From the region's own node on if none below it
+-- lasts.
+unfoldable pub deep_nodes : ℕ → ℕ → (List Bool → ℕ) → List Bool → ℕ
+deep_nodes zero d f p = 0
+deep_nodes (suc k) d f p = if lasts (d - 6) (part (take 6 p) f) (drop 6 p) then deep_nodes k (d - 6) (part (take 6 p) f) (drop 6 p) else way_nodes (suc k) d f p
+
+unfoldable pub deep_leaves : ℕ → ℕ → (List Bool → ℕ) → List Bool → ℕ
+deep_leaves zero d f p = 0
+deep_leaves (suc k) d f p = if lasts (d - 6) (part (take 6 p) f) (drop 6 p) then deep_leaves k (d - 6) (part (take 6 p) f) (drop 6 p) else way_leaves (suc k) d f p
+
+-- ---- a whole trie
 -- Of a whole trie of s direct bits, over k strides of the d bits behind them: by halves down to the direct slots that meet the path,
 -- each of which that has a node has that node's place too.
 unfoldable pub trie_way_nodes : ℕ → ℕ → ℕ → (List Bool → ℕ) → List Bool → ℕ
-trie_way_nodes zero k d f p = mixed (one_answer d f) + way_nodes k d f p
+trie_way_nodes zero k d f p = mixed (one_answer d f) + deep_nodes k d f p
 trie_way_nodes (suc s) k d f [] = trie_way_nodes s k d (side false f) [] + trie_way_nodes s k d (side true f) []
 trie_way_nodes (suc s) k d f (b ∷ p) = trie_way_nodes s k d (side b f) p
 
 unfoldable pub trie_way_leaves : ℕ → ℕ → ℕ → (List Bool → ℕ) → List Bool → ℕ
-trie_way_leaves zero k d f p = way_leaves k d f p
+trie_way_leaves zero k d f p = deep_leaves k d f p
 trie_way_leaves (suc s) k d f [] = trie_way_leaves s k d (side false f) [] + trie_way_leaves s k d (side true f) []
 trie_way_leaves (suc s) k d f (b ∷ p) = trie_way_leaves s k d (side b f) p
 
--- the need of a family's trie on the way to the bits p and within them
+-- the need of a family's trie on the way to the bits p and within them, from the deepest node on that lasts
 abbrev pub nodes_on_way : Family → ℕ → Entries → List Bool → ℕ
 nodes_on_way f s L p = trie_way_nodes s (strides (rest f s)) (rest f s) (all_answers f L) p
 
 abbrev pub leaves_on_way : Family → ℕ → Entries → List Bool → ℕ
 leaves_on_way f s L p = trie_way_leaves s (strides (rest f s)) (rest f s) (all_answers f L) p
 
--- the need at a prefix: the own places of the nodes on the way to it, and the whole need of what is at and within it
+-- the need at a prefix: from the deepest node on that lasts on the way to it, the own places of the nodes on the way, and the whole need
+-- of what is at and within it
 abbrev pub need_at : ℕ → Entries → Prefix → Needs
 need_at s L p = record { nodes = nodes_on_way p.family s L p.bits; leaves = leaves_on_way p.family s L p.bits }
 

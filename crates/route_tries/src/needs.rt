@@ -7,9 +7,9 @@ ghost use Rattle.poptrie_build.specs.Need.{told};
 ghost use Rattle.route_tries.specs.Sizes.{need_of as need_in, told_need, told_needs, needs_of_both, first_short, short_or as short_in, sizes_as, shortage_as};
 ghost use Rattle.route_tries.specs.Parts.{AreMoved, IsNeedAfter, need_at as need_at_prefix};
 
+use crate::deep::count_slot;
 use crate::region::RouteRegion;
 use crate::sizes::{Sizes, TrieFull};
-use crate::way::count_slot;
 use fib_addr::Prefix;
 use orig_tree::{Tree, path_bits};
 use poptrie_build::{Needs, count_words};
@@ -31,9 +31,10 @@ pub fn need_of(tree: &Tree, direct: u8) -> Needs
     count_words(&RouteRegion::whole(tree), direct)
 }
 
-/// What a trie of a tree's routes needs at a prefix: each node on the way to it needs its own places, and what is within the
-/// prefix needs all of its own. It costs the regions with two answers in the nodes on the way, and what the tree has within the
-/// prefix.
+/// What a trie of a tree's routes needs at a prefix. If nodes on the way to it last whatever changes within it, that is from the
+/// deepest of these on, else all: each node on the way needs its own places, and what is within the prefix needs all of its own.
+/// Mostly a node lasts near the prefix. It costs the prefix's length for each node on the way at most, the regions with two answers
+/// in the nodes from there on, and what the tree has within the prefix.
 pub fn need_at(tree: &Tree, direct: u8, prefix: &Prefix) -> Needs
     requires family { prefix.now.family ≡ tree.now.family }
     requires few { direct ≤ 18 }

@@ -119,29 +119,3 @@ fn tally_beside<R: Region>(region: &R, depth: u8, tally: &mut Tally)
         }
     }
 }
-
-/// What the region of a direct slot needs on the way to a path and within it: nothing if it has one answer, else the place of its
-/// node, and what that node needs.
-pub(crate) fn count_slot<R: Region>(region: &R, q: u128, left: u8) -> Needs
-    requires few { left ≤ 128 }
-    ensures nodes { (k : ℕ) → R.bits region.now ≤ 6 * k
-        → result.nodes ≡ told (mixed (one_answer (R.bits region.now) (R.answers region.now))
-        + way_nodes k (R.bits region.now) (R.answers region.now) (bits_of left q)) }
-    ensures leaves { (k : ℕ) → R.bits region.now ≤ 6 * k
-        → result.leaves ≡ told (way_leaves k (R.bits region.now) (R.answers region.now)
-        (bits_of left q)) }
-{
-    match region.only() {
-        Some(_hop) => Needs {
-            nodes: 0,
-            leaves: 0,
-        },
-        None => {
-            let below = count_way(region, q, left);
-            Needs {
-                nodes: below.nodes.saturating_add(1),
-                leaves: below.leaves,
-            }
-        }
-    }
-}

@@ -1,6 +1,6 @@
 use Rattle.table_model.specs.Bits.{bits_of}
-use Rattle.route_tries.proofs.Ways.{none_nodes, none_leaves}
-use Rattle.route_tries.proofs.way.count_slot.Goals as goal
+use Rattle.route_tries.proofs.Lasting.{none_nodes, none_leaves}
+use Rattle.route_tries.proofs.deep.count_slot.Goals as goal
 
 pub returns-in-Some-clause-nodes : goal.returns-in-Some-clause-nodes
 returns-in-Some-clause-nodes g c =
