@@ -10,6 +10,8 @@
 #![tactic(auto)]
 
 mod fields;
+mod hop_texts;
+mod line;
 mod printed_row;
 mod rows;
 mod run;
