@@ -1,5 +1,6 @@
 pub mod Entries
 mod Joined
+pub mod Kept
 pub mod Loops
 mod Proper
 pub mod Sections

@@ -3,3 +3,4 @@ pub mod Rows
 pub mod Writing
 pub mod Sections
 pub mod SectionRows
+pub mod HopTexts

@@ -22,7 +22,7 @@ text_in t = (writer_under t.out).items ++ writer_pending t.out
 
 -- the hops that numbers stand for
 abbrev pub hops_in : RunText → List Address
-hops_in t = t.hops.now.list
+hops_in t = t.hops
 
 -- these rows follow the text so far, and each is one that is read as it is; more can be written, with the same hops
 pub record Writes (old new : RunText) (rows : List PrintedRow) : Type 0 where

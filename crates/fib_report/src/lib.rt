@@ -5,11 +5,14 @@
 //! own, and stands in `rows`. Contracts see the run as the model's lists, and its text as the text of the model's printed rows,
 //! which a checker reads again.
 //!
-//! Rows are written by csv's writer, without quotes, since no field holds a comma, a quote or a line end. Writing is linear
-//! in the rows; a field is a slice of a buffer on the stack, and only the text takes memory.
+//! Rows are written by csv's writer, without quotes, since no field holds a comma, a quote or a line end. Rows of a prefix, of which a
+//! run has millions, are put together in a buffer on the stack and go to the writer as one field. Writing is linear in the rows; only
+//! the text takes memory, and the texts of next hops, which are made once.
 #![tactic(auto)]
 
 mod fields;
+mod hop_texts;
+mod line;
 mod printed_row;
 mod rows;
 mod run;

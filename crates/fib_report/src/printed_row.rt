@@ -1,17 +1,20 @@
 //! A printed row, written: its fields with commas between them, and a line feed. What is written is what cost_cert reads, and
 //! a row costs its length.
 
-ghost use Rattle.std.specs.Prelude.{◌≤◌, ◌∷◌, [], codes, decimal, length, map, option_map, OnOk};
+ghost use Rattle.std.specs.Prelude.{◌<◌, ◌≡◌, ◌≤◌, ◌∷◌, ◌++◌, [], codes, decimal, length, map, option_map, OnOk};
+ghost use Rattle.fib_addr.specs.Hops.{hop_at};
 ghost use Rattle.fib_addr.specs.Views.{addr_as, prefix_as};
 ghost use Rattle.fib_addr.specs.Text.{address_text, prefix_text};
-ghost use Rattle.printed_model.specs.Rows.{IsRow, count_name, family_name, hop_text, invalid_row, line_of, line};
-ghost use Rattle.cost_cert.specs.Printed.{announced_as, count_as, printed_row_as, printed_vrp_as};
+ghost use Rattle.printed_model.specs.Rows.{IsHop, IsRow, count_name, family_name, hop_text, invalid_row, line_of, line};
+ghost use Rattle.cost_cert.specs.Printed.{announced_as, count_as, printed_vrp_as};
 ghost use Rattle.fib_report.specs.Writing.{AddsRows, IsAtRow};
 
 use crate::fields::{count_field, family_field, hop_field, origin_field};
-use cost_cert::{Announced, Count, PrintedRow, PrintedVrp};
+use crate::hop_texts::HopTexts;
+use crate::line::Line;
+use cost_cert::{Announced, Count, PrintedVrp};
 use csv::Writer;
-use fib_addr::{Addr, Family, MOST_TEXT, Prefix, addr_text, prefix_text};
+use fib_addr::{Addr, Family, Hop, MOST_TEXT, Prefix, addr_text, prefix_text};
 use itoa::Buffer;
 use std::alloc::AllocError;
 use std::io::Write;
@@ -27,63 +30,52 @@ pub fn put_fields<W: Write + Drop>(out: &mut Writer<W>, fields: &[&[u8]]) -> Res
     out.write_fields(fields).map_err(|_| AllocError)
 }
 
-/// Writes a row of three fields.
-fn put_three<'a, W: Write + Drop>(
-    out: &mut Writer<W>,
-    first: &'a [u8],
-    second: &'a [u8],
-    third: &'a [u8],
-) -> Result<(), AllocError>
-    requires { IsAtRow out.old }
-    ensures { OnOk result (AddsRows W.contents out.old out.new
-        (line (first.now ∷ second.now ∷ third.now ∷ []))) }
+/// Writes the row whose text, but for the line feed, a line holds: csv's writer takes it as one field, since nothing is quoted.
+fn put_line<W: Write + Drop>(out: &mut Writer<W>, row: &Line) -> Result<(), AllocError>
+    requires at { IsAtRow out.old }
+    requires some { 0 < length row.now }
+    ensures { OnOk result (AddsRows W.contents out.old out.new (row.now ++ 10 ∷ [])) }
 {
-    put_fields(out, &[first, second, third])
+    out.write_fields(&[row.text()]).map_err(|_| AllocError)
 }
 
-/// Writes a row of a change to an entry.
-fn put_signed<'a, W: Write + Drop>(
-    out: &mut Writer<W>,
-    event: &'a [u8],
-    sign: &'a [u8],
-    prefix: &'a [u8],
-    hop: &'a [u8],
-) -> Result<(), AllocError>
-    requires { IsAtRow out.old }
-    ensures { OnOk result (AddsRows W.contents out.old out.new
-        (line (codes "change" ∷ event.now ∷ sign.now ∷ prefix.now ∷ hop.now ∷ []))) }
-{
-    put_fields(out, &[b"change", event, sign, prefix, hop])
-}
-
-/// Writes a prefix with a hop, or `drop` for none, under the row's name.
-fn put_entry<W: Write + Drop>(
+/// Writes a prefix with a hop, or the word for none, under the row's name.
+#[inline]
+pub(crate) fn put_hop<W: Write + Drop>(
     out: &mut Writer<W>,
     name: &[u8],
     prefix: &Prefix,
-    hop: Option<Addr>,
+    hop: Hop,
+    word: &[u8],
+    hops: &HopTexts<'_>,
 ) -> Result<(), AllocError>
-    requires { IsAtRow out.old }
-    ensures { OnOk result (AddsRows W.contents out.old out.new
-        (line (name.now ∷ prefix_text (prefix_as prefix.now) ∷ hop_text (codes "drop")
-        (option_map addr_as hop) ∷ []))) }
+    requires at { IsAtRow out.old }
+    requires name { length name.now ≤ 9 }
+    requires word { length word.now ≤ 4 }
+    ensures added { OnOk result (AddsRows W.contents out.old out.new
+        (line (name.now ∷ prefix_text (prefix_as prefix.now)
+        ∷ hop_text word.now (hop_at hops.now hop.0) ∷ []))) }
+    ensures hop { IsHop (hop_at hops.now hop.0) }
 {
-    let mut text = [0; MOST_TEXT];
-    let mut hop_text = [0; MOST_TEXT];
-    let prefix = prefix_text(&mut text, prefix);
-    let hop = hop_field(&mut hop_text, hop, b"drop");
-    put_three(out, name, prefix, hop)
+    let mut row = Line::new(name);
+    row.push(b',');
+    row.add_prefix(prefix);
+    row.push(b',');
+    hops.add(&mut row, hop, word);
+    put_line(out, &row)
 }
 
 /// Writes an announcement that is Invalid, and a VRP that covers it.
-fn put_invalid<W: Write + Drop>(
+#[tactic(auto, using(crate::proofs::Proper::address_proper, crate::proofs::Proper::prefix_proper))]
+pub(crate) fn put_invalid<W: Write + Drop>(
     out: &mut Writer<W>,
-    announced: &Announced,
-    vrp: &PrintedVrp,
+    announced: Announced,
+    vrp: PrintedVrp,
 ) -> Result<(), AllocError>
     requires { IsAtRow out.old }
-    ensures { OnOk result (AddsRows W.contents out.old out.new
-        (line_of (invalid_row (announced_as announced.now) (printed_vrp_as vrp.now)))) }
+    ensures added { OnOk result (AddsRows W.contents out.old out.new
+        (line_of (invalid_row (announced_as announced) (printed_vrp_as vrp)))) }
+    ensures proper { IsRow (invalid_row (announced_as announced) (printed_vrp_as vrp)) }
 {
     let mut prefix = [0; MOST_TEXT];
     let mut peer = [0; MOST_TEXT];
@@ -107,30 +99,46 @@ fn put_invalid<W: Write + Drop>(
     )
 }
 
+/// The row of a change up to the comma before its prefix.
+#[inline]
+fn change_begun(event: u64, sign: u8) -> Line
+    ensures text { result ≡ codes "change," ++ decimal event ++ 44 ∷ sign ∷ 44 ∷ [] }
+    ensures short { length result ≤ 30 }
+    ensures some { 0 < length result }
+{
+    let mut row = Line::new(b"change,");
+    row.add_number(event);
+    row.push(b',');
+    row.push(sign);
+    row.push(b',');
+    row
+}
+
 /// Writes what the event of a number adds or replaces, by its sign.
-fn put_change<W: Write + Drop>(
+#[inline]
+pub(crate) fn put_change<W: Write + Drop>(
     out: &mut Writer<W>,
     event: u64,
-    sign: &[u8],
+    sign: u8,
     prefix: &Prefix,
-    hop: Option<Addr>,
+    hop: Hop,
+    hops: &HopTexts<'_>,
 ) -> Result<(), AllocError>
     requires { IsAtRow out.old }
-    ensures { OnOk result (AddsRows W.contents out.old out.new
-        (line (codes "change" ∷ decimal event ∷ sign.now ∷ prefix_text
-        (prefix_as prefix.now) ∷ hop_text (codes "drop") (option_map addr_as hop) ∷ []))) }
+    ensures added { OnOk result (AddsRows W.contents out.old out.new
+        (line (codes "change" ∷ decimal event ∷ (sign ∷ []) ∷ prefix_text (prefix_as prefix.now)
+        ∷ hop_text (codes "drop") (hop_at hops.now hop.0) ∷ []))) }
+    ensures hop { IsHop (hop_at hops.now hop.0) }
 {
-    let mut digits = Buffer::new();
-    let mut text = [0; MOST_TEXT];
-    let mut hop_text = [0; MOST_TEXT];
-    let event = digits.format(event).as_bytes();
-    let prefix = prefix_text(&mut text, prefix);
-    let hop = hop_field(&mut hop_text, hop, b"drop");
-    put_signed(out, event, sign, prefix, hop)
+    let mut row = change_begun(event, sign);
+    row.add_prefix(prefix);
+    row.push(b',');
+    hops.add(&mut row, hop, b"drop");
+    put_line(out, &row)
 }
 
 /// Writes what the event of a number removes.
-fn put_remove<W: Write + Drop>(
+pub(crate) fn put_remove<W: Write + Drop>(
     out: &mut Writer<W>,
     event: u64,
     prefix: &Prefix,
@@ -140,15 +148,13 @@ fn put_remove<W: Write + Drop>(
         (line (codes "change" ∷ decimal event ∷ codes "-" ∷ prefix_text
         (prefix_as prefix.now) ∷ []))) }
 {
-    let mut digits = Buffer::new();
-    let mut text = [0; MOST_TEXT];
-    let event = digits.format(event).as_bytes();
-    let prefix = prefix_text(&mut text, prefix);
-    put_fields(out, &[b"change", event, b"-", prefix])
+    let mut row = change_begun(event, b'-');
+    row.add_prefix(prefix);
+    put_line(out, &row)
 }
 
 /// Writes how many changes the event of a number needed.
-fn put_moves<W: Write + Drop>(
+pub(crate) fn put_moves<W: Write + Drop>(
     out: &mut Writer<W>,
     event: u64,
     number: u64,
@@ -165,7 +171,7 @@ fn put_moves<W: Write + Drop>(
 }
 
 /// Writes the hop of an address, or `none`.
-fn put_answer<W: Write + Drop>(
+pub(crate) fn put_answer<W: Write + Drop>(
     out: &mut Writer<W>,
     addr: &Addr,
     hop: Option<Addr>,
@@ -183,7 +189,7 @@ fn put_answer<W: Write + Drop>(
 }
 
 /// Writes how many nodes the look-up of an address visits.
-fn put_visits<W: Write + Drop>(
+pub(crate) fn put_visits<W: Write + Drop>(
     out: &mut Writer<W>,
     addr: &Addr,
     number: u64,
@@ -199,40 +205,28 @@ fn put_visits<W: Write + Drop>(
     put_fields(out, &[b"visits", addr, number])
 }
 
-/// Writes the one hop of a region, or `none`.
-fn put_leaf<W: Write + Drop>(
+/// Writes the k of a region that is put together from its halves.
+#[inline]
+pub(crate) fn put_join<W: Write + Drop>(
     out: &mut Writer<W>,
     prefix: &Prefix,
-    hop: Option<Addr>,
+    k: u64,
 ) -> Result<(), AllocError>
-    requires { IsAtRow out.old }
-    ensures { OnOk result (AddsRows W.contents out.old out.new
-        (line (codes "cert" ∷ codes "leaf" ∷ prefix_text (prefix_as prefix.now) ∷ hop_text
-        (codes "none") (option_map addr_as hop) ∷ []))) }
-{
-    let mut text = [0; MOST_TEXT];
-    let mut hop_text = [0; MOST_TEXT];
-    let prefix = prefix_text(&mut text, prefix);
-    let hop = hop_field(&mut hop_text, hop, b"none");
-    put_fields(out, &[b"cert,leaf", prefix, hop])
-}
-
-/// Writes the k of a region that is put together from its halves.
-fn put_join<W: Write + Drop>(out: &mut Writer<W>, prefix: &Prefix, k: u64) -> Result<(), AllocError>
     requires { IsAtRow out.old }
     ensures { OnOk result (AddsRows W.contents out.old out.new
         (line (codes "cert" ∷ codes "join" ∷ prefix_text (prefix_as prefix.now) ∷ decimal k ∷
         []))) }
 {
-    let mut digits = Buffer::new();
-    let mut text = [0; MOST_TEXT];
-    let k = digits.format(k).as_bytes();
-    let prefix = prefix_text(&mut text, prefix);
-    put_fields(out, &[b"cert,join", prefix, k])
+    let mut row = Line::new(b"cert,join");
+    row.push(b',');
+    row.add_prefix(prefix);
+    row.push(b',');
+    row.add_number(k);
+    put_line(out, &row)
 }
 
 /// Writes how many entries a least table of a family has.
-fn put_bound<W: Write + Drop>(
+pub(crate) fn put_bound<W: Write + Drop>(
     out: &mut Writer<W>,
     family: Family,
     number: u64,
@@ -247,7 +241,7 @@ fn put_bound<W: Write + Drop>(
 }
 
 /// Writes a count.
-fn put_count<W: Write + Drop>(
+pub(crate) fn put_count<W: Write + Drop>(
     out: &mut Writer<W>,
     count: Count,
     number: u64,
@@ -259,33 +253,4 @@ fn put_count<W: Write + Drop>(
     let mut digits = Buffer::new();
     let number = digits.format(number).as_bytes();
     put_fields(out, &[b"report", count_field(count), number])
-}
-
-/// Writes a row.
-#[tactic(auto, using(crate::proofs::Proper::address_proper, crate::proofs::Proper::prefix_proper, crate::proofs::Proper::hop_proper))]
-pub(crate) fn put_row<W: Write + Drop>(
-    out: &mut Writer<W>,
-    row: PrintedRow,
-) -> Result<(), AllocError>
-    requires { IsAtRow out.old }
-    ensures added { OnOk result (AddsRows W.contents out.old out.new
-        (line_of (printed_row_as row))) }
-    ensures proper { IsRow (printed_row_as row) }
-{
-    match row {
-        PrintedRow::Route(prefix, addr) => put_entry(out, b"route", &prefix, Some(addr)),
-        PrintedRow::Invalid(announced, vrp) => put_invalid(out, &announced, &vrp),
-        PrintedRow::Add(event, prefix, hop) => put_change(out, event, b"+", &prefix, hop),
-        PrintedRow::Replace(event, prefix, hop) => put_change(out, event, b"=", &prefix, hop),
-        PrintedRow::Remove(event, prefix) => put_remove(out, event, &prefix),
-        PrintedRow::Moves(event, number) => put_moves(out, event, number),
-        PrintedRow::Answer(addr, hop) => put_answer(out, &addr, hop),
-        PrintedRow::Visits(addr, number) => put_visits(out, &addr, number),
-        PrintedRow::Table(prefix, hop) => put_entry(out, b"table", &prefix, hop),
-        PrintedRow::Least(prefix, hop) => put_entry(out, b"least", &prefix, hop),
-        PrintedRow::Leaf(prefix, hop) => put_leaf(out, &prefix, hop),
-        PrintedRow::Join(prefix, k) => put_join(out, &prefix, k),
-        PrintedRow::Bound(family, number) => put_bound(out, family, number),
-        PrintedRow::Report(count, number) => put_count(out, count, number),
-    }
 }

@@ -18,47 +18,78 @@
 //! table; a route without a hop has no row.
 
 ghost use Rattle.std.specs.Prelude.{◌≡◌, ◌≤◌, [], ◌∷◌, flat_map, length, map, IfOk, OnOk, Some};
-ghost use Rattle.std.specs.Option.{option_to_list};
 ghost use Rattle.std.specs.List.{AllByRecursion};
-ghost use Rattle.fib_addr.specs.Views.{entry_as};
-ghost use Rattle.cost_cert.specs.Printed.{printed_row_as};
+ghost use Rattle.fib_addr.specs.Views.{entry_as, prefix_as};
+ghost use Rattle.cost_cert.specs.Printed.{announced_as, printed_vrp_as};
 ghost use Rattle.cert_model.specs.Views.{row_as};
-ghost use Rattle.printed_model.specs.Rows.{IsRow, text_of, line};
+ghost use Rattle.printed_model.specs.Rows.{IsRow, line, line_of, text_of};
 ghost use Rattle.fib_report.specs.Rows.{of_answer, of_change, of_invalid, of_moves, report_rows, report_text, section_rows};
-ghost use Rattle.printed_model.specs.Numbered.{of_cert};
+ghost use Rattle.printed_model.specs.Numbered.{of_cert, of_route};
 ghost use Rattle.fib_delta.specs.Views.{change_as};
 ghost use Rattle.fib_report.specs.Views.{answer_as, invalid_as, moves_as, run_as};
 ghost use Rattle.csv.specs.Writing.{text_written};
 ghost use Rattle.fib_report.specs.Writing.{AddsRows, IsAtRow};
 
-use crate::printed_row::{put_fields, put_row};
-use crate::run::{Answer, Invalid, Moves, Report, Run};
+use crate::hop_texts::HopTexts;
+use crate::printed_row::{
+    put_answer, put_bound, put_change, put_count, put_fields, put_hop, put_invalid, put_join,
+    put_moves, put_remove, put_visits,
+};
+use crate::run::{Answer, Invalid, Moves, Report};
 use crate::section::Section;
-use cost_cert::{Announced, Count, PrintedRow, PrintedVrp, Row};
+use cost_cert::{Announced, Count, PrintedVrp, Row};
 use csv::{QuoteStyle, Writer, WriterBuilder};
-use fib_addr::{Entry, HopTable};
+use fib_addr::{Entry, Hop, Prefix};
 use fib_delta::Change;
 use std::alloc::{AllocError, Global};
 use std::io::Write;
 
-/// The row of an entry in its section, if it has one.
-pub(crate) fn entry_row(section: Section, entry: &Entry, hops: &HopTable) -> Option<PrintedRow>
-    ensures { map printed_row_as (option_to_list result) ≡ section_rows section hops.now.list
-        (entry_as entry.now ∷ []) }
+/// Writes the row of a route, if it has a hop.
+#[inline]
+fn put_route<W: Write + Drop>(
+    out: &mut Writer<W>,
+    prefix: &Prefix,
+    hop: Hop,
+    hops: &HopTexts<'_>,
+) -> Result<(), AllocError>
+    requires { IsAtRow out.old }
+    ensures added { OnOk result (AddsRows W.contents out.old out.new
+        (text_of (of_route hops.now (prefix_as prefix.now, hop.0)))) }
+    ensures proper { AllByRecursion IsRow (of_route hops.now (prefix_as prefix.now, hop.0)) }
 {
-    let prefix = entry.prefix;
-    let hop = hops.addr(entry.hop);
+    if !hops.has(hop) {
+        return Ok(());
+    }
+    put_hop(out, b"route", prefix, hop, b"none", hops)
+}
+
+/// Writes the row of an entry in its section, if it has one.
+#[inline]
+pub(crate) fn put_entry<W: Write + Drop>(
+    out: &mut Writer<W>,
+    section: Section,
+    entry: &Entry,
+    hops: &HopTexts<'_>,
+) -> Result<(), AllocError>
+    requires { IsAtRow out.old }
+    ensures added { OnOk result (AddsRows W.contents out.old out.new
+        (text_of (section_rows section hops.now (entry_as entry.now ∷ [])))) }
+    ensures proper { AllByRecursion IsRow (section_rows section hops.now
+        (entry_as entry.now ∷ [])) }
+{
+    let prefix = &entry.prefix;
+    let hop = entry.hop;
     match section {
-        Section::Routes => hop.map(|addr| PrintedRow::Route(prefix, addr)),
-        Section::Added => Some(PrintedRow::Add(0, prefix, hop)),
-        Section::Table => Some(PrintedRow::Table(prefix, hop)),
-        Section::Least => Some(PrintedRow::Least(prefix, hop)),
+        Section::Routes => put_route(out, prefix, hop, hops),
+        Section::Added => put_change(out, 0, b'+', prefix, hop, hops),
+        Section::Table => put_hop(out, b"table", prefix, hop, b"drop", hops),
+        Section::Least => put_hop(out, b"least", prefix, hop, b"drop", hops),
     }
 }
 
-/// The row of an Invalid announcement.
-pub(crate) fn invalid_row(invalid: &Invalid) -> PrintedRow
-    ensures { printed_row_as result ≡ of_invalid (invalid_as invalid.now) }
+/// What a row says of an Invalid announcement, and of the VRP that covers it.
+fn invalid_parts(invalid: &Invalid) -> (Announced, PrintedVrp)
+    ensures { invalid_as invalid.now ≡ (announced_as result.0, printed_vrp_as result.1) }
 {
     let announced = Announced {
         prefix: invalid.prefix,
@@ -71,28 +102,59 @@ pub(crate) fn invalid_row(invalid: &Invalid) -> PrintedRow
         maxlen: u64::from(invalid.maxlen),
         asn: u64::from(invalid.vrp_as),
     };
-    PrintedRow::Invalid(announced, vrp)
+    (announced, vrp)
 }
 
-/// The row of a change.
-pub(crate) fn change_row(event: u64, change: &Change, hops: &HopTable) -> PrintedRow
-    ensures { printed_row_as result ≡ of_change hops.now.list (event, change_as change.now) }
+/// Writes the row of an Invalid announcement.
+pub(crate) fn put_invalid_row<W: Write + Drop>(
+    out: &mut Writer<W>,
+    invalid: &Invalid,
+) -> Result<(), AllocError>
+    requires { IsAtRow out.old }
+    ensures added { OnOk result (AddsRows W.contents out.old out.new
+        (line_of (of_invalid (invalid_as invalid.now)))) }
+    ensures proper { IsRow (of_invalid (invalid_as invalid.now)) }
+{
+    let (announced, vrp) = invalid_parts(invalid);
+    put_invalid(out, announced, vrp)
+}
+
+/// Writes the row of a change.
+#[inline]
+pub(crate) fn put_change_row<W: Write + Drop>(
+    out: &mut Writer<W>,
+    event: u64,
+    change: &Change,
+    hops: &HopTexts<'_>,
+) -> Result<(), AllocError>
+    requires { IsAtRow out.old }
+    ensures added { OnOk result (AddsRows W.contents out.old out.new
+        (line_of (of_change hops.now (event, change_as change.now)))) }
+    ensures proper { IsRow (of_change hops.now (event, change_as change.now)) }
 {
     match *change {
-        Change::Add(prefix, hop) => PrintedRow::Add(event, prefix, hops.addr(hop)),
-        Change::Replace(prefix, hop) => PrintedRow::Replace(event, prefix, hops.addr(hop)),
-        Change::Remove(prefix) => PrintedRow::Remove(event, prefix),
+        Change::Add(prefix, hop) => put_change(out, event, b'+', &prefix, hop, hops),
+        Change::Replace(prefix, hop) => put_change(out, event, b'=', &prefix, hop, hops),
+        Change::Remove(prefix) => put_remove(out, event, &prefix),
     }
 }
 
-/// The row of a part of a certificate.
-pub(crate) fn cert_row(row: &Row, hops: &HopTable) -> PrintedRow
-    ensures { printed_row_as result ≡ of_cert hops.now.list (row_as row.now) }
+/// Writes the row of a part of a certificate.
+#[inline]
+pub(crate) fn put_part<W: Write + Drop>(
+    out: &mut Writer<W>,
+    row: &Row,
+    hops: &HopTexts<'_>,
+) -> Result<(), AllocError>
+    requires { IsAtRow out.old }
+    ensures added { OnOk result (AddsRows W.contents out.old out.new
+        (line_of (of_cert hops.now (row_as row.now)))) }
+    ensures proper { IsRow (of_cert hops.now (row_as row.now)) }
 {
     match *row {
-        Row::Leaf(prefix, hop) => PrintedRow::Leaf(prefix, hops.addr(hop)),
-        Row::Join(prefix, k) => PrintedRow::Join(prefix, k),
-        Row::Bound(family, count) => PrintedRow::Bound(family, count),
+        Row::Leaf(prefix, hop) => put_hop(out, b"cert,leaf", &prefix, hop, b"none", hops),
+        Row::Join(prefix, k) => put_join(out, &prefix, k),
+        Row::Bound(family, count) => put_bound(out, family, count),
     }
 }
 
@@ -100,42 +162,48 @@ pub(crate) fn cert_row(row: &Row, hops: &HopTable) -> PrintedRow
 pub(crate) fn put_changes<W: Write + Drop>(
     out: &mut Writer<W>,
     changes: &[(u64, Change)],
-    hops: &HopTable,
+    hops: &HopTexts<'_>,
 ) -> Result<(), AllocError>
     requires { IsAtRow out.old }
     ensures added { OnOk result (AddsRows W.contents out.old out.new
-        (text_of (map (of_change hops.now.list) (map (λ c. (c.0, change_as c.1)) changes.now)))) }
-    ensures proper { OnOk result (AllByRecursion IsRow (map (of_change hops.now.list)
+        (text_of (map (of_change hops.now) (map (λ c. (c.0, change_as c.1)) changes.now)))) }
+    ensures proper { OnOk result (AllByRecursion IsRow (map (of_change hops.now)
         (map (λ c. (c.0, change_as c.1)) changes.now))) }
 {
     for (event, change) in changes {
-        put_row(out, change_row(*event, change, hops))?;
+        put_change_row(out, *event, change, hops)?;
     }
     Ok(())
 }
 
-/// The row of how many changes an event needed.
-pub(crate) fn moves_row(moves: &Moves) -> PrintedRow
-    ensures { printed_row_as result ≡ of_moves (moves_as moves.now) }
+/// Writes the row of how many changes an event needed.
+pub(crate) fn put_moves_row<W: Write + Drop>(
+    out: &mut Writer<W>,
+    moves: &Moves,
+) -> Result<(), AllocError>
+    requires { IsAtRow out.old }
+    ensures added { OnOk result (AddsRows W.contents out.old out.new
+        (line_of (of_moves (moves_as moves.now)))) }
+    ensures proper { IsRow (of_moves (moves_as moves.now)) }
 {
-    PrintedRow::Moves(moves.event, moves.count)
+    put_moves(out, moves.event, moves.count)
 }
 
 /// Writes the hop of an address, and then how many nodes its look-up visits.
 fn put_lookup<W: Write + Drop>(
     out: &mut Writer<W>,
     answer: &Answer,
-    hops: &HopTable,
+    hops: &HopTexts<'_>,
 ) -> Result<(), AllocError>
     requires { IsAtRow out.old }
     ensures added { OnOk result (AddsRows W.contents out.old out.new
-        (text_of (of_answer hops.now.list (answer_as answer.now)))) }
-    ensures proper { OnOk result (AllByRecursion IsRow (of_answer hops.now.list
+        (text_of (of_answer hops.now (answer_as answer.now)))) }
+    ensures proper { OnOk result (AllByRecursion IsRow (of_answer hops.now
         (answer_as answer.now))) }
 {
-    put_row(out, PrintedRow::Answer(answer.addr, hops.addr(answer.hop)))?;
+    put_answer(out, &answer.addr, hops.addr(answer.hop))?;
     let visits = u64::from(answer.visits);
-    put_row(out, PrintedRow::Visits(answer.addr, visits))?;
+    put_visits(out, &answer.addr, visits)?;
     Ok(())
 }
 
@@ -143,12 +211,12 @@ fn put_lookup<W: Write + Drop>(
 pub(crate) fn put_answers<W: Write + Drop>(
     out: &mut Writer<W>,
     answers: &[Answer],
-    hops: &HopTable,
+    hops: &HopTexts<'_>,
 ) -> Result<(), AllocError>
     requires { IsAtRow out.old }
     ensures added { OnOk result (AddsRows W.contents out.old out.new
-        (text_of (flat_map (of_answer hops.now.list) (map answer_as answers.now)))) }
-    ensures proper { OnOk result (AllByRecursion IsRow (flat_map (of_answer hops.now.list)
+        (text_of (flat_map (of_answer hops.now) (map answer_as answers.now)))) }
+    ensures proper { OnOk result (AllByRecursion IsRow (flat_map (of_answer hops.now)
         (map answer_as answers.now))) }
 {
     for answer in answers {
@@ -161,16 +229,16 @@ pub(crate) fn put_answers<W: Write + Drop>(
 pub(crate) fn put_cert<W: Write + Drop>(
     out: &mut Writer<W>,
     cert: &[Row],
-    hops: &HopTable,
+    hops: &HopTexts<'_>,
 ) -> Result<(), AllocError>
     requires { IsAtRow out.old }
     ensures added { OnOk result (AddsRows W.contents out.old out.new
-        (text_of (map (of_cert hops.now.list) (map row_as cert.now)))) }
-    ensures proper { OnOk result (AllByRecursion IsRow (map (of_cert hops.now.list)
+        (text_of (map (of_cert hops.now) (map row_as cert.now)))) }
+    ensures proper { OnOk result (AllByRecursion IsRow (map (of_cert hops.now)
         (map row_as cert.now))) }
 {
     for row in cert {
-        put_row(out, cert_row(row, hops))?;
+        put_part(out, row, hops)?;
     }
     Ok(())
 }
@@ -185,14 +253,14 @@ pub(crate) fn put_report<W: Write + Drop>(
         (text_of (report_rows report.now))) }
     ensures proper { OnOk result (AllByRecursion IsRow (report_rows report.now)) }
 {
-    put_row(out, PrintedRow::Report(Count::Records, report.records))?;
-    put_row(out, PrintedRow::Report(Count::Skipped, report.skipped))?;
-    put_row(out, PrintedRow::Report(Count::Events, report.events))?;
-    put_row(out, PrintedRow::Report(Count::Routes, report.routes))?;
-    put_row(out, PrintedRow::Report(Count::Entries, report.entries))?;
-    put_row(out, PrintedRow::Report(Count::Nodes, report.nodes))?;
-    put_row(out, PrintedRow::Report(Count::Leaves, report.leaves))?;
-    put_row(out, PrintedRow::Report(Count::Treated, report.treated))?;
+    put_count(out, Count::Records, report.records)?;
+    put_count(out, Count::Skipped, report.skipped)?;
+    put_count(out, Count::Events, report.events)?;
+    put_count(out, Count::Routes, report.routes)?;
+    put_count(out, Count::Entries, report.entries)?;
+    put_count(out, Count::Nodes, report.nodes)?;
+    put_count(out, Count::Leaves, report.leaves)?;
+    put_count(out, Count::Treated, report.treated)?;
     Ok(())
 }
 

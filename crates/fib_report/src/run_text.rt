@@ -11,10 +11,10 @@ ghost use Rattle.printed_model.specs.Numbered.{of_cert};
 ghost use Rattle.fib_report.specs.Rows.{of_answer, of_change, of_invalid, of_moves, report_rows, section_rows};
 ghost use Rattle.fib_report.specs.Views.{answer_as, invalid_as, moves_as};
 
-use crate::printed_row::put_row;
+use crate::hop_texts::HopTexts;
 use crate::rows::{
-    cert_row, change_row, entry_row, invalid_row, moves_row, put_answers, put_cert, put_changes,
-    put_report, row_writer,
+    put_answers, put_cert, put_change_row, put_changes, put_entry, put_invalid_row, put_moves_row,
+    put_part, put_report, row_writer,
 };
 use crate::run::{Answer, Invalid, Moves, Report};
 use crate::section::Section;
@@ -28,7 +28,7 @@ use std::alloc::{AllocError, Global};
 #[derive(Drop)]
 pub struct RunText<'a> {
     out: Writer<Vec<u8>>,
-    hops: &'a HopTable,
+    hops: HopTexts<'a>,
 }
 
 impl<'a> RunText<'a> {
@@ -42,7 +42,7 @@ impl<'a> RunText<'a> {
     {
         RunText {
             out: row_writer(alloc),
-            hops,
+            hops: HopTexts::new(alloc, hops),
         }
     }
 
@@ -52,10 +52,8 @@ impl<'a> RunText<'a> {
         ensures { OnOk result (Writes self.old self.new (section_rows section (hops_in self.old)
             (entry_as entry.now ∷ []))) }
     {
-        match entry_row(section, entry, self.hops) {
-            Some(row) => put_row(&mut self.out, row),
-            None => Ok(()),
-        }
+        put_entry(&mut self.out, section, entry, &self.hops)?;
+        Ok(())
     }
 
     /// Writes the rows of a section from a list of its entries. What `section` gives takes them one by one.
@@ -76,7 +74,8 @@ impl<'a> RunText<'a> {
         ensures { OnOk result (Writes self.old self.new
             (of_invalid (invalid_as invalid.now) ∷ [])) }
     {
-        put_row(&mut self.out, invalid_row(invalid))
+        put_invalid_row(&mut self.out, invalid)?;
+        Ok(())
     }
 
     /// Writes the rows of Invalid announcements from a list.
@@ -97,7 +96,7 @@ impl<'a> RunText<'a> {
         ensures { OnOk result (Writes self.old self.new (map (of_change (hops_in self.old))
             (map (λ c. (c.0, change_as c.1)) changes.now))) }
     {
-        put_changes(&mut self.out, changes, self.hops)?;
+        put_changes(&mut self.out, changes, &self.hops)?;
         Ok(())
     }
 
@@ -107,7 +106,8 @@ impl<'a> RunText<'a> {
         ensures { OnOk result (Writes self.old self.new
             (of_change (hops_in self.old) (event, change_as change.now) ∷ [])) }
     {
-        put_row(&mut self.out, change_row(event, change, self.hops))
+        put_change_row(&mut self.out, event, change, &self.hops)?;
+        Ok(())
     }
 
     /// Writes the changes that the event of this number makes.
@@ -127,7 +127,8 @@ impl<'a> RunText<'a> {
         requires { IsReady self.old }
         ensures { OnOk result (Writes self.old self.new (of_moves (moves_as moves.now) ∷ [])) }
     {
-        put_row(&mut self.out, moves_row(moves))
+        put_moves_row(&mut self.out, moves)?;
+        Ok(())
     }
 
     /// Writes how many changes each event of a list needed.
@@ -148,7 +149,7 @@ impl<'a> RunText<'a> {
         ensures { OnOk result (Writes self.old self.new (flat_map (of_answer (hops_in self.old))
             (map answer_as answers.now))) }
     {
-        put_answers(&mut self.out, answers, self.hops)?;
+        put_answers(&mut self.out, answers, &self.hops)?;
         Ok(())
     }
 
@@ -158,7 +159,7 @@ impl<'a> RunText<'a> {
         ensures { OnOk result (Writes self.old self.new (map (of_cert (hops_in self.old))
             (map row_as rows.now))) }
     {
-        put_cert(&mut self.out, rows, self.hops)?;
+        put_cert(&mut self.out, rows, &self.hops)?;
         Ok(())
     }
 
@@ -189,7 +190,7 @@ impl<'a> RowSink for RunText<'a> {
     ghost more = { takes_more };
 
     fn put(&mut self, row: Row) -> Result<(), AllocError> {
-        put_row(&mut self.out, cert_row(&row, self.hops))?;
+        put_part(&mut self.out, &row, &self.hops)?;
         Ok(())
     }
 }

@@ -8,4 +8,4 @@ use Rattle.fib_report.proofs.rows.put_answers.Given as goal
 
 -- the rows of the answers so far are added, and each is read as it is
 abbrev pub invariant-loop-answer : goal.invariant-loop-answer
-invariant-loop-answer g l = AddsRows g.W.Write.contents l.fn.out l.out (text_of (flat_map (of_answer l.hops.list) (map answer_as (take l.answer-index l.answers)))) × AllByRecursion IsRow (flat_map (of_answer l.hops.list) (map answer_as (take l.answer-index l.answers)))
+invariant-loop-answer g l = AddsRows g.W.Write.contents l.fn.out l.out (text_of (flat_map (of_answer l.hops) (map answer_as (take l.answer-index l.answers)))) × AllByRecursion IsRow (flat_map (of_answer l.hops) (map answer_as (take l.answer-index l.answers)))

@@ -1,3 +1,4 @@
+use Rattle.std.proofs.Common.{refl}
 use Rattle.cert_model.specs.Views.{row_as}
 use Rattle.printed_model.specs.Numbered.{of_cert}
 use Rattle.fib_report.proofs.Loops.{AddsRows-item}
@@ -6,6 +7,6 @@ use Rattle.fib_report.proofs.rows.put_cert.Goals as goal
 
 pub loop-row-preserved : goal.loop-row-preserved
 loop-row-preserved g c =
-    let row = of_cert c.args.hops.now.list in
-    let is = c.cert_row.ensures in
-    (AddsRows-item _ _ _ _ row row_as _ _ c.row-item.result _ c.loop-row-test.true c.row-item.is is c.loop-row.invariant.0 c.in_ok-put_row.ensures.added, one_proper row row_as _ _ c.row-item.result _ c.loop-row-test.true c.row-item.is is c.loop-row.invariant.1 c.in_ok-put_row.ensures.proper)
+    let row = of_cert c.args.hops.now in
+    let one = row (row_as c.row-item.result) in
+    (AddsRows-item _ _ _ _ row row_as _ _ c.row-item.result one c.loop-row-test.true c.row-item.is refl c.loop-row.invariant.0 c.in_ok-put_part.ensures.added, one_proper row row_as _ _ c.row-item.result one c.loop-row-test.true c.row-item.is refl c.loop-row.invariant.1 c.in_ok-put_part.ensures.proper)

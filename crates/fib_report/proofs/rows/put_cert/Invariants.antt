@@ -8,4 +8,4 @@ use Rattle.fib_report.proofs.rows.put_cert.Given as goal
 
 -- the rows of the certificate so far are added, and each is read as it is
 abbrev pub invariant-loop-row : goal.invariant-loop-row
-invariant-loop-row g l = AddsRows g.W.Write.contents l.fn.out l.out (text_of (map (of_cert l.hops.list) (map row_as (take l.row-index l.cert)))) × AllByRecursion IsRow (map (of_cert l.hops.list) (map row_as (take l.row-index l.cert)))
+invariant-loop-row g l = AddsRows g.W.Write.contents l.fn.out l.out (text_of (map (of_cert l.hops) (map row_as (take l.row-index l.cert)))) × AllByRecursion IsRow (map (of_cert l.hops) (map row_as (take l.row-index l.cert)))

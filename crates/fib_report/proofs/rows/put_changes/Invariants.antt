@@ -8,4 +8,4 @@ use Rattle.fib_report.proofs.rows.put_changes.Given as goal
 
 -- the rows of the changes so far are added, and each is read as it is
 abbrev pub invariant-loop-event : goal.invariant-loop-event
-invariant-loop-event g l = AddsRows g.W.Write.contents l.fn.out l.out (text_of (map (of_change l.hops.list) (map (λ c. (c.0, change_as c.1)) (take l.event-index l.changes)))) × AllByRecursion IsRow (map (of_change l.hops.list) (map (λ c. (c.0, change_as c.1)) (take l.event-index l.changes)))
+invariant-loop-event g l = AddsRows g.W.Write.contents l.fn.out l.out (text_of (map (of_change l.hops) (map (λ c. (c.0, change_as c.1)) (take l.event-index l.changes)))) × AllByRecursion IsRow (map (of_change l.hops) (map (λ c. (c.0, change_as c.1)) (take l.event-index l.changes)))

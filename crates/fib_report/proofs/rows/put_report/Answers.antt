@@ -1,4 +1,4 @@
-use Rattle.std.proofs.Common.{List, [], ◌∷◌}
+use Rattle.std.proofs.Common.{List, [], ◌∷◌, arith}
 use Rattle.printed_model.specs.Rows.{PrintedRow, Records, Skipped, Events, Routes, Entries, Nodes, Leaves, Treated, report_row}
 use Rattle.fib_report.proofs.Loops.{AddsRows-one, AddsRows-before}
 use Rattle.fib_report.proofs.rows.put_report.Goals as goal
@@ -13,15 +13,14 @@ returns-clause-added g c =
     let routes : List PrintedRow = report_row Routes r.routes ∷ entries in
     let events : List PrintedRow = report_row Events r.events ∷ routes in
     let skipped : List PrintedRow = report_row Skipped r.skipped ∷ events in
-    AddsRows-before _ _ _ _ (report_row Records r.records) skipped c.in_ok-put_row.ensures.added
-    (AddsRows-before _ _ _ _ (report_row Skipped r.skipped) events c.in_ok-put_row-2.ensures.added
-    (AddsRows-before _ _ _ _ (report_row Events r.events) routes c.in_ok-put_row-3.ensures.added
-    (AddsRows-before _ _ _ _ (report_row Routes r.routes) entries c.in_ok-put_row-4.ensures.added
-    (AddsRows-before _ _ _ _ (report_row Entries r.entries) nodes c.in_ok-put_row-5.ensures.added
-    (AddsRows-before _ _ _ _ (report_row Nodes r.nodes) leaves c.in_ok-put_row-6.ensures.added
-    (AddsRows-before _ _ _ _ (report_row Leaves r.leaves) treated c.in_ok-put_row-7.ensures.added
-    (AddsRows-one _ _ _ (report_row Treated r.treated) c.in_ok-put_row-8.ensures.added)))))))
+    AddsRows-before _ _ _ _ (report_row Records r.records) skipped c.in_ok-put_count.ensures
+    (AddsRows-before _ _ _ _ (report_row Skipped r.skipped) events c.in_ok-put_count-2.ensures
+    (AddsRows-before _ _ _ _ (report_row Events r.events) routes c.in_ok-put_count-3.ensures
+    (AddsRows-before _ _ _ _ (report_row Routes r.routes) entries c.in_ok-put_count-4.ensures
+    (AddsRows-before _ _ _ _ (report_row Entries r.entries) nodes c.in_ok-put_count-5.ensures
+    (AddsRows-before _ _ _ _ (report_row Nodes r.nodes) leaves c.in_ok-put_count-6.ensures
+    (AddsRows-before _ _ _ _ (report_row Leaves r.leaves) treated c.in_ok-put_count-7.ensures
+    (AddsRows-one _ _ _ (report_row Treated r.treated) c.in_ok-put_count-8.ensures)))))))
 
 pub returns-clause-proper : goal.returns-clause-proper
-returns-clause-proper g c =
-    (c.in_ok-put_row.ensures.proper, (c.in_ok-put_row-2.ensures.proper, (c.in_ok-put_row-3.ensures.proper, (c.in_ok-put_row-4.ensures.proper, (c.in_ok-put_row-5.ensures.proper, (c.in_ok-put_row-6.ensures.proper, (c.in_ok-put_row-7.ensures.proper, (c.in_ok-put_row-8.ensures.proper, tt))))))))
+returns-clause-proper g c = (omega arith, (omega arith, (omega arith, (omega arith, (omega arith, (omega arith, (omega arith, (omega arith, tt))))))))
