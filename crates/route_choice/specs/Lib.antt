@@ -3,3 +3,4 @@ pub mod Walks
 pub mod Kept
 pub mod Space
 pub mod Held
+pub mod Asked
