@@ -14,7 +14,7 @@ use Rattle.fib_prefix.specs.declared.event.Peer.{Peer}
 use Rattle.fib_prefix.specs.declared.event.Via.{Via}
 use Rattle.flat_base.specs.declared.keys.Offer.{Offer}
 use Rattle.flat_base.specs.declared.keys.Candidate.{Candidate}
-use Rattle.flat_base.specs.declared.flat.Slot.{Slot}
+use Rattle.flat_base.specs.declared.slot.Slot.{Slot}
 use Rattle.flat_base.specs.declared.flat.Flat.{Flat}
 use Rattle.flat_base.specs.Seats.{Seats}
 use Rattle.flat_base.specs.Flat.{IsFlat, IsRow, IsRun, AreApart, via_or, via_on, offer_on, flat_seats, both}
@@ -22,7 +22,7 @@ use Rattle.flat_base.specs.Bests.{IsBest, IsLive, is_out, candidate_on, comes_be
 use Rattle.flat_base.proofs.Orders.{via_total}
 use Rattle.flat_base.proofs.Holds.{is_better}
 use Rattle.flat_base.proofs.RowLists.{got_within}
-use Rattle.flat_base.proofs.Betters.{Walks, walks_start, walks_step, walks_end}
+use Rattle.flat_base.proofs.Betters.{number_same, Walks, walks_start, walks_step, walks_end}
 
 -- ---- whether something is offered at a slot
 
@@ -119,26 +119,30 @@ step_joined peers hops r but (Some s) c d = by_row (s.row == r)
     by_row true = on_joined but (via_on peers s) (offer_on hops s) c d
     by_row false = refl
 
+-- past a slot of the row
+pub step_there : (peers : List Peer) (hops : List Addr) (r : ℕ) (but : Option Via) (o : Option Slot) (s : Slot) (c : Option Candidate) → Some s ≡ o → s.row ≡ r → better_on but (via_on peers s) (offer_on hops s) c ≡ best_step peers hops r but o c
+step_there peers hops r but o s c e h = sym (ap (λ (t : Bool). if t then better_on but (via_on peers s) (offer_on hops s) c else c) (number_same s.row r h)) ∙ ap (λ x. best_step peers hops r but x c) e
+
 -- ---- what the loop keeps
 
 pub record Keeps (b : Flat) (p : code.Prefix) (r : ℕ) (but : Option Via) (other : Option Candidate) (i : ℕ) (best : Option Slot) : Type 0 where
   pub live : IfSome best (IsLive b)
   pub walks : Walks b p r but other i (joined (candidate_on b best) other)
 
-pub keeps_start : (b : Flat) (p : code.Prefix) (r from to : ℕ) (but : Option Via) (other : Option Candidate) → IsFlat b → IsRow b.rows.items p r → IsRun b.rows.items r (length b.slots.items) from to → Keeps b p r but other from None
+pub keeps_start : (b : Flat) (p : code.Prefix) (r from to : ℕ) (but : Option Via) (other : Option Candidate) → IsFlat b → IsRow b.rows.items p r → IsRun b.rows.items r (length b.rows.slots) from to → Keeps b p r but other from None
 keeps_start b p r from to but other f row run = record { live = tt; walks = walks_start b p r from to but other f row run }
 
-pub keeps_step : (b : Flat) (p : code.Prefix) (r i : ℕ) (but : Option Via) (other : Option Candidate) (best new : Option Slot) → IsFlat b → IsRow b.rows.items p r → IfSome new (IsLive b) → candidate_on b new ≡ best_step b.peers.keys b.hops.keys r but (slice_get b.slots.items i) (candidate_on b best) → Keeps b p r but other i best → Keeps b p r but other (i + 1) new
+pub keeps_step : (b : Flat) (p : code.Prefix) (r i : ℕ) (but : Option Via) (other : Option Candidate) (best new : Option Slot) → IsFlat b → IsRow b.rows.items p r → IfSome new (IsLive b) → candidate_on b new ≡ best_step b.peers.keys b.hops.keys r but (slice_get b.rows.slots i) (candidate_on b best) → Keeps b p r but other i best → Keeps b p r but other (i + 1) new
 keeps_step b p r i but other best new f row live e k = record {
   live = live;
-  walks = walks_step b p r i but other (joined (candidate_on b best) other) (joined (candidate_on b new) other) f row (ap (λ x. joined x other) e ∙ step_joined b.peers.keys b.hops.keys r but (slice_get b.slots.items i) (candidate_on b best) other) k.walks;
+  walks = walks_step b p r i but other (joined (candidate_on b best) other) (joined (candidate_on b new) other) f row (ap (λ x. joined x other) e ∙ step_joined b.peers.keys b.hops.keys r but (slice_get b.rows.slots i) (candidate_on b best) other) k.walks;
 }
 
-pub keeps_end : (b : Flat) (p : code.Prefix) (r from to i : ℕ) (but : Option Via) (other : Option Candidate) (s : Slot) (c : Option Candidate) → IsFlat b → IsRow b.rows.items p r → IsRun b.rows.items r (length b.slots.items) from to → to ≤ i → Keeps b p r but other i (Some s) → c ≡ better_on None (via_on b.peers.keys s) (offer_on b.hops.keys s) other
+pub keeps_end : (b : Flat) (p : code.Prefix) (r from to i : ℕ) (but : Option Via) (other : Option Candidate) (s : Slot) (c : Option Candidate) → IsFlat b → IsRow b.rows.items p r → IsRun b.rows.items r (length b.rows.slots) from to → to ≤ i → Keeps b p r but other i (Some s) → c ≡ better_on None (via_on b.peers.keys s) (offer_on b.hops.keys s) other
     → (over : Seats) → AreApart (flat_seats b) over → IsBest over but p other → IsBest (both b over) but p c
 keeps_end b p r from to i but other s c f row run l k e over apart best =
     subst (IsBest (both b over) but p) (on_joined None (via_on b.peers.keys s) (offer_on b.hops.keys s) None other ∙ sym e)
     (walks_end b p r from to i but other (joined (candidate_on b (Some s)) other) f row run l k.walks over apart best)
 
-pub keeps_none : (b : Flat) (p : code.Prefix) (r from to i : ℕ) (but : Option Via) (other : Option Candidate) → IsFlat b → IsRow b.rows.items p r → IsRun b.rows.items r (length b.slots.items) from to → to ≤ i → Keeps b p r but other i None → (over : Seats) → AreApart (flat_seats b) over → IsBest over but p other → IsBest (both b over) but p other
+pub keeps_none : (b : Flat) (p : code.Prefix) (r from to i : ℕ) (but : Option Via) (other : Option Candidate) → IsFlat b → IsRow b.rows.items p r → IsRun b.rows.items r (length b.rows.slots) from to → to ≤ i → Keeps b p r but other i None → (over : Seats) → AreApart (flat_seats b) over → IsBest over but p other → IsBest (both b over) but p other
 keeps_none b p r from to i but other f row run l k = walks_end b p r from to i but other other f row run l k.walks

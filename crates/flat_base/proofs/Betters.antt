@@ -27,7 +27,7 @@ use Rattle.flat_base.specs.declared.keys.Seat.{Seat}
 use Rattle.flat_base.specs.declared.keys.Offer.{Offer}
 use Rattle.flat_base.specs.declared.keys.Candidate.{Candidate}
 use Rattle.flat_base.specs.declared.rows.Row.{Row}
-use Rattle.flat_base.specs.declared.flat.Slot.{Slot}
+use Rattle.flat_base.specs.declared.slot.Slot.{Slot}
 use Rattle.flat_base.specs.declared.flat.Flat.{Flat}
 use Rattle.flat_base.specs.Orders.{seat_cmp}
 use Rattle.flat_base.specs.Seats.{Seats, held_in, offer_at}
@@ -191,7 +191,7 @@ and_parts false b e = absurd cc
 
 module _ (b : Flat) (over : Seats) (p : code.Prefix) (r : ℕ) (but : Option Via) (f : IsFlat b) (row : IsRow b.rows.items p r) (apart : AreApart (flat_seats b) over) where
   abbrev pub left : ℕ → events.Via → Bool
-  left i m = out_as but m || waits b.peers.keys r m (drop i b.slots.items)
+  left i m = out_as but m || waits b.peers.keys r m (drop i b.rows.slots)
 
   test : events.Via → Slot → Bool
   test m s = (s.row == r) && is_via m (via_on b.peers.keys s)
@@ -200,31 +200,31 @@ module _ (b : Flat) (over : Seats) (p : code.Prefix) (r : ℕ) (but : Option Via
   one_prefix = same_prefix_is (prefix_as p) (prefix_as row.0.prefix) (sym (prefix_same p row.0.prefix) ∙ row.2)
 
   -- a candidate of the prefix that has a slot waits from the run's beginning on
-  covered : (s : Seat) (o : Option Offer) (from : ℕ) → ((j : ℕ) (u : Slot) → slice_get b.slots.items j ≡ Some u → u.row ≡ r → from ≤ j) → code_cmp p s.prefix ≡ Equal → lookup (is_at (seat_cmp s)) (flat_seats b) ≡ Some o → waits b.peers.keys r (via_as s.via) (drop from b.slots.items) ≡ true
+  covered : (s : Seat) (o : Option Offer) (from : ℕ) → ((j : ℕ) (u : Slot) → slice_get b.rows.slots j ≡ Some u → u.row ≡ r → from ≤ j) → code_cmp p s.prefix ≡ Equal → lookup (is_at (seat_cmp s)) (flat_seats b) ≡ Some o → waits b.peers.keys r (via_as s.via) (drop from b.rows.slots) ≡ true
   covered s o from start e h =
-      let y = seat_slot b.rows.items b.peers.keys b.hops.keys s b.slots.items o h in
+      let y = seat_slot b.rows.items b.peers.keys b.hops.keys s b.rows.slots o h in
       let x = seat_parts b.rows.items b.peers.keys y.1 y.2 y.4 in
       let q = same_parts s y.2 y.5 in
       let one : code_cmp p x.row.prefix ≡ Equal = prefix_total.congr p s.prefix x.row.prefix e ∙ (ap (λ (k : Seat). code_cmp s.prefix k.prefix) x.is ∙ q.prefix) in
       let its : y.1.row ≡ r = one_row b f y.1.row r x.row row.0 x.row_there row.1 (tied_back prefix_total row.0.prefix x.row.prefix (sym (prefix_total.congr p row.0.prefix x.row.prefix (is_equal _ row.2)) ∙ one)) in
       let v : Via = record { peer = x.peer; id = y.1.id } in
       let way : same_via (via_as v) (via_as s.via) ≡ true = sym (via_same v s.via) ∙ ap is_eq (tied_back via_total s.via v (ap (λ (k : Seat). code_via_cmp s.via k.via) x.is ∙ tied_via s y.2 (is_equal _ y.5))) in
-      any_from (λ u. (u.row == r) && is_via (via_as s.via) (via_on b.peers.keys u)) b.slots.items from y.0 y.1 y.3 (start y.0 y.1 y.3 its)
+      any_from (λ u. (u.row == r) && is_via (via_as s.via) (via_on b.peers.keys u)) b.rows.slots from y.0 y.1 y.3 (start y.0 y.1 y.3 its)
       (ap (λ c. c && is_via (via_as s.via) (via_on b.peers.keys y.1)) (number_same y.1.row r its) ∙ (ap (λ o. is_via (via_as s.via) (via_or o y.1.id)) x.peer_there ∙ way))
 
   -- a slot that waits is the row's, and of that peer
-  waiting : (m : events.Via) (i : ℕ) → waits b.peers.keys r m (drop i b.slots.items) ≡ true → (j : ℕ) × (s : Slot) × (q : Via) × (slice_get b.slots.items j ≡ Some s) × (i ≤ j) × (s.row ≡ r) × (via_on b.peers.keys s ≡ Some q) × (same_via (via_as q) m ≡ true)
+  waiting : (m : events.Via) (i : ℕ) → waits b.peers.keys r m (drop i b.rows.slots) ≡ true → (j : ℕ) × (s : Slot) × (q : Via) × (slice_get b.rows.slots j ≡ Some s) × (i ≤ j) × (s.row ≡ r) × (via_on b.peers.keys s ≡ Some q) × (same_via (via_as q) m ≡ true)
   waiting m i e =
-      let x = from_any (λ s. (s.row == r) && is_via m (via_on b.peers.keys s)) b.slots.items i e in
+      let x = from_any (λ s. (s.row == r) && is_via m (via_on b.peers.keys s)) b.rows.slots i e in
       let y = and_parts (x.elem.row == r) (is_via m (via_on b.peers.keys x.elem)) x.passes in
       by_peer x.place x.elem x.there x.from (same_number x.elem.row r y.0) (via_on b.peers.keys x.elem) refl y.1
     where
-      by_peer : (j : ℕ) (s : Slot) → slice_get b.slots.items j ≡ Some s → i ≤ j → s.row ≡ r → (o : Option Via) → via_on b.peers.keys s ≡ o → is_via m o ≡ true → (j : ℕ) × (s : Slot) × (q : Via) × (slice_get b.slots.items j ≡ Some s) × (i ≤ j) × (s.row ≡ r) × (via_on b.peers.keys s ≡ Some q) × (same_via (via_as q) m ≡ true)
+      by_peer : (j : ℕ) (s : Slot) → slice_get b.rows.slots j ≡ Some s → i ≤ j → s.row ≡ r → (o : Option Via) → via_on b.peers.keys s ≡ o → is_via m o ≡ true → (j : ℕ) × (s : Slot) × (q : Via) × (slice_get b.rows.slots j ≡ Some s) × (i ≤ j) × (s.row ≡ r) × (via_on b.peers.keys s ≡ Some q) × (same_via (via_as q) m ≡ true)
       by_peer j s g l h None k t = absurd cc
       by_peer j s g l h (Some q) k t = (j, s, q, g, l, h, k, t)
 
   -- the seat of such a slot is in the flat part
-  its_seat : (s : Seat) (j : ℕ) (u : Slot) (q : Via) → slice_get b.slots.items j ≡ Some u → u.row ≡ r → via_on b.peers.keys u ≡ Some q → same_via (via_as q) (via_as s.via) ≡ true → code_cmp s.prefix row.0.prefix ≡ Equal → lookup (is_at (seat_cmp s)) (flat_seats b) ≡ Some (offer_on b.hops.keys u)
+  its_seat : (s : Seat) (j : ℕ) (u : Slot) (q : Via) → slice_get b.rows.slots j ≡ Some u → u.row ≡ r → via_on b.peers.keys u ≡ Some q → same_via (via_as q) (via_as s.via) ≡ true → code_cmp s.prefix row.0.prefix ≡ Equal → lookup (is_at (seat_cmp s)) (flat_seats b) ≡ Some (offer_on b.hops.keys u)
   its_seat s j u q g h k t e = offer_found b s j f (record {
     slot = u;
     there = g;
@@ -237,7 +237,7 @@ module _ (b : Flat) (over : Seats) (p : code.Prefix) (r : ℕ) (but : Option Via
   at_p s e = is_equal _ (prefix_same p s.prefix ∙ e)
 
   -- a candidate of the prefix that both hold and that doesn't wait is the other part's
-  others : (from : ℕ) → ((j : ℕ) (u : Slot) → slice_get b.slots.items j ≡ Some u → u.row ≡ r → from ≤ j) → (d : Place × model.Offer) → IsHeld (held_in (both b over)) d → same_prefix (prefix_as p) d.0.prefix ≡ true → waits b.peers.keys r d.0.via (drop from b.slots.items) ≡ false → IsHeld (held_in over) d
+  others : (from : ℕ) → ((j : ℕ) (u : Slot) → slice_get b.rows.slots j ≡ Some u → u.row ≡ r → from ≤ j) → (d : Place × model.Offer) → IsHeld (held_in (both b over)) d → same_prefix (prefix_as p) d.0.prefix ≡ true → waits b.peers.keys r d.0.via (drop from b.rows.slots) ≡ false → IsHeld (held_in over) d
   others from start d h e n =
       let c = code_of (both b over) d h in
       by_seat c.seat c.place c.offer c.here c.is (lookup (is_at (seat_cmp c.seat)) (flat_seats b)) refl
@@ -245,16 +245,16 @@ module _ (b : Flat) (over : Seats) (p : code.Prefix) (r : ℕ) (but : Option Via
       by_seat : (s : Seat) → place_as s ≡ d.0 → (o : Offer) → offer_at (both b over) s ≡ Some o → offer_as o ≡ d.1 → (x : Option (Option Offer)) → lookup (is_at (seat_cmp s)) (flat_seats b) ≡ x → IsHeld (held_in over) d
       by_seat s k o g i None l = ap (λ (q : Place). lookup (same_place q) (held_in over)) (sym k) ∙ (at_seat s over ∙ (ap (option_map offer_as) (sym (offer_over s (flat_seats b) over l) ∙ g) ∙ ap Some i))
       by_seat s k o g i (Some x) l =
-          let y : waits b.peers.keys r d.0.via (drop from b.slots.items) ≡ true = ap (λ (q : Place). waits b.peers.keys r q.via (drop from b.slots.items)) (sym k) ∙ covered s x from start (at_p s (ap (λ (q : Place). same_prefix (prefix_as p) q.prefix) k ∙ e)) l in absurd cc
+          let y : waits b.peers.keys r d.0.via (drop from b.rows.slots) ≡ true = ap (λ (q : Place). waits b.peers.keys r q.via (drop from b.rows.slots)) (sym k) ∙ covered s x from start (at_p s (ap (λ (q : Place). same_prefix (prefix_as p) q.prefix) k ∙ e)) l in absurd cc
 
   -- one that the other part holds doesn't wait, and both hold it
-  stays : (d : Place × model.Offer) → IsHeld (held_in over) d → (d.0.prefix ≡ prefix_as p) → (from : ℕ) → IsHeld (held_in (both b over)) d × (waits b.peers.keys r d.0.via (drop from b.slots.items) ≡ false)
+  stays : (d : Place × model.Offer) → IsHeld (held_in over) d → (d.0.prefix ≡ prefix_as p) → (from : ℕ) → IsHeld (held_in (both b over)) d × (waits b.peers.keys r d.0.via (drop from b.rows.slots) ≡ false)
   stays d h e from =
       let c = code_of over d h in
       let none = apart c.seat c.offer c.here in
-      (ap (λ (q : Place). lookup (same_place q) (held_in (both b over))) (sym c.place) ∙ (at_seat c.seat (both b over) ∙ (ap (option_map offer_as) (offer_over c.seat (flat_seats b) over none ∙ c.here) ∙ ap Some c.is)), by_test c.seat c.place none (waits b.peers.keys r d.0.via (drop from b.slots.items)) refl)
+      (ap (λ (q : Place). lookup (same_place q) (held_in (both b over))) (sym c.place) ∙ (at_seat c.seat (both b over) ∙ (ap (option_map offer_as) (offer_over c.seat (flat_seats b) over none ∙ c.here) ∙ ap Some c.is)), by_test c.seat c.place none (waits b.peers.keys r d.0.via (drop from b.rows.slots)) refl)
     where
-      by_test : (s : Seat) → place_as s ≡ d.0 → lookup (is_at (seat_cmp s)) (flat_seats b) ≡ None → (t : Bool) → waits b.peers.keys r d.0.via (drop from b.slots.items) ≡ t → t ≡ false
+      by_test : (s : Seat) → place_as s ≡ d.0 → lookup (is_at (seat_cmp s)) (flat_seats b) ≡ None → (t : Bool) → waits b.peers.keys r d.0.via (drop from b.rows.slots) ≡ t → t ≡ false
       by_test s k n true t =
           let w = waiting d.0.via from t in
           let one : code_cmp p s.prefix ≡ Equal = at_p s (ap (λ (q : Place). same_prefix (prefix_as p) q.prefix) k ∙ (ap (same_prefix (prefix_as p)) e ∙ same_prefix_itself (prefix_as p))) in
@@ -262,10 +262,10 @@ module _ (b : Flat) (over : Seats) (p : code.Prefix) (r : ℕ) (but : Option Via
           absurd (none-some _ (sym n ∙ x))
       by_test s k n false t = refl
 
-  pub walk_starts : (from : ℕ) → ((j : ℕ) (u : Slot) → slice_get b.slots.items j ≡ Some u → u.row ≡ r → from ≤ j) → (c : Option (Place × model.Offer)) → IsBestOf (held_in over) (prefix_as p) (out_as but) c → IsBestOf (held_in (both b over)) (prefix_as p) (left from) c
-  walk_starts from start None best = λ d h e. by_test d h e (waits b.peers.keys r d.0.via (drop from b.slots.items)) refl
+  pub walk_starts : (from : ℕ) → ((j : ℕ) (u : Slot) → slice_get b.rows.slots j ≡ Some u → u.row ≡ r → from ≤ j) → (c : Option (Place × model.Offer)) → IsBestOf (held_in over) (prefix_as p) (out_as but) c → IsBestOf (held_in (both b over)) (prefix_as p) (left from) c
+  walk_starts from start None best = λ d h e. by_test d h e (waits b.peers.keys r d.0.via (drop from b.rows.slots)) refl
     where
-      by_test : (d : Place × model.Offer) → IsHeld (held_in (both b over)) d → same_prefix (prefix_as p) d.0.prefix ≡ true → (t : Bool) → waits b.peers.keys r d.0.via (drop from b.slots.items) ≡ t → (out_as but d.0.via || t) ≡ true
+      by_test : (d : Place × model.Offer) → IsHeld (held_in (both b over)) d → same_prefix (prefix_as p) d.0.prefix ≡ true → (t : Bool) → waits b.peers.keys r d.0.via (drop from b.rows.slots) ≡ t → (out_as but d.0.via || t) ≡ true
       by_test d h e true t = right (out_as but d.0.via)
         where
           right : (a : Bool) → (a || true) ≡ true
@@ -277,15 +277,15 @@ module _ (b : Flat) (over : Seats) (p : code.Prefix) (r : ℕ) (but : Option Via
       (x.0, best.1, or_false _ _ best.2 x.1, λ d h e n. best.3 d (others from start d h e (or_right _ _ n)) e (or_left _ _ n))
 
   -- past a slot of another row
-  pub walk_past : (i : ℕ) (s : Slot) (c : Option (Place × model.Offer)) → slice_get b.slots.items i ≡ Some s → (s.row ≡ r → ⊥) → IsBestOf (held_in (both b over)) (prefix_as p) (left i) c → IsBestOf (held_in (both b over)) (prefix_as p) (left (suc i)) c
-  walk_past i s c g n best = best_by (held_in (both b over)) (prefix_as p) (left i) (left (suc i)) c (λ m. ap (λ xs. out_as but m || waits b.peers.keys r m xs) (drop_here b.slots.items i s g) ∙ ap (λ x. out_as but m || ((x && is_via m (via_on b.peers.keys s)) || waits b.peers.keys r m (drop (suc i) b.slots.items))) (by_test (s.row == r) refl)) best
+  pub walk_past : (i : ℕ) (s : Slot) (c : Option (Place × model.Offer)) → slice_get b.rows.slots i ≡ Some s → (s.row ≡ r → ⊥) → IsBestOf (held_in (both b over)) (prefix_as p) (left i) c → IsBestOf (held_in (both b over)) (prefix_as p) (left (suc i)) c
+  walk_past i s c g n best = best_by (held_in (both b over)) (prefix_as p) (left i) (left (suc i)) c (λ m. ap (λ xs. out_as but m || waits b.peers.keys r m xs) (drop_here b.rows.slots i s g) ∙ ap (λ x. out_as but m || ((x && is_via m (via_on b.peers.keys s)) || waits b.peers.keys r m (drop (suc i) b.rows.slots))) (by_test (s.row == r) refl)) best
     where
       by_test : (t : Bool) → (s.row == r) ≡ t → t ≡ false
       by_test true t = absurd (n (same_number s.row r t))
       by_test false t = refl
 
   -- past a slot of the row
-  pub walk_slot : (i : ℕ) (s : Slot) (best new : Option Candidate) → slice_get b.slots.items i ≡ Some s → s.row ≡ r → new ≡ better_on but (via_on b.peers.keys s) (offer_on b.hops.keys s) best → IsBestOf (held_in (both b over)) (prefix_as p) (left i) (option_map (candidate_as (prefix_as p)) best) → IsBestOf (held_in (both b over)) (prefix_as p) (left (suc i)) (option_map (candidate_as (prefix_as p)) new)
+  pub walk_slot : (i : ℕ) (s : Slot) (best new : Option Candidate) → slice_get b.rows.slots i ≡ Some s → s.row ≡ r → new ≡ better_on but (via_on b.peers.keys s) (offer_on b.hops.keys s) best → IsBestOf (held_in (both b over)) (prefix_as p) (left i) (option_map (candidate_as (prefix_as p)) best) → IsBestOf (held_in (both b over)) (prefix_as p) (left (suc i)) (option_map (candidate_as (prefix_as p)) new)
   walk_slot i s best new g e same c =
       by_via (via_on b.peers.keys s) refl
     where
@@ -296,10 +296,10 @@ module _ (b : Flat) (over : Seats) (p : code.Prefix) (r : ℕ) (but : Option Via
       P = prefix_as p
 
       rest : events.Via → Bool
-      rest m = waits b.peers.keys r m (drop (suc i) b.slots.items)
+      rest m = waits b.peers.keys r m (drop (suc i) b.rows.slots)
 
       left_is : (q : Via) → via_on b.peers.keys s ≡ Some q → (m : events.Via) → left i m ≡ (out_as but m || (same_via (via_as q) m || rest m))
-      left_is q k m = ap (λ xs. out_as but m || waits b.peers.keys r m xs) (drop_here b.slots.items i s g) ∙ (ap (λ x. out_as but m || ((x && is_via m (via_on b.peers.keys s)) || rest m)) (number_same s.row r e) ∙ ap (λ o. out_as but m || (is_via m o || rest m)) k)
+      left_is q k m = ap (λ xs. out_as but m || waits b.peers.keys r m xs) (drop_here b.rows.slots i s g) ∙ (ap (λ x. out_as but m || ((x && is_via m (via_on b.peers.keys s)) || rest m)) (number_same s.row r e) ∙ ap (λ o. out_as but m || (is_via m o || rest m)) k)
 
       -- no later slot of the row is of this peer
       none_later : (q : Via) → via_on b.peers.keys s ≡ Some q → (t : Bool) → rest (via_as q) ≡ t → t ≡ false
@@ -348,17 +348,17 @@ module _ (b : Flat) (over : Seats) (p : code.Prefix) (r : ℕ) (but : Option Via
               ∙ (at_seat (seat q) (both b over) ∙ ap (option_map offer_as) (offer_under (seat q) (flat_seats b) over (offer_on b.hops.keys s) (its_seat (seat q) i s q g e k (via_key.itself (via_as q)) (tied_itself prefix_total row.0.prefix))))
 
       by_via : (o : Option Via) → via_on b.peers.keys s ≡ o → IsBestOf held P (left (suc i)) (option_map (candidate_as P) new)
-      by_via None k = subst (λ n. IsBestOf held P (left (suc i)) (option_map (candidate_as P) n)) (sym (same ∙ ap (λ q. better_on but q (offer_on b.hops.keys s) best) k)) (best_by held P (left i) (left (suc i)) (option_map (candidate_as P) best) (λ m. ap (λ xs. out_as but m || waits b.peers.keys r m xs) (drop_here b.slots.items i s g) ∙ (ap (λ x. out_as but m || ((x && is_via m (via_on b.peers.keys s)) || rest m)) (number_same s.row r e) ∙ ap (λ o. out_as but m || (is_via m o || rest m)) k)) c)
+      by_via None k = subst (λ n. IsBestOf held P (left (suc i)) (option_map (candidate_as P) n)) (sym (same ∙ ap (λ q. better_on but q (offer_on b.hops.keys s) best) k)) (best_by held P (left i) (left (suc i)) (option_map (candidate_as P) best) (λ m. ap (λ xs. out_as but m || waits b.peers.keys r m xs) (drop_here b.rows.slots i s g) ∙ (ap (λ x. out_as but m || ((x && is_via m (via_on b.peers.keys s)) || rest m)) (number_same s.row r e) ∙ ap (λ o. out_as but m || (is_via m o || rest m)) k)) c)
       by_via (Some q) k = subst (λ n. IsBestOf held P (left (suc i)) (option_map (candidate_as P) n)) (sym (same ∙ ap (λ q. better_on but q (offer_on b.hops.keys s) best) k)) (by_out q k (is_out but q) refl)
 
-  pub walk_ends : (i : ℕ) (c : Option (Place × model.Offer)) → ((j : ℕ) (u : Slot) → slice_get b.slots.items j ≡ Some u → u.row ≡ r → j < i) → IsBestOf (held_in (both b over)) (prefix_as p) (left i) c → IsBestOf (held_in (both b over)) (prefix_as p) (out_as but) c
-  walk_ends i c ends best = best_by (held_in (both b over)) (prefix_as p) (left i) (out_as but) c (λ m. ap (λ x. out_as but m || x) (by_test m (waits b.peers.keys r m (drop i b.slots.items)) refl) ∙ or_none (out_as but m)) best
+  pub walk_ends : (i : ℕ) (c : Option (Place × model.Offer)) → ((j : ℕ) (u : Slot) → slice_get b.rows.slots j ≡ Some u → u.row ≡ r → j < i) → IsBestOf (held_in (both b over)) (prefix_as p) (left i) c → IsBestOf (held_in (both b over)) (prefix_as p) (out_as but) c
+  walk_ends i c ends best = best_by (held_in (both b over)) (prefix_as p) (left i) (out_as but) c (λ m. ap (λ x. out_as but m || x) (by_test m (waits b.peers.keys r m (drop i b.rows.slots)) refl) ∙ or_none (out_as but m)) best
     where
       or_none : (a : Bool) → (a || false) ≡ a
       or_none true = refl
       or_none false = refl
 
-      by_test : (m : events.Via) (t : Bool) → waits b.peers.keys r m (drop i b.slots.items) ≡ t → t ≡ false
+      by_test : (m : events.Via) (t : Bool) → waits b.peers.keys r m (drop i b.rows.slots) ≡ t → t ≡ false
       by_test m true t = let w = waiting m i t in let l : w.0 < i = ends w.0 w.1 w.3 w.5 in absurd (omega (arith, l, w.4))
       by_test m false t = refl
 
@@ -397,30 +397,30 @@ best_as b p q but out other best e f h =
 -- ---- what the loop keeps
 
 abbrev pub Walks : Flat → code.Prefix → ℕ → Option Via → Option Candidate → ℕ → Option Candidate → Type 0
-Walks b p r but other i best = (over : Seats) → AreApart (flat_seats b) over → IsBest over but p other → IsBestOf (held_in (both b over)) (prefix_as p) (λ m. out_as but m || waits b.peers.keys r m (drop i b.slots.items)) (option_map (candidate_as (prefix_as p)) best)
+Walks b p r but other i best = (over : Seats) → AreApart (flat_seats b) over → IsBest over but p other → IsBestOf (held_in (both b over)) (prefix_as p) (λ m. out_as but m || waits b.peers.keys r m (drop i b.rows.slots)) (option_map (candidate_as (prefix_as p)) best)
 
-pub walks_start : (b : Flat) (p : code.Prefix) (r from to : ℕ) (but : Option Via) (other : Option Candidate) → IsFlat b → IsRow b.rows.items p r → IsRun b.rows.items r (length b.slots.items) from to → Walks b p r but other from other
+pub walks_start : (b : Flat) (p : code.Prefix) (r from to : ℕ) (but : Option Via) (other : Option Candidate) → IsFlat b → IsRow b.rows.items p r → IsRun b.rows.items r (length b.rows.slots) from to → Walks b p r but other from other
 walks_start b p r from to but other f row run over apart best = walk_starts b over p r but f row apart from (λ j u g h. (in_run b r from to j u f run g h).0) (option_map (candidate_as (prefix_as p)) other) best
 
-pub walks_past : (b : Flat) (p : code.Prefix) (r i : ℕ) (s : Slot) (but : Option Via) (other best : Option Candidate) → IsFlat b → IsRow b.rows.items p r → slice_get b.slots.items i ≡ Some s → (s.row ≡ r → ⊥) → Walks b p r but other i best → Walks b p r but other (suc i) best
+pub walks_past : (b : Flat) (p : code.Prefix) (r i : ℕ) (s : Slot) (but : Option Via) (other best : Option Candidate) → IsFlat b → IsRow b.rows.items p r → slice_get b.rows.slots i ≡ Some s → (s.row ≡ r → ⊥) → Walks b p r but other i best → Walks b p r but other (suc i) best
 walks_past b p r i s but other best f row g n w over apart x = walk_past b over p r but f row apart i s (option_map (candidate_as (prefix_as p)) best) g n (w over apart x)
 
-pub walks_slot : (b : Flat) (p : code.Prefix) (r i : ℕ) (s : Slot) (but : Option Via) (other best new : Option Candidate) → IsFlat b → IsRow b.rows.items p r → slice_get b.slots.items i ≡ Some s → s.row ≡ r → new ≡ better_on but (via_on b.peers.keys s) (offer_on b.hops.keys s) best → Walks b p r but other i best → Walks b p r but other (suc i) new
+pub walks_slot : (b : Flat) (p : code.Prefix) (r i : ℕ) (s : Slot) (but : Option Via) (other best new : Option Candidate) → IsFlat b → IsRow b.rows.items p r → slice_get b.rows.slots i ≡ Some s → s.row ≡ r → new ≡ better_on but (via_on b.peers.keys s) (offer_on b.hops.keys s) best → Walks b p r but other i best → Walks b p r but other (suc i) new
 walks_slot b p r i s but other best new f row g e same w over apart x = walk_slot b over p r but f row apart i s best new g e same (w over apart x)
 
-walks_none : (b : Flat) (p : code.Prefix) (r i : ℕ) (but : Option Via) (other best : Option Candidate) → slice_get b.slots.items i ≡ None → Walks b p r but other i best → Walks b p r but other (suc i) best
-walks_none b p r i but other best g w over apart x = best_by (held_in (both b over)) (prefix_as p) (λ m. out_as but m || waits b.peers.keys r m (drop i b.slots.items)) (λ m. out_as but m || waits b.peers.keys r m (drop (suc i) b.slots.items)) (option_map (candidate_as (prefix_as p)) best) (λ m. ap (λ xs. out_as but m || waits b.peers.keys r m xs) (drop_past b.slots.items i g)) (w over apart x)
+walks_none : (b : Flat) (p : code.Prefix) (r i : ℕ) (but : Option Via) (other best : Option Candidate) → slice_get b.rows.slots i ≡ None → Walks b p r but other i best → Walks b p r but other (suc i) best
+walks_none b p r i but other best g w over apart x = best_by (held_in (both b over)) (prefix_as p) (λ m. out_as but m || waits b.peers.keys r m (drop i b.rows.slots)) (λ m. out_as but m || waits b.peers.keys r m (drop (suc i) b.rows.slots)) (option_map (candidate_as (prefix_as p)) best) (λ m. ap (λ xs. out_as but m || waits b.peers.keys r m xs) (drop_past b.rows.slots i g)) (w over apart x)
 
-pub walks_step : (b : Flat) (p : code.Prefix) (r i : ℕ) (but : Option Via) (other best new : Option Candidate) → IsFlat b → IsRow b.rows.items p r → new ≡ best_step b.peers.keys b.hops.keys r but (slice_get b.slots.items i) best → Walks b p r but other i best → Walks b p r but other (i + 1) new
-walks_step b p r i but other best new f row e w = let k : suc i ≡ i + 1 = omega arith in subst (λ n. Walks b p r but other n new) k (by_slot (slice_get b.slots.items i) refl e)
+pub walks_step : (b : Flat) (p : code.Prefix) (r i : ℕ) (but : Option Via) (other best new : Option Candidate) → IsFlat b → IsRow b.rows.items p r → new ≡ best_step b.peers.keys b.hops.keys r but (slice_get b.rows.slots i) best → Walks b p r but other i best → Walks b p r but other (i + 1) new
+walks_step b p r i but other best new f row e w = let k : suc i ≡ i + 1 = omega arith in subst (λ n. Walks b p r but other n new) k (by_slot (slice_get b.rows.slots i) refl e)
   where
-    by_row : (s : Slot) → slice_get b.slots.items i ≡ Some s → (t : Bool) → (s.row == r) ≡ t → new ≡ (if t then better_on but (via_on b.peers.keys s) (offer_on b.hops.keys s) best else best) → Walks b p r but other (suc i) new
+    by_row : (s : Slot) → slice_get b.rows.slots i ≡ Some s → (t : Bool) → (s.row == r) ≡ t → new ≡ (if t then better_on but (via_on b.peers.keys s) (offer_on b.hops.keys s) best else best) → Walks b p r but other (suc i) new
     by_row s g true t h = walks_slot b p r i s but other best new f row g (same_number s.row r t) h w
     by_row s g false t h = subst (Walks b p r but other (suc i)) (sym h) (walks_past b p r i s but other best f row g (λ a. let x : (s.row == r) ≡ true = number_same s.row r a in absurd cc) w)
 
-    by_slot : (o : Option Slot) → slice_get b.slots.items i ≡ o → new ≡ best_step b.peers.keys b.hops.keys r but o best → Walks b p r but other (suc i) new
+    by_slot : (o : Option Slot) → slice_get b.rows.slots i ≡ o → new ≡ best_step b.peers.keys b.hops.keys r but o best → Walks b p r but other (suc i) new
     by_slot None g h = subst (Walks b p r but other (suc i)) (sym h) (walks_none b p r i but other best g w)
     by_slot (Some s) g h = by_row s g (s.row == r) refl h
 
-pub walks_end : (b : Flat) (p : code.Prefix) (r from to i : ℕ) (but : Option Via) (other best : Option Candidate) → IsFlat b → IsRow b.rows.items p r → IsRun b.rows.items r (length b.slots.items) from to → to ≤ i → Walks b p r but other i best → (over : Seats) → AreApart (flat_seats b) over → IsBest over but p other → IsBest (both b over) but p best
+pub walks_end : (b : Flat) (p : code.Prefix) (r from to i : ℕ) (but : Option Via) (other best : Option Candidate) → IsFlat b → IsRow b.rows.items p r → IsRun b.rows.items r (length b.rows.slots) from to → to ≤ i → Walks b p r but other i best → (over : Seats) → AreApart (flat_seats b) over → IsBest over but p other → IsBest (both b over) but p best
 walks_end b p r from to i but other best f row run l w over apart x = walk_ends b over p r but f row apart i (option_map (candidate_as (prefix_as p)) best) (λ j u g h. let y = (in_run b r from to j u f run g h).1 in omega (arith, y, l)) (w over apart x)

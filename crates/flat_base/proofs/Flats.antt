@@ -26,7 +26,9 @@ use Rattle.route_model.specs.Events.{same_peer}
 use Rattle.flat_base.specs.declared.keys.Seat.{Seat}
 use Rattle.flat_base.specs.declared.keys.Offer.{Offer}
 use Rattle.flat_base.specs.declared.rows.Row.{Row}
-use Rattle.flat_base.specs.declared.flat.Slot.{Slot}
+use Rattle.flat_base.specs.declared.slot.Slot.{Slot}
+use Rattle.flat_base.specs.declared.slot.RunSlot.{RunSlot}
+use Rattle.flat_base.specs.Slots.{bare}
 use Rattle.flat_base.specs.declared.flat.Flat.{Flat}
 use Rattle.flat_base.specs.Orders.{seat_cmp}
 use Rattle.flat_base.specs.Seats.{Seats, flat, offer_at}
@@ -36,7 +38,7 @@ use Rattle.flat_base.proofs.Equals.{peer_eq}
 use Rattle.flat_base.proofs.Chains.{chain_pushed, chain_kept, chain_longer, chain_dropped, end_there}
 use Rattle.flat_base.proofs.Views.{lookup_by_test}
 use Rattle.flat_base.proofs.Places.{apart_key, position_found, position_none, got_old, got_new, got_pushed, got_set, got_set_at, set_got, grown_key}
-use Rattle.flat_base.proofs.Orders.{is_equal, peer_same, prefix_total, peer_total, seat_total, tied_prefix}
+use Rattle.flat_base.proofs.Orders.{is_equal, peer_same, prefix_total, peer_total, seat_total}
 use Rattle.route_model.proofs.Places.{both_equal}
 use Rattle.std.specs.Ordering.{nat_cmp}
 use Rattle.std.proofs.lemmas.Cmp.{ranked, nat_cmp_total}
@@ -133,7 +135,7 @@ one_row b f i j r t g h e = elim (cases_lt i j) [
 pub is_there : {X : Type 0} (xs : List X) (n m : ℕ) (x : X) → length xs ≤ m → slice_get xs n ≡ Some x → n ≢ m
 is_there xs n m x l g e = let k : n < length xs = slice_get_within xs n x g in omega (arith, k, l, e)
 
-pub same_seat_slots : (b : Flat) → IsFlat b → (i j : ℕ) (s u : Slot) (t v : Seat) → slice_get b.slots.items i ≡ Some s → slice_get b.slots.items j ≡ Some u → seat_on b.rows.items b.peers.keys s ≡ Some t → seat_on b.rows.items b.peers.keys u ≡ Some v → is_eq (seat_cmp t v) ≡ true → i ≡ j
+pub same_seat_slots : (b : Flat) → IsFlat b → (i j : ℕ) (s u : Slot) (t v : Seat) → slice_get b.rows.slots i ≡ Some s → slice_get b.rows.slots j ≡ Some u → seat_on b.rows.items b.peers.keys s ≡ Some t → seat_on b.rows.items b.peers.keys u ≡ Some v → is_eq (seat_cmp t v) ≡ true → i ≡ j
 same_seat_slots b f i j s u t v g h a c e =
     let x = seat_parts b.rows.items b.peers.keys s t a in
     let y = seat_parts b.rows.items b.peers.keys u v c in
@@ -149,13 +151,13 @@ seats_join q t v a b = ap is_eq (sym (seat_total.congr q t v (is_equal _ a))) �
 -- what is offered at the slot of a seat
 pub offer_found : (b : Flat) (q : Seat) (i : ℕ) → IsFlat b → (x : IsSlotOf b q i) → lookup (is_at (seat_cmp q)) (flat_seats b) ≡ Some (offer_on b.hops.keys x.slot)
 offer_found b q i f x =
-    lookup_found b.rows.items b.peers.keys b.hops.keys q b.slots.items i x.slot x.seat x.there x.is x.same
+    lookup_found b.rows.items b.peers.keys b.hops.keys q b.rows.slots i x.slot x.seat x.there x.is x.same
     (λ j u v g e m. same_seat_slots b f j i u x.slot v x.seat g x.there e x.is (seats_join q v x.seat m x.same))
 
 -- ---- what is not there
 
 pub no_row_seat : (b : Flat) (q : Seat) → HasNoRow b.rows.items q.prefix → HasNoSeat b q
-no_row_seat b q n = lookup_none b.rows.items b.peers.keys b.hops.keys q b.slots.items (λ i s t g e. by_test s t e (is_eq (seat_cmp q t)) refl)
+no_row_seat b q n = lookup_none b.rows.items b.peers.keys b.hops.keys q b.rows.slots (λ i s t g e. by_test s t e (is_eq (seat_cmp q t)) refl)
   where
     by_test : (s : Slot) (t : Seat) → seat_on b.rows.items b.peers.keys s ≡ Some t → (d : Bool) → is_eq (seat_cmp q t) ≡ d → d ≡ false
     by_test s t e true m =
@@ -165,7 +167,7 @@ no_row_seat b q n = lookup_none b.rows.items b.peers.keys b.hops.keys q b.slots.
     by_test s t e false m = refl
 
 pub no_number_seat : (b : Flat) (q : Seat) → HasNoNumber b.peers.keys q.via.peer → HasNoSeat b q
-no_number_seat b q n = lookup_none b.rows.items b.peers.keys b.hops.keys q b.slots.items (λ i s t g e. by_test s t e (is_eq (seat_cmp q t)) refl)
+no_number_seat b q n = lookup_none b.rows.items b.peers.keys b.hops.keys q b.rows.slots (λ i s t g e. by_test s t e (is_eq (seat_cmp q t)) refl)
   where
     by_test : (s : Slot) (t : Seat) → seat_on b.rows.items b.peers.keys s ≡ Some t → (d : Bool) → is_eq (seat_cmp q t) ≡ d → d ≡ false
     by_test s t e true m =
@@ -175,10 +177,10 @@ no_number_seat b q n = lookup_none b.rows.items b.peers.keys b.hops.keys q b.slo
         let w : is_eq (code_peer_cmp q.via.peer x.peer) ≡ false = peer_same q.via.peer x.peer ∙ z in absurd cc
     by_test s t e false m = refl
 
-pub no_slot_seat : (b : Flat) (q : Seat) (r n : ℕ) → IsFlat b → IsRow b.rows.items q.prefix r → IsNumber b.peers.keys q.via.peer n → HasNoSlot b.slots.items r n q.via.id → HasNoSeat b q
-no_slot_seat b q r n f row number none = lookup_none b.rows.items b.peers.keys b.hops.keys q b.slots.items (λ i s t g e. by_test i s t g e (is_eq (seat_cmp q t)) refl)
+pub no_slot_seat : (b : Flat) (q : Seat) (r n : ℕ) → IsFlat b → IsRow b.rows.items q.prefix r → IsNumber b.peers.keys q.via.peer n → HasNoSlot b.rows.slots r n q.via.id → HasNoSeat b q
+no_slot_seat b q r n f row number none = lookup_none b.rows.items b.peers.keys b.hops.keys q b.rows.slots (λ i s t g e. by_test i s t g e (is_eq (seat_cmp q t)) refl)
   where
-    by_test : (i : ℕ) (s : Slot) (t : Seat) → slice_get b.slots.items i ≡ Some s → seat_on b.rows.items b.peers.keys s ≡ Some t → (d : Bool) → is_eq (seat_cmp q t) ≡ d → d ≡ false
+    by_test : (i : ℕ) (s : Slot) (t : Seat) → slice_get b.rows.slots i ≡ Some s → seat_on b.rows.items b.peers.keys s ≡ Some t → (d : Bool) → is_eq (seat_cmp q t) ≡ d → d ≡ false
     by_test i s t g e true m =
         let x = seat_parts b.rows.items b.peers.keys s t e in
         let p = same_parts q t m in
@@ -190,7 +192,7 @@ no_slot_seat b q r n f row number none = lookup_none b.rows.items b.peers.keys b
         absurd (none i s g (one_row b f s.row r x.row row.0 x.row_there row.1 (tied_back prefix_total row.0.prefix x.row.prefix d)) (f.numbers s.peer n x.peer number.0 x.peer_there number.1 (sym (peer_same x.peer number.0) ∙ ap is_eq (tied_back peer_total number.0 x.peer h))) id)
     by_test i s t g e false m = refl
 
-pub slot_seat : (b : Flat) (q : Seat) (r n i : ℕ) → IsRow b.rows.items q.prefix r → IsNumber b.peers.keys q.via.peer n → IsSlot b.slots.items r n q.via.id i → IsSlotOf b q i
+pub slot_seat : (b : Flat) (q : Seat) (r n i : ℕ) → IsRow b.rows.items q.prefix r → IsNumber b.peers.keys q.via.peer n → IsSlot b.rows.slots r n q.via.id i → IsSlotOf b q i
 slot_seat b q r n i row number slot = record {
   slot = slot.0;
   there = slot.1;
@@ -205,19 +207,22 @@ slot_seat b q r n i row number slot = record {
 pub read : {X : Type 0} (xs ys : List X) (i : ℕ) (x : X) → xs ≡ ys → i < length xs → x ≡ get_or xs i x → slice_get ys i ≡ Some x
 read xs ys i x d l e = ap (λ zs. slice_get zs i) (sym d) ∙ slice_get_read xs (length xs) i x refl l e
 
--- the row of a seat's slot is that of the seat's prefix
-pub slot_row : (b : Flat) (q : Seat) (i : ℕ) → IsSlotOf b q i → (xs : List Slot) → xs ≡ b.slots.items → (s : Slot) → i < length xs → s ≡ get_or xs i s → IsRow b.rows.items q.prefix s.row
-slot_row b q i x xs d s l r =
-    let parts = seat_parts b.rows.items b.peers.keys x.slot x.seat x.is in
-    let same : is_eq (code_cmp q.prefix x.seat.prefix) ≡ true = ap is_eq (tied_prefix q x.seat (is_equal _ x.same)) in
-    let row : IsRow b.rows.items q.prefix x.slot.row = (parts.row, parts.row_there, ap (λ (t : Seat). is_eq (code_cmp q.prefix t.prefix)) parts.is ∙ same) in
-    subst (λ (u : Slot). IsRow b.rows.items q.prefix u.row) (same_Some x.slot s (sym x.there ∙ read xs b.slots.items i s d l r)) row
+-- what is offered at the slot of a seat, read without the slot's row
+pub offer_read : (b : Flat) (q : Seat) (i : ℕ) → IsFlat b → IsSlotOf b q i → (s : RunSlot) → Some s ≡ option_map bare (slice_get b.rows.slots i) → (o : Option Offer) → o ≡ offer_by b.hops.keys s.path s.hop → lookup (is_at (seat_cmp q)) (flat_seats b) ≡ Some o
+offer_read b q i f x s e o h =
+    let k : bare x.slot ≡ s = sym (same_Some s (bare x.slot) (e ∙ ap (option_map bare) x.there)) in
+    offer_found b q i f x ∙ (ap (λ (y : RunSlot). Some (offer_by b.hops.keys y.path y.hop)) k ∙ sym (ap Some h))
 
-pub offer_read : (b : Flat) (q : Seat) (i : ℕ) → IsFlat b → IsSlotOf b q i → (xs : List Slot) → xs ≡ b.slots.items → (s : Slot) → i < length xs → s ≡ get_or xs i s → (o : Option Offer) → o ≡ offer_on b.hops.keys s → lookup (is_at (seat_cmp q)) (flat_seats b) ≡ Some o
-offer_read b q i f x xs d s l r o e = offer_found b q i f x ∙ (ap (λ y. Some (offer_on b.hops.keys y)) (same_Some x.slot s (sym x.there ∙ read xs b.slots.items i s d l r)) ∙ sym (ap Some e))
+pub bare_kept : (b : Flat) (q : Seat) (i : ℕ) → IsSlotOf b q i → None ≡ option_map bare (slice_get b.rows.slots i) → ⊥
+bare_kept b q i x e = none-some _ (e ∙ ap (option_map bare) x.there)
 
-pub offer_unread : (b : Flat) (q : Seat) (i : ℕ) → IsSlotOf b q i → (xs : List Slot) → xs ≡ b.slots.items → length xs ≤ i → ⊥
-offer_unread b q i x xs d k = let l : length b.slots.items ≤ i = subst (λ ys. length ys ≤ i) d k in let m : i < length b.slots.items = slice_get_within b.slots.items i x.slot x.there in omega (arith, l, m)
+-- the slot of what was read without its row
+pub bare_slot : (o : Option Slot) (s : RunSlot) → Some s ≡ option_map bare o → (t : Slot) × (o ≡ Some t) × (bare t ≡ s)
+bare_slot None s e = absurd cc
+bare_slot (Some t) s e = (t, refl, sym (same_Some s (bare t) e))
+
+pub last_free : (b : Flat) (q i : ℕ) (s : RunSlot) → q ≢ no_peer → Some s ≡ option_map bare (slice_get b.rows.slots i) → s.hop ≡ no_hop → end_of b.ends.items q ≡ suc i → IsLastFree b q i
+last_free b q i s listed e free last = let t = bare_slot (slice_get b.rows.slots i) s e in record { listed = listed; slot = t.0; there = t.1; free = ap (λ (y : RunSlot). y.hop) t.2 ∙ free; last = last }
 
 abbrev peer_test : Peer → Peer → Bool
 peer_test p q = (sameb the_type p.addr.family q.addr.family && nat_eq p.addr.bits q.addr.bits) && nat_eq p.asn q.asn
@@ -248,22 +253,22 @@ last_row rows p last there same = let l : length rows - 1 < length rows = slice_
 
 -- ---- the run of a row
 
-pub in_run : (b : Flat) (r from to j : ℕ) (s : Slot) → IsFlat b → IsRun b.rows.items r (length b.slots.items) from to → slice_get b.slots.items j ≡ Some s → s.row ≡ r → (from ≤ j) × (j < to)
+pub in_run : (b : Flat) (r from to j : ℕ) (s : Slot) → IsFlat b → IsRun b.rows.items r (length b.rows.slots) from to → slice_get b.rows.slots j ≡ Some s → s.row ≡ r → (from ≤ j) × (j < to)
 in_run b r from to j s f run g e =
     let x = f.placed j s g in
     let here : slice_get b.rows.items r ≡ Some x.row = ap (slice_get b.rows.items) (sym e) ∙ x.there in
-    let start : from ≡ x.row.off = run.0 ∙ ap (off_or (length b.slots.items)) here in
+    let start : from ≡ x.row.off = run.0 ∙ ap (off_or (length b.rows.slots)) here in
     (subst (λ n. n ≤ j) (sym start) x.from, by_next (slice_get b.rows.items (suc r)) refl)
   where
     by_next : (o : Option Row) → slice_get b.rows.items (suc r) ≡ o → j < to
-    by_next None h = subst (λ n. j < n) (sym (run.1 ∙ ap (off_or (length b.slots.items)) h)) (slice_get_within b.slots.items j s g)
-    by_next (Some next) h = subst (λ n. j < n) (sym (run.1 ∙ ap (off_or (length b.slots.items)) h)) ((f.placed j s g).to next (ap (λ n. slice_get b.rows.items (suc n)) e ∙ h))
+    by_next None h = subst (λ n. j < n) (sym (run.1 ∙ ap (off_or (length b.rows.slots)) h)) (slice_get_within b.rows.slots j s g)
+    by_next (Some next) h = subst (λ n. j < n) (sym (run.1 ∙ ap (off_or (length b.rows.slots)) h)) ((f.placed j s g).to next (ap (λ n. slice_get b.rows.items (suc n)) e ∙ h))
 
 -- none of these slots is the row's and the peer's
 abbrev pub NoneBefore : List Slot → ℕ → ℕ → ℕ → ℕ → ℕ → Type 0
 NoneBefore slots r q id from to = (j : ℕ) (s : Slot) → from ≤ j → j < to → slice_get slots j ≡ Some s → s.row ≡ r → s.peer ≡ q → s.id ≡ id → ⊥
 
-pub none_at_all : (b : Flat) (r q id from to i : ℕ) → IsFlat b → IsRun b.rows.items r (length b.slots.items) from to → to ≤ i → NoneBefore b.slots.items r q id from i → HasNoSlot b.slots.items r q id
+pub none_at_all : (b : Flat) (r q id from to i : ℕ) → IsFlat b → IsRun b.rows.items r (length b.rows.slots) from to → to ≤ i → NoneBefore b.rows.slots r q id from i → HasNoSlot b.rows.slots r q id
 none_at_all b r q id from to i f run l h j s g a c = let x = in_run b r from to j s f run g a in h j s x.0 (omega (arith, x.1, l)) g a c
 
 -- ---- numbers that are given
@@ -404,7 +409,7 @@ row_seats rows more slots peers hops ends row f e = grown_seats rows more slots 
 
 -- ---- finding a seat
 
-pub found_seat : (b : Flat) (q : Seat) (r n : ℕ) → IsFlat b → IsRow b.rows.items q.prefix r → IsNumber b.peers.keys q.via.peer n → (o : Option ℕ) → MatchOption o (HasNoSlot b.slots.items r n q.via.id) (IsSlot b.slots.items r n q.via.id) → MatchOption o (HasNoSeat b q) (IsSlotOf b q)
+pub found_seat : (b : Flat) (q : Seat) (r n : ℕ) → IsFlat b → IsRow b.rows.items q.prefix r → IsNumber b.peers.keys q.via.peer n → (o : Option ℕ) → MatchOption o (HasNoSlot b.rows.slots r n q.via.id) (IsSlot b.rows.slots r n q.via.id) → MatchOption o (HasNoSeat b q) (IsSlotOf b q)
 found_seat b q r n f row number None h = no_slot_seat b q r n f row number h
 found_seat b q r n f row number (Some i) h = slot_seat b q r n i row number h
 
@@ -413,7 +418,7 @@ no_seat b q h None e = h
 no_seat b q h (Some i) e = absurd cc
 
 -- a seat whose slot wasn't found
-pub no_seat_there : (b : Flat) (q : Seat) (r n : ℕ) (o : Option ℕ) → IsFlat b → IsRow b.rows.items q.prefix r → IsNumber b.peers.keys q.via.peer n → MatchOption o (HasNoSlot b.slots.items r n q.via.id) (IsSlot b.slots.items r n q.via.id) → o ≡ None → HasNoSeat b q
+pub no_seat_there : (b : Flat) (q : Seat) (r n : ℕ) (o : Option ℕ) → IsFlat b → IsRow b.rows.items q.prefix r → IsNumber b.peers.keys q.via.peer n → MatchOption o (HasNoSlot b.rows.slots r n q.via.id) (IsSlot b.rows.slots r n q.via.id) → o ≡ None → HasNoSeat b q
 no_seat_there b q r n None f row number h e = no_slot_seat b q r n f row number h
 no_seat_there b q r n (Some i) f row number h e = absurd cc
 
@@ -434,10 +439,10 @@ abbrev pub or_else : {X : Type 0} → Option X → Option X → Option X
 or_else None y = y
 or_else (Some x) y = Some x
 
-pub slot_pushed : (b : Flat) (s : Slot) (end : ℕ) → IsFlat b → IsNext b s → end ≡ suc (length b.slots.items) → AreFlat b.rows.items (b.slots.items ++ s ∷ []) b.peers.keys b.hops.keys (slice_set b.ends.items s.peer end)
+pub slot_pushed : (b : Flat) (s : Slot) (end : ℕ) → IsFlat b → IsNext b s → end ≡ suc (length b.rows.slots) → AreFlat b.rows.items (b.rows.slots ++ s ∷ []) b.peers.keys b.hops.keys (slice_set b.ends.items s.peer end)
 slot_pushed b s end f x at = record {
   ordered = f.ordered;
-  placed = λ i u g. elim (got_pushed b.slots.items s i u g) [
+  placed = λ i u g. elim (got_pushed b.rows.slots s i u g) [
     | inl y ↦ f.placed i u y
     | inr y ↦ subst (λ (w : Slot). IsPlaced b.rows.items b.peers.keys b.hops.keys i w) y.1 (record {
       row = x.row;
@@ -448,13 +453,13 @@ slot_pushed b s end f x at = record {
       hop = inl (x.hop, x.hop_there);
     })
   ];
-  within = λ i r g. let m : r.off ≤ length b.slots.items = f.within i r g in omega (arith, m, length-append b.slots.items (s ∷ []));
-  alone = λ i j u v g h e a d n. elim (got_pushed b.slots.items s i u g) [
-    | inl y ↦ elim (got_pushed b.slots.items s j v h) [
+  within = λ i r g. let m : r.off ≤ length b.rows.slots = f.within i r g in omega (arith, m, length-append b.rows.slots (s ∷ []));
+  alone = λ i j u v g h e a d n. elim (got_pushed b.rows.slots s i u g) [
+    | inl y ↦ elim (got_pushed b.rows.slots s j v h) [
       | inl z ↦ f.alone i j u v y z e a d n
       | inr z ↦ absurd (x.new i u y (e ∙ ap (λ (w : Slot). w.row) (sym z.1)) (a ∙ ap (λ (w : Slot). w.peer) (sym z.1)) (d ∙ ap (λ (w : Slot). w.id) (sym z.1)))
     ]
-    | inr y ↦ elim (got_pushed b.slots.items s j v h) [
+    | inr y ↦ elim (got_pushed b.rows.slots s j v h) [
       | inl z ↦ absurd (x.new j v z (sym e ∙ ap (λ (w : Slot). w.row) (sym y.1)) (sym a ∙ ap (λ (w : Slot). w.peer) (sym y.1)) (sym d ∙ ap (λ (w : Slot). w.id) (sym y.1)))
       | inr z ↦ y.0 ∙ sym z.0
     ]
@@ -463,7 +468,7 @@ slot_pushed b s end f x at = record {
   few_peers = f.few_peers;
   numbers = f.numbers;
   listed = subst (λ n. length b.peers.keys ≤ n) (sym (length-set b.ends.items s.peer end)) f.listed;
-  chained = chain_pushed b.slots.items b.ends.items s end f.chained (omega (arith, slice_get_within b.peers.keys s.peer x.peer x.peer_there, f.listed)) (is_there b.peers.keys s.peer no_peer x.peer f.few_peers x.peer_there) x.link at;
+  chained = chain_pushed b.rows.slots b.ends.items s end f.chained (omega (arith, slice_get_within b.peers.keys s.peer x.peer x.peer_there, f.listed)) (is_there b.peers.keys s.peer no_peer x.peer f.few_peers x.peer_there) x.link at;
 }
 
 pub seats_more : (rows : List Row) (peers : List Peer) (hops : List Addr) (xs ys : List Slot) → seats_on rows peers hops (xs ++ ys) ≡ seats_on rows peers hops xs ++ seats_on rows peers hops ys
@@ -508,7 +513,7 @@ put_last xs s t o n e q = lookup_last (is_at (seat_cmp q)) xs t o ∙ by_test (i
         nothing (Some x) = refl
 
 -- what a peer and a row that hold no seat say of slots
-pub no_slot_yet : (b : Flat) (q : Seat) (r n : ℕ) → IsFlat b → IsRow b.rows.items q.prefix r → IsNumber b.peers.keys q.via.peer n → HasNoSeat b q → HasNoSlot b.slots.items r n q.via.id
+pub no_slot_yet : (b : Flat) (q : Seat) (r n : ℕ) → IsFlat b → IsRow b.rows.items q.prefix r → IsNumber b.peers.keys q.via.peer n → HasNoSeat b q → HasNoSlot b.rows.slots r n q.via.id
 no_slot_yet b q r n f row number none i s g a c d = absurd (none-some _ (sym none ∙ offer_found b q i f (slot_seat b q r n i row number (s, g, a, c, d))))
 
 -- ---- a slot's offer set
@@ -531,42 +536,42 @@ module _ (b : Flat) (q : Seat) (at path hop : ℕ) (f : IsFlat b) (x : IsSlotOf 
   abbrev pub now : Slot
   now = with_offer path hop x.slot
 
-  pub slot_set : AreFlat b.rows.items (slice_set b.slots.items at now) b.peers.keys b.hops.keys b.ends.items
+  pub slot_set : AreFlat b.rows.items (slice_set b.rows.slots at now) b.peers.keys b.hops.keys b.ends.items
   slot_set = record {
     ordered = f.ordered;
-    placed = λ i u g. elim (got_set b.slots.items at now i u g) [
+    placed = λ i u g. elim (got_set b.rows.slots at now i u g) [
       | inl y ↦ let p = f.placed at x.slot x.there in subst (λ (w : Slot). IsPlaced b.rows.items b.peers.keys b.hops.keys i w) y.1 (record { row = p.row; there = p.there; from = subst (λ n. p.row.off ≤ n) (sym y.0) p.from; to = λ next h. subst (λ n. n < next.off) (sym y.0) (p.to next h); peer = p.peer; hop = way })
       | inr y ↦ f.placed i u y
     ];
-    within = λ i r g. subst (λ n. r.off ≤ n) (sym (length-set b.slots.items at now)) (f.within i r g);
+    within = λ i r g. subst (λ n. r.off ≤ n) (sym (length-set b.rows.slots at now)) (f.within i r g);
     alone = λ i j u v g h e a d n. let y = got_back i u g in let z = got_back j v h in f.alone i j y.0 z.0 y.1 z.1 (y.2 ∙ (e ∙ sym z.2)) (y.3 ∙ (a ∙ sym z.3)) (y.4 ∙ (d ∙ sym z.4)) (λ k. n (sym y.3 ∙ k));
     few = f.few;
     few_peers = f.few_peers;
     numbers = f.numbers;
     listed = f.listed;
-    chained = chain_kept b.slots.items (slice_set b.slots.items at now) b.ends.items f.chained (length-set b.slots.items at now) (λ i u g. let y = got_back i u g in (y.0, y.1, y.3, y.5));
+    chained = chain_kept b.rows.slots (slice_set b.rows.slots at now) b.ends.items f.chained (length-set b.rows.slots at now) (λ i u g. let y = got_back i u g in (y.0, y.1, y.3, y.5));
   }
     where
       -- what a slot was before
-      got_back : (i : ℕ) (u : Slot) → slice_get (slice_set b.slots.items at now) i ≡ Some u → (s : Slot) × (slice_get b.slots.items i ≡ Some s) × (s.row ≡ u.row) × (s.peer ≡ u.peer) × (s.id ≡ u.id) × (s.link ≡ u.link)
-      got_back i u g = elim (got_set b.slots.items at now i u g) [
-        | inl y ↦ (x.slot, ap (slice_get b.slots.items) y.0 ∙ x.there, ap (λ (w : Slot). w.row) y.1, ap (λ (w : Slot). w.peer) y.1, ap (λ (w : Slot). w.id) y.1, ap (λ (w : Slot). w.link) y.1)
+      got_back : (i : ℕ) (u : Slot) → slice_get (slice_set b.rows.slots at now) i ≡ Some u → (s : Slot) × (slice_get b.rows.slots i ≡ Some s) × (s.row ≡ u.row) × (s.peer ≡ u.peer) × (s.id ≡ u.id) × (s.link ≡ u.link)
+      got_back i u g = elim (got_set b.rows.slots at now i u g) [
+        | inl y ↦ (x.slot, ap (slice_get b.rows.slots) y.0 ∙ x.there, ap (λ (w : Slot). w.row) y.1, ap (λ (w : Slot). w.peer) y.1, ap (λ (w : Slot). w.id) y.1, ap (λ (w : Slot). w.link) y.1)
         | inr y ↦ (u, y, refl, refl, refl, refl)
       ]
 
-  pub set_puts : (s : Seat) → lookup (is_at (seat_cmp s)) (seats_on b.rows.items b.peers.keys b.hops.keys (slice_set b.slots.items at now)) ≡ cond (is_eq (seat_cmp q s)) (Some (offer_by b.hops.keys path hop)) (lookup (is_at (seat_cmp s)) (flat_seats b))
+  pub set_puts : (s : Seat) → lookup (is_at (seat_cmp s)) (seats_on b.rows.items b.peers.keys b.hops.keys (slice_set b.rows.slots at now)) ≡ cond (is_eq (seat_cmp q s)) (Some (offer_by b.hops.keys path hop)) (lookup (is_at (seat_cmp s)) (flat_seats b))
   set_puts s = by_test (is_eq (seat_cmp q s)) refl
     where
       -- each slot's seat stays
-      alone : (j : ℕ) (u : Slot) (v : Seat) → slice_get (slice_set b.slots.items at now) j ≡ Some u → seat_on b.rows.items b.peers.keys u ≡ Some v → is_eq (seat_cmp s v) ≡ true → is_eq (seat_cmp q s) ≡ true → j ≡ at
-      alone j u v g e m k = elim (got_set b.slots.items at now j u g) [
+      alone : (j : ℕ) (u : Slot) (v : Seat) → slice_get (slice_set b.rows.slots at now) j ≡ Some u → seat_on b.rows.items b.peers.keys u ≡ Some v → is_eq (seat_cmp s v) ≡ true → is_eq (seat_cmp q s) ≡ true → j ≡ at
+      alone j u v g e m k = elim (got_set b.rows.slots at now j u g) [
         | inl y ↦ y.0
         | inr y ↦ same_seat_slots b f j at u x.slot v x.seat y x.there e x.is (seats_join q v x.seat (ap is_eq (seat_total.congr q s v (is_equal _ k)) ∙ m) x.same)
       ]
 
-      by_test : (c : Bool) → is_eq (seat_cmp q s) ≡ c → lookup (is_at (seat_cmp s)) (seats_on b.rows.items b.peers.keys b.hops.keys (slice_set b.slots.items at now)) ≡ cond c (Some (offer_by b.hops.keys path hop)) (lookup (is_at (seat_cmp s)) (flat_seats b))
-      by_test true m = lookup_found b.rows.items b.peers.keys b.hops.keys s (slice_set b.slots.items at now) at now x.seat (got_set_at b.slots.items at now x.slot x.there) x.is (ap is_eq (sym (seat_total.congr q s x.seat (is_equal _ m))) ∙ x.same) (λ j u v g e n. alone j u v g e n m)
-      by_test false m = set_other b.rows.items b.peers.keys b.hops.keys s b.slots.items at x.slot now x.seat x.there x.is x.is (by_other (is_eq (seat_cmp s x.seat)) refl)
+      by_test : (c : Bool) → is_eq (seat_cmp q s) ≡ c → lookup (is_at (seat_cmp s)) (seats_on b.rows.items b.peers.keys b.hops.keys (slice_set b.rows.slots at now)) ≡ cond c (Some (offer_by b.hops.keys path hop)) (lookup (is_at (seat_cmp s)) (flat_seats b))
+      by_test true m = lookup_found b.rows.items b.peers.keys b.hops.keys s (slice_set b.rows.slots at now) at now x.seat (got_set_at b.rows.slots at now x.slot x.there) x.is (ap is_eq (sym (seat_total.congr q s x.seat (is_equal _ m))) ∙ x.same) (λ j u v g e n. alone j u v g e n m)
+      by_test false m = set_other b.rows.items b.peers.keys b.hops.keys s b.rows.slots at x.slot now x.seat x.there x.is x.is (by_other (is_eq (seat_cmp s x.seat)) refl)
         where
           by_other : (c : Bool) → is_eq (seat_cmp s x.seat) ≡ c → c ≡ false
           by_other true u = let y : is_eq (seat_cmp q s) ≡ true = same_right q x.seat s x.same u in absurd cc
@@ -581,11 +586,11 @@ few_more false keys x after n e l = let m : length after ≡ length (keys ++ x �
 
 -- ---- from one state to the next
 
-pub same_flat : (b n : Flat) (xs : List Slot) → n.rows.items ≡ b.rows.items → n.slots.items ≡ xs → n.peers.keys ≡ b.peers.keys → n.hops.keys ≡ b.hops.keys → n.ends.items ≡ b.ends.items → AreFlat b.rows.items xs b.peers.keys b.hops.keys b.ends.items → IsFlat n
-same_flat b n xs d e g h k f = subst (λ rows. AreFlat rows n.slots.items n.peers.keys n.hops.keys n.ends.items) (sym d) (subst (λ slots. AreFlat b.rows.items slots n.peers.keys n.hops.keys n.ends.items) (sym e) (subst (λ peers. AreFlat b.rows.items xs peers n.hops.keys n.ends.items) (sym g) (subst (λ hops. AreFlat b.rows.items xs b.peers.keys hops n.ends.items) (sym h) (subst (AreFlat b.rows.items xs b.peers.keys b.hops.keys) (sym k) f))))
+pub same_flat : (b n : Flat) (xs : List Slot) → n.rows.items ≡ b.rows.items → n.rows.slots ≡ xs → n.peers.keys ≡ b.peers.keys → n.hops.keys ≡ b.hops.keys → n.ends.items ≡ b.ends.items → AreFlat b.rows.items xs b.peers.keys b.hops.keys b.ends.items → IsFlat n
+same_flat b n xs d e g h k f = subst (λ rows. AreFlat rows n.rows.slots n.peers.keys n.hops.keys n.ends.items) (sym d) (subst (λ slots. AreFlat b.rows.items slots n.peers.keys n.hops.keys n.ends.items) (sym e) (subst (λ peers. AreFlat b.rows.items xs peers n.hops.keys n.ends.items) (sym g) (subst (λ hops. AreFlat b.rows.items xs b.peers.keys hops n.ends.items) (sym h) (subst (AreFlat b.rows.items xs b.peers.keys b.hops.keys) (sym k) f))))
 
-pub same_seats : (b n : Flat) (xs : List Slot) → n.rows.items ≡ b.rows.items → n.slots.items ≡ xs → n.peers.keys ≡ b.peers.keys → n.hops.keys ≡ b.hops.keys → flat_seats n ≡ seats_on b.rows.items b.peers.keys b.hops.keys xs
-same_seats b n xs d e g h = ap (λ rows. seats_on rows n.peers.keys n.hops.keys n.slots.items) d ∙ (ap (λ peers. seats_on b.rows.items peers n.hops.keys n.slots.items) g ∙ (ap (λ hops. seats_on b.rows.items b.peers.keys hops n.slots.items) h ∙ ap (seats_on b.rows.items b.peers.keys b.hops.keys) e))
+pub same_seats : (b n : Flat) (xs : List Slot) → n.rows.items ≡ b.rows.items → n.rows.slots ≡ xs → n.peers.keys ≡ b.peers.keys → n.hops.keys ≡ b.hops.keys → flat_seats n ≡ seats_on b.rows.items b.peers.keys b.hops.keys xs
+same_seats b n xs d e g h = ap (λ rows. seats_on rows n.peers.keys n.hops.keys n.rows.slots) d ∙ (ap (λ peers. seats_on b.rows.items peers n.hops.keys n.rows.slots) g ∙ (ap (λ hops. seats_on b.rows.items b.peers.keys hops n.rows.slots) h ∙ ap (seats_on b.rows.items b.peers.keys b.hops.keys) e))
 
 pub next_slot : (m : Flat) (q : Seat) (r n h path id link : ℕ) (way : Addr) → IsFlat m → IsLastRow m.rows.items q.prefix r → IsNumber m.peers.keys q.via.peer n → slice_get m.hops.keys h ≡ Some way → HasNoSeat m q → id ≡ q.via.id → link ≡ end_of m.ends.items n → IsNext m (record { path = path; peer = n; id = id; hop = h; row = r; link = link })
 next_slot m q r n h path id link way f row number there none i l = record { row = row.0.0; there = row.0.1; last = row.1; peer = number.0; peer_there = number.1; hop = way; hop_there = there; new = λ j s g a c d. no_slot_yet m q r n f row.0 number none j s g a c (d ∙ i); link = l }
@@ -609,7 +614,7 @@ appended b m q r n h path id link way o same row number there e a i none after d
         ∙ (ap (λ x. flat_seats b ++ seat_then x (offer_on m.hops.keys s) []) (seat_made m.rows.items m.peers.keys s row.0 number.0 row.1 number.1)
         ∙ ap (λ x. flat_seats b ++ (seat_by s row.0 number.0, x) ∷ []) (offer_made m.hops.keys path h way o there e a))
 
-pub slot_kept : (b m : Flat) (q : Seat) (i : ℕ) → m.rows.items ≡ b.rows.items → m.slots.items ≡ b.slots.items → m.peers.keys ≡ b.peers.keys → IsSlotOf b q i → IsSlotOf m q i
+pub slot_kept : (b m : Flat) (q : Seat) (i : ℕ) → m.rows.items ≡ b.rows.items → m.rows.slots ≡ b.rows.slots → m.peers.keys ≡ b.peers.keys → IsSlotOf b q i → IsSlotOf m q i
 slot_kept b m q i d e g x = record {
   slot = x.slot;
   there = ap (λ xs. slice_get xs i) e ∙ x.there;
@@ -625,8 +630,8 @@ if_some P None x e h = absurd cc
 pub puts_from : (old older new : Seats) (q : Seat) (o p : Option Offer) → old ≡ older → o ≡ p → Puts old new q o → Puts older new q p
 puts_from old older new q o p e a h = subst (λ xs. Puts xs new q p) e (subst (Puts old new q) a h)
 
-pub slot_within : (b : Flat) (q : Seat) (i : ℕ) → IsSlotOf b q i → i < length b.slots.items
-slot_within b q i x = slice_get_within b.slots.items i x.slot x.there
+pub slot_within : (b : Flat) (q : Seat) (i : ℕ) → IsSlotOf b q i → i < length b.rows.slots
+slot_within b q i x = slice_get_within b.rows.slots i x.slot x.there
 
 pub nothing_by : (hops : List Addr) (path : ℕ) → length hops ≤ no_hop → offer_by hops path no_hop ≡ None
 nothing_by hops path l = ap (option_map (λ h. let o : Offer = record { path = path; hop = h } in o)) (slice_get_past hops no_hop l)
@@ -695,36 +700,36 @@ module _ (b m : Flat) (q : Peer) (after : List Peer) (f : IsFlat m) (room : leng
   grown_now : IsGrown m.peers.keys after
   grown_now = grown_key (list_any (peer_test q) m.peers.keys) m.peers.keys q after e
 
-  pub numbered_flat : AreFlat m.rows.items m.slots.items after m.hops.keys m.ends.items
-  numbered_flat = more_hops m.rows.items m.slots.items m.peers.keys after m.hops.keys m.hops.keys m.ends.items f grown_now (apart_peers m.peers.keys q after e f.numbers) few_now (few_more (list_any (peer_test q) m.peers.keys) m.peers.keys q after (length m.ends.items) e room) (λ i x g. g) f.few
+  pub numbered_flat : AreFlat m.rows.items m.rows.slots after m.hops.keys m.ends.items
+  numbered_flat = more_hops m.rows.items m.rows.slots m.peers.keys after m.hops.keys m.hops.keys m.ends.items f grown_now (apart_peers m.peers.keys q after e f.numbers) few_now (few_more (list_any (peer_test q) m.peers.keys) m.peers.keys q after (length m.ends.items) e room) (λ i x g. g) f.few
 
-  pub numbered_seats : m.rows.items ≡ b.rows.items → m.slots.items ≡ b.slots.items → m.peers.keys ≡ b.peers.keys → m.hops.keys ≡ b.hops.keys → seats_on m.rows.items after m.hops.keys m.slots.items ≡ flat_seats b
+  pub numbered_seats : m.rows.items ≡ b.rows.items → m.rows.slots ≡ b.rows.slots → m.peers.keys ≡ b.peers.keys → m.hops.keys ≡ b.hops.keys → seats_on m.rows.items after m.hops.keys m.rows.slots ≡ flat_seats b
   numbered_seats rows slots peers hops =
-      grown_seats m.rows.items m.rows.items m.slots.items m.peers.keys after m.hops.keys m.hops.keys m.ends.items f (λ i x g. g) grown_now few_now (λ i x g. g) f.few ∙ same_seats b m b.slots.items rows slots peers hops
+      grown_seats m.rows.items m.rows.items m.rows.slots m.peers.keys after m.hops.keys m.hops.keys m.ends.items f (λ i x g. g) grown_now few_now (λ i x g. g) f.few ∙ same_seats b m b.rows.slots rows slots peers hops
 
 -- ---- a slot dropped
 
 module _ (b : Flat) (q at : ℕ) (f : IsFlat b) (x : IsLastFree b q at) where
   -- what a slot that is a seat was before
-  seat_back : (i : ℕ) (u : Slot) (v : Seat) → slice_get (slice_set b.slots.items at (emptied x.slot)) i ≡ Some u → seat_on b.rows.items b.peers.keys u ≡ Some v → slice_get b.slots.items i ≡ Some u
-  seat_back i u v g e = elim (got_set b.slots.items at (emptied x.slot) i u g) [
+  seat_back : (i : ℕ) (u : Slot) (v : Seat) → slice_get (slice_set b.rows.slots at (emptied x.slot)) i ≡ Some u → seat_on b.rows.items b.peers.keys u ≡ Some v → slice_get b.rows.slots i ≡ Some u
+  seat_back i u v g e = elim (got_set b.rows.slots at (emptied x.slot) i u g) [
     | inl y ↦
         let p = seat_parts b.rows.items b.peers.keys u v e in
         absurd (is_there b.peers.keys u.peer no_peer p.peer f.few_peers p.peer_there (ap (λ (w : Slot). w.peer) (sym y.1)))
     | inr y ↦ y
   ]
 
-  pub slot_dropped : AreFlat b.rows.items (slice_set b.slots.items at (emptied x.slot)) b.peers.keys b.hops.keys (slice_set b.ends.items q x.slot.link)
+  pub slot_dropped : AreFlat b.rows.items (slice_set b.rows.slots at (emptied x.slot)) b.peers.keys b.hops.keys (slice_set b.ends.items q x.slot.link)
   slot_dropped = record {
     ordered = f.ordered;
-    placed = λ i u g. elim (got_set b.slots.items at (emptied x.slot) i u g) [
+    placed = λ i u g. elim (got_set b.rows.slots at (emptied x.slot) i u g) [
       | inl y ↦ let p = f.placed at x.slot x.there in subst (λ (w : Slot). IsPlaced b.rows.items b.peers.keys b.hops.keys i w) y.1 (record { row = p.row; there = p.there; from = subst (λ n. p.row.off ≤ n) (sym y.0) p.from; to = λ next h. subst (λ n. n < next.off) (sym y.0) (p.to next h); peer = inr refl; hop = p.hop })
       | inr y ↦ f.placed i u y
     ];
-    within = λ i r g. subst (λ n. r.off ≤ n) (sym (length-set b.slots.items at (emptied x.slot))) (f.within i r g);
-    alone = λ i j u v g h e a d n. elim (got_set b.slots.items at (emptied x.slot) i u g) [
+    within = λ i r g. subst (λ n. r.off ≤ n) (sym (length-set b.rows.slots at (emptied x.slot))) (f.within i r g);
+    alone = λ i j u v g h e a d n. elim (got_set b.rows.slots at (emptied x.slot) i u g) [
       | inl y ↦ absurd (n (ap (λ (w : Slot). w.peer) (sym y.1)))
-      | inr y ↦ elim (got_set b.slots.items at (emptied x.slot) j v h) [
+      | inr y ↦ elim (got_set b.rows.slots at (emptied x.slot) j v h) [
         | inl z ↦ absurd (n (a ∙ ap (λ (w : Slot). w.peer) (sym z.1)))
         | inr z ↦ f.alone i j u v y z e a d n
       ]
@@ -733,23 +738,23 @@ module _ (b : Flat) (q at : ℕ) (f : IsFlat b) (x : IsLastFree b q at) where
     few_peers = f.few_peers;
     numbers = f.numbers;
     listed = subst (λ n. length b.peers.keys ≤ n) (sym (length-set b.ends.items q x.slot.link)) f.listed;
-    chained = chain_dropped b.slots.items b.ends.items q at x.slot (emptied x.slot) f.chained x.listed (end_there b.ends.items q at x.last) x.last x.there refl refl;
+    chained = chain_dropped b.rows.slots b.ends.items q at x.slot (emptied x.slot) f.chained x.listed (end_there b.ends.items q at x.last) x.last x.there refl refl;
   }
 
   -- the slots' seats but that one stay
-  pub dropped_thins : Thins (flat_seats b) (seats_on b.rows.items b.peers.keys b.hops.keys (slice_set b.slots.items at (emptied x.slot)))
+  pub dropped_thins : Thins (flat_seats b) (seats_on b.rows.items b.peers.keys b.hops.keys (slice_set b.rows.slots at (emptied x.slot)))
   dropped_thins s = by_old (lookup (is_at (seat_cmp s)) (flat_seats b)) refl
     where
       after : Seats
-      after = seats_on b.rows.items b.peers.keys b.hops.keys (slice_set b.slots.items at (emptied x.slot))
+      after = seats_on b.rows.items b.peers.keys b.hops.keys (slice_set b.rows.slots at (emptied x.slot))
 
-      none : ((i : ℕ) (u : Slot) (v : Seat) → slice_get b.slots.items i ≡ Some u → seat_on b.rows.items b.peers.keys u ≡ Some v → is_eq (seat_cmp s v) ≡ true → i ≡ at) → lookup (is_at (seat_cmp s)) after ≡ None
-      none alone = lookup_none b.rows.items b.peers.keys b.hops.keys s (slice_set b.slots.items at (emptied x.slot)) (λ i u v g e. by_test i u v g e (is_eq (seat_cmp s v)) refl)
+      none : ((i : ℕ) (u : Slot) (v : Seat) → slice_get b.rows.slots i ≡ Some u → seat_on b.rows.items b.peers.keys u ≡ Some v → is_eq (seat_cmp s v) ≡ true → i ≡ at) → lookup (is_at (seat_cmp s)) after ≡ None
+      none alone = lookup_none b.rows.items b.peers.keys b.hops.keys s (slice_set b.rows.slots at (emptied x.slot)) (λ i u v g e. by_test i u v g e (is_eq (seat_cmp s v)) refl)
         where
-          by_test : (i : ℕ) (u : Slot) (v : Seat) → slice_get (slice_set b.slots.items at (emptied x.slot)) i ≡ Some u → seat_on b.rows.items b.peers.keys u ≡ Some v → (t : Bool) → is_eq (seat_cmp s v) ≡ t → t ≡ false
+          by_test : (i : ℕ) (u : Slot) (v : Seat) → slice_get (slice_set b.rows.slots at (emptied x.slot)) i ≡ Some u → seat_on b.rows.items b.peers.keys u ≡ Some v → (t : Bool) → is_eq (seat_cmp s v) ≡ t → t ≡ false
           by_test i u v g e true m =
               let k : i ≡ at = alone i u v (seat_back i u v g e) e m in
-              let w : u ≡ emptied x.slot = same_Some u (emptied x.slot) (sym g ∙ (ap (slice_get (slice_set b.slots.items at (emptied x.slot))) k ∙ got_set_at b.slots.items at (emptied x.slot) x.slot x.there)) in
+              let w : u ≡ emptied x.slot = same_Some u (emptied x.slot) (sym g ∙ (ap (slice_get (slice_set b.rows.slots at (emptied x.slot))) k ∙ got_set_at b.rows.slots at (emptied x.slot) x.slot x.there)) in
               let p = seat_parts b.rows.items b.peers.keys u v e in
               absurd (is_there b.peers.keys u.peer no_peer p.peer f.few_peers p.peer_there (ap (λ (w : Slot). w.peer) w))
           by_test i u v g e false m = refl
@@ -757,7 +762,7 @@ module _ (b : Flat) (q at : ℕ) (f : IsFlat b) (x : IsLastFree b q at) where
       by_old : (o : Option (Option Offer)) → lookup (is_at (seat_cmp s)) (flat_seats b) ≡ o → (lookup (is_at (seat_cmp s)) after ≡ lookup (is_at (seat_cmp s)) (flat_seats b)) ⊎ ((lookup (is_at (seat_cmp s)) (flat_seats b) ≡ Some None) × (lookup (is_at (seat_cmp s)) after ≡ None))
       by_old None e = inl (none (λ i u v g k m. absurd (none-some _ (sym e ∙ offer_found b s i f (record { slot = u; there = g; seat = v; is = k; same = m })))) ∙ sym e)
       by_old (Some o) e =
-          let y = seat_slot b.rows.items b.peers.keys b.hops.keys s b.slots.items o e in
+          let y = seat_slot b.rows.items b.peers.keys b.hops.keys s b.rows.slots o e in
           let z : IsSlotOf b s y.0 = record { slot = y.1; there = y.3; seat = y.2; is = y.4; same = y.5 } in
           elim (cases_lt y.0 at) [
             | inl l ↦ inl (stays y.0 z (λ k. omega (arith, l, k)))
@@ -765,14 +770,14 @@ module _ (b : Flat) (q at : ℕ) (f : IsFlat b) (x : IsLastFree b q at) where
               | inl m ↦ inl (stays y.0 z (λ k. omega (arith, m, k)))
               | inr m ↦
                   let k : y.0 ≡ at = omega (arith, l, m) in
-                  let w : y.1 ≡ x.slot = same_Some y.1 x.slot (sym y.3 ∙ (ap (slice_get b.slots.items) k ∙ x.there)) in
+                  let w : y.1 ≡ x.slot = same_Some y.1 x.slot (sym y.3 ∙ (ap (slice_get b.rows.slots) k ∙ x.there)) in
                   inr (offer_found b s y.0 f z ∙ ap Some (ap (offer_on b.hops.keys) w ∙ ap (option_map (λ h. let o : Offer = record { path = x.slot.path; hop = h } in o)) (slice_get_past b.hops.keys x.slot.hop (subst (λ n. length b.hops.keys ≤ n) (sym x.free) f.few))), none (λ i u v g e m. same_seat_slots b f i y.0 u y.1 v y.2 g y.3 e y.4 (seats_join s v y.2 m y.5) ∙ k))
             ]
           ]
         where
           stays : (i : ℕ) (z : IsSlotOf b s i) → (i ≡ at → ⊥) → lookup (is_at (seat_cmp s)) after ≡ lookup (is_at (seat_cmp s)) (flat_seats b)
           stays i z n =
-              lookup_found b.rows.items b.peers.keys b.hops.keys s (slice_set b.slots.items at (emptied x.slot)) i z.slot z.seat (elim (set_got b.slots.items at (emptied x.slot) i z.slot z.there) [ inl k ↦ absurd (n k) | inr g ↦ g ]) z.is z.same
+              lookup_found b.rows.items b.peers.keys b.hops.keys s (slice_set b.rows.slots at (emptied x.slot)) i z.slot z.seat (elim (set_got b.rows.slots at (emptied x.slot) i z.slot z.there) [ inl k ↦ absurd (n k) | inr g ↦ g ]) z.is z.same
               (λ j u v g e m. same_seat_slots b f j i u z.slot v z.seat (seat_back j u v g e) z.there e z.is (seats_join s v z.seat m z.same))
               ∙ sym (offer_found b s i f z)
 

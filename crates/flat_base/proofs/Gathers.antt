@@ -19,7 +19,7 @@ use Rattle.fib_prefix.specs.declared.event.Via.{Via}
 use Rattle.flat_base.specs.declared.keys.Seat.{Seat}
 use Rattle.flat_base.specs.declared.keys.Offer.{Offer}
 use Rattle.flat_base.specs.declared.rows.Row.{Row}
-use Rattle.flat_base.specs.declared.flat.Slot.{Slot}
+use Rattle.flat_base.specs.declared.slot.Slot.{Slot}
 use Rattle.flat_base.specs.declared.flat.Flat.{Flat}
 use Rattle.flat_base.specs.Orders.{seat_cmp}
 use Rattle.flat_base.specs.Seats.{flat, offer_at}
@@ -32,17 +32,17 @@ use Rattle.flat_base.proofs.Flats.{seat_slot, seat_parts, same_parts, offer_foun
 
 -- no slot of the row below a place offers anything by this way
 abbrev NotYet : Flat → ℕ → ℕ → Via → Type 0
-NotYet b r i v = (j : ℕ) (u : Slot) (w : Via) (o : Offer) → j < i → slice_get b.slots.items j ≡ Some u → u.row ≡ r → via_on b.peers.keys u ≡ Some w → offer_on b.hops.keys u ≡ Some o → is_eq (code_via_cmp w v) ≡ false
+NotYet b r i v = (j : ℕ) (u : Slot) (w : Via) (o : Offer) → j < i → slice_get b.rows.slots j ≡ Some u → u.row ≡ r → via_on b.peers.keys u ≡ Some w → offer_on b.hops.keys u ≡ Some o → is_eq (code_via_cmp w v) ≡ false
 
 -- past the slots below a place, each way has what is offered by it, or waits for it
 abbrev pub Gathered : Flat → code.Prefix → ℕ → Ways → ℕ → Ways → Type 0
 Gathered b p r old i now = (v : Via) → (way_offer now v ≡ option_or (offer_at (flat_seats b) (seat_by v p)) (way_offer old v)) ⊎ ((way_offer now v ≡ way_offer old v) × NotYet b r i v)
 
-pub gather_starts : (b : Flat) (p : code.Prefix) (r from to : ℕ) (old : Ways) → IsFlat b → IsRun b.rows.items r (length b.slots.items) from to → Gathered b p r old from old
+pub gather_starts : (b : Flat) (p : code.Prefix) (r from to : ℕ) (old : Ways) → IsFlat b → IsRun b.rows.items r (length b.rows.slots) from to → Gathered b p r old from old
 gather_starts b p r from to old f run v = inr (refl, λ j u w o l g e k h. let x = (in_run b r from to j u f run g e).0 in absurd (omega (arith, l, x)))
 
 -- what a slot of the row offers is offered at the seat of its way
-here_offered : (b : Flat) (p : code.Prefix) (r i : ℕ) (s : Slot) (v w : Via) (o : Offer) → IsFlat b → IsRow b.rows.items p r → slice_get b.slots.items i ≡ Some s → s.row ≡ r → via_on b.peers.keys s ≡ Some w → offer_on b.hops.keys s ≡ Some o → is_eq (code_via_cmp w v) ≡ true → offer_at (flat_seats b) (seat_by v p) ≡ Some o
+here_offered : (b : Flat) (p : code.Prefix) (r i : ℕ) (s : Slot) (v w : Via) (o : Offer) → IsFlat b → IsRow b.rows.items p r → slice_get b.rows.slots i ≡ Some s → s.row ≡ r → via_on b.peers.keys s ≡ Some w → offer_on b.hops.keys s ≡ Some o → is_eq (code_via_cmp w v) ≡ true → offer_at (flat_seats b) (seat_by v p) ≡ Some o
 here_offered b p r i s v w o f row g e k h t =
     let there : slice_get b.rows.items s.row ≡ Some row.0 = ap (slice_get b.rows.items) e ∙ row.1 in
     let q : Seat = seat_by w row.0.prefix in
@@ -55,46 +55,46 @@ here_offered b p r i s v w o f row g e k h t =
     } in
     ap flat (offer_found b (seat_by v p) i f x ∙ ap Some h)
 
-pub gather_step : (b : Flat) (p : code.Prefix) (r i : ℕ) (old now more : Ways) → IsFlat b → IsRow b.rows.items p r → ((v : Via) → way_offer more v ≡ way_step b.peers.keys b.hops.keys r (slice_get b.slots.items i) v (way_offer now v)) → Gathered b p r old i now → Gathered b p r old (i + 1) more
-gather_step b p r i old now more f row add gathered v = by_slot (slice_get b.slots.items i) refl (add v)
+pub gather_step : (b : Flat) (p : code.Prefix) (r i : ℕ) (old now more : Ways) → IsFlat b → IsRow b.rows.items p r → ((v : Via) → way_offer more v ≡ way_step b.peers.keys b.hops.keys r (slice_get b.rows.slots i) v (way_offer now v)) → Gathered b p r old i now → Gathered b p r old (i + 1) more
+gather_step b p r i old now more f row add gathered v = by_slot (slice_get b.rows.slots i) refl (add v)
   where
     Next : Type 0
     Next = (way_offer more v ≡ option_or (offer_at (flat_seats b) (seat_by v p)) (way_offer old v)) ⊎ ((way_offer more v ≡ way_offer old v) × NotYet b r (i + 1) v)
 
     -- a slot that offers nothing by this way
-    kept : way_offer more v ≡ way_offer now v → ((u : Slot) (w : Via) (o : Offer) → slice_get b.slots.items i ≡ Some u → u.row ≡ r → via_on b.peers.keys u ≡ Some w → offer_on b.hops.keys u ≡ Some o → is_eq (code_via_cmp w v) ≡ false) → Next
+    kept : way_offer more v ≡ way_offer now v → ((u : Slot) (w : Via) (o : Offer) → slice_get b.rows.slots i ≡ Some u → u.row ≡ r → via_on b.peers.keys u ≡ Some w → offer_on b.hops.keys u ≡ Some o → is_eq (code_via_cmp w v) ≡ false) → Next
     kept same none = elim (gathered v) [
       | inl h ↦ inl (same ∙ h)
       | inr h ↦ inr (
         same ∙ h.0,
         λ j u w o l g e k m. elim (cases_lt j i) [
           | inl n ↦ h.1 j u w o n g e k m
-          | inr n ↦ let at : j ≡ i = omega (arith, l, n) in none u w o (ap (slice_get b.slots.items) (sym at) ∙ g) e k m
+          | inr n ↦ let at : j ≡ i = omega (arith, l, n) in none u w o (ap (slice_get b.rows.slots) (sym at) ∙ g) e k m
         ],
       )
     ]
 
-    one_slot : (s u : Slot) → slice_get b.slots.items i ≡ Some s → slice_get b.slots.items i ≡ Some u → s ≡ u
+    one_slot : (s u : Slot) → slice_get b.rows.slots i ≡ Some s → slice_get b.rows.slots i ≡ Some u → s ≡ u
     one_slot s u g h = same_Some s u (sym g ∙ h)
 
-    by_way : (s : Slot) (w : Via) (o : Offer) → slice_get b.slots.items i ≡ Some s → s.row ≡ r → via_on b.peers.keys s ≡ Some w → offer_on b.hops.keys s ≡ Some o → (t : Bool) → is_eq (code_via_cmp w v) ≡ t → way_offer more v ≡ (if t then Some o else way_offer now v) → Next
+    by_way : (s : Slot) (w : Via) (o : Offer) → slice_get b.rows.slots i ≡ Some s → s.row ≡ r → via_on b.peers.keys s ≡ Some w → offer_on b.hops.keys s ≡ Some o → (t : Bool) → is_eq (code_via_cmp w v) ≡ t → way_offer more v ≡ (if t then Some o else way_offer now v) → Next
     by_way s w o g e k h true t m = inl (m ∙ sym (ap (λ x. option_or x (way_offer old v)) (here_offered b p r i s v w o f row g e k h t)))
     by_way s w o g e k h false t m = kept m (λ u x y a c d n. let q : u ≡ s = one_slot u s a g in let z : x ≡ w = same_Some x w (sym d ∙ (ap (via_on b.peers.keys) q ∙ k)) in ap (λ y. is_eq (code_via_cmp y v)) z ∙ t)
 
-    by_parts : (s : Slot) → slice_get b.slots.items i ≡ Some s → s.row ≡ r → (w : Option Via) → via_on b.peers.keys s ≡ w → (o : Option Offer) → offer_on b.hops.keys s ≡ o → way_offer more v ≡ way_put w o v (way_offer now v) → Next
+    by_parts : (s : Slot) → slice_get b.rows.slots i ≡ Some s → s.row ≡ r → (w : Option Via) → via_on b.peers.keys s ≡ w → (o : Option Offer) → offer_on b.hops.keys s ≡ o → way_offer more v ≡ way_put w o v (way_offer now v) → Next
     by_parts s g e None k o h m = kept m (λ u x y a c d n. let z : None ≡ Some x = sym k ∙ (ap (via_on b.peers.keys) (one_slot s u g a) ∙ d) in absurd cc)
     by_parts s g e (Some w) k None h m = kept m (λ u x y a c d n. let z : None ≡ Some y = sym h ∙ (ap (offer_on b.hops.keys) (one_slot s u g a) ∙ n) in absurd cc)
     by_parts s g e (Some w) k (Some o) h m = by_way s w o g e k h (is_eq (code_via_cmp w v)) refl m
 
-    by_row : (s : Slot) → slice_get b.slots.items i ≡ Some s → (t : Bool) → (s.row == r) ≡ t → way_offer more v ≡ (if t then way_put (via_on b.peers.keys s) (offer_on b.hops.keys s) v (way_offer now v) else way_offer now v) → Next
+    by_row : (s : Slot) → slice_get b.rows.slots i ≡ Some s → (t : Bool) → (s.row == r) ≡ t → way_offer more v ≡ (if t then way_put (via_on b.peers.keys s) (offer_on b.hops.keys s) v (way_offer now v) else way_offer now v) → Next
     by_row s g true t m = by_parts s g (same_number s.row r t) (via_on b.peers.keys s) refl (offer_on b.hops.keys s) refl m
     by_row s g false t m = kept m (λ u x y a c d n. let z : (s.row == r) ≡ true = number_same s.row r (ap (λ (q : Slot). q.row) (one_slot s u g a) ∙ c) in absurd cc)
 
-    by_slot : (s : Option Slot) → slice_get b.slots.items i ≡ s → way_offer more v ≡ way_step b.peers.keys b.hops.keys r s v (way_offer now v) → Next
+    by_slot : (s : Option Slot) → slice_get b.rows.slots i ≡ s → way_offer more v ≡ way_step b.peers.keys b.hops.keys r s v (way_offer now v) → Next
     by_slot None g m = kept m (λ u x y a c d n. let z : None ≡ Some u = sym g ∙ a in absurd cc)
     by_slot (Some s) g m = by_row s g (s.row == r) refl m
 
-pub gather_ends : (b : Flat) (p : code.Prefix) (r from to i : ℕ) (old now : Ways) → IsFlat b → IsRow b.rows.items p r → IsRun b.rows.items r (length b.slots.items) from to → to ≤ i → Gathered b p r old i now → AddsWays (flat_seats b) p old now
+pub gather_ends : (b : Flat) (p : code.Prefix) (r from to i : ℕ) (old now : Ways) → IsFlat b → IsRow b.rows.items p r → IsRun b.rows.items r (length b.rows.slots) from to → to ≤ i → Gathered b p r old i now → AddsWays (flat_seats b) p old now
 gather_ends b p r from to i old now f row run l gathered v = elim (gathered v) [
   | inl h ↦ h
   | inr h ↦ h.0 ∙ sym (ap (λ x. option_or x (way_offer old v)) (none h.1 (lookup (is_at (seat_cmp (seat_by v p))) (flat_seats b)) refl))
@@ -105,7 +105,7 @@ gather_ends b p r from to i old now f row run l gathered v = elim (gathered v) [
     none yet (Some None) e = ap flat e
     none yet (Some (Some o)) e =
         let s : Seat = seat_by v p in
-        let y = seat_slot b.rows.items b.peers.keys b.hops.keys s b.slots.items (Some o) e in
+        let y = seat_slot b.rows.items b.peers.keys b.hops.keys s b.rows.slots (Some o) e in
         let z : IsSlotOf b s y.0 = record { slot = y.1; there = y.3; seat = y.2; is = y.4; same = y.5 } in
         let offered : offer_on b.hops.keys y.1 ≡ Some o = same_Some _ _ (sym (offer_found b s y.0 f z) ∙ e) in
         let x = seat_parts b.rows.items b.peers.keys y.1 y.2 y.4 in

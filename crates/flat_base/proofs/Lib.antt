@@ -5,6 +5,7 @@ pub mod Views
 pub mod Holds
 pub mod Places
 pub mod RowLists
+pub mod Runs
 pub mod Chains
 pub mod Flats
 pub mod Parts

@@ -1,5 +1,5 @@
 -- Seats, ranks, offers and rows made of their parts are what clauses see.
-use Rattle.std.proofs.Common.{◌≡◌, ℕ, ◌<◌, ◌≤◌, ◌-◌, ◌^◌, ◌%◌, ap, ◌∙◌}
+use Rattle.std.proofs.Common.{◌≡◌, ℕ, ◌<◌, ◌≤◌, ◌-◌, ◌^◌, ◌%◌, ap, sym, subst, ◌∙◌}
 use Rattle.std.specs.Coded.{le_prop, Coded-set, coded_ℕ}
 use Rattle.table_model.specs.Width.{width}
 use Rattle.fib_addr.specs.declared.addr.Addr.{Addr}
@@ -38,3 +38,8 @@ offer_packed n h b = ap (λ (x : Addr). let r : OfferKey = record { path = n; ho
 pub row_packed : (p : Prefix) (n : ℕ) (f : p.len ≤ width p.family) (b : p.bits < 2 ^ width p.family) (c : p.bits % 2 ^ (width p.family - p.len) ≡ 0)
     → (let r : RowKey = record { prefix = record { family = p.family; bits = p.bits; len = p.len; fits = f; below = b; cleared = c }; off = n } in r) ≡ record { prefix = p; off = n }
 row_packed p n f b c = ap (λ (x : Prefix). let r : RowKey = record { prefix = x; off = n } in r) (prefix_packed p f b c)
+
+-- the same of bits that come in another form
+pub row_halves : (p : Prefix) (n b : ℕ) → b ≡ p.bits → (f : p.len ≤ width p.family) (l : b < 2 ^ width p.family) (c : b % 2 ^ (width p.family - p.len) ≡ 0)
+    → (let r : RowKey = record { prefix = record { family = p.family; bits = b; len = p.len; fits = f; below = l; cleared = c }; off = n } in r) ≡ record { prefix = p; off = n }
+row_halves p n b e f = subst (λ (m : ℕ). (l : m < 2 ^ width p.family) (c : m % 2 ^ (width p.family - p.len) ≡ 0) → (let r : RowKey = record { prefix = record { family = p.family; bits = m; len = p.len; fits = f; below = l; cleared = c }; off = n } in r) ≡ record { prefix = p; off = n }) (sym e) (λ l c. row_packed p n f l c)

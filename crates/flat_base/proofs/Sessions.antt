@@ -16,7 +16,7 @@ use Rattle.route_model.specs.Events.{same_peer}
 use Rattle.flat_base.specs.declared.keys.Seat.{Seat}
 use Rattle.flat_base.specs.declared.keys.Offer.{Offer}
 use Rattle.flat_base.specs.declared.rows.Row.{Row}
-use Rattle.flat_base.specs.declared.flat.Slot.{Slot}
+use Rattle.flat_base.specs.declared.slot.Slot.{Slot}
 use Rattle.flat_base.specs.declared.flat.Flat.{Flat}
 use Rattle.flat_base.specs.Orders.{seat_cmp}
 use Rattle.flat_base.specs.Seats.{flat, offer_at}
@@ -63,28 +63,28 @@ or_second false b e = e
 -- the seat is one of the peer's slots where something is offered
 pub record IsLiveSlot (b : Flat) (n i : ℕ) (s : Seat) : Type 0 where
   pub slot : Slot
-  pub there : slice_get b.slots.items i ≡ Some slot
+  pub there : slice_get b.rows.slots i ≡ Some slot
   pub own : slot.peer ≡ n
   pub live : is_seat (live_on b slot) s ≡ true
 
 -- past the slots from a place of the chain on
 pub record Walked (b : Flat) (n : ℕ) (old : List Seat) (end : ℕ) (now : List Seat) : Type 0 where
-  pub below : end ≤ length b.slots.items
-  pub mine : (k : ℕ) (u : Slot) → end ≡ suc k → slice_get b.slots.items k ≡ Some u → u.peer ≡ n
+  pub below : end ≤ length b.rows.slots
+  pub mine : (k : ℕ) (u : Slot) → end ≡ suc k → slice_get b.rows.slots k ≡ Some u → u.peer ≡ n
   pub kept : (s : Seat) → is_among old s ≡ true → is_among now s ≡ true
   pub sound : (s : Seat) → is_among now s ≡ true → (is_among old s ≡ true) ⊎ ((i : ℕ) × IsLiveSlot b n i s)
   pub done : (i : ℕ) (s : Seat) → end ≤ i → IsLiveSlot b n i s → is_among now s ≡ true
 
 pub walk_starts : (b : Flat) (n : ℕ) (old : List Seat) → IsFlat b → n ≢ no_peer → (end : ℕ) → end ≡ end_of b.ends.items n → Walked b n old end old
 walk_starts b n old f listed end e = record {
-  below = subst (λ k. k ≤ length b.slots.items) (sym e) (f.chained.within n);
+  below = subst (λ k. k ≤ length b.rows.slots) (sym e) (f.chained.within n);
   mine = λ k u g h. f.chained.heads n k u listed (sym e ∙ g) h;
   kept = λ s h. h;
   sound = λ s h. inl h;
   done = λ i s l x. let m : i < end_of b.ends.items n = subst (λ q. i < end_of b.ends.items q) x.own (f.chained.starts i x.slot x.there (λ w. listed (sym x.own ∙ w))) in absurd (omega (arith, l, e, m));
 }
 
-pub walk_step : (b : Flat) (n : ℕ) (old now more : List Seat) (end : ℕ) (u : Slot) → IsFlat b → n ≢ no_peer → Walked b n old end now → (k : ℕ) → end ≡ suc k → slice_get b.slots.items k ≡ Some u → ((s : Seat) → is_among more s ≡ (is_among now s || is_seat (live_on b u) s)) → Walked b n old u.link more
+pub walk_step : (b : Flat) (n : ℕ) (old now more : List Seat) (end : ℕ) (u : Slot) → IsFlat b → n ≢ no_peer → Walked b n old end now → (k : ℕ) → end ≡ suc k → slice_get b.rows.slots k ≡ Some u → ((s : Seat) → is_among more s ≡ (is_among now s || is_seat (live_on b u) s)) → Walked b n old u.link more
 walk_step b n old now more end u f listed w k e g add = record {
   below = let l = f.chained.falls k u g in omega (arith, l, e, w.below);
   mine = λ j t h a. f.chained.links k u t j g (λ z. listed (sym own ∙ z)) h a ∙ own;
@@ -99,7 +99,7 @@ walk_step b n old now more end u f listed w k e g add = record {
       | inl y ↦ add s ∙ or_first _ _ (w.done i s (omega (arith, y, e)) x)
       | inr y ↦
           let z : i ≡ k = omega (arith, m, y) in
-          let same : x.slot ≡ u = same_Some x.slot u (sym x.there ∙ (ap (slice_get b.slots.items) z ∙ g)) in
+          let same : x.slot ≡ u = same_Some x.slot u (sym x.there ∙ (ap (slice_get b.rows.slots) z ∙ g)) in
           add s ∙ or_second _ _ (ap (λ v. is_seat (live_on b v) s) (sym same) ∙ x.live)
     ]
   ];
@@ -139,7 +139,7 @@ offer_live b q n s f number e = by_offer (lookup (is_at (seat_cmp s)) (flat_seat
     by_offer None h x = let y : is_some (offer_at (flat_seats b) s) ≡ false = ap (λ o. is_some (flat o)) h in absurd cc
     by_offer (Some None) h x = let y : is_some (offer_at (flat_seats b) s) ≡ false = ap (λ o. is_some (flat o)) h in absurd cc
     by_offer (Some (Some o)) h x =
-        let y = seat_slot b.rows.items b.peers.keys b.hops.keys s b.slots.items (Some o) h in
+        let y = seat_slot b.rows.items b.peers.keys b.hops.keys s b.rows.slots (Some o) h in
         let z : IsSlotOf b s y.0 = record { slot = y.1; there = y.3; seat = y.2; is = y.4; same = y.5 } in
         let offered : offer_on b.hops.keys y.1 ≡ Some o = same_Some _ _ (sym (offer_found b s y.0 f z) ∙ h) in
         let a = seat_parts b.rows.items b.peers.keys y.1 y.2 y.4 in

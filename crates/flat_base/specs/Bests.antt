@@ -15,7 +15,7 @@ use Rattle.route_model.specs.Choice as model
 use Rattle.route_model.specs.Choice.{Place, Candidates, IsHeld, beats}
 use Rattle.flat_base.specs.declared.keys.Offer.{Offer}
 use Rattle.flat_base.specs.declared.keys.Candidate.{Candidate}
-use Rattle.flat_base.specs.declared.flat.Slot.{Slot}
+use Rattle.flat_base.specs.declared.slot.Slot.{Slot}
 use Rattle.flat_base.specs.declared.flat.Flat.{Flat}
 use Rattle.flat_base.specs.Seats.{Seats, held_in}
 use Rattle.flat_base.specs.Flat.{offer_on, via_on}

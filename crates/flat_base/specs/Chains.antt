@@ -1,6 +1,6 @@
 -- The chains of slots, one for each peer: from a peer's last slot to the one before it, and so on.
 use Rattle.std.specs.Prelude.{◌≡◌, ◌≢◌, ◌<◌, ◌≤◌, ℕ, suc, List, Option, Some, None, slice_get, length}
-use Rattle.flat_base.specs.declared.flat.Slot.{Slot}
+use Rattle.flat_base.specs.declared.slot.Slot.{Slot}
 
 -- the peer's number in a slot that is no seat any more
 abbrev pub no_peer : ℕ

@@ -16,7 +16,7 @@ use Rattle.route_model.specs.Events.{same_peer}
 use Rattle.flat_base.specs.declared.keys.Seat.{Seat}
 use Rattle.flat_base.specs.declared.keys.Offer.{Offer}
 use Rattle.flat_base.specs.declared.rows.Row.{Row}
-use Rattle.flat_base.specs.declared.flat.Slot.{Slot}
+use Rattle.flat_base.specs.declared.slot.Slot.{Slot}
 use Rattle.flat_base.specs.declared.flat.Flat.{Flat}
 use Rattle.flat_base.specs.Orders.{seat_cmp}
 use Rattle.flat_base.specs.Seats.{Seats, offer_at}
@@ -57,7 +57,7 @@ seats_on rows peers hops [] = []
 seats_on rows peers hops (s ∷ slots) = seat_then (seat_on rows peers s) (offer_on hops s) (seats_on rows peers hops slots)
 
 abbrev pub flat_seats : Flat → Seats
-flat_seats b = seats_on b.rows.items b.peers.keys b.hops.keys b.slots.items
+flat_seats b = seats_on b.rows.items b.peers.keys b.hops.keys b.rows.slots
 
 -- ---- what always holds
 
@@ -87,12 +87,12 @@ pub record AreFlat (rows : List Row) (slots : List Slot) (peers : List Peer) (ho
   pub chained : AreChained slots ends
 
 abbrev pub IsFlat : Flat → Type 0
-IsFlat b = AreFlat b.rows.items b.slots.items b.peers.keys b.hops.keys b.ends.items
+IsFlat b = AreFlat b.rows.items b.rows.slots b.peers.keys b.hops.keys b.ends.items
 
 -- a row, a slot, a peer and a hop more have numbers: rows and slots below 2^32 - 1, so that 1 more than a slot's place is a number too
 pub record HasNumbers (b : Flat) : Type 0 where
   pub rows : length b.rows.items < 2 ^ 32 - 1
-  pub slots : length b.slots.items < 2 ^ 32 - 1
+  pub slots : length b.rows.slots < 2 ^ 32 - 1
   pub peers : length b.peers.keys < no_peer
   pub hops : length b.hops.keys < no_hop
 
@@ -103,7 +103,7 @@ IsGrown {X} old new = (i : ℕ) (x : X) → slice_get old i ≡ Some x → slice
 -- what is there keeps its place and its number
 pub record Grows (old new : Flat) : Type 0 where
   pub rows : IsGrown old.rows.items new.rows.items
-  pub slots : IsGrown old.slots.items new.slots.items
+  pub slots : IsGrown old.rows.slots new.rows.slots
   pub peers : IsGrown old.peers.keys new.peers.keys
   pub hops : IsGrown old.hops.keys new.hops.keys
 
@@ -131,7 +131,7 @@ HasNoSlot slots r q id = (i : ℕ) (s : Slot) → slice_get slots i ≡ Some s �
 -- the slot of a seat
 pub record IsSlotOf (b : Flat) (t : Seat) (i : ℕ) : Type 0 where
   pub slot : Slot
-  pub there : slice_get b.slots.items i ≡ Some slot
+  pub there : slice_get b.rows.slots i ≡ Some slot
   pub seat : Seat
   pub is : seat_on b.rows.items b.peers.keys slot ≡ Some seat
   pub same : is_eq (seat_cmp t seat) ≡ true
@@ -147,6 +147,10 @@ AreApart base over = (s : Seat) (offer : Offer) → offer_at over s ≡ Some off
 abbrev pub off_or : ℕ → Option Row → ℕ
 off_or end None = end
 off_or end (Some row) = row.off
+
+-- a place in the run of a row
+abbrev pub IsInRun : List Row → ℕ → ℕ → ℕ → Type 0
+IsInRun rows r end i = (off_or end (slice_get rows r) ≤ i) × (i < off_or end (slice_get rows (suc r)))
 
 abbrev pub IsRun : List Row → ℕ → ℕ → ℕ → ℕ → Type 0
 IsRun rows r end from to = (from ≡ off_or end (slice_get rows r)) × (to ≡ off_or end (slice_get rows (suc r)))
@@ -178,7 +182,7 @@ Puts old new t o = (s : Seat) → lookup (is_at (seat_cmp s)) new ≡ cond (is_e
 pub record IsLastFree (b : Flat) (q i : ℕ) : Type 0 where
   pub listed : q ≢ no_peer
   pub slot : Slot
-  pub there : slice_get b.slots.items i ≡ Some slot
+  pub there : slice_get b.rows.slots i ≡ Some slot
   pub free : slot.hop ≡ no_hop
   pub last : end_of b.ends.items q ≡ suc i
 
@@ -191,7 +195,7 @@ pub record IsNext (b : Flat) (s : Slot) : Type 0 where
   pub peer_there : slice_get b.peers.keys s.peer ≡ Some peer
   pub hop : Addr
   pub hop_there : slice_get b.hops.keys s.hop ≡ Some hop
-  pub new : HasNoSlot b.slots.items s.row s.peer s.id
+  pub new : HasNoSlot b.rows.slots s.row s.peer s.id
   pub link : s.link ≡ end_of b.ends.items s.peer
 
 -- a seat that has no slot yet and may get one in the last row, by the numbers of its row and its peer and its path identifier

@@ -1,5 +1,6 @@
 pub mod Keys
 pub mod Rows
+pub mod Slots
 pub mod RowLists
 pub mod Orders
 pub mod Seats

@@ -13,7 +13,7 @@ use Rattle.fib_prefix.specs.declared.event.Peer.{Peer}
 use Rattle.fib_prefix.specs.declared.event.Via.{Via}
 use Rattle.flat_base.specs.declared.keys.Seat.{Seat}
 use Rattle.flat_base.specs.declared.keys.Offer.{Offer}
-use Rattle.flat_base.specs.declared.flat.Slot.{Slot}
+use Rattle.flat_base.specs.declared.slot.Slot.{Slot}
 use Rattle.flat_base.specs.Flat.{offer_on, via_on}
 use Rattle.flat_base.specs.Seats.{Seats, offer_at}
 

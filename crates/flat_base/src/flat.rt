@@ -10,13 +10,14 @@ ghost use Rattle.fib_prefix.specs.declared.event.Via as code;
 ghost use Rattle.flat_base.specs.Orders.{seat_cmp};
 ghost use Rattle.flat_base.specs.Seats.{Seats};
 ghost use Rattle.flat_base.specs.Chains.{no_peer, end_of as chain_end};
-ghost use Rattle.flat_base.specs.Flat.{IsFlat, IsRow, HasNoRow, IsSlot, HasNoSlot, HasNoSeat, IsNumber, HasNoNumber, HasNumbers, IsGrown, IsRun, IsBehind, IsLastRow, IsNext, IsSeatAt, IsHop, HasHop, Puts, AreNumbers, AreApart, Offers, Thins, NoSeatComes, IsLastFree, Grows, IsSlotOf, live_on, is_seat, is_among, is_offered_by, with_offer, emptied, offer_by, seats_on, no_slot, flat_seats, offer_on, via_on, no_hop, both};
+ghost use Rattle.flat_base.specs.Flat.{IsFlat, IsRow, HasNoRow, IsSlot, HasNoSlot, HasNoSeat, IsNumber, HasNoNumber, HasNumbers, IsGrown, IsRun, IsInRun, IsBehind, IsLastRow, IsNext, IsSeatAt, IsHop, HasHop, Puts, AreNumbers, AreApart, Offers, Thins, NoSeatComes, IsLastFree, Grows, IsSlotOf, live_on, is_seat, is_among, is_offered_by, with_offer, emptied, offer_by, seats_on, no_slot, flat_seats, offer_on, via_on, no_hop, both};
 ghost use Rattle.flat_base.specs.Bests.{IsBest, IsLive, is_out, candidate_on, comes_before, better_on, best_step, better_one as better};
 ghost use Rattle.flat_base.specs.Ways.{AddsWays, way_offer, way_put, way_step};
 
 use crate::keys::{Candidate, Offer, Seat};
-use crate::row_list::RowList;
+use crate::row_table::RowTable;
 use crate::rows::Row;
+use crate::slot::{NO_PEER, Slot};
 use crate::ways::WayOffers;
 use fib_prefix::{Addr, Peer, Prefix, Via};
 use indexmap::IndexSet;
@@ -33,31 +34,10 @@ const MOST: usize = u32::MAX as usize;
 /// The most slots of a row.
 const RUN: usize = 64;
 
-/// The peer's number in a slot that is no seat any more.
-const NO_PEER: u32 = u32::MAX;
-
-/// What comes by a way for the prefix of a row, in numbers.
-#[derive(Clone, Copy)]
-pub struct Slot {
-    /// The length of the path.
-    pub path: u32,
-    /// The peer's number, or none where the slot is no seat any more.
-    pub peer: u32,
-    /// The path identifier.
-    pub id: u32,
-    /// The hop's number, or none where nothing is offered.
-    pub hop: u32,
-    /// The row's number.
-    pub row: u32,
-    /// Where the peer's chain goes on: 1 more than the place of the peer's slot before this one, or 0.
-    pub link: u32,
-}
-
 /// Slots in runs, one run a row, and in chains, one chain a peer, with what their numbers stand for.
 #[derive(Drop)]
 pub struct Flat {
-    rows: RowList,
-    slots: Vec<Slot>,
+    rows: RowTable,
     peers: IndexSet<Peer>,
     hops: IndexSet<Addr>,
     // by the peer's number, where its chain begins: 1 more than the place of its last slot, or 0
@@ -78,8 +58,7 @@ impl Flat {
         ensures seats { flat_seats result ≡ [] }
     {
         Flat {
-            rows: RowList::new(alloc),
-            slots: Vec::new(alloc),
+            rows: RowTable::new(alloc),
             peers: IndexSet::new(alloc),
             hops: IndexSet::new(alloc),
             ends: Vec::new(alloc),
@@ -112,9 +91,9 @@ impl Flat {
 
     /// The run of a row.
     fn run_of(&self, row: usize) -> Run
-        ensures { IsRun self.now.rows.items row (length self.now.slots.items) result.from result.to }
+        ensures { IsRun self.now.rows.items row (length self.now.rows.slots) result.from result.to }
     {
-        let end = self.slots.len();
+        let end = self.rows.slot_count();
         Run {
             from: self.rows.off_at(row, end),
             to: self.rows.off_behind(row, end),
@@ -124,13 +103,13 @@ impl Flat {
     /// The place of the slot of a peer and a path identifier in a row.
     fn slot_of(&self, row: usize, peer: usize, id: u32) -> Option<usize>
         requires { IsFlat self.now }
-        ensures { MatchOption result (HasNoSlot self.now.slots.items row peer id)
-            (IsSlot self.now.slots.items row peer id) }
+        ensures { MatchOption result (HasNoSlot self.now.rows.slots row peer id)
+            (IsSlot self.now.rows.slots row peer id) }
     {
         let run = self.run_of(row);
         for i in run.from..run.to {
-            if let Some(slot) = self.slots.get(i) {
-                if slot.row as usize == row && slot.peer as usize == peer && slot.id == id {
+            if let Some(slot) = self.rows.slot_in(row, i) {
+                if slot.peer as usize == peer && slot.id == id {
                     return Some(i);
                 }
             }
@@ -153,8 +132,9 @@ impl Flat {
     fn number_near(&self, peer: &Peer) -> Option<u32>
         ensures { IfSome result (IsNumber self.now.peers.keys peer.now) }
     {
-        let last = self.slots.last()?;
-        let next = self.slots.get(last.link as usize)?;
+        let at = self.rows.slot_count().checked_sub(1)?;
+        let last = self.rows.bare_at(at)?;
+        let next = self.rows.bare_at(last.link as usize)?;
         let number = next.peer;
         let near = self.peers.get_index(number as usize)?;
         if *near != *peer {
@@ -168,7 +148,7 @@ impl Flat {
         ensures { IfSome result (λ n. slice_get self.now.hops.keys n ≡ Some hop.now) }
     {
         let at = (self.end_of(peer as usize) as usize).checked_sub(1)?;
-        let slot = self.slots.get(at)?;
+        let slot = self.rows.bare_at(at)?;
         let number = slot.hop;
         let near = self.hops.get_index(number as usize)?;
         if *near != *hop {
@@ -183,6 +163,15 @@ impl Flat {
         ensures { MatchOption result (HasNoSeat self.now seat.now) (IsSlotOf self.now seat.now) }
     {
         let row = self.row_of(&seat.prefix())?;
+        self.find_in(row, seat)
+    }
+
+    /// The place of a seat's slot in the row of its prefix.
+    pub fn find_in(&self, row: usize, seat: &Seat) -> Option<usize>
+        requires flat { IsFlat self.now }
+        requires row { IsRow self.now.rows.items seat.now.prefix row }
+        ensures { MatchOption result (HasNoSeat self.now seat.now) (IsSlotOf self.now seat.now) }
+    {
         let peer = self.number_of(&seat.peer())?;
         self.slot_of(row, peer, seat.id())
     }
@@ -191,8 +180,15 @@ impl Flat {
     pub fn offer(&self, slot: &Slot) -> Option<Offer>
         ensures { result ≡ offer_on self.now.hops.keys slot.now }
     {
-        let hop = self.hops.get_index(slot.hop as usize)?;
-        Some(Offer::new(slot.path, hop))
+        self.offer_by(slot.path, slot.hop)
+    }
+
+    /// What a path and a hop's number offer.
+    fn offer_by(&self, path: u32, hop: u32) -> Option<Offer>
+        ensures { result ≡ offer_by self.now.hops.keys path hop }
+    {
+        let hop = self.hops.get_index(hop as usize)?;
+        Some(Offer::new(path, hop))
     }
 
     /// What is offered at the place of a slot.
@@ -201,8 +197,8 @@ impl Flat {
         requires slot { IsSlotOf self.now seat.now at }
         ensures { lookup (is_at (seat_cmp seat.now)) (flat_seats self.now) ≡ Some result }
     {
-        match self.slots.get(at) {
-            Some(slot) => self.offer(slot),
+        match self.rows.bare_at(at) {
+            Some(slot) => self.offer_by(slot.path, slot.hop),
             None => None,
         }
     }
@@ -215,7 +211,7 @@ impl Flat {
         ensures flat { IsFlat self.old → IsFlat self.new }
         ensures seats { IsFlat self.old → flat_seats self.new ≡ flat_seats self.old }
         ensures rows { self.new.rows.items ≡ self.old.rows.items }
-        ensures slots { self.new.slots.items ≡ self.old.slots.items }
+        ensures slots { self.new.rows.slots ≡ self.old.rows.slots }
         ensures peers { self.new.peers.keys ≡ self.old.peers.keys }
         ensures ends { self.new.ends.items ≡ self.old.ends.items }
         ensures grows { Grows self.old self.new }
@@ -235,7 +231,7 @@ impl Flat {
         ensures flat { IsFlat self.old → IsFlat self.new }
         ensures seats { IsFlat self.old → flat_seats self.new ≡ flat_seats self.old }
         ensures rows { self.new.rows.items ≡ self.old.rows.items }
-        ensures slots { self.new.slots.items ≡ self.old.slots.items }
+        ensures slots { self.new.rows.slots ≡ self.old.rows.slots }
         ensures peers { self.new.peers.keys ≡ self.old.peers.keys }
         ensures ends { self.new.ends.items ≡ self.old.ends.items }
         ensures grows { Grows self.old self.new }
@@ -255,7 +251,7 @@ impl Flat {
         ensures flat { IsFlat self.new }
         ensures seats { flat_seats self.new ≡ flat_seats self.old }
         ensures rows { self.new.rows.items ≡ self.old.rows.items }
-        ensures slots { self.new.slots.items ≡ self.old.slots.items }
+        ensures slots { self.new.rows.slots ≡ self.old.rows.slots }
         ensures hops { self.new.hops.keys ≡ self.old.hops.keys }
         ensures grows { Grows self.old self.new }
     {
@@ -273,7 +269,7 @@ impl Flat {
         ensures room { OnOk result (length self.new.peers.keys < length self.new.ends.items) }
         ensures flat { IsFlat self.new }
         ensures rows { self.new.rows.items ≡ self.old.rows.items }
-        ensures slots { self.new.slots.items ≡ self.old.slots.items }
+        ensures slots { self.new.rows.slots ≡ self.old.rows.slots }
         ensures peers { self.new.peers.keys ≡ self.old.peers.keys }
         ensures hops { self.new.hops.keys ≡ self.old.hops.keys }
     {
@@ -295,16 +291,15 @@ impl Flat {
 
     /// Sets what is offered at the place of a slot: a path and a hop's number.
     fn set(&mut self, at: usize, path: u32, hop: u32)
-        requires { at < length self.old.slots.items }
-        ensures slots { self.new.slots.items ≡ slice_set self.old.slots.items at
-            (with_offer path hop (slice_index_or self.old.slots.items at no_slot)) }
+        requires { at < length self.old.rows.slots }
+        ensures slots { self.new.rows.slots ≡ slice_set self.old.rows.slots at
+            (with_offer path hop (slice_index_or self.old.rows.slots at no_slot)) }
         ensures rows { self.new.rows.items ≡ self.old.rows.items }
         ensures peers { self.new.peers.keys ≡ self.old.peers.keys }
         ensures hops { self.new.hops.keys ≡ self.old.hops.keys }
         ensures ends { self.new.ends.items ≡ self.old.ends.items }
     {
-        let slot = self.slots[at];
-        self.slots[at] = Slot { path, hop, ..slot };
+        self.rows.set(at, path, hop);
     }
 
     /// Begins the row of a prefix behind all others.
@@ -315,14 +310,14 @@ impl Flat {
         ensures row { IfOk result (IsLastRow self.new.rows.items prefix.now) }
         ensures flat { IsFlat self.new }
         ensures seats { flat_seats self.new ≡ flat_seats self.old }
-        ensures slots { self.new.slots.items ≡ self.old.slots.items }
+        ensures slots { self.new.rows.slots ≡ self.old.rows.slots }
         ensures peers { self.new.peers.keys ≡ self.old.peers.keys }
         ensures hops { self.new.hops.keys ≡ self.old.hops.keys }
         ensures ends { self.new.ends.items ≡ self.old.ends.items }
         ensures grows { Grows self.old self.new }
     {
         let row = self.rows.len() as u32;
-        let off = self.slots.len() as u32;
+        let off = self.rows.slot_count() as u32;
         self.rows.push(Row::new(prefix, off))?;
         Ok(row)
     }
@@ -331,15 +326,15 @@ impl Flat {
     fn push_slot(&mut self, slot: Slot) -> Result<(), AllocError>
         requires flat { IsFlat self.old }
         requires next { IsNext self.old slot }
-        requires few { length self.old.slots.items < 2 ^ 32 - 1 }
+        requires few { length self.old.rows.slots < 2 ^ 32 - 1 }
         ensures flat { IsFlat self.new }
         ensures ok { OnOk result (flat_seats self.new ≡ flat_seats self.old
             ++ seats_on self.old.rows.items self.old.peers.keys self.old.hops.keys (slot ∷ [])) }
         ensures err { OnErr result (flat_seats self.new ≡ flat_seats self.old) }
         ensures grows { Grows self.old self.new }
     {
-        let end = self.slots.len() as u32 + 1;
-        self.slots.push(slot)?;
+        let end = self.rows.slot_count() as u32 + 1;
+        self.rows.push_slot(&slot)?;
         self.ends[slot.peer as usize] = end;
         Ok(())
     }
@@ -365,7 +360,7 @@ impl Flat {
     ) -> Result<(), AllocError>
         requires flat { IsFlat self.old }
         requires seat { (q : Seat) × IsSeatAt self.old q row peer id }
-        requires slots { length self.old.slots.items < 2 ^ 32 - 1 }
+        requires slots { length self.old.rows.slots < 2 ^ 32 - 1 }
         ensures flat { IsFlat self.new }
         ensures ok { OnOk result ((q : Seat) → IsSeatAt self.old q row peer id
             → Puts (flat_seats self.old) (flat_seats self.new) q (Some (record { path = path; hop = hop.now }))) }
@@ -392,7 +387,7 @@ impl Flat {
         ensures row { IfOk result (λ row. IfSome row (IsLastRow self.new.rows.items prefix.now)) }
         ensures flat { IsFlat self.new }
         ensures seats { flat_seats self.new ≡ flat_seats self.old }
-        ensures slots { self.new.slots.items ≡ self.old.slots.items }
+        ensures slots { self.new.rows.slots ≡ self.old.rows.slots }
         ensures peers { self.new.peers.keys ≡ self.old.peers.keys }
         ensures grows { Grows self.old self.new }
     {
@@ -409,7 +404,7 @@ impl Flat {
         ensures { IfSome result (IsLastRow self.now.rows.items prefix.now) }
     {
         let last = self.rows.last()?;
-        if self.slots.len().saturating_sub(last.off() as usize) >= RUN {
+        if self.rows.slot_count().saturating_sub(last.off() as usize) >= RUN {
             return None;
         }
         let row = u32::try_from(self.rows.len().saturating_sub(1)).ok()?;
@@ -421,7 +416,7 @@ impl Flat {
         ensures { result ≡ true → HasNumbers self.now }
     {
         self.rows.len() < MOST
-            && self.slots.len() < MOST
+            && self.rows.slot_count() < MOST
             && self.peers.len() < NO_PEER as usize
             && self.hops.len() < NO_HOP as usize
     }
@@ -465,7 +460,7 @@ impl Flat {
         requires flat { IsFlat self.old }
         requires row { (p : Prefix) × IsLastRow self.old.rows.items p row }
         requires peers { length self.old.peers.keys < no_peer }
-        requires slots { length self.old.slots.items < 2 ^ 32 - 1 }
+        requires slots { length self.old.rows.slots < 2 ^ 32 - 1 }
         ensures flat { IsFlat self.new }
         ensures yes { IfOk result (λ b. b ≡ true → (p : Prefix) → IsLastRow self.old.rows.items p row
             → Puts (flat_seats self.old) (flat_seats self.new) (record { via = via.now; prefix = p })
@@ -502,9 +497,8 @@ impl Flat {
         ensures seats { NoSeatComes (flat_seats self.old) (flat_seats self.new) }
     {
         self.put_at(at, seat, 0, NO_HOP);
-        if let Some(slot) = self.slots.get(at) {
-            let peer = slot.peer;
-            self.trim(peer);
+        if let Some(slot) = self.rows.bare_at(at) {
+            self.trim(slot.peer);
         }
     }
 
@@ -514,7 +508,7 @@ impl Flat {
         ensures flat { IsFlat self.new }
         ensures seats { Thins (flat_seats self.old) (flat_seats self.new) }
     {
-        for _ in 0..self.slots.len() {
+        for _ in 0..self.rows.slot_count() {
             if !self.drop_last(peer) {
                 return;
             }
@@ -530,7 +524,7 @@ impl Flat {
             return None;
         }
         let at = (self.end_of(peer as usize) as usize).checked_sub(1)?;
-        let slot = self.slots.get(at)?;
+        let slot = self.rows.bare_at(at)?;
         if slot.hop != NO_HOP {
             return None;
         }
@@ -560,12 +554,10 @@ impl Flat {
         ensures flat { IsFlat self.new }
         ensures seats { Thins (flat_seats self.old) (flat_seats self.new) }
     {
-        let slot = self.slots[at];
-        self.slots[at] = Slot {
-            peer: NO_PEER,
-            ..slot
-        };
-        self.ends[peer as usize] = slot.link;
+        if let Some(slot) = self.rows.bare_at(at) {
+            self.rows.empty(at);
+            self.ends[peer as usize] = slot.link;
+        }
     }
 
     /// Offers something whose hop has a number, at a seat, by the place of its slot.
@@ -634,39 +626,34 @@ impl Flat {
         }
     }
 
-    /// The best candidate of the prefix of a seat, by the place of its slot, that of the seat's way left out: of all slots of the
-    /// prefix, and of the others, of which the best is given.
-    pub fn best_beside(&self, at: usize, seat: &Seat, other: Option<Candidate>) -> Option<Candidate>
-        requires flat { IsFlat self.now }
-        requires slot { IsSlotOf self.now seat.now at }
-        ensures { (over : Seats) → AreApart (flat_seats self.now) over
-            → IsBest over (Some seat.now.via) seat.now.prefix other
-            → IsBest (both self.now over) (Some seat.now.via) seat.now.prefix result }
+    /// The best candidate of a prefix, as `best` has it, by a guess at the prefix's row that is tested.
+    pub fn best_near(
+        &self,
+        near: usize,
+        prefix: &Prefix,
+        but: Option<Via>,
+        other: Option<Candidate>,
+    ) -> Option<Candidate>
+        requires { IsFlat self.now }
+        ensures { (over : Seats) → AreApart (flat_seats self.now) over → IsBest over but prefix.now other → IsBest (both self.now over) but prefix.now result }
     {
-        match self.slots.get(at) {
-            Some(slot) => {
-                let row = slot.row as usize;
-                self.best_in(row, &seat.prefix(), Some(seat.via()), other)
-            }
+        match self.row_near(near, prefix) {
+            Some(row) => self.best_in(row, prefix, but, other),
             None => other,
         }
     }
 
-    /// The better of the slot at a place, if it is the row's, and another one where something is offered. Slots are compared as
-    /// they lie: the candidate is made once, of the best one.
+    /// The better of the slot at a place in a row's run and another one where something is offered. Slots are compared as they
+    /// lie: the candidate is made once, of the best one.
     fn best_at(&self, at: usize, row: usize, but: &Option<Via>, best: Option<Slot>) -> Option<Slot>
-        requires { IfSome best (IsLive self.now) }
+        requires live { IfSome best (IsLive self.now) }
+        requires run { IsInRun self.now.rows.items row (length self.now.rows.slots) at }
         ensures live { IfSome result (IsLive self.now) }
         ensures best { candidate_on self.now result ≡ best_step self.now.peers.keys self.now.hops.keys row but.now
-            (slice_get self.now.slots.items at) (candidate_on self.now best) }
+            (slice_get self.now.rows.slots at) (candidate_on self.now best) }
     {
-        match self.slots.get(at) {
-            Some(slot) => {
-                if slot.row as usize != row {
-                    return best;
-                }
-                self.better_slot(slot, but, best)
-            }
+        match self.rows.slot_in(row, at) {
+            Some(slot) => self.better_slot(&slot, but, best),
             None => best,
         }
     }
@@ -812,7 +799,7 @@ impl Flat {
         }
     }
 
-    /// Adds the seats of a peer's chain where something is offered.
+    /// Adds the seats of a peer's chain where something is offered. The next slot of a chain mostly lies in the row before.
     fn add_chain(
         &self,
         number: usize,
@@ -824,10 +811,12 @@ impl Flat {
         ensures { OnOk result ((s : Seat) → is_among seats.new.keys s
             ≡ (is_among seats.old.keys s || is_offered_by peer.now (flat_seats self.now) s)) }
     {
+        let mut near = self.rows.len();
         let mut end = self.end_of(number);
         while end > 0 {
-            let slot = self.slots[end as usize - 1];
+            let slot = self.rows.slot_at(near, end as usize - 1);
             self.add_live(&slot, seats)?;
+            near = (slot.row as usize).saturating_sub(1);
             end = slot.link;
         }
         Ok(())
@@ -883,18 +872,14 @@ impl Flat {
         Ok(())
     }
 
-    /// Adds what the slot at a place offers, if it is the row's.
+    /// Adds what the slot at a place in a row's run offers.
     fn add_at(&self, at: usize, row: usize, ways: &mut WayOffers) -> Result<(), AllocError>
+        requires { IsInRun self.now.rows.items row (length self.now.rows.slots) at }
         ensures { OnOk result ((v : code.Via) → way_offer ways.new v ≡ way_step self.now.peers.keys
-            self.now.hops.keys row (slice_get self.now.slots.items at) v (way_offer ways.old v)) }
+            self.now.hops.keys row (slice_get self.now.rows.slots at) v (way_offer ways.old v)) }
     {
-        match self.slots.get(at) {
-            Some(slot) => {
-                if slot.row as usize != row {
-                    return Ok(());
-                }
-                self.add_way(slot, ways)
-            }
+        match self.rows.slot_in(row, at) {
+            Some(slot) => self.add_way(&slot, ways),
             None => Ok(()),
         }
     }

@@ -1,10 +1,10 @@
 //! The flat base of the candidates: routes that come in the order of prefixes, in a few octets each.
 //!
 //! A row for each prefix, in order, with a run of slots, one for each way by which a route of it came. A slot says in numbers
-//! which peer's route it is, with its path identifier, the length of its path and its next hop. The slots of a peer make a chain,
-//! so that a lost session costs what the peer has. A slot keeps its place: where nothing is offered any more it takes the next
-//! offer of its way. Only when a peer's last slots offer nothing they are dropped for good, so that a chain isn't walked twice
-//! over slots that a lost session emptied.
+//! which peer's route it is, with its path identifier, the length of its path and its next hop, in 20 octets: its place tells its
+//! row. A row takes 24 octets. The slots of a peer make a chain, so that a lost session costs what the peer has. A slot keeps its
+//! place: where nothing is offered any more it takes the next offer of its way. Only when a peer's last slots offer nothing they
+//! are dropped for good, so that a chain isn't walked twice over slots that a lost session emptied.
 //!
 //! Here are also the keys by which routes are found in other orders: seats and ranks.
 #![tactic(auto)]
@@ -12,7 +12,9 @@
 mod flat;
 mod keys;
 mod row_list;
+mod row_table;
 mod rows;
+mod slot;
 mod ways;
 
 pub use flat::Flat;

@@ -5,6 +5,7 @@ ghost use Rattle.std.specs.declared.cmp.Ordering.TheVariants.{Less, Greater};
 ghost use Rattle.fib_addr.specs.Order.{code_cmp};
 ghost use Rattle.flat_base.specs.Flat.{IsRow, HasNoRow, off_or};
 ghost use Rattle.flat_base.specs.RowLists.{AreOrdered};
+ghost use Rattle.flat_base.specs.Slots.{AreRising, begun as begun_at};
 
 use crate::rows::Row;
 use fib_prefix::Prefix;
@@ -75,7 +76,7 @@ impl RowList {
         ensures { result ≡ slice_get self.now.items at }
     {
         match self.list.get(at) {
-            Some(row) => Some(*row),
+            Some(row) => Some(row.copy()),
             None => None,
         }
     }
@@ -85,7 +86,7 @@ impl RowList {
         ensures { result ≡ slice_get self.now.items (length self.now.items - 1) }
     {
         match self.list.last() {
-            Some(row) => Some(*row),
+            Some(row) => Some(row.copy()),
             None => None,
         }
     }
@@ -97,7 +98,7 @@ impl RowList {
     {
         self.list.reserve(1)?;
         if self.list.len() % STEP == 0 {
-            self.marks.push(row)?;
+            self.marks.push(row.copy())?;
         }
         self.list.push_reserved(row);
         Ok(())
@@ -116,6 +117,24 @@ impl RowList {
                 find_between(&self.list, from, to, prefix)
             }
         }
+    }
+
+    /// How many rows in front have runs that begin at a place or before it.
+    pub fn begun(&self, at: usize) -> usize
+        requires { AreRising self.now.items }
+        ensures { result ≡ begun_at self.now.items at }
+    {
+        let mut from = 0;
+        let mut to = self.list.len();
+        while from < to {
+            let middle = from + (to - from) / 2;
+            if self.list[middle].off() as usize > at {
+                to = middle;
+                continue;
+            }
+            from = middle + 1;
+        }
+        from
     }
 
     /// The place of a mark's row, or the end.

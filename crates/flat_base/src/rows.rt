@@ -1,32 +1,36 @@
 //! The rows of the flat candidates.
 
-ghost use Rattle.std.specs.Prelude.{◌≡◌, ◌≤◌, ◌-◌, ◌%◌, ◌^◌, ◌<◌};
+ghost use Rattle.std.specs.Prelude.{◌≡◌, ◌≤◌, ◌-◌, ◌%◌, ◌^◌, ◌<◌, ◌+◌, ◌*◌};
 ghost use Rattle.table_model.specs.Width.{width};
 
 use fib_prefix::{Family, Prefix};
 use std::cmp::Ordering;
 use std::marker::Model;
 
-/// A prefix with the place where its run of slots begins. Contracts see both. Rows are ordered by their prefixes.
-#[derive(Clone, Copy)]
+/// How many numbers the lower half of a prefix's bits can be.
+const HALF: u128 = 0x1_0000_0000_0000_0000;
+
+/// A prefix with the place where its run of slots begins. Contracts see both. Rows are ordered by their prefixes. The bits lie in
+/// two halves, so that a row takes 24 octets: a number of 128 bits would make it 32.
+#[derive(Drop)]
 pub struct Row {
-    bits: u128,
+    high: u64,
+    low: u64,
     off: u32,
     family: Family,
     len: u8,
     ghost fits: { len ≤ width family },
-    ghost below: { bits < 2 ^ width family },
-    ghost cleared: { bits % 2 ^ (width family - len) ≡ 0 },
+    ghost below: { high * 2 ^ 64 + low < 2 ^ width family },
+    ghost cleared: { (high * 2 ^ 64 + low) % 2 ^ (width family - len) ≡ 0 },
 }
 
 impl Model for Row {
+    ghost use Rattle.std.specs.Prelude.{◌*◌, ◌+◌, ◌^◌};
     ghost use Rattle.flat_base.specs.Rows.{RowKey};
 
     ghost Value = { RowKey };
 
-    ghost view = { λ r. record { prefix = record { family = r.family; bits = r.bits; len = r.len; fits = r.fits; below = r.below; cleared = r.cleared }; off = r.off } };
-
-    ghost inverse = { λ k. record { bits = k.prefix.bits; off = k.off; family = k.prefix.family; len = k.prefix.len; fits = k.prefix.fits; below = k.prefix.below; cleared = k.prefix.cleared } };
+    ghost view = { λ r. record { prefix = record { family = r.family; bits = r.high * 2 ^ 64 + r.low; len = r.len; fits = r.fits; below = r.below; cleared = r.cleared }; off = r.off } };
 }
 
 impl PartialEq for Row {
@@ -99,11 +103,19 @@ impl Row {
         ensures { result ≡ record { prefix = prefix.now; off = off } }
     {
         Row {
-            bits: prefix.bits,
+            high: (prefix.bits / HALF) as u64,
+            low: (prefix.bits % HALF) as u64,
             off,
             family: prefix.family,
             len: prefix.len,
         }
+    }
+
+    /// The same row once more.
+    pub fn copy(&self) -> Row
+        ensures { result ≡ self.now }
+    {
+        Row::new(&self.prefix(), self.off)
     }
 
     /// The prefix.
@@ -112,7 +124,7 @@ impl Row {
     {
         Prefix {
             family: self.family,
-            bits: self.bits,
+            bits: self.high as u128 * HALF + self.low as u128,
             len: self.len,
         }
     }

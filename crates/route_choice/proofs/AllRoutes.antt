@@ -168,7 +168,7 @@ covered b over ranks ps i rows has s o e = by_slot (lookup (is_at (seat_cmp s)) 
   where
     by_slot : (x : Option (Option Offer)) → lookup (is_at (seat_cmp s)) (flat_seats b) ≡ x → has_prefix ps s.prefix ≡ true
     by_slot (Some x) f =
-        let y = seat_slot b.rows.items b.peers.keys b.hops.keys s b.slots.items x f in
+        let y = seat_slot b.rows.items b.peers.keys b.hops.keys s b.rows.slots x f in
         let p = seat_parts b.rows.items b.peers.keys y.1 y.2 y.4 in
         let k : code_cmp s.prefix p.row.prefix ≡ Equal = ap (λ (t : Seat). code_cmp s.prefix t.prefix) p.is ∙ (same_parts s y.2 y.5).prefix in
         alike ps s.prefix p.row.prefix k ∙ rows y.1.row p.row p.row_there

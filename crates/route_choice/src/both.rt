@@ -26,9 +26,18 @@ pub fn plan_of(flat: &Flat, elem: &Elem) -> Plan
     ensures elem { result.elem ≡ elem.now }
     ensures place { HasPlace flat.now result }
 {
-    Plan {
-        elem: *elem,
-        at: flat.find(&seat_of(elem)),
+    let seat = seat_of(elem);
+    match flat.row_of(&seat.prefix()) {
+        Some(row) => Plan {
+            elem: *elem,
+            at: flat.find_in(row, &seat),
+            row,
+        },
+        None => Plan {
+            elem: *elem,
+            at: None,
+            row: 0,
+        },
     }
 }
 
@@ -84,27 +93,23 @@ pub fn best_of_row(
     flat.best_in(row, prefix, None, other)
 }
 
-/// The preferred route for the prefix of a seat, that of the seat's way left out; the seat's slot has this place, if it has one.
+/// The preferred route for the prefix of a seat, that of the seat's way left out, by a guess at the prefix's row.
 fn best_beside(
     flat: &Flat,
     seats: &BTreeMap<Seat, Option<Offer>>,
     ranks: &BTreeSet<Rank>,
-    at: Option<usize>,
+    near: usize,
     seat: &Seat,
 ) -> Option<Candidate>
     requires flat { IsFlat flat.now }
     requires apart { AreApart (flat_seats flat.now) seats.now.entries }
     requires indexed { IsIndexed seats.now.entries ranks.now.keys }
-    requires place { MatchOption at (HasNoSeat flat.now seat.now) (IsSlotOf flat.now seat.now) }
     ensures { IsBest (both flat.now seats.now.entries) (Some seat.now.via) seat.now.prefix result }
 {
     let prefix = seat.prefix();
     let but = Some(seat.via());
     let other = best_but(seats, ranks, &prefix, but);
-    match at {
-        Some(at) => flat.best_beside(at, seat, other),
-        None => flat.best(&prefix, but, other),
-    }
+    flat.best_near(near, &prefix, but, other)
 }
 
 /// The choice that a planned event would make.
@@ -123,7 +128,7 @@ pub fn choice_of(
     let seat = seat_of(&plan.elem);
     let via = seat.via();
     let own = offered_by(flat, seats, plan.at, &seat);
-    let others = best_beside(flat, seats, ranks, plan.at, &seat);
+    let others = best_beside(flat, seats, ranks, plan.row, &seat);
     Choice {
         prefix: seat.prefix(),
         before: better_hop(via, own, &others),

@@ -8,18 +8,10 @@ use Rattle.route_choice.proofs.Best.{best_is}
 use Rattle.route_choice.proofs.both.best_beside.Goals as goal
 
 -- the best of the ordered maps, by the seat's own prefix and way
-pub returns-in-Some : goal.returns-in-Some
-returns-in-Some c =
+pub returns : goal.returns
+returns c =
     let over = c.args.seats.now.entries in
     let other = c.best_but-other.result in
     let best = best_is over c.args.ranks.now.keys c.prefix-prefix.result (Some c.via.result) c.requires.indexed c.best_but-other.ensures.ordered other (sym c.best_but-other.ensures.first) in
-    c.best_beside.ensures over c.requires.apart
-    (subst (λ (w : Option Via). IsBest over w c.args.seat.now.prefix other) (ap Some c.via.ensures) (subst (λ (r : code.Prefix). IsBest over (Some c.via.result) r other) c.prefix-prefix.ensures best))
-
-pub returns-in-None : goal.returns-in-None
-returns-in-None c =
-    let over = c.args.seats.now.entries in
-    let other = c.best_but-other.result in
-    let best = best_is over c.args.ranks.now.keys c.prefix-prefix.result (Some c.via.result) c.requires.indexed c.best_but-other.ensures.ordered other (sym c.best_but-other.ensures.first) in
-    best_as c.args.flat.now c.prefix-prefix.result c.args.seat.now.prefix (Some c.via.result) (Some c.args.seat.now.via) other c.best.result c.prefix-prefix.ensures (ap Some c.via.ensures) c.best.ensures over c.requires.apart
+    best_as c.args.flat.now c.prefix-prefix.result c.args.seat.now.prefix (Some c.via.result) (Some c.args.seat.now.via) other c.best_near.result c.prefix-prefix.ensures (ap Some c.via.ensures) c.best_near.ensures over c.requires.apart
     (subst (λ (w : Option Via). IsBest over w c.args.seat.now.prefix other) (ap Some c.via.ensures) (subst (λ (r : code.Prefix). IsBest over (Some c.via.result) r other) c.prefix-prefix.ensures best))

@@ -1,11 +1,14 @@
-use Rattle.std.proofs.Common.{refl, ◌≡◌, ◌<◌, ◌-◌, suc, length, arith}
+use Rattle.std.proofs.Common.{◌≡◌, ◌-◌, suc, arith}
 use Rattle.flat_base.specs.Chains.{no_peer}
-use Rattle.flat_base.proofs.Flats.{is_there, read}
+use Rattle.flat_base.proofs.Flats.{is_there}
 use Rattle.flat_base.proofs.Sessions.{walk_starts, walk_step, walk_ends}
 use Rattle.flat_base.proofs.flat.Flat.add_chain.Goals as goal
 
 pub loop-end-init : goal.loop-end-init
 loop-end-init c = let f = c.requires.flat in let n = c.requires.number in walk_starts c.args.self.now c.args.number c.args.seats.now.keys f (is_there c.args.self.now.peers.keys c.args.number no_peer n.0 f.few_peers n.1) c.end_of-end.result c.end_of-end.ensures
+
+pub slot_at-slot-requires : goal.slot_at-slot-requires
+slot_at-slot-requires c = omega (arith, c.loop-end-test.true, c.loop-end.invariant.below)
 
 pub loop-end-preserved : goal.loop-end-preserved
 loop-end-preserved c =
@@ -13,8 +16,7 @@ loop-end-preserved c =
     let f = c.requires.flat in
     let n = c.requires.number in
     let e : c.loop-end.end ≡ suc (c.loop-end.end - 1) = omega (arith, c.loop-end-test.true) in
-    let l : c.loop-end.end - 1 < length b.slots.items = omega (arith, c.loop-end-test.true, c.loop-end.invariant.below) in
-    walk_step b c.args.number c.args.seats.now.keys c.loop-end.seats.keys c.add_live.new.seats.keys c.loop-end.end c.index.result.now f (is_there b.peers.keys c.args.number no_peer n.0 f.few_peers n.1) c.loop-end.invariant (c.loop-end.end - 1) e (read b.slots.items b.slots.items (c.loop-end.end - 1) c.index.result.now refl l c.index.ensures) c.in_ok-add_live.ensures
+    walk_step b c.args.number c.args.seats.now.keys c.loop-end.seats.keys c.add_live.new.seats.keys c.loop-end.end c.slot_at-slot.result f (is_there b.peers.keys c.args.number no_peer n.0 f.few_peers n.1) c.loop-end.invariant (c.loop-end.end - 1) e c.slot_at-slot.ensures c.in_ok-add_live.ensures
 
 pub returns : goal.returns
 returns c = walk_ends c.args.self.now c.args.peer.now c.args.number c.args.seats.now.keys c.loop-end.seats.keys c.loop-end.end c.requires.flat c.requires.number c.loop-end-test.false c.loop-end.invariant

@@ -1,21 +1,30 @@
-use Rattle.std.proofs.Common.{sym, subst, ◌∙◌, ◌≡◌}
-use Rattle.std.specs.Prelude.{slice_set}
-use Rattle.std.proofs.lemmas.Option.{get_or_from_slice_get}
-use Rattle.flat_base.specs.declared.flat.Slot.{Slot}
-use Rattle.flat_base.specs.Flat.{AreFlat, Thins, emptied, flat_seats, seats_on}
+use Rattle.std.proofs.Common.{ap, sym, subst, ◌∙◌, ◌≡◌}
+use Rattle.std.specs.Prelude.{slice_set, slice_index_or, option_map}
+use Rattle.std.proofs.lemmas.Option.{get_or_from_slice_get, same_Some}
+use Rattle.flat_base.specs.declared.slot.Slot.{Slot}
+use Rattle.flat_base.specs.declared.slot.RunSlot.{RunSlot}
+use Rattle.flat_base.specs.Slots.{bare}
+use Rattle.flat_base.specs.Flat.{AreFlat, Thins, emptied, no_slot, flat_seats, seats_on}
 use Rattle.flat_base.proofs.Flats.{slot_dropped, dropped_thins}
 use Rattle.flat_base.proofs.flat.Flat.drop_at.Goals as goal
 
-pub returns-clause-flat : goal.returns-clause-flat
-returns-clause-flat c =
+pub returns-in-Some-clause-flat : goal.returns-in-Some-clause-flat
+returns-in-Some-clause-flat c =
     let o = c.args.self.now in
     let x = c.requires.last in
-    let e : c.index-slot.result.now ≡ x.slot = c.index-slot.ensures ∙ get_or_from_slice_get o.slots.items c.args.at x.slot c.index-slot.result.now x.there in
-    subst (λ (w : Slot). AreFlat o.rows.items (slice_set o.slots.items c.args.at (emptied w)) o.peers.keys o.hops.keys (slice_set o.ends.items c.args.peer w.link)) (sym e) (slot_dropped o c.args.peer c.args.at c.requires.flat x)
+    let e : slice_index_or o.rows.slots c.args.at no_slot ≡ x.slot = get_or_from_slice_get o.rows.slots c.args.at x.slot no_slot x.there in
+    let k : bare x.slot ≡ c.in-Some.slot = sym (same_Some c.in-Some.slot (bare x.slot) (c.in-Some.ensures ∙ ap (option_map bare) x.there)) in
+    let slots = c.empty.ensures.slots ∙ ap (λ (w : Slot). slice_set o.rows.slots c.args.at (emptied w)) e in
+    let ends = slice_set o.ends.items c.args.peer c.in-Some.slot.link in
+    subst (λ rows. AreFlat rows c.empty.new.self.slots o.peers.keys o.hops.keys ends) (sym c.empty.ensures.items)
+    (subst (λ slots. AreFlat o.rows.items slots o.peers.keys o.hops.keys ends) (sym slots)
+    (subst (λ (w : RunSlot). AreFlat o.rows.items (slice_set o.rows.slots c.args.at (emptied x.slot)) o.peers.keys o.hops.keys (slice_set o.ends.items c.args.peer w.link)) k (slot_dropped o c.args.peer c.args.at c.requires.flat x)))
 
-pub returns-clause-seats : goal.returns-clause-seats
-returns-clause-seats c =
+pub returns-in-Some-clause-seats : goal.returns-in-Some-clause-seats
+returns-in-Some-clause-seats c =
     let o = c.args.self.now in
     let x = c.requires.last in
-    let e : c.index-slot.result.now ≡ x.slot = c.index-slot.ensures ∙ get_or_from_slice_get o.slots.items c.args.at x.slot c.index-slot.result.now x.there in
-    subst (λ (w : Slot). Thins (flat_seats o) (seats_on o.rows.items o.peers.keys o.hops.keys (slice_set o.slots.items c.args.at (emptied w)))) (sym e) (dropped_thins o c.args.peer c.args.at c.requires.flat x)
+    let e : slice_index_or o.rows.slots c.args.at no_slot ≡ x.slot = get_or_from_slice_get o.rows.slots c.args.at x.slot no_slot x.there in
+    let slots = c.empty.ensures.slots ∙ ap (λ (w : Slot). slice_set o.rows.slots c.args.at (emptied w)) e in
+    subst (λ rows. Thins (flat_seats o) (seats_on rows o.peers.keys o.hops.keys c.empty.new.self.slots)) (sym c.empty.ensures.items)
+    (subst (λ slots. Thins (flat_seats o) (seats_on o.rows.items o.peers.keys o.hops.keys slots)) (sym slots) (dropped_thins o c.args.peer c.args.at c.requires.flat x))

@@ -4,4 +4,4 @@ use Rattle.flat_base.proofs.flat.Flat.new.Goals as goal
 
 pub returns-clause-seats : goal.returns-clause-seats
 unfolding seats_on
-returns-clause-seats c = ap (seats_on _ _ _) c.new-2.ensures.items
+returns-clause-seats c = ap (seats_on _ _ _) c.new.ensures.slots

@@ -13,7 +13,7 @@ pub returns-clause-grown : goal.returns-clause-grown
 returns-clause-grown c = grown_key _ c.args.self.now.hops.keys c.args.hop.now _ c.in_ok-at.ensures.keys
 
 pub returns-clause-flat : goal.returns-clause-flat
-returns-clause-flat c = λ f. let o = c.args.self.now in let m : length c.insert_full.new.self.keys ≤ no_hop = search rules in more_hops o.rows.items o.slots.items o.peers.keys o.peers.keys o.hops.keys _ o.ends.items f (λ i x g. g) f.numbers f.few_peers f.listed (grown_key _ o.hops.keys c.args.hop.now _ c.in_ok-at.ensures.keys) m
+returns-clause-flat c = λ f. let o = c.args.self.now in let m : length c.insert_full.new.self.keys ≤ no_hop = search rules in more_hops o.rows.items o.rows.slots o.peers.keys o.peers.keys o.hops.keys _ o.ends.items f (λ i x g. g) f.numbers f.few_peers f.listed (grown_key _ o.hops.keys c.args.hop.now _ c.in_ok-at.ensures.keys) m
 
 pub returns-clause-seats : goal.returns-clause-seats
-returns-clause-seats c = λ f. let o = c.args.self.now in let m : length c.insert_full.new.self.keys ≤ no_hop = search rules in grown_seats o.rows.items o.rows.items o.slots.items o.peers.keys o.peers.keys o.hops.keys _ o.ends.items f (λ i x g. g) (λ i x g. g) f.few_peers (grown_key _ o.hops.keys c.args.hop.now _ c.in_ok-at.ensures.keys) m
+returns-clause-seats c = λ f. let o = c.args.self.now in let m : length c.insert_full.new.self.keys ≤ no_hop = search rules in grown_seats o.rows.items o.rows.items o.rows.slots o.peers.keys o.peers.keys o.hops.keys _ o.ends.items f (λ i x g. g) (λ i x g. g) f.few_peers (grown_key _ o.hops.keys c.args.hop.now _ c.in_ok-at.ensures.keys) m

@@ -12,7 +12,7 @@ invariant_of-self-2 c =
       | then-len-eq0+in_ok-push w ↦
           sample_pushed c.self.inside.list.items c.self.inside.marks.items c.self.invariant c.push_reserved.new.self.items c.if-len-eq0.self-inside.marks.items c.args.row c.len.result (n ∙ ap length c.reserve.ensures.items) w.if-len-eq0.true
           (c.push_reserved.ensures.items ∙ ap (λ xs. xs ++ c.args.row ∷ []) (ap (λ (i : Inside). i.list.items) w.self-inside-is ∙ c.reserve.ensures.items))
-          (ap (λ (i : Inside). i.marks.items) w.self-inside-is ∙ w.in_ok-push.ensures.items)
+          (ap (λ (i : Inside). i.marks.items) w.self-inside-is ∙ (w.in_ok-push.ensures.items ∙ ap (λ r. c.self.inside.marks.items ++ r ∷ []) w.copy.ensures))
       | else-len-eq0 w ↦
           sample_as _ c.self.inside.marks.items _ _ refl (ap (λ (i : Inside). i.marks.items) w.self-inside-is)
           (sample_kept c.self.inside.list.items c.self.inside.marks.items c.self.invariant c.push_reserved.new.self.items c.args.row c.len.result (n ∙ ap length c.reserve.ensures.items) (omega (arith, w.if-len-eq0.false))
