@@ -2,8 +2,6 @@
 
 ghost use Rattle.std.specs.Prelude.{◌≡◌, ◌≤◌};
 ghost use Rattle.table_model.specs.Width.{width};
-ghost use Rattle.table_model.specs.Entries.{Entries};
-ghost use Rattle.poptrie_build.specs.Tries.{StandsFor};
 
 use crate::common::OneRoute;
 use fib_addr::{Addr, Hop, Prefix, Steps};
@@ -28,14 +26,6 @@ enum Told {
     Refused(TrieFull),
 }
 
-fn find<L: Ledger>(trie: &Trie, _table: &OneRoute, addr: &Addr, steps: &mut Steps<L>) -> Found
-    ghost entries: { Entries }
-    requires family { addr.now.family ≡ trie.now.family }
-    requires stands { StandsFor trie.now entries }
-{
-    trie.lookup(addr, steps)
-}
-
 fn tell<L: Ledger>(
     alloc: Global,
     table: &OneRoute,
@@ -58,7 +48,7 @@ fn tell<L: Ledger>(
     )?;
     match trie.build(table) {
         Ok(()) => {
-            let found = find(&trie, table, addr, &mut steps);
+            let found = trie.lookup(addr, &mut steps);
             Ok(Told::Answer(found, trie.needs()))
         }
         Err(full) => Ok(Told::Refused(full)),

@@ -20,12 +20,13 @@ use Rattle.fib_addr.specs.declared.addr.Addr.{Addr}
 use Rattle.poptrie_build.specs.Keys.{widened}
 use Rattle.poptrie_build.specs.Need.{told, trie_nodes, trie_leaves}
 use Rattle.poptrie_build.specs.Stands.{BySlot, Stands, TrieStands}
+use Rattle.poptrie_build.specs.Led.{StandsWhole}
 use Rattle.block_pool.specs.Places.{count_free, is_out, IsFresh}
 use Rattle.block_pool.specs.Arrays.{AreApart}
 use Rattle.poptrie_build.specs.Arrays.{word_arrays, word_leaf_arrays}
 use Rattle.poptrie_build.proofs.Wording.{none_apart}
 use Rattle.poptrie_build.specs.Build.{WordsIn}
-use Rattle.poptrie_build.specs.Tries.{Shown, StandsFor, IsTooMuch, rest}
+use Rattle.poptrie_build.specs.Tries.{Shown, StandsFor, StandsForAnswers, IsTooMuch, rest}
 use Rattle.poptrie_build.specs.declared.node.Node.{Node}
 use Rattle.poptrie_build.proofs.Bits.{bits_take}
 use Rattle.poptrie_build.proofs.Address.{shl_shr, bits_mod}
@@ -124,26 +125,34 @@ at_most_128 V4 = omega arith
 at_most_128 V6 = omega arith
 
 -- ---- what was built
-pub stands_built : (f : Family) (s : ℕ) (words : List ℕ) (n : Space Node) (l : Space ℕ) (L : Entries) (b : ℕ) (g : List Bool → ℕ) (on ol : ℕ) → b ≡ width f → g ≡ all_answers f L → n.order ≡ on → l.order ≡ ol → ((k : ℕ) → b - s ≤ 6 * k → TrieStands s words k n.cells l.cells (b - s) g) →
-    ((k : ℕ) → b - s ≤ 6 * k → count_free n + trie_nodes s k (b - s) g ≡ 2 ^ on) → ((k : ℕ) → b - s ≤ 6 * k → count_free l + trie_leaves s k (b - s) g ≡ 2 ^ ol) → ((k : ℕ) → AreApart (is_out n.free) (word_arrays k n.cells words)) → ((k : ℕ) → AreApart (is_out l.free) (word_leaf_arrays k n.cells words)) → StandsFor (record { family = f; direct_bits = s; words = words; nodes = n; leaves = l }) L
-stands_built f s words n l L b g on ol eb eg en el t cn cl an al =
+pub stands_for_answers : (f : Family) (s : ℕ) (words : List ℕ) (n : Space Node) (l : Space ℕ) (b : ℕ) (g : List Bool → ℕ) (on ol : ℕ) → b ≡ width f → n.order ≡ on → l.order ≡ ol → ((k : ℕ) → b - s ≤ 6 * k → TrieStands s words k n.cells l.cells (b - s) g) →
+    ((k : ℕ) → b - s ≤ 6 * k → count_free n + trie_nodes s k (b - s) g ≡ 2 ^ on) → ((k : ℕ) → b - s ≤ 6 * k → count_free l + trie_leaves s k (b - s) g ≡ 2 ^ ol) → ((k : ℕ) → AreApart (is_out n.free) (word_arrays k n.cells words)) → ((k : ℕ) → AreApart (is_out l.free) (word_leaf_arrays k n.cells words)) → StandsForAnswers (record { family = f; direct_bits = s; words = words; nodes = n; leaves = l }) g
+stands_for_answers f s words n l b g on ol eb en el t cn cl an al =
     let d : b - s ≡ rest f s = ap (λ x. x - s) eb in
     let k = strides (rest f s) in
     let le : b - s ≤ 6 * k = omega (arith, strides_do (rest f s), d) in
     record {
-      words = subst (λ (x : ℕ). TrieStands s words k n.cells l.cells x (all_answers f L)) d (subst (λ (x : List Bool → ℕ). TrieStands s words k n.cells l.cells (b - s) x) eg (t k le));
+      words = subst (λ (x : ℕ). TrieStands s words k n.cells l.cells x g) d (t k le);
       nodes_apart = an;
       leaves_apart = al;
-      nodes = ap (λ x. count_free n + x) (sym (ap (trie_nodes s k (b - s)) eg ∙ ap (λ x. trie_nodes s k x (all_answers f L)) d)) ∙ (cn k le ∙ ap (λ (x : ℕ). 2 ^ x) (sym en));
-      leaves = ap (λ x. count_free l + x) (sym (ap (trie_leaves s k (b - s)) eg ∙ ap (λ x. trie_leaves s k x (all_answers f L)) d)) ∙ (cl k le ∙ ap (λ (x : ℕ). 2 ^ x) (sym el));
+      nodes = ap (λ x. count_free n + x) (sym (ap (λ x. trie_nodes s k x g) d)) ∙ (cn k le ∙ ap (λ (x : ℕ). 2 ^ x) (sym en));
+      leaves = ap (λ x. count_free l + x) (sym (ap (λ x. trie_leaves s k x g) d)) ∙ (cl k le ∙ ap (λ (x : ℕ). 2 ^ x) (sym el));
     }
+
+pub stands_built : (f : Family) (s : ℕ) (words : List ℕ) (n : Space Node) (l : Space ℕ) (L : Entries) (b : ℕ) (g : List Bool → ℕ) (on ol : ℕ) → b ≡ width f → g ≡ all_answers f L → n.order ≡ on → l.order ≡ ol → ((k : ℕ) → b - s ≤ 6 * k → TrieStands s words k n.cells l.cells (b - s) g) →
+    ((k : ℕ) → b - s ≤ 6 * k → count_free n + trie_nodes s k (b - s) g ≡ 2 ^ on) → ((k : ℕ) → b - s ≤ 6 * k → count_free l + trie_leaves s k (b - s) g ≡ 2 ^ ol) → ((k : ℕ) → AreApart (is_out n.free) (word_arrays k n.cells words)) → ((k : ℕ) → AreApart (is_out l.free) (word_leaf_arrays k n.cells words)) → StandsFor (record { family = f; direct_bits = s; words = words; nodes = n; leaves = l }) L
+stands_built f s words n l L b g on ol eb eg en el t cn cl an al =
+    subst (λ (x : List Bool → ℕ). StandsForAnswers (record { family = f; direct_bits = s; words = words; nodes = n; leaves = l }) x) eg (stands_for_answers f s words n l b g on ol eb en el t cn cl an al)
 
 abbrev pub region_of : Family → ℕ → Entries → Region
 region_of f s L = record { strides = strides (rest f s); bits = rest f s; answers = all_answers f L }
 
--- the same said of the family of an address
-pub stands_at_family : (t : Shown) (L : Entries) (f : Family) → f ≡ t.family → StandsFor t L → TrieStands t.direct_bits t.words (strides (rest f t.direct_bits)) t.nodes.cells t.leaves.cells (rest f t.direct_bits) (all_answers f L)
-stands_at_family t L f e h = subst (λ (x : Family). TrieStands t.direct_bits t.words (strides (rest x t.direct_bits)) t.nodes.cells t.leaves.cells (rest x t.direct_bits) (all_answers x L)) (sym e) h.words
+-- what a trie stands for as a region's answers
+abbrev pub region_for : Shown → (List Bool → ℕ) → Region
+region_for t f = record { strides = strides (rest t.family t.direct_bits); bits = rest t.family t.direct_bits; answers = f }
+
+pub whole_as : (t : Shown) (f : List Bool → ℕ) (words : List ℕ) → words ≡ t.words → t.direct_bits ≤ 18 → StandsForAnswers t f → StandsWhole t.direct_bits words t.nodes.cells t.leaves.cells (region_for t f)
+whole_as t f words e few s = subst (λ (w : List ℕ). StandsWhole t.direct_bits w t.nodes.cells t.leaves.cells (region_for t f)) (sym e) (record { bits = omega (arith, wide_enough t.family t.direct_bits few, at_most_128 t.family); stands = s.words })
 
 pub free_at_most : {T : Type 0} (s : Space T) → IsSized s → count_free s ≤ 2 ^ s.order
 free_at_most s z = omega (arith, total_le s.free, z.places)
@@ -159,6 +168,10 @@ all_ok (Err e) a b c d f g = tt
 pub all_err : {E A B C G : Type 0} (r : Result (Unit {0}) E) → OnErr r A → OnErr r B → OnErr r C → (A → B → C → G) → OnErr r G
 all_err (Ok x) a b c g = tt
 all_err (Err e) a b c g = g a b c
+
+pub all_either : {E A B C D F H I J G : Type 0} (r : Result (Unit {0}) E) → OnOk r A → OnOk r B → OnOk r C → OnOk r D → OnOk r F → OnErr r H → OnErr r I → OnErr r J → (A → B → C → D → F → G) → (H → I → J → G) → G
+all_either (Ok x) a b c d f h i j g k = g a b c d f
+all_either (Err e) a b c d f h i j g k = k h i j
 
 -- a node a stride at most
 pub few_strides : (v d e : ℕ) → 6 * v ≤ d + 5 → d ≡ e → v ≤ strides e

@@ -3,6 +3,7 @@ pub mod Strides
 pub mod Slots
 pub mod Need
 pub mod Stands
+pub mod Led
 pub mod Making
 pub mod Tally
 pub mod Build

@@ -1,5 +1,5 @@
 -- What a trie is seen as, and what it stands for.
-use Rattle.std.specs.Prelude.{◌≡◌, ℕ, ◌+◌, ◌-◌, ◌^◌, ◌<◌, ◌≤◌, List, ◌⊎◌, length}
+use Rattle.std.specs.Prelude.{◌≡◌, ℕ, ◌+◌, ◌-◌, ◌^◌, ◌<◌, ◌≤◌, List, Bool, ◌⊎◌, length}
 use Rattle.table_model.specs.Width.{width}
 use Rattle.table_model.specs.Address.{Address}
 use Rattle.table_model.specs.declared.family.Family.{Family}
@@ -38,14 +38,23 @@ leaf_need f s L = trie_leaves s (strides (rest f s)) (rest f s) (all_answers f L
 abbrev pub visits_of : ℕ → Entries → Address → ℕ
 visits_of s L a = trie_visits s (strides (rest a.family s)) (rest a.family s) (all_answers a.family L) a.bits
 
--- the direct words stand for the entries' answers; the arrays lie in places that are out, each with one parent and apart from all others;
+-- the direct words stand for these answers; the arrays lie in places that are out, each with one parent and apart from all others;
 -- and the places that are out are as many as that needs
-pub record StandsFor (t : Shown) (L : Entries) : Type 0 where
-  pub words : TrieStands t.direct_bits t.words (strides (rest t.family t.direct_bits)) t.nodes.cells t.leaves.cells (rest t.family t.direct_bits) (all_answers t.family L)
+pub record StandsForAnswers (t : Shown) (f : List Bool → ℕ) : Type 0 where
+  pub words : TrieStands t.direct_bits t.words (strides (rest t.family t.direct_bits)) t.nodes.cells t.leaves.cells (rest t.family t.direct_bits) f
   pub nodes_apart : (k : ℕ) → AreApart (is_out t.nodes.free) (word_arrays k t.nodes.cells t.words)
   pub leaves_apart : (k : ℕ) → AreApart (is_out t.leaves.free) (word_leaf_arrays k t.nodes.cells t.words)
-  pub nodes : count_free t.nodes + node_need t.family t.direct_bits L ≡ 2 ^ t.nodes.order
-  pub leaves : count_free t.leaves + leaf_need t.family t.direct_bits L ≡ 2 ^ t.leaves.order
+  pub nodes : count_free t.nodes + trie_nodes t.direct_bits (strides (rest t.family t.direct_bits)) (rest t.family t.direct_bits) f ≡ 2 ^ t.nodes.order
+  pub leaves : count_free t.leaves + trie_leaves t.direct_bits (strides (rest t.family t.direct_bits)) (rest t.family t.direct_bits) f ≡ 2 ^ t.leaves.order
+
+-- it stands for the answers of these entries
+abbrev pub StandsFor : Shown → Entries → Type 0
+StandsFor t L = StandsForAnswers t (all_answers t.family L)
+
+-- it stands for some answers
+pub record HasAnswers (t : Shown) : Type 0 where
+  pub answers : List Bool → ℕ
+  pub stands : StandsForAnswers t answers
 
 -- what every trie keeps
 pub record IsKept (t : Shown) : Type 0 where

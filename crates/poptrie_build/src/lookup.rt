@@ -4,9 +4,8 @@ ghost use Rattle.std.specs.Prelude.{◌≡◌, ◌+◌, ◌*◌, ◌≤◌, ◌<
 ghost use Rattle.table_model.specs.Width.{width};
 ghost use Rattle.fib_addr.specs.Views.{addr_as};
 ghost use Rattle.buddy_arena.specs.Space.{IsSized};
-ghost use Rattle.fib_addr.specs.Answers.{part};
 ghost use Rattle.poptrie_build.specs.Strides.{Region, address, trie_visits};
-ghost use Rattle.poptrie_build.specs.Stands.{Stands, TrieStands};
+ghost use Rattle.poptrie_build.specs.Led.{IsLed, IsWhole, StandsBelow, StandsWhole};
 ghost use Rattle.poptrie_build.specs.Keys.{key_as};
 
 use crate::direct::HOP;
@@ -35,17 +34,20 @@ fn find_below<K: Key, L: Ledger>(
     start: u8,
     steps: &mut Steps<L>,
 ) -> Found
-    ghost region: { Region }
     requires start { start < 32 }
-    requires bits { start + region.bits ≤ 128 }
-    requires stands { Stands region.strides nodes.now.cells leaves.now.cells root region.bits
-        (part (address start (K.wide key)) region.answers) }
+    requires led { IsLed nodes.now.cells leaves.now.cells root start (K.wide key) }
     requires nodes_sized { IsSized nodes.now }
     requires leaves_sized { IsSized leaves.now }
-    ensures hop { result.hop.0 ≡ region.answers (address (start + region.bits) (K.wide key)) }
-    ensures visits { result.visits ≡ trie_visits start region.strides region.bits region.answers
-        (address (start + region.bits) (K.wide key)) }
-    ensures few { 6 * result.visits ≤ region.bits + 5 }
+    ensures hop { (r : Region)
+        → StandsBelow nodes.now.cells leaves.now.cells root start (K.wide key) r
+        → result.hop.0 ≡ r.answers (address (start + r.bits) (K.wide key)) }
+    ensures visits { (r : Region)
+        → StandsBelow nodes.now.cells leaves.now.cells root start (K.wide key) r
+        → result.visits ≡ trie_visits start r.strides r.bits r.answers
+        (address (start + r.bits) (K.wide key)) }
+    ensures few { (r : Region)
+        → StandsBelow nodes.now.cells leaves.now.cells root start (K.wide key) r
+        → 6 * result.visits ≤ r.bits + 5 }
     ensures steps { steps.new ≡ steps.old + result.visits }
 {
     let mut index = root;
@@ -77,15 +79,20 @@ fn find<K: Key, L: Ledger>(
     key: K,
     steps: &mut Steps<L>,
 ) -> Found
-    ghost region: { Region }
     requires most { direct_bits < 32 }
-    requires bits { direct_bits + region.bits ≤ 128 }
-    requires stands { TrieStands direct_bits words.now region.strides nodes.now.cells leaves.now.cells region.bits region.answers }
+    requires whole { IsWhole direct_bits words.now nodes.now.cells leaves.now.cells }
     requires nodes_sized { IsSized nodes.now }
     requires leaves_sized { IsSized leaves.now }
-    ensures hop { result.hop.0 ≡ region.answers (address (direct_bits + region.bits) (K.wide key)) }
-    ensures visits { result.visits ≡ trie_visits direct_bits region.strides region.bits region.answers (address (direct_bits + region.bits) (K.wide key)) }
-    ensures few { 6 * result.visits ≤ region.bits + 5 }
+    ensures hop { (r : Region)
+        → StandsWhole direct_bits words.now nodes.now.cells leaves.now.cells r
+        → result.hop.0 ≡ r.answers (address (direct_bits + r.bits) (K.wide key)) }
+    ensures visits { (r : Region)
+        → StandsWhole direct_bits words.now nodes.now.cells leaves.now.cells r
+        → result.visits ≡ trie_visits direct_bits r.strides r.bits r.answers
+        (address (direct_bits + r.bits) (K.wide key)) }
+    ensures few { (r : Region)
+        → StandsWhole direct_bits words.now nodes.now.cells leaves.now.cells r
+        → 6 * result.visits ≤ r.bits + 5 }
     ensures steps { steps.new ≡ steps.old + result.visits }
 {
     let word = words[key.head(direct_bits)];
@@ -116,15 +123,22 @@ pub(crate) fn find_addr<L: Ledger>(
     addr: &Addr,
     steps: &mut Steps<L>,
 ) -> Found
-    ghost region: { Region }
     requires most { direct_bits < 32 }
-    requires bits { direct_bits + region.bits ≡ width addr.now.family }
-    requires stands { TrieStands direct_bits words.now region.strides nodes.now.cells leaves.now.cells region.bits region.answers }
+    requires whole { IsWhole direct_bits words.now nodes.now.cells leaves.now.cells }
     requires nodes_sized { IsSized nodes.now }
     requires leaves_sized { IsSized leaves.now }
-    ensures hop { result.hop.0 ≡ region.answers (addr_as addr.now).bits }
-    ensures visits { result.visits ≡ trie_visits direct_bits region.strides region.bits region.answers (addr_as addr.now).bits }
-    ensures few { 6 * result.visits ≤ region.bits + 5 }
+    ensures hop { (r : Region)
+        → StandsWhole direct_bits words.now nodes.now.cells leaves.now.cells r
+        → direct_bits + r.bits ≡ width addr.now.family
+        → result.hop.0 ≡ r.answers (addr_as addr.now).bits }
+    ensures visits { (r : Region)
+        → StandsWhole direct_bits words.now nodes.now.cells leaves.now.cells r
+        → direct_bits + r.bits ≡ width addr.now.family
+        → result.visits ≡ trie_visits direct_bits r.strides r.bits r.answers
+        (addr_as addr.now).bits }
+    ensures few { (r : Region)
+        → StandsWhole direct_bits words.now nodes.now.cells leaves.now.cells r
+        → 6 * result.visits ≤ r.bits + 5 }
     ensures steps { steps.new ≡ steps.old + result.visits }
 {
     match addr.family {

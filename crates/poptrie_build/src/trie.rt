@@ -25,13 +25,14 @@ pub struct Trie {
 }
 
 impl Model for Trie {
-    ghost use Rattle.poptrie_build.specs.Tries.{Shown, IsKept};
+    ghost use Rattle.poptrie_build.specs.Tries.{Shown, IsKept, HasAnswers};
 
     ghost Value = { Shown };
 
     ghost view = { λ t. record { family = t.family; direct_bits = t.direct_bits; words = t.words.items; nodes = t.nodes; leaves = t.leaves } };
 
-    ghost invariant = { λ t. IsKept (record { family = t.family; direct_bits = t.direct_bits; words = t.words.items; nodes = t.nodes; leaves = t.leaves }) };
+    ghost invariant = { λ t. IsKept (record { family = t.family; direct_bits = t.direct_bits; words = t.words.items; nodes = t.nodes; leaves = t.leaves })
+        × HasAnswers (record { family = t.family; direct_bits = t.direct_bits; words = t.words.items; nodes = t.nodes; leaves = t.leaves }) };
 }
 
 /// The direct words of a trie that answers none everywhere.
@@ -138,11 +139,11 @@ impl Trie {
 
     /// The answer at an address, with a step for each node that is visited.
     pub fn lookup<L: Ledger>(&self, addr: &Addr, steps: &mut Steps<L>) -> Found
-        ghost entries: { Entries }
         requires family { addr.now.family ≡ self.now.family }
-        requires stands { StandsFor self.now entries }
-        ensures hop { result.hop.0 ≡ match_in entries (addr_as addr.now) }
-        ensures visits { result.visits ≡ visits_of self.now.direct_bits entries (addr_as addr.now) }
+        ensures hop { (E : Entries) → StandsFor self.now E
+            → result.hop.0 ≡ match_in E (addr_as addr.now) }
+        ensures visits { (E : Entries) → StandsFor self.now E
+            → result.visits ≡ visits_of self.now.direct_bits E (addr_as addr.now) }
         ensures few { result.visits ≤ strides (rest self.now.family self.now.direct_bits) }
         ensures steps { steps.new ≡ steps.old + result.visits }
     {

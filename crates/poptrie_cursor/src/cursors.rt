@@ -38,13 +38,11 @@ pub(crate) struct Lookup {
 
 impl Lookup {
     ghost use Rattle.std.specs.Prelude.{◌≡◌};
-    ghost use Rattle.poptrie_update.specs.Reads.{IsShowing};
     ghost use Rattle.poptrie_cursor.specs.Stages.{CanGo, IsRead};
 
     /// What it reads next: the selector and a direct word, or a node.
     fn read(&self, live: &Live) -> At
         requires family { self.now.addr.family ≡ live.now.selected.family }
-        requires showing { IsShowing live.now }
         requires can { CanGo live.now self.now.addr self.now.stage }
         ensures { IsRead result live.now self.now.addr self.now.stage }
     {
@@ -101,7 +99,7 @@ impl Cursors {
     ghost use Rattle.table_model.specs.Entries.{Entries};
     ghost use Rattle.poptrie_update.specs.Lives.{Living, Shows};
     ghost use Rattle.poptrie_update.specs.Fits.{IsOldest};
-    ghost use Rattle.poptrie_update.specs.Reads.{IsShowing, published};
+    ghost use Rattle.poptrie_update.specs.Reads.{published};
     ghost use Rattle.poptrie_cursor.specs.Cursors.{Dues, due_of, lookup_of, opens_of, FitsAll, IsStarted, IsFull, IsFirst, Goes, GoesFurther};
     ghost use Rattle.poptrie_cursor.specs.Stages.{Moves};
     ghost use Rattle.poptrie_cursor.specs.declared.cursors.Lookup.{Lookup};
@@ -151,7 +149,6 @@ impl Cursors {
     ///
     /// No lookup of this number is open; nothing has changed.
     pub fn go(&mut self, live: &Live, number: u8) -> Result<Option<Hop>, NotOpen>
-        requires showing { IsShowing live.now }
         requires fits { (due : Dues) × FitsAll live.now self.old due }
         ensures not_open { OnErr result ((lookup_of self.old number ≡ None)
             × (self.new ≡ self.old)) }

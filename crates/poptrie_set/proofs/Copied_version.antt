@@ -29,7 +29,7 @@ use Rattle.poptrie_copy.proofs.Held.{words_held}
 use Rattle.poptrie_copy.proofs.Like.{like_under}
 use Rattle.poptrie_copy.proofs.Whole.{row_of, trie_of, nodes_of, leaves_of, nodes_filled, leaves_filled}
 use Rattle.poptrie_copy.proofs.Word_row.{words_same}
-use Rattle.poptrie_set.specs.Renewals.{AgreeBeside, Renews}
+use Rattle.poptrie_set.specs.Renewals.{IsMerged, Renews}
 use Rattle.poptrie_set.specs.Version.{IsVersion}
 use Rattle.poptrie_set.specs.Lives.{Seen, Beside, covers, stores_of}
 use Rattle.poptrie_set.specs.Lives.{Store as Stored}
@@ -69,7 +69,7 @@ version_row f s nodes leaves direct L x y v k le =
 
 -- ---- the words made anew
 module _ (f : Family) (s : ℕ) (nodes nodes2 : Space Node) (nb nb2 : Held) (leaves leaves2 : Space ℕ) (lb lb2 : Held) (direct : List ℕ) (stores : List Store) (L M : Entries) (x y : List Array) (v : IsVersion f s nodes leaves direct L x y) (gn : Gains blank nodes nb nodes2 nb2) (gl : Gains 0 leaves lb leaves2 lb2) (rn : nb.replaced ≡ []) (rl : lb.replaced ≡ [])
-    (p : List Bool) (agree : AgreeBeside p s (rest f s) (all_answers f M) (λ u. part (bits_of s u) (all_answers f L))) (re : Renews nodes nb leaves lb (stored [] direct) nodes2 nb2 leaves2 lb2 (stored stores direct) p s (rest f s) (all_answers f M)) where
+    (p : List Bool) (F : List Bool → ℕ) (merges : IsMerged p s (rest f s) F (λ u. part (bits_of s u) (all_answers f L)) (all_answers f M)) (re : Renews nodes nb leaves lb (stored [] direct) nodes2 nb2 leaves2 lb2 (stored stores direct) p s (rest f s) F) where
   abbrev d : ℕ
   d = rest f s
 
@@ -87,7 +87,7 @@ module _ (f : Family) (s : ℕ) (nodes nodes2 : Space Node) (nb nb2 : Held) (lea
       words_same k (2 ^ s) d nodes2 leaves2 (stored stores direct) (λ u. slice_index (applied stores direct) u) (λ u. part (bits_of s u) (all_answers f M)) (λ u. part (bits_of s u) (all_answers f M)) (nb2.replaced ++ x) (lb2.replaced ++ y) (2 ^ nodes.order) (2 ^ leaves.order)
       (λ u l. applied_at stores direct u (omega (arith, l, v.words.words)))
       (λ u l. refl)
-      (re k h x y (2 ^ nodes.order) (2 ^ leaves.order) (omega (arith, enough, le)) agree row)
+      (re k h (all_answers f M) x y (2 ^ nodes.order) (2 ^ leaves.order) (omega (arith, enough, le)) merges row)
 
   new_long : length (applied stores direct) ≡ 2 ^ s
   new_long = applied_long stores direct ∙ v.words.words
@@ -156,11 +156,11 @@ due_told n stores words (s ∷ rest) l a b = ((a.0, (let low = a.0 in applied_at
 
 -- both versions stand, as long as what is replaced has no more places than the old version needs
 pub copied_shows : (l : Seen) (nodes2 : Space Node) (leaves2 : Space ℕ) (nb nb2 lb lb2 : Held) (stores : List Store) (L M : Entries) → IsVersion l.family l.direct_bits l.nodes.space l.leaves.space l.words L (blocks_of l.nodes.retired) (blocks_of l.leaves.retired) → nb.taken ≡ [] → lb.taken ≡ [] → nb.replaced ≡ [] → lb.replaced ≡ [] → Gains blank l.nodes.space nb nodes2 nb2 → Gains 0 l.leaves.space lb leaves2 lb2 →
-    (p : List Bool) → AgreeBeside p l.direct_bits (rest l.family l.direct_bits) (all_answers l.family M) (λ u. part (bits_of l.direct_bits u) (all_answers l.family L)) → Renews l.nodes.space nb l.leaves.space lb (stored [] l.words) nodes2 nb2 leaves2 lb2 (stored stores l.words) p l.direct_bits (rest l.family l.direct_bits) (all_answers l.family M) → AreStores l.words stores (2 ^ l.direct_bits) → places_of nb2.replaced ≤ node_need l.family l.direct_bits L → places_of lb2.replaced ≤ leaf_need l.family l.direct_bits L →
+    (p : List Bool) (F : List Bool → ℕ) → IsMerged p l.direct_bits (rest l.family l.direct_bits) F (λ u. part (bits_of l.direct_bits u) (all_answers l.family L)) (all_answers l.family M) → Renews l.nodes.space nb l.leaves.space lb (stored [] l.words) nodes2 nb2 leaves2 lb2 (stored stores l.words) p l.direct_bits (rest l.family l.direct_bits) F → AreStores l.words stores (2 ^ l.direct_bits) → places_of nb2.replaced ≤ node_need l.family l.direct_bits L → places_of lb2.replaced ≤ leaf_need l.family l.direct_bits L →
     Beside (prepared l nodes2 leaves2 nb2.taken nb2.replaced lb2.taken lb2.replaced (stores_of stores) (applied stores l.words) L M) L M l.words (applied stores l.words)
-copied_shows l nodes2 leaves2 nb nb2 lb lb2 stores L M v tn tl rn rl gn gl p agree re are few few2 =
+copied_shows l nodes2 leaves2 nb nb2 lb lb2 stores L M v tn tl rn rl gn gl p F merges re are few few2 =
     prepare_shows l nodes2 leaves2 nb2.taken nb2.replaced lb2.taken lb2.replaced (stores_of stores) (applied stores l.words) L M v (gains_grow blank l.nodes.space nodes2 nb nb2 tn gn) (gains_grow 0 l.leaves.space leaves2 lb lb2 tl gl)
-    (copied_version l.family l.direct_bits l.nodes.space nodes2 nb nb2 l.leaves.space leaves2 lb lb2 l.words stores L M (blocks_of l.nodes.retired) (blocks_of l.leaves.retired) v gn gl rn rl p agree re)
+    (copied_version l.family l.direct_bits l.nodes.space nodes2 nb nb2 l.leaves.space leaves2 lb lb2 l.words stores L M (blocks_of l.nodes.retired) (blocks_of l.leaves.retired) v gn gl rn rl p F merges re)
     few few2
     (λ i low c. sym (applied_at stores l.words i (omega (arith, low, v.words.words)) ∙ not_covered stores l.words i c))
     (due_told (2 ^ l.direct_bits) stores l.words stores v.words.words are.below (first_due stores l.words are.in_order))

@@ -8,6 +8,7 @@ pub mod Prepared
 pub mod Visit
 pub mod Fitting
 pub mod Passed
+pub mod Some_table
 pub mod Quiet
 pub mod First_read
 pub mod On_way

@@ -1,16 +1,17 @@
 -- The calls of a live trie, as steps of what it is seen as.
-use Rattle.std.proofs.Common.{◌≡◌, ℕ, zero, suc, ◌+◌, ◌<◌, ◌≤◌, List, [], ◌∷◌, ◌++◌, Bool, false, length, get_or, refl, sym, ap, ◌∙◌, arith, subst, set}
+use Rattle.std.proofs.Common.{◌≡◌, ℕ, zero, suc, ◌+◌, ◌^◌, ◌<◌, ◌≤◌, List, [], ◌∷◌, ◌++◌, Bool, true, false, length, get_or, refl, sym, ap, ◌∙◌, arith, subst, set}
 use Rattle.std.specs.List.{AllByRecursion}
 use Rattle.table_model.specs.declared.family.Family.{Family}
 use Rattle.table_model.specs.Entries.{Entries}
-use Rattle.buddy_arena.specs.Space.{Space}
+use Rattle.std.proofs.Math.ListN.{length-set}
+use Rattle.buddy_arena.specs.Space.{Space, IsSized}
 use Rattle.block_pool.specs.Places.{is_out}
 use Rattle.block_pool.specs.Arrays.{Array, AreApart}
 use Rattle.block_pool.specs.Blocks.{Held, AreHeldIn, Gives, blocks_of, ended, cancelled}
 use Rattle.block_pool.proofs.Sets.{swap}
 use Rattle.poptrie_build.specs.Tries.{node_need, leaf_need}
 use Rattle.poptrie_build.specs.declared.node.Node.{Node}
-use Rattle.poptrie_set.specs.Rooms.{room_of, room_at_end}
+use Rattle.poptrie_set.specs.Rooms.{Room, room_of, room_at_end}
 use Rattle.poptrie_set.specs.Lives.{Seen, Store, Beside, ShowsIn, IsLive, stores_of}
 use Rattle.poptrie_set.specs.Fits.{Reader, FitsIn}
 use Rattle.poptrie_set.specs.Past.{PastIn}
@@ -109,3 +110,72 @@ end_keeps s words nodes leaves a b a2 b2 p stores none made ea eb en l =
       counted = omega arith;
       quiet = λ _. record { no_stores = refl; none_made = refl; nodes_taken = refl; nodes_replaced = refl; leaves_taken = refl; leaves_replaced = refl };
     })))
+
+-- the next store
+pub store_keeps : (s : ℕ) (words : List ℕ) (nodes : Space Node) (leaves : Space ℕ) (a b : Held) (p : Bool) (stores : List Stored) (made slot word : ℕ) → p ≡ true → made < length stores → IsLive s words nodes leaves a b p stores made → IsLive s (set words slot word) nodes leaves a b p stores (made + 1)
+store_keeps s words nodes leaves a b p stores made slot word pending more l = record {
+  few = l.few;
+  many = length-set words slot word ∙ l.many;
+  nodes_sized = l.nodes_sized;
+  leaves_sized = l.leaves_sized;
+  nodes_held = l.nodes_held;
+  leaves_held = l.leaves_held;
+  times = l.times;
+  slots = l.slots;
+  counted = omega (arith, more);
+  quiet = λ e. cc;
+}
+
+-- the end of an update that changed nothing here
+pub tick_keeps : (s : ℕ) (words : List ℕ) (nodes : Space Node) (leaves : Space ℕ) (a b a2 b2 : Held) (p : Bool) (stores : List Stored) (made : ℕ) → a2 ≡ ended a → b2 ≡ ended b → p ≡ false → IsLive s words nodes leaves a b p stores made → IsLive s words nodes leaves a2 b2 p stores made
+tick_keeps s words nodes leaves a b a2 b2 p stores made ea eb quiet l =
+    subst (λ (h : Held). IsLive s words nodes leaves h b2 p stores made) (sym ea)
+    (subst (λ (h : Held). IsLive s words nodes leaves (ended a) h p stores made) (sym eb)
+    (record {
+      few = l.few;
+      many = l.many;
+      nodes_sized = l.nodes_sized;
+      leaves_sized = l.leaves_sized;
+      nodes_held = held_ended (is_out nodes.free) a l.nodes_held;
+      leaves_held = held_ended (is_out leaves.free) b l.leaves_held;
+      times = ap suc l.times;
+      slots = l.slots;
+      counted = l.counted;
+      quiet = λ e. record { no_stores = (l.quiet e).no_stores; none_made = (l.quiet e).none_made; nodes_taken = refl; nodes_replaced = refl; leaves_taken = refl; leaves_replaced = refl };
+    }))
+
+-- of both versions nothing changes but the blocks beside them
+pub same_shows : (l : Seen) (nodes : Room Node) (leaves : Room ℕ) (t : ℕ) → nodes ≡ l.nodes → leaves ≡ l.leaves → (L M : Entries) → ShowsIn l L M → ShowsIn (record l { nodes = nodes; leaves = leaves; time = t }) L M
+same_shows l nodes leaves t en el L M (old, new, b) =
+    subst (λ (x : Room Node). ShowsIn (record l { nodes = x; leaves = leaves; time = t }) L M) (sym en)
+    (subst (λ (x : Room ℕ). ShowsIn (record l { leaves = x; time = t }) L M) (sym el) (
+      old,
+      new,
+      record {
+        before = b.before;
+        after = b.after;
+        nodes_few = b.nodes_few;
+        leaves_few = b.leaves_few;
+        made = b.made;
+        words = b.words;
+        stored = b.stored;
+        unstored = b.unstored;
+        shared = b.shared;
+        due = b.due;
+      },
+    ))
+
+-- a cancel before a store was made
+pub cancel_keeps : (s : ℕ) (words : List ℕ) (nodes nodes2 : Space Node) (leaves leaves2 : Space ℕ) (a b a2 b2 : Held) (p : Bool) (stores none : List Stored) (made : ℕ) → made ≡ 0 → none ≡ [] → a2 ≡ cancelled a → b2 ≡ cancelled b → IsSized nodes2 → IsSized leaves2 → AreHeldIn (is_out nodes2.free) a2 → AreHeldIn (is_out leaves2.free) b2 → IsLive s words nodes leaves a b p stores made → IsLive s words nodes2 leaves2 a2 b2 false none made
+cancel_keeps s words nodes nodes2 leaves leaves2 a b a2 b2 p stores none made z en ea eb sn sl hn hl l = record {
+  few = l.few;
+  many = l.many;
+  nodes_sized = sn;
+  leaves_sized = sl;
+  nodes_held = hn;
+  leaves_held = hl;
+  times = ap (λ (h : Held). h.time) eb ∙ (l.times ∙ sym (ap (λ (h : Held). h.time) ea));
+  slots = subst (λ (x : List Stored). AllByRecursion (λ (t : Stored). t.slot < 2 ^ s) x) (sym en) tt;
+  counted = omega (arith, z);
+  quiet = λ e. record { no_stores = en; none_made = z; nodes_taken = ap (λ (h : Held). h.taken) ea; nodes_replaced = ap (λ (h : Held). h.replaced) ea; leaves_taken = ap (λ (h : Held). h.taken) eb; leaves_replaced = ap (λ (h : Held). h.replaced) eb };
+}

@@ -10,7 +10,7 @@ use Rattle.poptrie_build.specs.declared.node.Node.{Node}
 use Rattle.block_pool.specs.Blocks.{blocks_of}
 use Rattle.poptrie_build.specs.Tries.{node_need, leaf_need}
 use Rattle.poptrie_set.specs.Version.{IsVersion}
-use Rattle.poptrie_set.specs.Lives.{Seen, Store, Beside, covers}
+use Rattle.poptrie_set.specs.Lives.{Seen, Store, Beside, ShowsIn, covers}
 use Rattle.poptrie_set.proofs.Kept.{Grows, version_grown}
 
 -- nothing is pending
@@ -27,6 +27,30 @@ module _ (l : Seen) (L M : Entries) (old new : List ℕ) (b : Beside l L M old n
       subst (λ (w : List ℕ). IsVersion l.family l.direct_bits l.nodes.space l.leaves.space w L (blocks_of l.nodes.retired) (blocks_of l.leaves.retired)) (sym words_old)
       (subst (λ (x : List Array). IsVersion l.family l.direct_bits l.nodes.space l.leaves.space old L (x ++ blocks_of l.nodes.retired) (blocks_of l.leaves.retired)) nodes
       (subst (λ (x : List Array). IsVersion l.family l.direct_bits l.nodes.space l.leaves.space old L (l.nodes.taken ++ blocks_of l.nodes.retired) (x ++ blocks_of l.leaves.retired)) leaves b.before))
+
+-- it shows the first alone
+pub quiet_shows : (l : Seen) (L M : Entries) → ShowsIn l L M → l.stores ≡ [] → l.nodes.taken ≡ [] → l.nodes.replaced ≡ [] → l.leaves.taken ≡ [] → l.leaves.replaced ≡ [] → ShowsIn l L L
+quiet_shows l L M sh stores nt nr lt lr =
+    let v = quiet_version l L M sh.0 sh.1 sh.2 stores nt lt in (
+      l.words,
+      l.words,
+      record {
+        before =
+            subst (λ (x : List Array). IsVersion l.family l.direct_bits l.nodes.space l.leaves.space l.words L (x ++ blocks_of l.nodes.retired) (l.leaves.taken ++ blocks_of l.leaves.retired)) (sym nt)
+            (subst (λ (x : List Array). IsVersion l.family l.direct_bits l.nodes.space l.leaves.space l.words L (blocks_of l.nodes.retired) (x ++ blocks_of l.leaves.retired)) (sym lt) v);
+        after =
+            subst (λ (x : List Array). IsVersion l.family l.direct_bits l.nodes.space l.leaves.space l.words L (x ++ blocks_of l.nodes.retired) (l.leaves.replaced ++ blocks_of l.leaves.retired)) (sym nr)
+            (subst (λ (x : List Array). IsVersion l.family l.direct_bits l.nodes.space l.leaves.space l.words L (blocks_of l.nodes.retired) (x ++ blocks_of l.leaves.retired)) (sym lr) v);
+        nodes_few = subst (λ (x : List Array). places_of x ≤ node_need l.family l.direct_bits L) (sym nr) (omega arith);
+        leaves_few = subst (λ (x : List Array). places_of x ≤ leaf_need l.family l.direct_bits L) (sym lr) (omega arith);
+        made = sh.2.made;
+        words = sh.2.words;
+        stored = λ v h e. refl;
+        unstored = λ v h e. refl;
+        shared = λ v h e. refl;
+        due = subst (λ (x : List Store). AllByRecursion (λ (s : Store). (s.0 < 2 ^ l.direct_bits) × (get_or l.words s.0 0 ≡ s.1)) x) (sym stores) tt;
+      },
+    )
 
 module _ (l : Seen) (nodes : Space Node) (leaves : Space ℕ) (taken replaced taken2 replaced2 : List Array) (stores : List Store) (new : List ℕ) (L M : Entries) where
   abbrev pub prepared : Seen

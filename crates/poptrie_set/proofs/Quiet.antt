@@ -1,5 +1,5 @@
 -- A live trie of which nothing is pending: as it was filled, and as blocks are given back.
-use Rattle.std.proofs.Common.{◌≡◌, ℕ, suc, ◌^◌, ◌<◌, ◌≤◌, List, [], ◌∷◌, ◌++◌, Bool, true, false, length, get_or, refl, sym, ap, ◌∙◌, arith, subst}
+use Rattle.std.proofs.Common.{◌≡◌, ℕ, suc, ◌+◌, ◌^◌, ◌<◌, ◌≤◌, List, [], ◌∷◌, ◌++◌, Bool, true, false, length, get_or, refl, sym, ap, ◌∙◌, arith, subst}
 use Rattle.table_model.specs.declared.family.Family.{Family}
 use Rattle.table_model.specs.Entries.{Entries}
 use Rattle.std.specs.List.{AllByRecursion}
@@ -8,11 +8,11 @@ use Rattle.buddy_arena.specs.Space.{Space, IsSized, empty}
 use Rattle.block_pool.specs.Places.{is_out}
 use Rattle.block_pool.specs.Arrays.{Array, AreApart}
 use Rattle.block_pool.specs.Blocks.{Held, Retired, Gives, AreHeldIn, blocks_of, early, late, released, nothing_held}
-use Rattle.poptrie_build.specs.Tries.{Shown, StandsFor}
+use Rattle.poptrie_build.specs.Tries.{Shown, StandsFor, StandsForAnswers, rest}
 use Rattle.poptrie_build.specs.declared.node.Node.{Node}
 use Rattle.poptrie_set.specs.Rooms.{quiet_room}
 use Rattle.poptrie_set.specs.Version.{IsVersion}
-use Rattle.poptrie_set.specs.Lives.{Seen, ShowsIn, IsLive}
+use Rattle.poptrie_set.specs.Lives.{Seen, ShowsIn, ShowsSome, IsLive}
 use Rattle.poptrie_set.specs.Fits.{Reader, IsOldestOf, until}
 use Rattle.poptrie_set.specs.declared.trie_set.Oldest.{Oldest}
 use Rattle.poptrie_set.specs.declared.trie_set.Oldest.TheVariants as oldest
@@ -21,6 +21,8 @@ use Rattle.poptrie_copy.specs.declared.slots.Store.{Store as Stored}
 use Rattle.poptrie_set.proofs.Steps.{version_given}
 use Rattle.poptrie_set.proofs.Passed.{late_past}
 use Rattle.poptrie_set.proofs.Lived.{seen_as}
+use Rattle.poptrie_set.proofs.Some_table.{table_for, stands_for_table}
+use Rattle.table_model.specs.Width.{width}
 
 -- ---- filled
 abbrev pub fresh : Shown → ℕ → Seen
@@ -163,3 +165,29 @@ fresh_kept s words nodes leaves a b p stores made t u few many sn sl ea eb et es
 pub since_all : (o : Oldest) (os : List Reader) (time : ℕ) → IsOldestOf o os → AllByRecursion (λ (x : Reader). until o time ≤ x.since) os
 since_all oldest.Nobody os time e = subst (λ (xs : List Reader). AllByRecursion (λ (x : Reader). time ≤ x.since) xs) (sym e) tt
 since_all (oldest.Started cursor since) os time a = a
+
+-- what was retired is given back
+pub release_keeps : (s : ℕ) (words : List ℕ) (nodes nodes2 : Space Node) (leaves leaves2 : Space ℕ) (a b a2 b2 : Held) (p : Bool) (stores : List Stored) (made since : ℕ) → a2 ≡ released since a → b2 ≡ released since b → IsSized nodes2 → IsSized leaves2 → AreHeldIn (is_out nodes2.free) a2 → AreHeldIn (is_out leaves2.free) b2 → IsLive s words nodes leaves a b p stores made → IsLive s words nodes2 leaves2 a2 b2 p stores made
+release_keeps s words nodes nodes2 leaves leaves2 a b a2 b2 p stores made since ea eb sn sl hn hl l = record {
+  few = l.few;
+  many = l.many;
+  nodes_sized = sn;
+  leaves_sized = sl;
+  nodes_held = hn;
+  leaves_held = hl;
+  times = ap (λ (h : Held). h.time) eb ∙ (l.times ∙ sym (ap (λ (h : Held). h.time) ea));
+  slots = l.slots;
+  counted = l.counted;
+  quiet = λ e. record {
+    no_stores = (l.quiet e).no_stores;
+    none_made = (l.quiet e).none_made;
+    nodes_taken = ap (λ (h : Held). h.taken) ea ∙ (l.quiet e).nodes_taken;
+    nodes_replaced = ap (λ (h : Held). h.replaced) ea ∙ (l.quiet e).nodes_replaced;
+    leaves_taken = ap (λ (h : Held). h.taken) eb ∙ (l.quiet e).leaves_taken;
+    leaves_replaced = ap (λ (h : Held). h.replaced) eb ∙ (l.quiet e).leaves_replaced;
+  };
+}
+
+-- a trie of any answers shows some table
+pub fresh_some : (t : Shown) (time : ℕ) (g : List Bool → ℕ) → t.direct_bits + rest t.family t.direct_bits ≡ width t.family → StandsForAnswers t g → ShowsSome (fresh t time)
+fresh_some t time g whole st = record { before = table_for t.family g; after = table_for t.family g; shows = fresh_shows t time (table_for t.family g) (stands_for_table t g whole st) }

@@ -1,11 +1,11 @@
 -- Where no free block is as large as a power of two, each range of so many places has one that is out.
-use Rattle.std.proofs.Common.{◌≡◌, ℕ, zero, suc, ◌+◌, ◌*◌, ◌^◌, ◌<◌, ◌≤◌, List, [], ◌∷◌, ◌++◌, Bool, true, false, cond, length, take, drop, map, nat_eq, refl, sym, ap, ◌∙◌, arith, inl, inr}
+use Rattle.std.proofs.Common.{◌≡◌, ℕ, zero, suc, ◌+◌, ◌*◌, ◌^◌, ◌≤◌, List, [], ◌∷◌, ◌++◌, Bool, true, false, cond, length, take, drop, map, refl, sym, ap, ◌∙◌, arith, inl, inr}
 use Rattle.std.specs.Prelude.{◌||◌, ◌⊎◌}
 use Rattle.std.proofs.lemmas.Bool.{cases_eq, eq-eqb}
 use Rattle.std.proofs.lemmas.List.{length-take, length-drop, take-append-drop}
 use Rattle.std.proofs.Math.Nat.{mul-le-mul_left, mul-add}
 use Rattle.buddy_arena.proofs.Bits.{double}
-use Rattle.buddy_arena.specs.Space.{Free, blocks, all_true, has_order, NoneFrom, total, tick, shift}
+use Rattle.buddy_arena.specs.Space.{blocks, all_true, has_order, NoneFrom, total, shift}
 use Rattle.buddy_arena.proofs.Blocks.{has_append, has_shift}
 use Rattle.buddy_arena.proofs.Totals.{total_append, total_le}
 

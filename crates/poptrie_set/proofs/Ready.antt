@@ -1,5 +1,5 @@
 -- An update that was made ready beside all that is out, or wasn't.
-use Rattle.std.proofs.Common.{◌≡◌, ℕ, suc, ◌+◌, ◌*◌, ◌^◌, ◌<◌, ◌≤◌, List, [], ◌++◌, Bool, true, false, length, get_or, sym, ap, ◌∙◌, arith, subst, Result, Ok, Err}
+use Rattle.std.proofs.Common.{◌≡◌, ℕ, suc, ◌+◌, ◌*◌, ◌^◌, ◌<◌, ◌≤◌, List, [], ◌++◌, Bool, true, false, cond, take, length, get_or, refl, sym, ap, ◌∙◌, arith, subst, Result, Ok, Err}
 use Rattle.std.specs.Prelude.{◌↔◌, ◌∷◌, OnOk, OnErr, IfErr, slice_index, ◌&&◌}
 use Rattle.std.specs.List.{AllByRecursion}
 use Rattle.std.proofs.lemmas.List.{length-append}
@@ -34,10 +34,10 @@ use Rattle.poptrie_copy.specs.Asks.{Ask, StandFor, Runs, IsOut}
 use Rattle.poptrie_copy.proofs.Retiring.{asks_left, slots_places}
 use Rattle.poptrie_copy.proofs.Word_row.{word_stays}
 use Rattle.poptrie_set.specs.Version.{IsVersion}
-use Rattle.poptrie_set.specs.Lives.{Seen, Store, ShowsIn, IsLive, IsQuiet, covers, stores_of}
+use Rattle.poptrie_set.specs.Lives.{Seen, Store, ShowsIn, ShowsSome, IsLive, IsQuiet, covers, stores_of}
 use Rattle.poptrie_set.specs.Fits.{Reader, FitsIn}
 use Rattle.poptrie_set.specs.Past.{PastIn, retired_at}
-use Rattle.poptrie_set.specs.Renewals.{AgreeBeside, Renews, SetsAside, MeetsRenewal, MeetsNotRenewal, KeepsRenewal, Restores}
+use Rattle.poptrie_set.specs.Renewals.{merged, IsMerged, Renews, SetsAside, MeetsRenewal, MeetsNotRenewal, KeepsRenewal, Restores}
 use Rattle.poptrie_set.specs.Reasons.{Explains, IsReason}
 use Rattle.poptrie_set.specs.Prepares.{AgreeOutside, SameAt, AreInOrder, StoresJust, asks_of}
 use Rattle.poptrie_set.specs.declared.reasons.NotReady.{NotReady}
@@ -50,6 +50,7 @@ use Rattle.poptrie_set.proofs.Lived.{seen_as}
 use Rattle.poptrie_set.proofs.Prepared.{quiet_version}
 use Rattle.poptrie_set.proofs.Read_on.{reads_again}
 use Rattle.poptrie_set.proofs.Restored.{taken_held}
+use Rattle.poptrie_set.proofs.Some_table.{slots_table, slots_answers}
 use Rattle.poptrie_set.proofs.Safe.{safe_out}
 use Rattle.poptrie_set.specs.Rooms.{safe}
 
@@ -83,10 +84,32 @@ wide : (f : Family) (s : ℕ) → s ≤ 18 → s + rest f s ≡ width f
 wide V4 s l = omega (arith, l)
 wide V6 s l = omega (arith, l)
 
-pub agree_beside : (f : Family) (s : ℕ) (p : Prefix) (L M : Entries) → p.family ≡ f → s ≤ 18 → AgreeOutside p L M → AgreeBeside p.bits s (rest f s) (all_answers f M) (λ u. part (bits_of s u) (all_answers f L))
-agree_beside f s p L M e few agree u l a n b =
-    let long : length (bits_of s u ++ a) ≡ width f = length-append (bits_of s u) a ∙ omega (arith, length-bits_of s u, n, wide f s few) in
-    agree (record { family = f; bits = bits_of s u ++ a }) long (sym e) (begins_not p.family f p.bits (bits_of s u ++ a) e b)
+cut_begins : (p x a : List Bool) → begins p (x ++ a) ≡ true → begins (take (length x) p) x ≡ true
+cut_begins [] [] a e = refl
+cut_begins [] (b ∷ x) a e = refl
+cut_begins (c ∷ p) [] a e = refl
+cut_begins (true ∷ p) (true ∷ x) a e = cut_begins p x a e
+cut_begins (false ∷ p) (false ∷ x) a e = cut_begins p x a e
+cut_begins (true ∷ p) (false ∷ x) a e = cc
+cut_begins (false ∷ p) (true ∷ x) a e = cc
+
+begins_less : (s : ℕ) (p x a : List Bool) → length x ≡ s → begins (take s p) x ≡ false → begins p (x ++ a) ≡ false
+begins_less s p x a n e = by (begins p (x ++ a)) refl
+  where
+    by : (b : Bool) → begins p (x ++ a) ≡ b → begins p (x ++ a) ≡ false
+    by true q = let t : begins (take s p) x ≡ true = subst (λ (i : ℕ). begins (take i p) x ≡ true) n (cut_begins p x a q) in cc
+    by false q = q
+
+-- the second table's answers are those of a region in the slots that the prefix meets, and elsewhere those of the first
+pub agree_merged : (f : Family) (s : ℕ) (p : Prefix) (F : List Bool → ℕ) (L M : Entries) → p.family ≡ f → s ≤ 18 → F ≡ all_answers f M → AgreeOutside p L M → IsMerged p.bits s (rest f s) F (λ u. part (bits_of s u) (all_answers f L)) (all_answers f M)
+agree_merged f s p F L M e few is agree u l a n = by (begins (take s p.bits) (bits_of s u)) refl
+  where
+    long : length (bits_of s u ++ a) ≡ width f
+    long = length-append (bits_of s u) a ∙ omega (arith, length-bits_of s u, n, wide f s few)
+
+    by : (c : Bool) → begins (take s p.bits) (bits_of s u) ≡ c → all_answers f M (bits_of s u ++ a) ≡ cond c (part (bits_of s u) F) (part (bits_of s u) (all_answers f L)) a
+    by true q = ap (λ (g : List Bool → ℕ). g (bits_of s u ++ a)) (sym is)
+    by false q = agree (record { family = f; bits = bits_of s u ++ a }) long (sym e) (begins_not p.family f p.bits (bits_of s u ++ a) e (begins_less s p.bits (bits_of s u) a (length-bits_of s u) q))
 
 -- ---- the words of a version stand
 pub words_are : (f : Family) (s : ℕ) (nodes : Space Node) (leaves : Space ℕ) (direct : List ℕ) (L : Entries) (x y : List Array) (d : ℕ) → d ≡ rest f s → IsVersion f s nodes leaves direct L x y → (v : ℕ) → v < 2 ^ s → IsWord nodes leaves (slice_index direct v) d
@@ -148,17 +171,17 @@ module _ (f : Family) (s : ℕ) (words : List ℕ) (nodes nodes2 : Space Node) (
             subst (λ (z : List Retired). AreApart (is_out leaves2.free) (lb2.replaced ++ blocks_of z)) (sym gl.retired) both.1,
           )
 
-      module _ (F : List Bool → ℕ) (bits : List Bool) (L M : Entries) (sh : ShowsIn l L L) (eF : F ≡ all_answers f M) (agree : AgreeBeside bits s (rest f s) (all_answers f M) (λ u. part (bits_of s u) (all_answers f L))) (met : MeetsRenewal nodes leaves words nodes2 leaves2 bits s d F) where
+      module _ (F : List Bool → ℕ) (bits : List Bool) (L M : Entries) (sh : ShowsIn l L L) (merges : IsMerged bits s (rest f s) F (λ u. part (bits_of s u) (all_answers f L)) (all_answers f M)) (met : MeetsRenewal nodes leaves words nodes2 leaves2 bits s d F) where
         pub ready_asks : Runs nodes.order leaves.order (asks_of f s L M) (nodes.free, leaves.free) (nodes2.free, leaves2.free)
         ready_asks =
-            let m : MeetsRenewal nodes leaves words nodes2 leaves2 bits s (rest f s) (all_answers f M) = subst (λ (n : ℕ). MeetsRenewal nodes leaves words nodes2 leaves2 bits s n (all_answers f M)) ed (subst (λ (g : List Bool → ℕ). MeetsRenewal nodes leaves words nodes2 leaves2 bits s d g) eF met) in
-            m (strides (rest f s)) (λ u. part (bits_of s u) (all_answers f L)) (omega (arith, strides_do (rest f s))) agree (words_stand_for f s nodes leaves words L (blocks_of nb.retired) (blocks_of lb.retired) (quiet L L sh))
+            let m : MeetsRenewal nodes leaves words nodes2 leaves2 bits s (rest f s) F = subst (λ (n : ℕ). MeetsRenewal nodes leaves words nodes2 leaves2 bits s n F) ed met in
+            m (strides (rest f s)) (λ u. part (bits_of s u) (all_answers f L)) (all_answers f M) (omega (arith, strides_do (rest f s))) merges (words_stand_for f s nodes leaves words L (blocks_of nb.retired) (blocks_of lb.retired) (quiet L L sh))
 
         pub ready_shows : AreStores words stores (2 ^ s) → Renews nodes nb leaves lb (stored [] words) nodes2 nb2 leaves2 lb2 (stored stores words) bits s d F → ShowsIn ready L M
         ready_shows are re0 =
-            let re : Renews nodes nb leaves lb (stored [] words) nodes2 nb2 leaves2 lb2 (stored stores words) bits s (rest f s) (all_answers f M) = subst (λ (n : ℕ). Renews nodes nb leaves lb (stored [] words) nodes2 nb2 leaves2 lb2 (stored stores words) bits s n (all_answers f M)) ed (subst (λ (g : List Bool → ℕ). Renews nodes nb leaves lb (stored [] words) nodes2 nb2 leaves2 lb2 (stored stores words) bits s d g) eF re0) in
+            let re : Renews nodes nb leaves lb (stored [] words) nodes2 nb2 leaves2 lb2 (stored stores words) bits s (rest f s) F = subst (λ (n : ℕ). Renews nodes nb leaves lb (stored [] words) nodes2 nb2 leaves2 lb2 (stored stores words) bits s n F) ed re0 in
             let v = quiet L L sh in
-            let w = copied_version f s nodes nodes2 nb nb2 leaves leaves2 lb lb2 words stores L M (blocks_of nb.retired) (blocks_of lb.retired) v gn gl q.nodes_replaced q.leaves_replaced bits agree re in
+            let w = copied_version f s nodes nodes2 nb nb2 leaves leaves2 lb lb2 words stores L M (blocks_of nb.retired) (blocks_of lb.retired) v gn gl q.nodes_replaced q.leaves_replaced bits F merges re in
             let left = asks_left nodes.order leaves.order (asks_of f s L M) (nodes.free, leaves.free) (nodes2.free, leaves2.free) ready_asks in
             let asked = slots_places (strides (rest f s)) s (rest f s) (all_answers f M) (λ u. part (bits_of s u) (all_answers f L)) in
             let size : 2 ^ nodes2.order ≡ 2 ^ nodes.order = ap (λ (n : ℕ). 2 ^ n) gn.order in
@@ -167,7 +190,7 @@ module _ (f : Family) (s : ℕ) (words : List ℕ) (nodes nodes2 : Space Node) (
             let few2 : places_of lb2.replaced ≤ leaf_need f s L = omega (arith, v.leaves_fill, w.leaves_fill, size2, left.1, asked.1, places_append lb2.replaced (blocks_of lb.retired)) in (
               words,
               applied stores words,
-              copied_shows l nodes2 leaves2 nb nb2 lb lb2 stores L M v q.nodes_taken q.leaves_taken q.nodes_replaced q.leaves_replaced gn gl bits agree re are few few2,
+              copied_shows l nodes2 leaves2 nb nb2 lb lb2 stores L M v q.nodes_taken q.leaves_taken q.nodes_replaced q.leaves_replaced gn gl bits F merges re are few few2,
             )
 
         ready_just : s ≤ 18 → AreStores words stores (2 ^ s) → Renews nodes nb leaves lb (stored [] words) nodes2 nb2 leaves2 lb2 (stored stores words) bits s d F → KeepsRenewal nodes leaves words stores bits s d F → (v : ℕ) → v < 2 ^ s → (covers (stores_of stores) v ≡ false) ↔ SameAt f s L M v
@@ -178,23 +201,29 @@ module _ (f : Family) (s : ℕ) (words : List ℕ) (nodes nodes2 : Space Node) (
 
             from_word : covers (stores_of stores) v ≡ false → SameAt f s L M v
             from_word c =
-                let re : Renews nodes nb leaves lb (stored [] words) nodes2 nb2 leaves2 lb2 (stored stores words) bits s (rest f s) (all_answers f M) = subst (λ (n : ℕ). Renews nodes nb leaves lb (stored [] words) nodes2 nb2 leaves2 lb2 (stored stores words) bits s n (all_answers f M)) ed (subst (λ (g : List Bool → ℕ). Renews nodes nb leaves lb (stored [] words) nodes2 nb2 leaves2 lb2 (stored stores words) bits s d g) eF re0) in
+                let re : Renews nodes nb leaves lb (stored [] words) nodes2 nb2 leaves2 lb2 (stored stores words) bits s (rest f s) F = subst (λ (n : ℕ). Renews nodes nb leaves lb (stored [] words) nodes2 nb2 leaves2 lb2 (stored stores words) bits s n F) ed re0 in
                 let row = version_row f s nodes leaves words L (blocks_of nb.retired) (blocks_of lb.retired) ver (strides (rest f s)) (omega arith) in
                 let row2 = subst (λ (z : List Array). WordRow (strides (rest f s)) (2 ^ s) nodes leaves (stored [] words) (rest f s) (λ u. part (bits_of s u) (all_answers f L)) (z ++ blocks_of nb.retired) (lb.replaced ++ blocks_of lb.retired) (2 ^ nodes.order) (2 ^ leaves.order)) (sym q.nodes_replaced)
                 (subst (λ (z : List Array). WordRow (strides (rest f s)) (2 ^ s) nodes leaves (stored [] words) (rest f s) (λ u. part (bits_of s u) (all_answers f L)) (blocks_of nb.retired) (z ++ blocks_of lb.retired) (2 ^ nodes.order) (2 ^ leaves.order)) (sym q.leaves_replaced) row) in
-                let new = (re (strides (rest f s)) (λ u. part (bits_of s u) (all_answers f L)) (blocks_of nb.retired) (blocks_of lb.retired) (2 ^ nodes.order) (2 ^ leaves.order) (omega (arith, strides_do (rest f s))) agree row2).stands v low in
+                let new = (re (strides (rest f s)) (λ u. part (bits_of s u) (all_answers f L)) (all_answers f M) (blocks_of nb.retired) (blocks_of lb.retired) (2 ^ nodes.order) (2 ^ leaves.order) (omega (arith, strides_do (rest f s))) merges row2).stands v low in
                 let old = word_stays (strides (rest f s)) nodes nodes2 leaves leaves2 (slice_index words v) (rest f s) (part (bits_of s v) (all_answers f L)) gn.keeps gl.keeps (row.stands v low) in
                 let new2 = subst (λ (w : ℕ). WordIn w (strides (rest f s)) nodes2.cells (is_out nodes2.free) leaves2.cells (is_out leaves2.free) (rest f s) (part (bits_of s v) (all_answers f M))) (not_covered stores words v c) new in
                 alike_same_at f s L M v (wide f s few) (word_one (strides (rest f s)) nodes2.cells (is_out nodes2.free) leaves2.cells (is_out leaves2.free) (slice_index words v) (rest f s) (part (bits_of s v) (all_answers f M)) (part (bits_of s v) (all_answers f L)) new2 old)
 
             to_word : SameAt f s L M v → covers (stores_of stores) v ≡ false
             to_word same =
-                let kept : KeepsRenewal nodes leaves words stores bits s (rest f s) (all_answers f M) = subst (λ (n : ℕ). KeepsRenewal nodes leaves words stores bits s n (all_answers f M)) ed (subst (λ (g : List Bool → ℕ). KeepsRenewal nodes leaves words stores bits s d g) eF kept0) in
+                let kept : KeepsRenewal nodes leaves words stores bits s (rest f s) F = subst (λ (n : ℕ). KeepsRenewal nodes leaves words stores bits s n F) ed kept0 in
                 stored_there stores words (2 ^ s) v are
-                (kept (strides (rest f s)) (λ u. part (bits_of s u) (all_answers f L)) agree (words_stand_for f s nodes leaves words L (blocks_of nb.retired) (blocks_of lb.retired) (quiet L L sh)) v low (same_alike f s L M v (wide f s few) same))
+                (kept (strides (rest f s)) (λ u. part (bits_of s u) (all_answers f L)) (all_answers f M) merges (words_stand_for f s nodes leaves words L (blocks_of nb.retired) (blocks_of lb.retired) (quiet L L sh)) v low (same_alike f s L M v (wide f s few) same))
 
         pub ready_changes : s ≤ 18 → AreStores words stores (2 ^ s) → Renews nodes nb leaves lb (stored [] words) nodes2 nb2 leaves2 lb2 (stored stores words) bits s d F → KeepsRenewal nodes leaves words stores bits s d F → StoresJust f s L M (stores_of stores)
         ready_changes few are re kept = record { in_order = in_order stores are.in_order; just = ready_just few are re kept }
+
+      -- whatever the region's answers are, the new version's are those of some table
+      pub ready_some : (F : List Bool → ℕ) (bits : List Bool) (L : Entries) → s ≤ 18 → ShowsIn l L L → MeetsRenewal nodes leaves words nodes2 leaves2 bits s d F → AreStores words stores (2 ^ s) → Renews nodes nb leaves lb (stored [] words) nodes2 nb2 leaves2 lb2 (stored stores words) bits s d F → ShowsSome ready
+      ready_some F bits L few sh met are re =
+          let h : ℕ → List Bool → ℕ = merged bits s F (λ u. part (bits_of s u) (all_answers f L)) in
+          record { before = L; after = slots_table f s h; shows = ready_shows F bits L (slots_table f s h) sh (λ u low. slots_answers f s h u (wide f s few) low) met are re }
 
     -- what every live trie keeps
     pub ready_kept : IsLive s words nodes leaves nb lb p none made → AreStores words stores (2 ^ s) → AreApart (is_out nodes2.free) (nb2.replaced ++ blocks_of nb2.retired) × AreApart (is_out leaves2.free) (lb2.replaced ++ blocks_of lb2.retired) → AreApart (is_out nodes.free) (blocks_of nb.retired) → AreApart (is_out leaves.free) (blocks_of lb.retired) → IsLive s words nodes2 leaves2 nb2 lb2 true stores made
@@ -313,9 +342,9 @@ err_both (Ok x) P Q a p f = tt
 err_both (Err e) P Q a p f = f e a p
 
 -- the reason of a refused renewal
-pub refused_reason : (f : Family) (s : ℕ) (words : List ℕ) (nodes : Space Node) (leaves : Space ℕ) (L M : Entries) (x y : List Array) (d o p : ℕ) (F : List Bool → ℕ) (bits : List Bool) (e : NotReady) (r : Refusal) → IsVersion f s nodes leaves words L x y → d ≡ rest f s → F ≡ all_answers f M → AgreeBeside bits s (rest f s) (all_answers f M) (λ u. part (bits_of s u) (all_answers f L)) → o ≡ nodes.order → p ≡ leaves.order →
+pub refused_reason : (f : Family) (s : ℕ) (words : List ℕ) (nodes : Space Node) (leaves : Space ℕ) (L M : Entries) (x y : List Array) (d o p : ℕ) (F : List Bool → ℕ) (bits : List Bool) (e : NotReady) (r : Refusal) → IsVersion f s nodes leaves words L x y → d ≡ rest f s → F ≡ all_answers f M → IsMerged bits s (rest f s) F (λ u. part (bits_of s u) (all_answers f L)) (all_answers f M) → o ≡ nodes.order → p ≡ leaves.order →
     ((k : ℕ) → d ≤ 6 * k → Explains e r (trie_nodes s k d F) (trie_leaves s k d F) (2 ^ o) (2 ^ p)) → MeetsNotRenewal nodes leaves words bits s d F r → IsReason e (asks_of f s L M) nodes leaves (node_need f s M) (leaf_need f s M)
-refused_reason f s words nodes leaves L M x y d o p F bits e r ver ed eF agree eo ep ex out0 =
+refused_reason f s words nodes leaves L M x y d o p F bits e r ver ed eF merges eo ep ex out0 =
     let k = strides (rest f s) in
     let few : d ≤ 6 * strides (rest f s) = omega (arith, ed, strides_do (rest f s)) in
     let ex2 : Explains e r (node_need f s M) (leaf_need f s M) (2 ^ nodes.order) (2 ^ leaves.order) =
@@ -323,5 +352,5 @@ refused_reason f s words nodes leaves L M x y d o p F bits e r ver ed eF agree e
     (subst (λ (n : ℕ). Explains e r (node_need f s M) (leaf_need f s M) (2 ^ n) (2 ^ p)) eo
     (subst (λ (n : ℕ). Explains e r (trie_nodes s (strides (rest f s)) n (all_answers f M)) (trie_leaves s (strides (rest f s)) n (all_answers f M)) (2 ^ o) (2 ^ p)) ed
     (subst (λ (g : List Bool → ℕ). Explains e r (trie_nodes s (strides (rest f s)) d g) (trie_leaves s (strides (rest f s)) d g) (2 ^ o) (2 ^ p)) eF (ex (strides (rest f s)) few)))) in
-    let out : MeetsNotRenewal nodes leaves words bits s (rest f s) (all_answers f M) r = subst (λ (n : ℕ). MeetsNotRenewal nodes leaves words bits s n (all_answers f M) r) ed (subst (λ (g : List Bool → ℕ). MeetsNotRenewal nodes leaves words bits s d g r) eF out0) in
-    reason_is e r (asks_of f s L M) nodes leaves (node_need f s M) (leaf_need f s M) ex2 (out (strides (rest f s)) (λ u. part (bits_of s u) (all_answers f L)) (omega (arith, strides_do (rest f s))) agree (words_stand_for f s nodes leaves words L x y ver))
+    let out : MeetsNotRenewal nodes leaves words bits s (rest f s) F r = subst (λ (n : ℕ). MeetsNotRenewal nodes leaves words bits s n F r) ed out0 in
+    reason_is e r (asks_of f s L M) nodes leaves (node_need f s M) (leaf_need f s M) ex2 (out (strides (rest f s)) (λ u. part (bits_of s u) (all_answers f L)) (all_answers f M) (omega (arith, strides_do (rest f s))) merges (words_stand_for f s nodes leaves words L x y ver))

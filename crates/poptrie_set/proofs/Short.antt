@@ -1,18 +1,17 @@
 -- Where the blocks that are asked for run out, those that came out are of no more places than are asked for, and no free block is as large as
 -- the one that was refused.
-use Rattle.std.proofs.Common.{◌≡◌, ℕ, zero, suc, ◌+◌, ◌*◌, ◌-◌, ◌^◌, ◌<◌, ◌≤◌, List, [], ◌∷◌, ◌++◌, Bool, true, false, cond, nat_eq, length, Option, Some, None, refl, sym, ap, ◌∙◌, subst, arith, inl, inr}
+use Rattle.std.proofs.Common.{◌≡◌, ℕ, zero, suc, ◌+◌, ◌-◌, ◌^◌, ◌≤◌, List, [], ◌∷◌, ◌++◌, Bool, true, false, cond, nat_eq, length, Option, Some, None, refl, ap, ◌∙◌, arith, inl, inr}
 use Rattle.std.specs.List.{AllByRecursion}
 use Rattle.buddy_arena.specs.Space.{blocks, NoneFrom, total}
 use Rattle.buddy_arena.specs.declared.arena.Full.{Full}
 use Rattle.buddy_arena.proofs.Blocks.{marked_len}
-use Rattle.block_pool.specs.Powers.{up}
-use Rattle.block_pool.proofs.Powers.{up_least, up_zero}
+use Rattle.block_pool.proofs.Powers.{up_least}
 use Rattle.fib_addr.specs.Answers.{one_answer, part}
 use Rattle.table_model.specs.Bits.{bits_of}
 use Rattle.poptrie_build.specs.Strides.{slots, slot, mixed, starts, run_start}
 use Rattle.poptrie_build.specs.Strides as strides
 use Rattle.poptrie_build.specs.Need.{children, runs}
-use Rattle.poptrie_copy.specs.Asks.{Ask, Frees, alike, ask_for, asks, if_changed, listed, slots_asks, word_asks, Meets, MeetsAsk, Runs, RunsOut, Refuses}
+use Rattle.poptrie_copy.specs.Asks.{Ask, Frees, alike, ask_for, asks, if_changed, listed, slots_asks, word_asks, MeetsAsk, Runs, RunsOut}
 use Rattle.poptrie_copy.specs.declared.blocks.Refusal.TheVariants as refusal
 use Rattle.poptrie_copy.proofs.Retiring.{node_places, leaf_places, asks_left}
 

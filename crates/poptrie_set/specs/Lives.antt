@@ -60,6 +60,12 @@ pub record Beside (l : Seen) (L M : Entries) (old new : List ℕ) : Type 0 where
 abbrev pub ShowsIn : Seen → Entries → Entries → Type 0
 ShowsIn l L M = (old : List ℕ) × (new : List ℕ) × Beside l L M old new
 
+-- it shows some entries
+pub record ShowsSome (l : Seen) : Type 0 where
+  pub before : Entries
+  pub after : Entries
+  pub shows : ShowsIn l before after
+
 -- ---- as it is kept
 abbrev pub stores_of : List Stored → List Store
 stores_of [] = []

@@ -50,7 +50,7 @@ pub struct TrieSet {
 
 impl Model for TrieSet {
     ghost use Rattle.poptrie_set.specs.Rooms.{room_of};
-    ghost use Rattle.poptrie_set.specs.Lives.{Seen, stores_of, IsLive};
+    ghost use Rattle.poptrie_set.specs.Lives.{Seen, stores_of, IsLive, ShowsSome};
 
     ghost Value = { Seen };
 
@@ -67,7 +67,18 @@ impl Model for TrieSet {
     } };
 
     ghost invariant = { λ l. IsLive l.direct_bits l.words.items l.nodes l.leaves l.node_blocks
-        l.leaf_blocks l.pending l.stores.items l.made };
+        l.leaf_blocks l.pending l.stores.items l.made
+        × ShowsSome (record {
+          family = l.family;
+          direct_bits = l.direct_bits;
+          words = l.words.items;
+          nodes = room_of l.nodes l.node_blocks;
+          leaves = room_of l.leaves l.leaf_blocks;
+          pending = l.pending;
+          stores = stores_of l.stores.items;
+          made = l.made;
+          time = l.node_blocks.time;
+        }) };
 }
 
 impl TrieSet {
@@ -82,7 +93,7 @@ impl TrieSet {
     ghost use Rattle.poptrie_set.specs.Fits.{Reader, FitsIn, IsOldestOf, until};
     ghost use Rattle.poptrie_set.specs.Past.{PastIn};
     ghost use Rattle.poptrie_set.specs.Reading.{ReadsOn, CanRead, LeadsIn, key_after};
-    ghost use Rattle.poptrie_set.specs.First.{ShowsSome, StartsIn, published_in};
+    ghost use Rattle.poptrie_set.specs.First.{StartsIn, published_in};
     ghost use Rattle.poptrie_set.specs.Prepares.{AgreeOutside, StoresJust, GaveBack, AsksRun, AsksRunOut};
     ghost use Rattle.poptrie_set.specs.declared.trie_set.Oldest.TheVariants as Oldest;
 
@@ -218,7 +229,6 @@ impl TrieSet {
         requires bits { R.bits region.now ≡ width self.old.family }
         requires quiet { self.old.pending ≡ false }
         requires time { self.old.time < 18446744073709551615 }
-        requires showing { ShowsSome self.old }
         ensures shape { HasSizesOf self.old self.new }
         ensures kept { (self.new.words ≡ self.old.words) × (self.new.time ≡ self.old.time) }
         ensures retired { (self.new.nodes.retired ≡ self.old.nodes.retired)
@@ -275,7 +285,6 @@ impl TrieSet {
     /// The first read of a lookup: the direct word of its address.
     pub fn first(&self, addr: &Addr) -> At
         requires family { addr.now.family ≡ self.now.family }
-        requires showing { ShowsSome self.now }
         ensures { (L M : Entries) → ShowsIn self.now L M
             → StartsIn result self.now (published_in self.now L M addr.now) addr.now }
     {
@@ -308,7 +317,6 @@ impl TrieSet {
     /// pause.
     pub fn lookup<L: Ledger>(&self, addr: &Addr, steps: &mut Steps<L>) -> Found
         requires family { addr.now.family ≡ self.now.family }
-        requires showing { ShowsSome self.now }
         ensures hop { (E F : Entries) → ShowsIn self.now E F
             → result.hop.0 ≡ match_in (published_in self.now E F addr.now) (addr_as addr.now) }
         ensures visits { (E F : Entries) → ShowsIn self.now E F → result.visits

@@ -101,7 +101,7 @@ impl Live {
     ghost use Rattle.poptrie_update.specs.Lives.{Living, Shows, HasShapeOf, is_pending, stores_left, made_of, set_of, Past, IsFree, KeepsStores, freed, retired_at_end};
     ghost use Rattle.poptrie_update.specs.Pendings.{IsTokenOf};
     ghost use Rattle.poptrie_update.specs.Fits.{Open, Fits, IsOldest};
-    ghost use Rattle.poptrie_update.specs.Reads.{IsShowing, Starts, published, Leads};
+    ghost use Rattle.poptrie_update.specs.Reads.{Starts, published, Leads};
     ghost use Rattle.poptrie_update.specs.Prepares.{IsAtRest, NoneRetired, StoresChanges, IsMade, IsRefused, IsUndone, IsCancelled, IsBeside, IsNotBeside, IsShort};
     ghost use Rattle.poptrie_set.specs.declared.trie_set.Oldest.TheVariants as Oldest;
     ghost use Rattle.poptrie_update.specs.declared.live.Other.TheVariants as other;
@@ -237,7 +237,6 @@ impl Live {
         requires bits { R.bits region.now ≡ width self.old.selected.family }
         requires quiet { is_pending self.old ≡ false }
         requires time { self.old.selected.time < 18446744073709551615 }
-        requires showing { IsShowing self.old }
         ensures rest { IsAtRest self.old }
         ensures shape { HasShapeOf self.old self.new }
         ensures time { self.new.selected.time ≡ self.old.selected.time }
@@ -284,7 +283,6 @@ impl Live {
         requires bits { R.bits region.now ≡ width self.old.selected.family }
         requires quiet { is_pending self.old ≡ false }
         requires time { self.old.selected.time < 18446744073709551615 }
-        requires showing { IsShowing self.old }
         requires all { oldest ≡ Oldest.Nobody → NoneRetired self.old }
         ensures shape { HasShapeOf self.old self.new }
         ensures time { self.new.selected.time ≡ self.old.selected.time }
@@ -379,7 +377,6 @@ impl Live {
     /// The first read of a lookup: the selector, and the direct word of its address.
     pub fn first(&self, addr: &Addr) -> At
         requires family { addr.now.family ≡ self.now.selected.family }
-        requires showing { IsShowing self.now }
         ensures { (L M : Entries) → Shows self.now L M
             → Starts result self.now (published self.now L M addr.now) addr.now }
     {
@@ -412,7 +409,6 @@ impl Live {
     /// pause.
     pub fn lookup<L: Ledger>(&self, addr: &Addr, steps: &mut Steps<L>) -> Found
         requires family { addr.now.family ≡ self.now.selected.family }
-        requires showing { IsShowing self.now }
         ensures hop { (E F : Entries) → Shows self.now E F
             → result.hop.0 ≡ match_in (published self.now E F addr.now) (addr_as addr.now) }
         ensures visits { (E F : Entries) → Shows self.now E F → result.visits

@@ -4,7 +4,7 @@ ghost use Rattle.std.specs.Prelude.{◌≡◌, ◌+◌, ◌<◌, ℕ, Some, None
 ghost use Rattle.table_model.specs.declared.family.Family.TheVariants.{V4, V6};
 ghost use Rattle.table_model.specs.Entries.{Entries, match_in};
 ghost use Rattle.fib_addr.specs.Views.{addr_as};
-ghost use Rattle.poptrie_build.specs.Tries.{StandsFor, visits_of};
+ghost use Rattle.poptrie_build.specs.Tries.{visits_of};
 ghost use Rattle.route_tries.specs.Sizes.{first_short, needs_of_both, short_of_one, sizes_as, shortage_as};
 ghost use Rattle.route_tries.specs.Tries.{AreTriesOf, IsFilled};
 ghost use Rattle.route_tries.specs.declared.sizes.TrieFull.{TrieFull as code_full};
@@ -100,18 +100,6 @@ fn build_one(alloc: Global, sizes: &Sizes, tree: &Tree, first: u8) -> Result<Tri
     }
 }
 
-/// Longest match by a trie of a tree's routes, with a step for each node that is visited.
-fn find<L: Ledger>(trie: &Trie, _tree: &Tree, addr: &Addr, steps: &mut Steps<L>) -> Found
-    ghost entries: { Entries }
-    requires family { addr.now.family ≡ trie.now.family }
-    requires stands { StandsFor trie.now entries }
-    ensures hop { result.hop.0 ≡ match_in entries (addr_as addr.now) }
-    ensures visits { result.visits ≡ visits_of trie.now.direct_bits entries (addr_as addr.now) }
-    ensures steps { steps.new ≡ steps.old + result.visits }
-{
-    trie.lookup(addr, steps)
-}
-
 impl<'a> Tries<'a> {
     /// The tries of these trees' routes.
     ///
@@ -155,8 +143,8 @@ impl<'a> Tries<'a> {
         ensures steps { steps.new ≡ steps.old + result.visits }
     {
         match addr.family {
-            Family::V4 => find(&self.v4, self.v4_tree, addr, steps),
-            Family::V6 => find(&self.v6, self.v6_tree, addr, steps),
+            Family::V4 => self.v4.lookup(addr, steps),
+            Family::V6 => self.v6.lookup(addr, steps),
         }
     }
 }

@@ -1,4 +1,4 @@
-use Rattle.std.proofs.Common.{◌≡◌, ℕ, ◌+◌, ◌^◌, ◌≤◌, List, [], ◌++◌, Bool, drop, length, sym, ap, ◌∙◌, arith}
+use Rattle.std.proofs.Common.{◌≡◌, ℕ, ◌+◌, ◌^◌, List, ◌++◌, Bool, drop, sym, ap, arith}
 use Rattle.block_pool.specs.Arrays.{Array, places_of}
 use Rattle.block_pool.specs.Blocks.{blocks_of}
 use Rattle.fib_addr.specs.Answers.{all_answers, part}

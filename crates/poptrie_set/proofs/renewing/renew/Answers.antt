@@ -5,10 +5,10 @@ use Rattle.fib_addr.specs.Views.{prefix_as}
 use Rattle.poptrie_copy.specs.Words.{IsWord}
 use Rattle.poptrie_copy.specs.Asks.{MeetsNotSlots}
 use Rattle.poptrie_copy.proofs.Slot_copy.{stores_more}
-use Rattle.poptrie_set.specs.Renewals.{AgreeBeside, MeetsNotRenewal}
+use Rattle.poptrie_set.specs.Renewals.{IsMerged, MeetsNotRenewal}
 use Rattle.poptrie_copy.proofs.Alike_row.{IsPartOf}
 use Rattle.poptrie_set.proofs.Ready.{ok_map, if_err_map, both_ok}
-use Rattle.poptrie_set.proofs.Renewed.{whole_part, all_renews, all_aside, all_kept, part_met, part_refused, number_at, number_fits, number_many, number_part, few_words}
+use Rattle.poptrie_set.proofs.Renewed.{whole_part, no_bits, least_none, all_renews, all_aside, all_kept, part_met, part_refused, number_at, number_fits, number_many, number_part, few_words}
 use Rattle.poptrie_set.proofs.renewing.renew.Goals as goal
 
 pub returns-then-len-eq0-clause-renews : goal.returns-then-len-eq0-clause-renews
@@ -16,28 +16,32 @@ returns-then-len-eq0-clause-renews g c =
     let d = g.R.Region.bits c.args.region.now - c.args.direct_bits in
     let f = g.R.Region.answers c.args.region.now in
     let p = (prefix_as c.args.prefix.now).bits in
-    ok_map c.copy_slots.result c.copy_slots.ensures.replaces (λ re. all_renews c.args.nodes.now c.copy_slots.new.nodes c.args.node_blocks.now c.copy_slots.new.node_blocks c.args.leaves.now c.copy_slots.new.leaves c.args.leaf_blocks.now c.copy_slots.new.leaf_blocks c.args.direct_bits c.args.direct_bits 0 d d f f p (omega arith) (λ h a. whole_part c.args.direct_bits d f h) refl c.args.words.now c.args.stores.now.items c.copy_slots.new.stores.items c.requires.none re)
+    let short = no_bits (width c.args.prefix.now.family) c.args.prefix.now.len c.args.direct_bits c.args.prefix.now.bits (least_none c.args.prefix.now.len c.args.direct_bits c.min-len.result (omega (arith, c.min-len.ensures)) (omega (arith, c.if-len-eq0.true))) in
+    ok_map c.copy_slots.result c.copy_slots.ensures.replaces (λ re. all_renews c.args.nodes.now c.copy_slots.new.nodes c.args.node_blocks.now c.copy_slots.new.node_blocks c.args.leaves.now c.copy_slots.new.leaves c.args.leaf_blocks.now c.copy_slots.new.leaf_blocks c.args.direct_bits c.args.direct_bits 0 d d f f p (omega arith) (λ h q m. whole_part p c.args.direct_bits d f h q short m) refl c.args.words.now c.args.stores.now.items c.copy_slots.new.stores.items c.requires.none re)
 
 pub returns-then-len-eq0-clause-aside : goal.returns-then-len-eq0-clause-aside
 returns-then-len-eq0-clause-aside g c =
     let d = g.R.Region.bits c.args.region.now - c.args.direct_bits in
     let f = g.R.Region.answers c.args.region.now in
     let p = (prefix_as c.args.prefix.now).bits in
-    ok_map c.copy_slots.result c.copy_slots.ensures.replaces (λ re. all_aside c.args.nodes.now c.copy_slots.new.nodes c.args.node_blocks.now c.copy_slots.new.node_blocks c.args.leaves.now c.copy_slots.new.leaves c.args.leaf_blocks.now c.copy_slots.new.leaf_blocks c.args.direct_bits c.args.direct_bits 0 d d f f p (omega arith) (λ h a. whole_part c.args.direct_bits d f h) refl c.args.words.now c.args.stores.now.items c.copy_slots.new.stores.items c.requires.none re)
+    let short = no_bits (width c.args.prefix.now.family) c.args.prefix.now.len c.args.direct_bits c.args.prefix.now.bits (least_none c.args.prefix.now.len c.args.direct_bits c.min-len.result (omega (arith, c.min-len.ensures)) (omega (arith, c.if-len-eq0.true))) in
+    ok_map c.copy_slots.result c.copy_slots.ensures.replaces (λ re. all_aside c.args.nodes.now c.copy_slots.new.nodes c.args.node_blocks.now c.copy_slots.new.node_blocks c.args.leaves.now c.copy_slots.new.leaves c.args.leaf_blocks.now c.copy_slots.new.leaf_blocks c.args.direct_bits c.args.direct_bits 0 d d f f p (omega arith) (λ h q m. whole_part p c.args.direct_bits d f h q short m) refl c.args.words.now c.args.stores.now.items c.copy_slots.new.stores.items c.requires.none re)
 
 pub returns-then-len-eq0-clause-kept : goal.returns-then-len-eq0-clause-kept
 returns-then-len-eq0-clause-kept g c =
     let d = g.R.Region.bits c.args.region.now - c.args.direct_bits in
     let f = g.R.Region.answers c.args.region.now in
     let p = (prefix_as c.args.prefix.now).bits in
-    both_ok c.copy_slots.result c.copy_slots.ensures.kept c.copy_slots.ensures.stores (λ kept are. all_kept c.args.nodes.now c.copy_slots.new.nodes c.args.node_blocks.now c.copy_slots.new.node_blocks c.args.leaves.now c.copy_slots.new.leaves c.args.leaf_blocks.now c.copy_slots.new.leaf_blocks c.args.direct_bits c.args.direct_bits 0 d d f f p (omega arith) (λ h a. whole_part c.args.direct_bits d f h) refl c.args.words.now c.args.stores.now.items c.copy_slots.new.stores.items c.requires.none kept are)
+    let short = no_bits (width c.args.prefix.now.family) c.args.prefix.now.len c.args.direct_bits c.args.prefix.now.bits (least_none c.args.prefix.now.len c.args.direct_bits c.min-len.result (omega (arith, c.min-len.ensures)) (omega (arith, c.if-len-eq0.true))) in
+    both_ok c.copy_slots.result c.copy_slots.ensures.kept c.copy_slots.ensures.stores (λ kept are. all_kept c.args.nodes.now c.copy_slots.new.nodes c.args.node_blocks.now c.copy_slots.new.node_blocks c.args.leaves.now c.copy_slots.new.leaves c.args.leaf_blocks.now c.copy_slots.new.leaf_blocks c.args.direct_bits c.args.direct_bits 0 d d f f p (omega arith) (λ h q m. whole_part p c.args.direct_bits d f h q short m) refl c.args.words.now c.args.stores.now.items c.copy_slots.new.stores.items c.requires.none kept are)
 
 pub returns-then-len-eq0-clause-met : goal.returns-then-len-eq0-clause-met
 returns-then-len-eq0-clause-met g c =
     let d = g.R.Region.bits c.args.region.now - c.args.direct_bits in
     let f = g.R.Region.answers c.args.region.now in
     let p = (prefix_as c.args.prefix.now).bits in
-    ok_map c.copy_slots.result c.copy_slots.ensures.met (λ m. part_met c.args.nodes.now c.copy_slots.new.nodes c.args.node_blocks.now c.copy_slots.new.node_blocks c.args.leaves.now c.copy_slots.new.leaves c.args.leaf_blocks.now c.copy_slots.new.leaf_blocks c.args.direct_bits c.args.direct_bits 0 d d f f p (omega arith) (λ h a. whole_part c.args.direct_bits d f h) refl c.args.words.now m)
+    let short = no_bits (width c.args.prefix.now.family) c.args.prefix.now.len c.args.direct_bits c.args.prefix.now.bits (least_none c.args.prefix.now.len c.args.direct_bits c.min-len.result (omega (arith, c.min-len.ensures)) (omega (arith, c.if-len-eq0.true))) in
+    ok_map c.copy_slots.result c.copy_slots.ensures.met (λ m. part_met c.args.nodes.now c.copy_slots.new.nodes c.args.node_blocks.now c.copy_slots.new.node_blocks c.args.leaves.now c.copy_slots.new.leaves c.args.leaf_blocks.now c.copy_slots.new.leaf_blocks c.args.direct_bits c.args.direct_bits 0 d d f f p (omega arith) (λ h q m. whole_part p c.args.direct_bits d f h q short m) refl c.args.words.now m)
 
 pub returns-then-len-eq0-clause-stores : goal.returns-then-len-eq0-clause-stores
 returns-then-len-eq0-clause-stores g c =
@@ -51,8 +55,9 @@ returns-then-len-eq0-clause-refused g c =
     let d = g.R.Region.bits c.args.region.now - c.args.direct_bits in
     let f = g.R.Region.answers c.args.region.now in
     let p = (prefix_as c.args.prefix.now).bits in
+    let short = no_bits (width c.args.prefix.now.family) c.args.prefix.now.len c.args.direct_bits c.args.prefix.now.bits (least_none c.args.prefix.now.len c.args.direct_bits c.min-len.result (omega (arith, c.min-len.ensures)) (omega (arith, c.if-len-eq0.true))) in
     if_err_map c.copy_slots.result (λ r. MeetsNotSlots c.args.nodes.now c.args.leaves.now c.args.words.now 0 c.args.direct_bits d f r) (λ r. MeetsNotRenewal c.args.nodes.now c.args.leaves.now c.args.words.now p c.args.direct_bits d f r) c.copy_slots.ensures.refused
-    (λ r out. part_refused c.args.nodes.now c.copy_slots.new.nodes c.args.node_blocks.now c.copy_slots.new.node_blocks c.args.leaves.now c.copy_slots.new.leaves c.args.leaf_blocks.now c.copy_slots.new.leaf_blocks c.args.direct_bits c.args.direct_bits 0 d d f f p (omega arith) (λ h a. whole_part c.args.direct_bits d f h) refl c.args.words.now r out)
+    (λ r out. part_refused c.args.nodes.now c.copy_slots.new.nodes c.args.node_blocks.now c.copy_slots.new.node_blocks c.args.leaves.now c.copy_slots.new.leaves c.args.leaf_blocks.now c.copy_slots.new.leaf_blocks c.args.direct_bits c.args.direct_bits 0 d d f f p (omega arith) (λ h q m. whole_part p c.args.direct_bits d f h q short m) refl c.args.words.now r out)
 
 pub returns-clause-renews : goal.returns-clause-renews
 returns-clause-renews g c =
@@ -76,7 +81,7 @@ returns-clause-renews g c =
     let x = g.R.Region.answers c.part_of.result in
     let e = g.R.Region.bits c.part_of.result - j in
     let same : e ≡ d = omega (arith, c.part_of.ensures.bits, few, c.requires.bits, c.requires.few, c.args.prefix.now.fits, short) in
-    let part : (h : ℕ → List Bool → ℕ) → AgreeBeside (prefix_as c.args.prefix.now).bits c.args.direct_bits (g.R.Region.bits c.args.region.now - c.args.direct_bits) (g.R.Region.answers c.args.region.now) h → IsPartOf c.args.direct_bits (c.args.direct_bits - c.min-len.result) (c.args.prefix.now.bits / 2 ^ (c.width-bits.result - c.min-len.result) * 2 ^ (c.args.direct_bits - c.min-len.result) % 4294967296) (g.R.Region.bits c.args.region.now - c.args.direct_bits) (g.R.Region.answers c.args.region.now) (g.R.Region.answers c.part_of.result) h = λ h a. number_part w len c.args.direct_bits t n number j first d short c.args.prefix.now.fits few c.args.prefix.now.below is refl f x h at c.part_of.ensures.answers a in
+    let part : (h : ℕ → List Bool → ℕ) (q : List Bool → ℕ) → IsMerged (prefix_as c.args.prefix.now).bits c.args.direct_bits (g.R.Region.bits c.args.region.now - c.args.direct_bits) (g.R.Region.answers c.args.region.now) h q → IsPartOf c.args.direct_bits (c.args.direct_bits - c.min-len.result) (c.args.prefix.now.bits / 2 ^ (c.width-bits.result - c.min-len.result) * 2 ^ (c.args.direct_bits - c.min-len.result) % 4294967296) (g.R.Region.bits c.args.region.now - c.args.direct_bits) q (g.R.Region.answers c.part_of.result) h = λ h q a. number_part w len c.args.direct_bits t n number j first d short c.args.prefix.now.fits few c.args.prefix.now.below is refl f x h q (λ l. omega (arith, least, l)) at c.part_of.ensures.answers a in
     ok_map c.copy_slots-2.result c.copy_slots-2.ensures.replaces (λ re. all_renews c.args.nodes.now c.copy_slots-2.new.nodes c.args.node_blocks.now c.copy_slots-2.new.node_blocks c.args.leaves.now c.copy_slots-2.new.leaves c.args.leaf_blocks.now c.copy_slots-2.new.leaf_blocks c.args.direct_bits j first d e f x p many part same c.args.words.now c.args.stores.now.items c.copy_slots-2.new.stores.items c.requires.none re)
 
 pub returns-clause-aside : goal.returns-clause-aside
@@ -101,7 +106,7 @@ returns-clause-aside g c =
     let x = g.R.Region.answers c.part_of.result in
     let e = g.R.Region.bits c.part_of.result - j in
     let same : e ≡ d = omega (arith, c.part_of.ensures.bits, few, c.requires.bits, c.requires.few, c.args.prefix.now.fits, short) in
-    let part : (h : ℕ → List Bool → ℕ) → AgreeBeside (prefix_as c.args.prefix.now).bits c.args.direct_bits (g.R.Region.bits c.args.region.now - c.args.direct_bits) (g.R.Region.answers c.args.region.now) h → IsPartOf c.args.direct_bits (c.args.direct_bits - c.min-len.result) (c.args.prefix.now.bits / 2 ^ (c.width-bits.result - c.min-len.result) * 2 ^ (c.args.direct_bits - c.min-len.result) % 4294967296) (g.R.Region.bits c.args.region.now - c.args.direct_bits) (g.R.Region.answers c.args.region.now) (g.R.Region.answers c.part_of.result) h = λ h a. number_part w len c.args.direct_bits t n number j first d short c.args.prefix.now.fits few c.args.prefix.now.below is refl f x h at c.part_of.ensures.answers a in
+    let part : (h : ℕ → List Bool → ℕ) (q : List Bool → ℕ) → IsMerged (prefix_as c.args.prefix.now).bits c.args.direct_bits (g.R.Region.bits c.args.region.now - c.args.direct_bits) (g.R.Region.answers c.args.region.now) h q → IsPartOf c.args.direct_bits (c.args.direct_bits - c.min-len.result) (c.args.prefix.now.bits / 2 ^ (c.width-bits.result - c.min-len.result) * 2 ^ (c.args.direct_bits - c.min-len.result) % 4294967296) (g.R.Region.bits c.args.region.now - c.args.direct_bits) q (g.R.Region.answers c.part_of.result) h = λ h q a. number_part w len c.args.direct_bits t n number j first d short c.args.prefix.now.fits few c.args.prefix.now.below is refl f x h q (λ l. omega (arith, least, l)) at c.part_of.ensures.answers a in
     ok_map c.copy_slots-2.result c.copy_slots-2.ensures.replaces (λ re. all_aside c.args.nodes.now c.copy_slots-2.new.nodes c.args.node_blocks.now c.copy_slots-2.new.node_blocks c.args.leaves.now c.copy_slots-2.new.leaves c.args.leaf_blocks.now c.copy_slots-2.new.leaf_blocks c.args.direct_bits j first d e f x p many part same c.args.words.now c.args.stores.now.items c.copy_slots-2.new.stores.items c.requires.none re)
 
 pub returns-clause-kept : goal.returns-clause-kept
@@ -126,7 +131,7 @@ returns-clause-kept g c =
     let x = g.R.Region.answers c.part_of.result in
     let e = g.R.Region.bits c.part_of.result - j in
     let same : e ≡ d = omega (arith, c.part_of.ensures.bits, few, c.requires.bits, c.requires.few, c.args.prefix.now.fits, short) in
-    let part : (h : ℕ → List Bool → ℕ) → AgreeBeside (prefix_as c.args.prefix.now).bits c.args.direct_bits (g.R.Region.bits c.args.region.now - c.args.direct_bits) (g.R.Region.answers c.args.region.now) h → IsPartOf c.args.direct_bits (c.args.direct_bits - c.min-len.result) (c.args.prefix.now.bits / 2 ^ (c.width-bits.result - c.min-len.result) * 2 ^ (c.args.direct_bits - c.min-len.result) % 4294967296) (g.R.Region.bits c.args.region.now - c.args.direct_bits) (g.R.Region.answers c.args.region.now) (g.R.Region.answers c.part_of.result) h = λ h a. number_part w len c.args.direct_bits t n number j first d short c.args.prefix.now.fits few c.args.prefix.now.below is refl f x h at c.part_of.ensures.answers a in
+    let part : (h : ℕ → List Bool → ℕ) (q : List Bool → ℕ) → IsMerged (prefix_as c.args.prefix.now).bits c.args.direct_bits (g.R.Region.bits c.args.region.now - c.args.direct_bits) (g.R.Region.answers c.args.region.now) h q → IsPartOf c.args.direct_bits (c.args.direct_bits - c.min-len.result) (c.args.prefix.now.bits / 2 ^ (c.width-bits.result - c.min-len.result) * 2 ^ (c.args.direct_bits - c.min-len.result) % 4294967296) (g.R.Region.bits c.args.region.now - c.args.direct_bits) q (g.R.Region.answers c.part_of.result) h = λ h q a. number_part w len c.args.direct_bits t n number j first d short c.args.prefix.now.fits few c.args.prefix.now.below is refl f x h q (λ l. omega (arith, least, l)) at c.part_of.ensures.answers a in
     both_ok c.copy_slots-2.result c.copy_slots-2.ensures.kept c.copy_slots-2.ensures.stores (λ kept are. all_kept c.args.nodes.now c.copy_slots-2.new.nodes c.args.node_blocks.now c.copy_slots-2.new.node_blocks c.args.leaves.now c.copy_slots-2.new.leaves c.args.leaf_blocks.now c.copy_slots-2.new.leaf_blocks c.args.direct_bits j first d e f x p many part same c.args.words.now c.args.stores.now.items c.copy_slots-2.new.stores.items c.requires.none kept are)
 
 pub returns-clause-met : goal.returns-clause-met
@@ -151,7 +156,7 @@ returns-clause-met g c =
     let x = g.R.Region.answers c.part_of.result in
     let e = g.R.Region.bits c.part_of.result - j in
     let same : e ≡ d = omega (arith, c.part_of.ensures.bits, few, c.requires.bits, c.requires.few, c.args.prefix.now.fits, short) in
-    let part : (h : ℕ → List Bool → ℕ) → AgreeBeside (prefix_as c.args.prefix.now).bits c.args.direct_bits (g.R.Region.bits c.args.region.now - c.args.direct_bits) (g.R.Region.answers c.args.region.now) h → IsPartOf c.args.direct_bits (c.args.direct_bits - c.min-len.result) (c.args.prefix.now.bits / 2 ^ (c.width-bits.result - c.min-len.result) * 2 ^ (c.args.direct_bits - c.min-len.result) % 4294967296) (g.R.Region.bits c.args.region.now - c.args.direct_bits) (g.R.Region.answers c.args.region.now) (g.R.Region.answers c.part_of.result) h = λ h a. number_part w len c.args.direct_bits t n number j first d short c.args.prefix.now.fits few c.args.prefix.now.below is refl f x h at c.part_of.ensures.answers a in
+    let part : (h : ℕ → List Bool → ℕ) (q : List Bool → ℕ) → IsMerged (prefix_as c.args.prefix.now).bits c.args.direct_bits (g.R.Region.bits c.args.region.now - c.args.direct_bits) (g.R.Region.answers c.args.region.now) h q → IsPartOf c.args.direct_bits (c.args.direct_bits - c.min-len.result) (c.args.prefix.now.bits / 2 ^ (c.width-bits.result - c.min-len.result) * 2 ^ (c.args.direct_bits - c.min-len.result) % 4294967296) (g.R.Region.bits c.args.region.now - c.args.direct_bits) q (g.R.Region.answers c.part_of.result) h = λ h q a. number_part w len c.args.direct_bits t n number j first d short c.args.prefix.now.fits few c.args.prefix.now.below is refl f x h q (λ l. omega (arith, least, l)) at c.part_of.ensures.answers a in
     ok_map c.copy_slots-2.result c.copy_slots-2.ensures.met (λ m. part_met c.args.nodes.now c.copy_slots-2.new.nodes c.args.node_blocks.now c.copy_slots-2.new.node_blocks c.args.leaves.now c.copy_slots-2.new.leaves c.args.leaf_blocks.now c.copy_slots-2.new.leaf_blocks c.args.direct_bits j first d e f x p many part same c.args.words.now m)
 
 pub returns-clause-stores : goal.returns-clause-stores
@@ -176,7 +181,7 @@ returns-clause-stores g c =
     let x = g.R.Region.answers c.part_of.result in
     let e = g.R.Region.bits c.part_of.result - j in
     let same : e ≡ d = omega (arith, c.part_of.ensures.bits, few, c.requires.bits, c.requires.few, c.args.prefix.now.fits, short) in
-    let part : (h : ℕ → List Bool → ℕ) → AgreeBeside (prefix_as c.args.prefix.now).bits c.args.direct_bits (g.R.Region.bits c.args.region.now - c.args.direct_bits) (g.R.Region.answers c.args.region.now) h → IsPartOf c.args.direct_bits (c.args.direct_bits - c.min-len.result) (c.args.prefix.now.bits / 2 ^ (c.width-bits.result - c.min-len.result) * 2 ^ (c.args.direct_bits - c.min-len.result) % 4294967296) (g.R.Region.bits c.args.region.now - c.args.direct_bits) (g.R.Region.answers c.args.region.now) (g.R.Region.answers c.part_of.result) h = λ h a. number_part w len c.args.direct_bits t n number j first d short c.args.prefix.now.fits few c.args.prefix.now.below is refl f x h at c.part_of.ensures.answers a in
+    let part : (h : ℕ → List Bool → ℕ) (q : List Bool → ℕ) → IsMerged (prefix_as c.args.prefix.now).bits c.args.direct_bits (g.R.Region.bits c.args.region.now - c.args.direct_bits) (g.R.Region.answers c.args.region.now) h q → IsPartOf c.args.direct_bits (c.args.direct_bits - c.min-len.result) (c.args.prefix.now.bits / 2 ^ (c.width-bits.result - c.min-len.result) * 2 ^ (c.args.direct_bits - c.min-len.result) % 4294967296) (g.R.Region.bits c.args.region.now - c.args.direct_bits) q (g.R.Region.answers c.part_of.result) h = λ h q a. number_part w len c.args.direct_bits t n number j first d short c.args.prefix.now.fits few c.args.prefix.now.below is refl f x h q (λ l. omega (arith, least, l)) at c.part_of.ensures.answers a in
     ok_map c.copy_slots-2.result c.copy_slots-2.ensures.stores (λ are. stores_more c.args.words.now c.copy_slots-2.new.stores.items (first + 2 ^ j) (2 ^ c.args.direct_bits) many are)
 
 pub returns-clause-refused : goal.returns-clause-refused
@@ -201,7 +206,7 @@ returns-clause-refused g c =
     let x = g.R.Region.answers c.part_of.result in
     let e = g.R.Region.bits c.part_of.result - j in
     let same : e ≡ d = omega (arith, c.part_of.ensures.bits, few, c.requires.bits, c.requires.few, c.args.prefix.now.fits, short) in
-    let part : (h : ℕ → List Bool → ℕ) → AgreeBeside (prefix_as c.args.prefix.now).bits c.args.direct_bits (g.R.Region.bits c.args.region.now - c.args.direct_bits) (g.R.Region.answers c.args.region.now) h → IsPartOf c.args.direct_bits (c.args.direct_bits - c.min-len.result) (c.args.prefix.now.bits / 2 ^ (c.width-bits.result - c.min-len.result) * 2 ^ (c.args.direct_bits - c.min-len.result) % 4294967296) (g.R.Region.bits c.args.region.now - c.args.direct_bits) (g.R.Region.answers c.args.region.now) (g.R.Region.answers c.part_of.result) h = λ h a. number_part w len c.args.direct_bits t n number j first d short c.args.prefix.now.fits few c.args.prefix.now.below is refl f x h at c.part_of.ensures.answers a in
+    let part : (h : ℕ → List Bool → ℕ) (q : List Bool → ℕ) → IsMerged (prefix_as c.args.prefix.now).bits c.args.direct_bits (g.R.Region.bits c.args.region.now - c.args.direct_bits) (g.R.Region.answers c.args.region.now) h q → IsPartOf c.args.direct_bits (c.args.direct_bits - c.min-len.result) (c.args.prefix.now.bits / 2 ^ (c.width-bits.result - c.min-len.result) * 2 ^ (c.args.direct_bits - c.min-len.result) % 4294967296) (g.R.Region.bits c.args.region.now - c.args.direct_bits) q (g.R.Region.answers c.part_of.result) h = λ h q a. number_part w len c.args.direct_bits t n number j first d short c.args.prefix.now.fits few c.args.prefix.now.below is refl f x h q (λ l. omega (arith, least, l)) at c.part_of.ensures.answers a in
     if_err_map c.copy_slots-2.result (λ r. MeetsNotSlots c.args.nodes.now c.args.leaves.now c.args.words.now first j e x r) (λ r. MeetsNotRenewal c.args.nodes.now c.args.leaves.now c.args.words.now p c.args.direct_bits d f r) c.copy_slots-2.ensures.refused
     (λ r out. part_refused c.args.nodes.now c.copy_slots-2.new.nodes c.args.node_blocks.now c.copy_slots-2.new.node_blocks c.args.leaves.now c.copy_slots-2.new.leaves c.args.leaf_blocks.now c.copy_slots-2.new.leaf_blocks c.args.direct_bits j first d e f x p many part same c.args.words.now r out)
 

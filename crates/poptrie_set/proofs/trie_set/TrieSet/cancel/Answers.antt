@@ -3,9 +3,23 @@ use Rattle.block_pool.specs.Blocks.{Gives}
 use Rattle.poptrie_set.specs.Lives.{Seen, ShowsIn}
 use Rattle.poptrie_set.specs.Fits.{FitsIn}
 use Rattle.poptrie_set.proofs.Steps.{at_its_cancel}
-use Rattle.poptrie_set.proofs.Lived.{cancel_is, cancel_step}
+use Rattle.poptrie_set.proofs.Lived.{seen_as, cancel_is, cancel_step, cancel_keeps}
 use Rattle.poptrie_set.proofs.Fitting.{cancel_fits}
 use Rattle.poptrie_set.proofs.trie_set.TrieSet.cancel.Goals as goal
+
+pub invariant_of-self : goal.invariant_of-self
+invariant_of-self c =
+    let z : c.self.inside.made ≡ 0 = omega arith in
+    let some = c.self.invariant.1 in
+    let l = seen_as c.self.inside.family c.self.inside.direct_bits c.self.inside.words.items c.self.inside.nodes c.self.inside.leaves c.self.inside.node_blocks c.self.inside.leaf_blocks c.self.inside.pending c.self.inside.stores.items c.self.inside.made in
+    let is = cancel_is c.self.inside.family c.self.inside.direct_bits c.self.inside.words.items c.self.inside.nodes c.self.inside.leaves c.self.inside.node_blocks c.self.inside.leaf_blocks c.cancel.new.self c.cancel-2.new.self c.self.inside.pending c.self.inside.stores.items c.clear.new.self.items c.self.inside.made c.cancel.new.arena c.cancel-2.new.arena c.cancel.ensures.cancelled c.cancel-2.ensures.cancelled c.clear.ensures.items z in (
+      cancel_keeps c.self.inside.direct_bits c.self.inside.words.items c.self.inside.nodes c.cancel.new.arena c.self.inside.leaves c.cancel-2.new.arena c.self.inside.node_blocks c.self.inside.leaf_blocks c.cancel.new.self c.cancel-2.new.self c.self.inside.pending c.self.inside.stores.items c.clear.new.self.items c.self.inside.made z c.clear.ensures.items c.cancel.ensures.cancelled c.cancel-2.ensures.cancelled c.cancel.ensures.sized c.cancel-2.ensures.sized c.cancel.ensures.held c.cancel-2.ensures.held c.self.invariant.0,
+      record {
+        before = some.before;
+        after = some.before;
+        shows = subst (λ (m : Seen). ShowsIn m some.before some.before) (sym is) (cancel_step l c.cancel.new.arena c.cancel-2.new.arena z c.cancel.ensures.gives c.cancel-2.ensures.gives some.before some.after some.shows);
+      },
+    )
 
 pub returns-clause-shows : goal.returns-clause-shows
 returns-clause-shows c = λ L M sh.

@@ -1,21 +1,21 @@
 use Rattle.std.proofs.Common.{rules, ◌≡◌, ◌<◌, ◌≤◌, ◌/◌, ◌-◌, ◌^◌, ℕ, length, get_or, refl, subst, arith}
 use Rattle.poptrie_build.proofs.Bits.{short}
 use Rattle.poptrie_build.proofs.Word.{slot_by, small_by}
-use Rattle.poptrie_set.specs.Lives.{Seen}
+use Rattle.poptrie_set.specs.Lives.{Seen, ShowsSome}
 use Rattle.poptrie_set.specs.First.{slot_of}
 use Rattle.poptrie_set.proofs.First_read.{node_starts, hop_starts, word_read}
 use Rattle.poptrie_set.proofs.trie_set.TrieSet.first.Goals as goal
 
 pub overflow_cast-key_of : goal.overflow_cast-key_of
 overflow_cast-key_of c =
-    let few = c.self.invariant.few in
+    let few = c.self.invariant.0.few in
     let h = small_by c.self.inside.direct_bits c.key_of.result (omega arith) c.key_of.type_inv in
     search (rules, h)
 
 pub index-word-requires : goal.index-word-requires
 index-word-requires c =
-    let few = c.self.invariant.few in
-    let many = c.self.invariant.many in
+    let few = c.self.invariant.0.few in
+    let many = c.self.invariant.0.many in
     let same = slot_by c.self.inside.direct_bits c.key_of.result (omega arith) in
     let b = short c.key_of.result c.self.inside.direct_bits c.key_of.type_inv (omega arith) in
     let h : c.key_of.result / 2 / 2 ^ (127 - c.self.inside.direct_bits) < length c.self.inside.words.items = omega arith in
@@ -23,21 +23,21 @@ index-word-requires c =
 
 pub overflow_cast-result : goal.overflow_cast-result
 overflow_cast-result c =
-    let few = c.self.invariant.few in
-    let w = word_read c.self.inside.direct_bits c.self.inside.words.items c.key_of.result c.args.addr.now c.index-word.result.now (omega arith) c.key_of.ensures.key c.index-word.ensures (omega (arith, c.self.invariant.many)) c.key_of.type_inv in
-    let s = c.requires.showing in
-    let h = (hop_starts c.args.self.now s.0 s.1 s.2 c.args.addr.now c.requires.family (subst (λ (l : Seen). l.direct_bits ≤ 32) c.self.view_is (omega arith)) (subst (λ (k : ℕ). k < 2 ^ 128) c.key_of.ensures.key c.key_of.type_inv) c.index-word.result.now (subst (λ (l : Seen). c.index-word.result.now ≡ get_or l.words (slot_of l.direct_bits c.args.addr.now) 0) c.self.view_is w) c.if-word-ge-HOP.true).0 in
+    let few = c.self.invariant.0.few in
+    let w = word_read c.self.inside.direct_bits c.self.inside.words.items c.key_of.result c.args.addr.now c.index-word.result.now (omega arith) c.key_of.ensures.key c.index-word.ensures (omega (arith, c.self.invariant.0.many)) c.key_of.type_inv in
+    let some : ShowsSome c.args.self.now = subst (λ (l : Seen). ShowsSome l) c.self.view_is c.self.invariant.1 in
+    let h = (hop_starts c.args.self.now some.before some.after some.shows c.args.addr.now c.requires.family (subst (λ (l : Seen). l.direct_bits ≤ 32) c.self.view_is (omega arith)) (subst (λ (k : ℕ). k < 2 ^ 128) c.key_of.ensures.key c.key_of.type_inv) c.index-word.result.now (subst (λ (l : Seen). c.index-word.result.now ≡ get_or l.words (slot_of l.direct_bits c.args.addr.now) 0) c.self.view_is w) c.if-word-ge-HOP.true).0 in
     search (rules, h)
 
 pub returns-then-word-ge-HOP : goal.returns-then-word-ge-HOP
 returns-then-word-ge-HOP c = λ L M sh.
-    let few = c.self.invariant.few in
-    let w = word_read c.self.inside.direct_bits c.self.inside.words.items c.key_of.result c.args.addr.now c.index-word.result.now (omega arith) c.key_of.ensures.key c.index-word.ensures (omega (arith, c.self.invariant.many)) c.key_of.type_inv in
+    let few = c.self.invariant.0.few in
+    let w = word_read c.self.inside.direct_bits c.self.inside.words.items c.key_of.result c.args.addr.now c.index-word.result.now (omega arith) c.key_of.ensures.key c.index-word.ensures (omega (arith, c.self.invariant.0.many)) c.key_of.type_inv in
     let h = hop_starts c.args.self.now L M sh c.args.addr.now c.requires.family (subst (λ (l : Seen). l.direct_bits ≤ 32) c.self.view_is (omega arith)) (subst (λ (k : ℕ). k < 2 ^ 128) c.key_of.ensures.key c.key_of.type_inv) c.index-word.result.now (subst (λ (l : Seen). c.index-word.result.now ≡ get_or l.words (slot_of l.direct_bits c.args.addr.now) 0) c.self.view_is w) c.if-word-ge-HOP.true in
     (h.1, h.2)
 
 pub returns : goal.returns
 returns c = λ L M sh.
-    let few = c.self.invariant.few in
-    let w = word_read c.self.inside.direct_bits c.self.inside.words.items c.key_of.result c.args.addr.now c.index-word.result.now (omega arith) c.key_of.ensures.key c.index-word.ensures (omega (arith, c.self.invariant.many)) c.key_of.type_inv in
+    let few = c.self.invariant.0.few in
+    let w = word_read c.self.inside.direct_bits c.self.inside.words.items c.key_of.result c.args.addr.now c.index-word.result.now (omega arith) c.key_of.ensures.key c.index-word.ensures (omega (arith, c.self.invariant.0.many)) c.key_of.type_inv in
     (refl, node_starts c.args.self.now L M sh c.args.addr.now c.requires.family (subst (λ (l : Seen). l.direct_bits ≤ 32) c.self.view_is (omega arith)) (subst (λ (k : ℕ). k < 2 ^ 128) c.key_of.ensures.key c.key_of.type_inv) c.index-word.result.now (subst (λ (l : Seen). c.index-word.result.now ≡ get_or l.words (slot_of l.direct_bits c.args.addr.now) 0) c.self.view_is w) c.if-word-ge-HOP.false)

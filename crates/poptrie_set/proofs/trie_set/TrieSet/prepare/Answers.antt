@@ -6,12 +6,12 @@ use Rattle.block_pool.proofs.Parting.{part_right}
 use Rattle.fib_addr.specs.Views.{prefix_as}
 use Rattle.fib_addr.specs.Answers.{all_answers}
 use Rattle.poptrie_build.specs.Tries.{rest}
-use Rattle.poptrie_set.specs.Lives.{Seen, ShowsIn, stores_of}
+use Rattle.poptrie_set.specs.Lives.{Seen, ShowsIn, ShowsSome, stores_of}
 use Rattle.poptrie_set.specs.Fits.{FitsIn}
 use Rattle.poptrie_set.specs.Prepares.{StoresJust, AsksRun, AsksRunOut}
 use Rattle.poptrie_set.proofs.Lived.{seen_as}
-use Rattle.poptrie_set.proofs.Ready.{agree_beside, words_are, Renewed, ready_is, ready_fits, ready_held, ready_asks, ready_shows, ready_changes, ready_kept, back_shows, back_fits, back_kept, refused_reason}
-use Rattle.poptrie_set.proofs.Prepared.{quiet_version}
+use Rattle.poptrie_set.proofs.Ready.{agree_merged, words_are, Renewed, ready_is, ready_fits, ready_held, ready_asks, ready_shows, ready_some, ready_changes, ready_kept, back_shows, back_fits, back_kept, refused_reason}
+use Rattle.poptrie_set.proofs.Prepared.{quiet_version, quiet_shows}
 use Rattle.poptrie_copy.specs.Words.{IsWord}
 use Rattle.std.specs.Prelude.{slice_index}
 use Rattle.poptrie_set.specs.Renewals.{MeetsNotRenewal}
@@ -21,58 +21,58 @@ pub returns-in-Ok-clause-shows : goal.returns-in-Ok-clause-shows
 returns-in-Ok-clause-shows g c =
     λ L M sh0 e0 agree0.
     let none : c.self.inside.pending ≡ false = subst (λ (l : Seen). l.pending ≡ false) (sym c.self.view_is) c.requires.quiet in
-    let q = c.self.invariant.quiet none in
+    let q = c.self.invariant.0.quiet none in
     let d = g.R.Region.bits c.args.region.now - c.self.inside.direct_bits in
     let wide : g.R.Region.bits c.args.region.now ≡ width c.self.inside.family = c.requires.bits ∙ ap (λ (l : Seen). width l.family) (sym c.self.view_is) in
     let ed : d ≡ rest c.self.inside.family c.self.inside.direct_bits = ap (λ n. n - c.self.inside.direct_bits) wide in
     let sh : ShowsIn (seen_as c.self.inside.family c.self.inside.direct_bits c.self.inside.words.items c.self.inside.nodes c.self.inside.leaves c.self.inside.node_blocks c.self.inside.leaf_blocks c.self.inside.pending c.self.inside.stores.items c.self.inside.made) L L = subst (λ (l : Seen). ShowsIn l L L) (sym c.self.view_is) sh0 in
     let e : g.R.Region.answers c.args.region.now ≡ all_answers c.self.inside.family M = e0 ∙ ap (λ (l : Seen). all_answers l.family M) (sym c.self.view_is) in
     let family : (prefix_as c.args.prefix.now).family ≡ c.self.inside.family = c.requires.family ∙ ap (λ (l : Seen). l.family) (sym c.self.view_is) in
-    let agree = agree_beside c.self.inside.family c.self.inside.direct_bits (prefix_as c.args.prefix.now) L M family c.self.invariant.few agree0 in
+    let agree = agree_merged c.self.inside.family c.self.inside.direct_bits (prefix_as c.args.prefix.now) (g.R.Region.answers c.args.region.now) L M family c.self.invariant.0.few e agree0 in
     let r = subst (λ (w : List ℕ). Renewed c.self.inside.nodes c.renew_or_undo-made.new.nodes c.self.inside.node_blocks c.renew_or_undo-made.new.node_blocks c.self.inside.leaves c.renew_or_undo-made.new.leaves c.self.inside.leaf_blocks c.renew_or_undo-made.new.leaf_blocks w c.renew_or_undo-made.new.stores.items (prefix_as c.args.prefix.now).bits c.self.inside.direct_bits d (g.R.Region.answers c.args.region.now)) c.deref.ensures.value (record { stores = c.in-Ok.ensures.stores; renews = c.in-Ok.ensures.renews; aside = c.in-Ok.ensures.aside; kept = c.in-Ok.ensures.kept; met = c.in-Ok.ensures.met }) in
     let is = ready_is c.self.inside.family c.self.inside.direct_bits c.self.inside.words.items c.self.inside.nodes c.renew_or_undo-made.new.nodes c.self.inside.leaves c.renew_or_undo-made.new.leaves c.self.inside.node_blocks c.renew_or_undo-made.new.node_blocks c.self.inside.leaf_blocks c.renew_or_undo-made.new.leaf_blocks c.self.inside.pending c.self.inside.stores.items c.renew_or_undo-made.new.stores.items c.self.inside.made c.in-Ok.ensures.nodes.retired c.in-Ok.ensures.leaves.retired c.in-Ok.ensures.nodes.time q.none_made in
     subst (λ (l : Seen). ShowsIn l L M) (sym is)
-    (ready_shows c.self.inside.family c.self.inside.direct_bits c.self.inside.words.items c.self.inside.nodes c.renew_or_undo-made.new.nodes c.self.inside.leaves c.renew_or_undo-made.new.leaves c.self.inside.node_blocks c.renew_or_undo-made.new.node_blocks c.self.inside.leaf_blocks c.renew_or_undo-made.new.leaf_blocks c.self.inside.pending c.self.inside.stores.items c.renew_or_undo-made.new.stores.items c.self.inside.made c.in-Ok.ensures.nodes c.in-Ok.ensures.leaves q d ed (g.R.Region.answers c.args.region.now) (prefix_as c.args.prefix.now).bits L M sh e agree r.met r.stores r.renews)
+    (ready_shows c.self.inside.family c.self.inside.direct_bits c.self.inside.words.items c.self.inside.nodes c.renew_or_undo-made.new.nodes c.self.inside.leaves c.renew_or_undo-made.new.leaves c.self.inside.node_blocks c.renew_or_undo-made.new.node_blocks c.self.inside.leaf_blocks c.renew_or_undo-made.new.leaf_blocks c.self.inside.pending c.self.inside.stores.items c.renew_or_undo-made.new.stores.items c.self.inside.made c.in-Ok.ensures.nodes c.in-Ok.ensures.leaves q d ed (g.R.Region.answers c.args.region.now) (prefix_as c.args.prefix.now).bits L M sh agree r.met r.stores r.renews)
 
 pub returns-in-Ok-clause-changes : goal.returns-in-Ok-clause-changes
 returns-in-Ok-clause-changes g c =
     λ L M sh0 e0 agree0.
     let none : c.self.inside.pending ≡ false = subst (λ (l : Seen). l.pending ≡ false) (sym c.self.view_is) c.requires.quiet in
-    let q = c.self.invariant.quiet none in
+    let q = c.self.invariant.0.quiet none in
     let d = g.R.Region.bits c.args.region.now - c.self.inside.direct_bits in
     let wide : g.R.Region.bits c.args.region.now ≡ width c.self.inside.family = c.requires.bits ∙ ap (λ (l : Seen). width l.family) (sym c.self.view_is) in
     let ed : d ≡ rest c.self.inside.family c.self.inside.direct_bits = ap (λ n. n - c.self.inside.direct_bits) wide in
     let sh : ShowsIn (seen_as c.self.inside.family c.self.inside.direct_bits c.self.inside.words.items c.self.inside.nodes c.self.inside.leaves c.self.inside.node_blocks c.self.inside.leaf_blocks c.self.inside.pending c.self.inside.stores.items c.self.inside.made) L L = subst (λ (l : Seen). ShowsIn l L L) (sym c.self.view_is) sh0 in
     let e : g.R.Region.answers c.args.region.now ≡ all_answers c.self.inside.family M = e0 ∙ ap (λ (l : Seen). all_answers l.family M) (sym c.self.view_is) in
     let family : (prefix_as c.args.prefix.now).family ≡ c.self.inside.family = c.requires.family ∙ ap (λ (l : Seen). l.family) (sym c.self.view_is) in
-    let agree = agree_beside c.self.inside.family c.self.inside.direct_bits (prefix_as c.args.prefix.now) L M family c.self.invariant.few agree0 in
+    let agree = agree_merged c.self.inside.family c.self.inside.direct_bits (prefix_as c.args.prefix.now) (g.R.Region.answers c.args.region.now) L M family c.self.invariant.0.few e agree0 in
     let r = subst (λ (w : List ℕ). Renewed c.self.inside.nodes c.renew_or_undo-made.new.nodes c.self.inside.node_blocks c.renew_or_undo-made.new.node_blocks c.self.inside.leaves c.renew_or_undo-made.new.leaves c.self.inside.leaf_blocks c.renew_or_undo-made.new.leaf_blocks w c.renew_or_undo-made.new.stores.items (prefix_as c.args.prefix.now).bits c.self.inside.direct_bits d (g.R.Region.answers c.args.region.now)) c.deref.ensures.value (record { stores = c.in-Ok.ensures.stores; renews = c.in-Ok.ensures.renews; aside = c.in-Ok.ensures.aside; kept = c.in-Ok.ensures.kept; met = c.in-Ok.ensures.met }) in
     subst (λ (l : Seen). StoresJust l.family l.direct_bits L M (stores_of c.renew_or_undo-made.new.stores.items)) c.self.view_is
-    (ready_changes c.self.inside.family c.self.inside.direct_bits c.self.inside.words.items c.self.inside.nodes c.renew_or_undo-made.new.nodes c.self.inside.leaves c.renew_or_undo-made.new.leaves c.self.inside.node_blocks c.renew_or_undo-made.new.node_blocks c.self.inside.leaf_blocks c.renew_or_undo-made.new.leaf_blocks c.self.inside.pending c.self.inside.stores.items c.renew_or_undo-made.new.stores.items c.self.inside.made c.in-Ok.ensures.nodes c.in-Ok.ensures.leaves q d ed (g.R.Region.answers c.args.region.now) (prefix_as c.args.prefix.now).bits L M sh e agree r.met c.self.invariant.few r.stores r.renews r.kept)
+    (ready_changes c.self.inside.family c.self.inside.direct_bits c.self.inside.words.items c.self.inside.nodes c.renew_or_undo-made.new.nodes c.self.inside.leaves c.renew_or_undo-made.new.leaves c.self.inside.node_blocks c.renew_or_undo-made.new.node_blocks c.self.inside.leaf_blocks c.renew_or_undo-made.new.leaf_blocks c.self.inside.pending c.self.inside.stores.items c.renew_or_undo-made.new.stores.items c.self.inside.made c.in-Ok.ensures.nodes c.in-Ok.ensures.leaves q d ed (g.R.Region.answers c.args.region.now) (prefix_as c.args.prefix.now).bits L M sh agree r.met c.self.invariant.0.few r.stores r.renews r.kept)
 
 pub returns-in-Ok-clause-asks : goal.returns-in-Ok-clause-asks
 returns-in-Ok-clause-asks g c =
     λ L M sh0 e0 agree0.
     let none : c.self.inside.pending ≡ false = subst (λ (l : Seen). l.pending ≡ false) (sym c.self.view_is) c.requires.quiet in
-    let q = c.self.invariant.quiet none in
+    let q = c.self.invariant.0.quiet none in
     let d = g.R.Region.bits c.args.region.now - c.self.inside.direct_bits in
     let wide : g.R.Region.bits c.args.region.now ≡ width c.self.inside.family = c.requires.bits ∙ ap (λ (l : Seen). width l.family) (sym c.self.view_is) in
     let ed : d ≡ rest c.self.inside.family c.self.inside.direct_bits = ap (λ n. n - c.self.inside.direct_bits) wide in
     let sh : ShowsIn (seen_as c.self.inside.family c.self.inside.direct_bits c.self.inside.words.items c.self.inside.nodes c.self.inside.leaves c.self.inside.node_blocks c.self.inside.leaf_blocks c.self.inside.pending c.self.inside.stores.items c.self.inside.made) L L = subst (λ (l : Seen). ShowsIn l L L) (sym c.self.view_is) sh0 in
     let e : g.R.Region.answers c.args.region.now ≡ all_answers c.self.inside.family M = e0 ∙ ap (λ (l : Seen). all_answers l.family M) (sym c.self.view_is) in
     let family : (prefix_as c.args.prefix.now).family ≡ c.self.inside.family = c.requires.family ∙ ap (λ (l : Seen). l.family) (sym c.self.view_is) in
-    let agree = agree_beside c.self.inside.family c.self.inside.direct_bits (prefix_as c.args.prefix.now) L M family c.self.invariant.few agree0 in
+    let agree = agree_merged c.self.inside.family c.self.inside.direct_bits (prefix_as c.args.prefix.now) (g.R.Region.answers c.args.region.now) L M family c.self.invariant.0.few e agree0 in
     let r = subst (λ (w : List ℕ). Renewed c.self.inside.nodes c.renew_or_undo-made.new.nodes c.self.inside.node_blocks c.renew_or_undo-made.new.node_blocks c.self.inside.leaves c.renew_or_undo-made.new.leaves c.self.inside.leaf_blocks c.renew_or_undo-made.new.leaf_blocks w c.renew_or_undo-made.new.stores.items (prefix_as c.args.prefix.now).bits c.self.inside.direct_bits d (g.R.Region.answers c.args.region.now)) c.deref.ensures.value (record { stores = c.in-Ok.ensures.stores; renews = c.in-Ok.ensures.renews; aside = c.in-Ok.ensures.aside; kept = c.in-Ok.ensures.kept; met = c.in-Ok.ensures.met }) in
     let is = ready_is c.self.inside.family c.self.inside.direct_bits c.self.inside.words.items c.self.inside.nodes c.renew_or_undo-made.new.nodes c.self.inside.leaves c.renew_or_undo-made.new.leaves c.self.inside.node_blocks c.renew_or_undo-made.new.node_blocks c.self.inside.leaf_blocks c.renew_or_undo-made.new.leaf_blocks c.self.inside.pending c.self.inside.stores.items c.renew_or_undo-made.new.stores.items c.self.inside.made c.in-Ok.ensures.nodes.retired c.in-Ok.ensures.leaves.retired c.in-Ok.ensures.nodes.time q.none_made in
     subst (λ (l : Seen). AsksRun c.args.self.now l L M) (sym is)
     (subst (λ (l : Seen). AsksRun l (seen_as c.self.inside.family c.self.inside.direct_bits c.self.inside.words.items c.renew_or_undo-made.new.nodes c.renew_or_undo-made.new.leaves c.renew_or_undo-made.new.node_blocks c.renew_or_undo-made.new.leaf_blocks true c.renew_or_undo-made.new.stores.items c.self.inside.made) L M) c.self.view_is
-    (ready_asks c.self.inside.family c.self.inside.direct_bits c.self.inside.words.items c.self.inside.nodes c.renew_or_undo-made.new.nodes c.self.inside.leaves c.renew_or_undo-made.new.leaves c.self.inside.node_blocks c.renew_or_undo-made.new.node_blocks c.self.inside.leaf_blocks c.renew_or_undo-made.new.leaf_blocks c.self.inside.pending c.self.inside.stores.items c.renew_or_undo-made.new.stores.items c.self.inside.made c.in-Ok.ensures.nodes c.in-Ok.ensures.leaves q d ed (g.R.Region.answers c.args.region.now) (prefix_as c.args.prefix.now).bits L M sh e agree r.met))
+    (ready_asks c.self.inside.family c.self.inside.direct_bits c.self.inside.words.items c.self.inside.nodes c.renew_or_undo-made.new.nodes c.self.inside.leaves c.renew_or_undo-made.new.leaves c.self.inside.node_blocks c.renew_or_undo-made.new.node_blocks c.self.inside.leaf_blocks c.renew_or_undo-made.new.leaf_blocks c.self.inside.pending c.self.inside.stores.items c.renew_or_undo-made.new.stores.items c.self.inside.made c.in-Ok.ensures.nodes c.in-Ok.ensures.leaves q d ed (g.R.Region.answers c.args.region.now) (prefix_as c.args.prefix.now).bits L M sh agree r.met))
 
 pub returns-in-Ok-clause-fits : goal.returns-in-Ok-clause-fits
 returns-in-Ok-clause-fits g c =
     λ os fits0.
     let none : c.self.inside.pending ≡ false = subst (λ (l : Seen). l.pending ≡ false) (sym c.self.view_is) c.requires.quiet in
-    let q = c.self.invariant.quiet none in
+    let q = c.self.invariant.0.quiet none in
     let is = ready_is c.self.inside.family c.self.inside.direct_bits c.self.inside.words.items c.self.inside.nodes c.renew_or_undo-made.new.nodes c.self.inside.leaves c.renew_or_undo-made.new.leaves c.self.inside.node_blocks c.renew_or_undo-made.new.node_blocks c.self.inside.leaf_blocks c.renew_or_undo-made.new.leaf_blocks c.self.inside.pending c.self.inside.stores.items c.renew_or_undo-made.new.stores.items c.self.inside.made c.in-Ok.ensures.nodes.retired c.in-Ok.ensures.leaves.retired c.in-Ok.ensures.nodes.time q.none_made in
     subst (λ (l : Seen). FitsIn l os) (sym is) (ready_fits c.self.inside.family c.self.inside.direct_bits c.self.inside.words.items c.self.inside.nodes c.renew_or_undo-made.new.nodes c.self.inside.leaves c.renew_or_undo-made.new.leaves c.self.inside.node_blocks c.renew_or_undo-made.new.node_blocks c.self.inside.leaf_blocks c.renew_or_undo-made.new.leaf_blocks c.self.inside.pending c.self.inside.stores.items c.renew_or_undo-made.new.stores.items c.self.inside.made c.in-Ok.ensures.nodes c.in-Ok.ensures.leaves q os (subst (λ (l : Seen). FitsIn l os) (sym c.self.view_is) fits0))
 
@@ -80,63 +80,69 @@ pub returns-in-Err-clause-still : goal.returns-in-Err-clause-still
 returns-in-Err-clause-still g c =
     λ L M sh0.
     let none : c.self.inside.pending ≡ false = subst (λ (l : Seen). l.pending ≡ false) (sym c.self.view_is) c.requires.quiet in
-    let q = c.self.invariant.quiet none in
+    let q = c.self.invariant.0.quiet none in
     back_shows c.self.inside.family c.self.inside.direct_bits c.self.inside.words.items c.self.inside.nodes c.renew_or_undo-made.new.nodes c.self.inside.leaves c.renew_or_undo-made.new.leaves c.self.inside.node_blocks c.renew_or_undo-made.new.node_blocks c.self.inside.leaf_blocks c.renew_or_undo-made.new.leaf_blocks c.self.inside.pending c.self.inside.stores.items c.renew_or_undo-made.new.stores.items c.self.inside.made c.in-Err.ensures.nodes_back.0 c.in-Err.ensures.leaves_back.0 c.in-Err.ensures.nodes_back.1 c.in-Err.ensures.leaves_back.1 (c.in-Err.ensures.no_stores ∙ sym q.no_stores) L M (subst (λ (l : Seen). ShowsIn l L M) (sym c.self.view_is) sh0)
 
 pub returns-in-Err-clause-fits : goal.returns-in-Err-clause-fits
 returns-in-Err-clause-fits g c =
     λ os fits0.
     let none : c.self.inside.pending ≡ false = subst (λ (l : Seen). l.pending ≡ false) (sym c.self.view_is) c.requires.quiet in
-    let q = c.self.invariant.quiet none in
+    let q = c.self.invariant.0.quiet none in
     back_fits c.self.inside.family c.self.inside.direct_bits c.self.inside.words.items c.self.inside.nodes c.renew_or_undo-made.new.nodes c.self.inside.leaves c.renew_or_undo-made.new.leaves c.self.inside.node_blocks c.renew_or_undo-made.new.node_blocks c.self.inside.leaf_blocks c.renew_or_undo-made.new.leaf_blocks c.self.inside.pending c.self.inside.stores.items c.renew_or_undo-made.new.stores.items c.self.inside.made c.in-Err.ensures.nodes_back.0 c.in-Err.ensures.leaves_back.0 c.in-Err.ensures.nodes_back.1 c.in-Err.ensures.leaves_back.1 (c.in-Err.ensures.no_stores ∙ sym q.no_stores) os (subst (λ (l : Seen). FitsIn l os) (sym c.self.view_is) fits0)
 
 pub invariant_of-self : goal.invariant_of-self
 invariant_of-self g c =
     let none : c.self.inside.pending ≡ false = subst (λ (l : Seen). l.pending ≡ false) (sym c.self.view_is) c.requires.quiet in
-    let q = c.self.invariant.quiet none in
+    let q = c.self.invariant.0.quiet none in
     let d = g.R.Region.bits c.args.region.now - c.self.inside.direct_bits in
     let wide : g.R.Region.bits c.args.region.now ≡ width c.self.inside.family = c.requires.bits ∙ ap (λ (l : Seen). width l.family) (sym c.self.view_is) in
     let ed : d ≡ rest c.self.inside.family c.self.inside.direct_bits = ap (λ n. n - c.self.inside.direct_bits) wide in
     let r = subst (λ (w : List ℕ). Renewed c.self.inside.nodes c.renew_or_undo-made.new.nodes c.self.inside.node_blocks c.renew_or_undo-made.new.node_blocks c.self.inside.leaves c.renew_or_undo-made.new.leaves c.self.inside.leaf_blocks c.renew_or_undo-made.new.leaf_blocks w c.renew_or_undo-made.new.stores.items (prefix_as c.args.prefix.now).bits c.self.inside.direct_bits d (g.R.Region.answers c.args.region.now)) c.deref.ensures.value (record { stores = c.in-Ok.ensures.stores; renews = c.in-Ok.ensures.renews; aside = c.in-Ok.ensures.aside; kept = c.in-Ok.ensures.kept; met = c.in-Ok.ensures.met }) in
-    let both = c.requires.showing in
-    let sh = subst (λ (l : Seen). ShowsIn l both.0 both.1) (sym c.self.view_is) both.2 in
-    ready_kept c.self.inside.family c.self.inside.direct_bits c.self.inside.words.items c.self.inside.nodes c.renew_or_undo-made.new.nodes c.self.inside.leaves c.renew_or_undo-made.new.leaves c.self.inside.node_blocks c.renew_or_undo-made.new.node_blocks c.self.inside.leaf_blocks c.renew_or_undo-made.new.leaf_blocks c.self.inside.pending c.self.inside.stores.items c.renew_or_undo-made.new.stores.items c.self.inside.made c.in-Ok.ensures.nodes c.in-Ok.ensures.leaves q c.self.invariant r.stores
-    (ready_held c.self.inside.family c.self.inside.direct_bits c.self.inside.words.items c.self.inside.nodes c.renew_or_undo-made.new.nodes c.self.inside.leaves c.renew_or_undo-made.new.leaves c.self.inside.node_blocks c.renew_or_undo-made.new.node_blocks c.self.inside.leaf_blocks c.renew_or_undo-made.new.leaf_blocks c.self.inside.pending c.self.inside.stores.items c.renew_or_undo-made.new.stores.items c.self.inside.made c.in-Ok.ensures.nodes c.in-Ok.ensures.leaves q d ed r.aside both.0 both.1 sh)
-    (part_right (is_out c.self.inside.nodes.free) c.self.inside.node_blocks.taken (blocks_of c.self.inside.node_blocks.retired) c.self.invariant.nodes_held.with_taken)
-    (part_right (is_out c.self.inside.leaves.free) c.self.inside.leaf_blocks.taken (blocks_of c.self.inside.leaf_blocks.retired) c.self.invariant.leaves_held.with_taken)
+    let some = c.self.invariant.1 in
+    let l = seen_as c.self.inside.family c.self.inside.direct_bits c.self.inside.words.items c.self.inside.nodes c.self.inside.leaves c.self.inside.node_blocks c.self.inside.leaf_blocks c.self.inside.pending c.self.inside.stores.items c.self.inside.made in
+    let old : ShowsIn l some.before some.before = quiet_shows l some.before some.after some.shows (ap stores_of q.no_stores) q.nodes_taken q.nodes_replaced q.leaves_taken q.leaves_replaced in
+    let is = ready_is c.self.inside.family c.self.inside.direct_bits c.self.inside.words.items c.self.inside.nodes c.renew_or_undo-made.new.nodes c.self.inside.leaves c.renew_or_undo-made.new.leaves c.self.inside.node_blocks c.renew_or_undo-made.new.node_blocks c.self.inside.leaf_blocks c.renew_or_undo-made.new.leaf_blocks c.self.inside.pending c.self.inside.stores.items c.renew_or_undo-made.new.stores.items c.self.inside.made c.in-Ok.ensures.nodes.retired c.in-Ok.ensures.leaves.retired c.in-Ok.ensures.nodes.time q.none_made in (
+      ready_kept c.self.inside.family c.self.inside.direct_bits c.self.inside.words.items c.self.inside.nodes c.renew_or_undo-made.new.nodes c.self.inside.leaves c.renew_or_undo-made.new.leaves c.self.inside.node_blocks c.renew_or_undo-made.new.node_blocks c.self.inside.leaf_blocks c.renew_or_undo-made.new.leaf_blocks c.self.inside.pending c.self.inside.stores.items c.renew_or_undo-made.new.stores.items c.self.inside.made c.in-Ok.ensures.nodes c.in-Ok.ensures.leaves q c.self.invariant.0 r.stores
+          (ready_held c.self.inside.family c.self.inside.direct_bits c.self.inside.words.items c.self.inside.nodes c.renew_or_undo-made.new.nodes c.self.inside.leaves c.renew_or_undo-made.new.leaves c.self.inside.node_blocks c.renew_or_undo-made.new.node_blocks c.self.inside.leaf_blocks c.renew_or_undo-made.new.leaf_blocks c.self.inside.pending c.self.inside.stores.items c.renew_or_undo-made.new.stores.items c.self.inside.made c.in-Ok.ensures.nodes c.in-Ok.ensures.leaves q d ed r.aside some.before some.after some.shows)
+          (part_right (is_out c.self.inside.nodes.free) c.self.inside.node_blocks.taken (blocks_of c.self.inside.node_blocks.retired) c.self.invariant.0.nodes_held.with_taken)
+          (part_right (is_out c.self.inside.leaves.free) c.self.inside.leaf_blocks.taken (blocks_of c.self.inside.leaf_blocks.retired) c.self.invariant.0.leaves_held.with_taken),
+      subst (λ (m : Seen). ShowsSome m) (sym is) (ready_some c.self.inside.family c.self.inside.direct_bits c.self.inside.words.items c.self.inside.nodes c.renew_or_undo-made.new.nodes c.self.inside.leaves c.renew_or_undo-made.new.leaves c.self.inside.node_blocks c.renew_or_undo-made.new.node_blocks c.self.inside.leaf_blocks c.renew_or_undo-made.new.leaf_blocks c.self.inside.pending c.self.inside.stores.items c.renew_or_undo-made.new.stores.items c.self.inside.made c.in-Ok.ensures.nodes c.in-Ok.ensures.leaves q d ed (g.R.Region.answers c.args.region.now) (prefix_as c.args.prefix.now).bits some.before c.self.invariant.0.few old r.met r.stores r.renews),
+    )
 
 pub invariant_of-self-in-Err : goal.invariant_of-self-in-Err
 invariant_of-self-in-Err g c =
     let none : c.self.inside.pending ≡ false = subst (λ (l : Seen). l.pending ≡ false) (sym c.self.view_is) c.requires.quiet in
-    let q = c.self.invariant.quiet none in
-    back_kept c.self.inside.family c.self.inside.direct_bits c.self.inside.words.items c.self.inside.nodes c.renew_or_undo-made.new.nodes c.self.inside.leaves c.renew_or_undo-made.new.leaves c.self.inside.node_blocks c.renew_or_undo-made.new.node_blocks c.self.inside.leaf_blocks c.renew_or_undo-made.new.leaf_blocks c.self.inside.pending c.self.inside.stores.items c.renew_or_undo-made.new.stores.items c.self.inside.made c.in-Err.ensures.nodes_back.0 c.in-Err.ensures.leaves_back.0 c.in-Err.ensures.nodes_back.1 c.in-Err.ensures.leaves_back.1 (c.in-Err.ensures.no_stores ∙ sym q.no_stores) c.self.invariant
+    let q = c.self.invariant.0.quiet none in
+    let some = c.self.invariant.1 in (
+      back_kept c.self.inside.family c.self.inside.direct_bits c.self.inside.words.items c.self.inside.nodes c.renew_or_undo-made.new.nodes c.self.inside.leaves c.renew_or_undo-made.new.leaves c.self.inside.node_blocks c.renew_or_undo-made.new.node_blocks c.self.inside.leaf_blocks c.renew_or_undo-made.new.leaf_blocks c.self.inside.pending c.self.inside.stores.items c.renew_or_undo-made.new.stores.items c.self.inside.made c.in-Err.ensures.nodes_back.0 c.in-Err.ensures.leaves_back.0 c.in-Err.ensures.nodes_back.1 c.in-Err.ensures.leaves_back.1 (c.in-Err.ensures.no_stores ∙ sym q.no_stores) c.self.invariant.0,
+      record { before = some.before; after = some.after; shows = back_shows c.self.inside.family c.self.inside.direct_bits c.self.inside.words.items c.self.inside.nodes c.renew_or_undo-made.new.nodes c.self.inside.leaves c.renew_or_undo-made.new.leaves c.self.inside.node_blocks c.renew_or_undo-made.new.node_blocks c.self.inside.leaf_blocks c.renew_or_undo-made.new.leaf_blocks c.self.inside.pending c.self.inside.stores.items c.renew_or_undo-made.new.stores.items c.self.inside.made c.in-Err.ensures.nodes_back.0 c.in-Err.ensures.leaves_back.0 c.in-Err.ensures.nodes_back.1 c.in-Err.ensures.leaves_back.1 (c.in-Err.ensures.no_stores ∙ sym q.no_stores) some.before some.after some.shows },
+    )
 
 pub renew_or_undo-made-requires-clause-words : goal.renew_or_undo-made-requires-clause-words
 renew_or_undo-made-requires-clause-words g c =
     λ v low.
     let none : c.self.inside.pending ≡ false = subst (λ (l : Seen). l.pending ≡ false) (sym c.self.view_is) c.requires.quiet in
-    let q = c.self.invariant.quiet none in
+    let q = c.self.invariant.0.quiet none in
     let d = g.R.Region.bits c.args.region.now - c.self.inside.direct_bits in
     let wide : g.R.Region.bits c.args.region.now ≡ width c.self.inside.family = c.requires.bits ∙ ap (λ (l : Seen). width l.family) (sym c.self.view_is) in
     let ed : d ≡ rest c.self.inside.family c.self.inside.direct_bits = ap (λ n. n - c.self.inside.direct_bits) wide in
-    let both = c.requires.showing in
-    let sh = subst (λ (l : Seen). ShowsIn l both.0 both.1) (sym c.self.view_is) both.2 in
-    let ver = quiet_version (seen_as c.self.inside.family c.self.inside.direct_bits c.self.inside.words.items c.self.inside.nodes c.self.inside.leaves c.self.inside.node_blocks c.self.inside.leaf_blocks c.self.inside.pending c.self.inside.stores.items c.self.inside.made) both.0 both.1 sh.0 sh.1 sh.2 (ap stores_of q.no_stores) q.nodes_taken q.leaves_taken in
+    let some = c.self.invariant.1 in
+    let ver = quiet_version (seen_as c.self.inside.family c.self.inside.direct_bits c.self.inside.words.items c.self.inside.nodes c.self.inside.leaves c.self.inside.node_blocks c.self.inside.leaf_blocks c.self.inside.pending c.self.inside.stores.items c.self.inside.made) some.before some.after some.shows.0 some.shows.1 some.shows.2 (ap stores_of q.no_stores) q.nodes_taken q.leaves_taken in
     subst (λ (w : List ℕ). IsWord c.self.inside.nodes c.self.inside.leaves (slice_index w v) d) (sym c.deref.ensures.value)
-    (words_are c.self.inside.family c.self.inside.direct_bits c.self.inside.nodes c.self.inside.leaves c.self.inside.words.items both.0 (blocks_of c.self.inside.node_blocks.retired) (blocks_of c.self.inside.leaf_blocks.retired) d ed ver v low)
+    (words_are c.self.inside.family c.self.inside.direct_bits c.self.inside.nodes c.self.inside.leaves c.self.inside.words.items some.before (blocks_of c.self.inside.node_blocks.retired) (blocks_of c.self.inside.leaf_blocks.retired) d ed ver v low)
 
 pub returns-in-Err-clause-refused : goal.returns-in-Err-clause-refused
 returns-in-Err-clause-refused g c =
     λ L M sh0 e0 agree0.
     let none : c.self.inside.pending ≡ false = subst (λ (l : Seen). l.pending ≡ false) (sym c.self.view_is) c.requires.quiet in
-    let q = c.self.invariant.quiet none in
+    let q = c.self.invariant.0.quiet none in
     let d = g.R.Region.bits c.args.region.now - c.self.inside.direct_bits in
     let wide : g.R.Region.bits c.args.region.now ≡ width c.self.inside.family = c.requires.bits ∙ ap (λ (l : Seen). width l.family) (sym c.self.view_is) in
     let ed : d ≡ rest c.self.inside.family c.self.inside.direct_bits = ap (λ n. n - c.self.inside.direct_bits) wide in
     let sh : ShowsIn (seen_as c.self.inside.family c.self.inside.direct_bits c.self.inside.words.items c.self.inside.nodes c.self.inside.leaves c.self.inside.node_blocks c.self.inside.leaf_blocks c.self.inside.pending c.self.inside.stores.items c.self.inside.made) L L = subst (λ (l : Seen). ShowsIn l L L) (sym c.self.view_is) sh0 in
     let e : g.R.Region.answers c.args.region.now ≡ all_answers c.self.inside.family M = e0 ∙ ap (λ (l : Seen). all_answers l.family M) (sym c.self.view_is) in
     let family : (prefix_as c.args.prefix.now).family ≡ c.self.inside.family = c.requires.family ∙ ap (λ (l : Seen). l.family) (sym c.self.view_is) in
-    let agree = agree_beside c.self.inside.family c.self.inside.direct_bits (prefix_as c.args.prefix.now) L M family c.self.invariant.few agree0 in
+    let agree = agree_merged c.self.inside.family c.self.inside.direct_bits (prefix_as c.args.prefix.now) (g.R.Region.answers c.args.region.now) L M family c.self.invariant.0.few e agree0 in
     let ver = quiet_version (seen_as c.self.inside.family c.self.inside.direct_bits c.self.inside.words.items c.self.inside.nodes c.self.inside.leaves c.self.inside.node_blocks c.self.inside.leaf_blocks c.self.inside.pending c.self.inside.stores.items c.self.inside.made) L L sh.0 sh.1 sh.2 (ap stores_of q.no_stores) q.nodes_taken q.leaves_taken in
     let out = subst (λ (w : List ℕ). MeetsNotRenewal c.self.inside.nodes c.self.inside.leaves w (prefix_as c.args.prefix.now).bits c.self.inside.direct_bits d (g.R.Region.answers c.args.region.now) c.in-Err.refusal) c.deref.ensures.value c.in-Err.ensures.refused in
     subst (λ (l : Seen). AsksRunOut l L M c.reason.result) c.self.view_is
