@@ -12,6 +12,9 @@ use Rattle.table_model.specs.Entries.{Entries, of_family}
 use Rattle.cert_model.specs.Verdict.{No, RowFits}
 use Rattle.fib_addr.specs.declared.entry.Entry.{Entry}
 use Rattle.fib_addr.specs.Views.{entry_as}
+use Rattle.cert_model.specs.declared.row.Row.{Row}
+use Rattle.cert_model.specs.declared.row.Row.TheVariants as row
+use Rattle.cert_model.specs.Views.{row_as}
 use Rattle.packed_rows.specs.declared.packed.PackedRow.{PackedRow}
 use Rattle.packed_rows.specs.Views.{packed_as}
 use Rattle.packed_rows.proofs.Fits.{packed_fits}
@@ -50,9 +53,15 @@ pub count_most : (f : Family) (entries : List Entry) (i n : ℕ) → n ≡ lengt
 count_most f entries i n e =
     omega (arith, e, few_of f (map entry_as (take i entries)), length-map (take i entries) entry_as, length-take i entries)
 
-pub rows_fit : (rows : List PackedRow) → AllByRecursion RowFits (map packed_as rows)
+pub rows_fit : (rows : List Row) → AllByRecursion RowFits (map row_as rows)
 rows_fit [] = tt
-rows_fit (r ∷ rows) = (packed_fits r, rows_fit rows)
+rows_fit (row.Leaf p h ∷ rows) = (prefix_short p, rows_fit rows)
+rows_fit (row.Join p k ∷ rows) = (prefix_short p, rows_fit rows)
+rows_fit (row.Bound f n ∷ rows) = (tt, rows_fit rows)
+
+pub packed_rows_fit : (rows : List PackedRow) → AllByRecursion RowFits (map packed_as rows)
+packed_rows_fit [] = tt
+packed_rows_fit (r ∷ rows) = (packed_fits r, packed_rows_fit rows)
 
 pub some_not_none : (x : No) → Some x ≡ None → ⊥
 some_not_none x e = cc
