@@ -13,6 +13,7 @@ ghost use Rattle.cert_model.specs.Right.{bound_by};
 ghost use Rattle.cert_model.specs.Verdict.{wrong_row};
 ghost use Rattle.fib_addr.specs.Views.{prefix_as};
 ghost use Rattle.cert_model.specs.Views.{row_as};
+ghost use Rattle.packed_rows.specs.Views.{packed_as};
 ghost use Rattle.cert_check.specs.Marks.{AreMarks};
 ghost use Rattle.cert_check.specs.Runs.{TellsBoth};
 ghost use Rattle.cert_check.specs.Views.{no_as};
@@ -24,6 +25,7 @@ use crate::sets::{Hops, common_hops, one_if_none, or_all};
 use crate::table_runs::TableRuns;
 use cert_model::Row;
 use fib_addr::{Family, Hop, Prefix};
+use packed_rows::PackedRow;
 use smallvec::SmallVec;
 use std::alloc::{AllocError, Global};
 
@@ -313,19 +315,20 @@ fn read_row(
 pub(crate) fn read_rows(
     alloc: Global,
     runs: &TableRuns,
-    rows: &[Row],
+    rows: &[PackedRow],
     reading: &mut Reading,
 ) -> Result<Option<No>, AllocError>
     requires due { reading.old.due ≡ Some V4 }
     requires empty { stack_as reading.old.stack.items ≡ [] }
     requires marks { AreMarks 1 reading.old.marks.items }
     ensures read { IfOk result (λ no. (R : Entries) → TellsBoth R runs.now
-        → option_map no_as no ≡ wrong_row R (map row_as rows.now) (V4 ∷ V6 ∷ []) [] 1) }
+        → option_map no_as no ≡ wrong_row R (map packed_as rows.now) (V4 ∷ V6 ∷ []) [] 1) }
     ensures told { IfOk result (λ no. no ≡ None → (R : Entries) → TellsBoth R runs.now
         → BoundsTold R None reading.new.v4 reading.new.v6) }
 {
     for i in 0..rows.len() {
-        if let Some(no) = read_row(alloc, runs, &rows[i], i as u64 + 1, reading)? {
+        let row = rows[i].row();
+        if let Some(no) = read_row(alloc, runs, &row, i as u64 + 1, reading)? {
             return Ok(Some(no));
         }
     }

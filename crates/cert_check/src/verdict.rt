@@ -9,7 +9,7 @@ ghost use Rattle.cert_model.specs.Right.{IsCertificate};
 ghost use Rattle.cert_model.specs.Verdict.{Twice, twice, wrong_row, too_many_in, verdict};
 ghost use Rattle.cert_model.specs.Verdict.{not_same as model_not_same};
 ghost use Rattle.fib_addr.specs.Views.{entry_as};
-ghost use Rattle.cert_model.specs.Views.{row_as};
+ghost use Rattle.packed_rows.specs.Views.{packed_as};
 ghost use Rattle.cert_check.specs.Views.{differ_as, no_as, IfNo};
 ghost use Rattle.cert_check.specs.Runs.{AreOfBoth, TellsBoth};
 ghost use Rattle.cert_check.specs.Stack.{bound_due};
@@ -20,8 +20,8 @@ use crate::repeats::first_twice;
 use crate::rows::{Reading, read_rows};
 use crate::sets::no_marks;
 use crate::table_runs::TableRuns;
-use cert_model::Row;
 use fib_addr::{Entry, Family};
+use packed_rows::PackedRow;
 use std::alloc::{AllocError, Global};
 
 /// A prefix that stands twice in the routes, or else in the table.
@@ -93,10 +93,10 @@ fn wrong_in(
     alloc: Global,
     runs: &TableRuns,
     table: &[Entry],
-    rows: &[Row],
+    rows: &[PackedRow],
 ) -> Result<Option<No>, AllocError>
     ensures { IfOk result (λ no. (R : Entries) → TellsBoth R runs.now
-        → option_map no_as no ≡ option_or (wrong_row R (map row_as rows.now) (V4 ∷ V6 ∷ []) [] 1)
+        → option_map no_as no ≡ option_or (wrong_row R (map packed_as rows.now) (V4 ∷ V6 ∷ []) [] 1)
         (option_or (too_many_in R (map entry_as table.now) V4)
         (too_many_in R (map entry_as table.now) V6))) }
 {
@@ -121,10 +121,10 @@ fn first_wrong(
     alloc: Global,
     routes: &[Entry],
     table: &[Entry],
-    rows: &[Row],
+    rows: &[PackedRow],
 ) -> Result<Option<No>, AllocError>
     ensures { IfOk result (λ no. option_map no_as no ≡ verdict (map entry_as routes.now)
-        (map entry_as table.now) (map row_as rows.now)) }
+        (map entry_as table.now) (map packed_as rows.now)) }
 {
     if let Some(no) = find_repeat(alloc, routes, table)? {
         return Ok(Some(no));
@@ -146,15 +146,15 @@ pub fn check(
     alloc: Global,
     routes: &[Entry],
     table: &[Entry],
-    rows: &[Row],
+    rows: &[PackedRow],
 ) -> Result<(), CheckError>
     ensures right { OnOk result (IsCertificate (map entry_as routes.now) (map entry_as table.now)
-        (map row_as rows.now)) }
+        (map packed_as rows.now)) }
     ensures least { OnOk result (LeastInBoth (map entry_as routes.now) (map entry_as table.now)) }
     ensures wrong { IfErr result (λ e. IfNo e (λ x. IsCertificate (map entry_as routes.now)
-        (map entry_as table.now) (map row_as rows.now) → ⊥)) }
+        (map entry_as table.now) (map packed_as rows.now) → ⊥)) }
     ensures no { IfErr result (λ e. IfNo e (λ x. verdict (map entry_as routes.now)
-        (map entry_as table.now) (map row_as rows.now) ≡ Some (no_as x))) }
+        (map entry_as table.now) (map packed_as rows.now) ≡ Some (no_as x))) }
 {
     match first_wrong(alloc, routes, table, rows)? {
         None => Ok(()),

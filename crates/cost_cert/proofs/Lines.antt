@@ -16,15 +16,14 @@ use Rattle.printed_model.specs.declared.kind.Kind.{Kind}
 use Rattle.printed_model.specs.Kinds.{KindEntries, kind_entries, kind_hops, kind_in}
 use Rattle.printed_model.specs.Rows.{PrintedRow}
 use Rattle.printed_model.specs.Reading.{line_in}
-use Rattle.printed_model.specs.Texts.{BadLine, lines_of, hops_in, with_row, rows_after, rows_by}
-use Rattle.printed_model.specs.Used.{Used, used_of, printed_in}
+use Rattle.printed_model.specs.Texts.{BadLine, lines_of, line_texts, hops_in, with_row, rows_after, rows_by}
+use Rattle.printed_model.specs.Used.{Used, used_of}
 use Rattle.printed_model.proofs.Hops.{hops_more, routes_more, least_more, cert_more, kind_entries_more, kind_hops_more}
 use Rattle.printed_model.proofs.Lines.{lines_same, few_lines}
 use Rattle.cost_cert.specs.declared.error.PrintedError.{PrintedError}
 use Rattle.cost_cert.specs.declared.error.PrintedError.TheVariants as error
-use Rattle.cost_cert.specs.declared.printed.Printed.{Printed}
-use Rattle.cost_cert.specs.Printed.{IsKind, IsRead, kind_as}
-use Rattle.cost_cert.specs.Steps.{kind_after, used_after, Refused, Taken, TakesLine}
+use Rattle.cost_cert.specs.Printed.{IsKind, kind_as}
+use Rattle.cost_cert.specs.Steps.{kind_after, used_after, Refused, Taken, TakesLine, TakesLines}
 
 -- How rows are read one after another: which hops have numbers after rows; what is kept of rows; what one more row makes of that; and which
 -- hops it has.
@@ -36,24 +35,57 @@ pub record Way (U : Type 0) : Type 0 where
   pub more : (rows : List PrintedRow) (row : PrintedRow) → kept (rows ++ row ∷ []) ≡ after (kept rows) row
   pub same : (rows : List PrintedRow) → hops_of (kept rows) ≡ hops rows
 
+-- what comes of lines, and how many lines there are at most, those before them too
+pub record Whole : Type 0 where
+  pub due : Result (List PrintedRow) BadLine
+  pub most : ℕ
+
 -- what is kept of the rows of the n lines so far, and the lines left
-pub record Left {U : Type 0} (way : Way U) (p : U) (n : ℕ) (lines : List (List ℕ)) (text : List ℕ) : Type 0 where
+pub record Left {U : Type 0} (way : Way U) (p : U) (n : ℕ) (lines : List (List ℕ)) (whole : Whole) : Type 0 where
   pub rows : List PrintedRow
-  pub all : rows_after way.hops rows (n + 1) lines ≡ rows_by way.hops text
+  pub all : rows_after way.hops rows (n + 1) lines ≡ whole.due
   pub kept : p ≡ way.kept rows
   pub few_hops : length (way.hops_of p) ≤ most_hops
-  pub few : n + length lines ≤ length text
+  pub few : n + length lines ≤ whole.most
 
-pub starts : {U : Type 0} (way : Way U) (text : List ℕ) (p : U) (lines : List (List ℕ)) → p ≡ way.kept [] → length (way.hops_of p) ≤ most_hops → lines ≡ map without_terminator (cut_lines text) → Left way p 0 lines text
+-- the lines of a text
+abbrev pub whole_text : {U : Type 0} → Way U → List ℕ → Whole
+whole_text way text = record { due = rows_by way.hops text; most = length text }
+
+-- these lines, behind the n lines that these rows are of
+abbrev pub lines_behind : {U : Type 0} → Way U → List PrintedRow → ℕ → List (List ℕ) → Whole
+lines_behind way rows n lines = record { due = rows_after way.hops rows (n + 1) lines; most = n + length lines }
+
+-- the lines of a text, as they are cut
+pub lines_cut : (text : List ℕ) (lines : List (List ℕ)) → lines ≡ map without_terminator (cut_lines text) → lines ≡ line_texts text
+lines_cut text lines l = l ∙ ap (map without_terminator) (lines_same text)
+
+pub few_texts : (text : List ℕ) → length (line_texts text) ≤ length text
+few_texts text = omega (arith, few_lines text, length-map (lines_of text) without_terminator)
+
+pub starts : {U : Type 0} (way : Way U) (text : List ℕ) (p : U) (lines : List (List ℕ)) → p ≡ way.kept [] → length (way.hops_of p) ≤ most_hops → lines ≡ map without_terminator (cut_lines text) → Left way p 0 lines (whole_text way text)
 unfolding rows_by
 starts way text p lines e few l =
-    let same : lines ≡ map without_terminator (lines_of text) = l ∙ ap (map without_terminator) (lines_same text) in
+    let same = lines_cut text lines l in
     record {
       rows = [];
       all = ap (rows_after way.hops [] 1) same;
       kept = e;
       few_hops = few;
-      few = omega (arith, few_lines text, ap length same, length-map (lines_of text) without_terminator);
+      few = omega (arith, few_texts text, ap length same);
+    }
+
+-- lines behind others
+pub goes_on : {U : Type 0} (way : Way U) (rows : List PrintedRow) (n : ℕ) (text : List ℕ) (p : U) (lines : List (List ℕ)) → p ≡ way.kept rows → length (way.hops_of p) ≤ most_hops → lines ≡ map without_terminator (cut_lines text)
+    → Left way p n lines (lines_behind way rows n (line_texts text))
+goes_on way rows n text p lines e few l =
+    let same = lines_cut text lines l in
+    record {
+      rows = rows;
+      all = ap (rows_after way.hops rows (n + 1)) same;
+      kept = e;
+      few_hops = few;
+      few = omega (arith, ap length same);
     }
 
 empty_here : (hops : List PrintedRow → List Address) (rows : List PrintedRow) (n : ℕ) (line : List ℕ) (lines : List (List ℕ)) → true ≡ (length line == 0) → rows_after hops rows n (line ∷ lines) ≡ rows_after hops rows (n + 1) lines
@@ -69,8 +101,8 @@ unfolding rows_after
 filled_here hops rows n [] lines e = absurd cc
 filled_here hops rows n (b ∷ line) lines e = refl
 
-pub empty_line : {U : Type 0} (way : Way U) (p : U) (n : ℕ) (line : List ℕ) (lines left : List (List ℕ)) (text : List ℕ) → lines ≡ line ∷ left → true ≡ (length line == 0) → Left way p n lines text → Left way p (n + 1) left text
-empty_line way p n line lines left text e t l = record {
+pub empty_line : {U : Type 0} (way : Way U) (p : U) (n : ℕ) (line : List ℕ) (lines left : List (List ℕ)) (whole : Whole) → lines ≡ line ∷ left → true ≡ (length line == 0) → Left way p n lines whole → Left way p (n + 1) left whole
+empty_line way p n line lines left whole e t l = record {
   rows = l.rows;
   all = sym (ap (rows_after way.hops l.rows (n + 1)) e ∙ empty_here way.hops l.rows (n + 1) line left t) ∙ l.all;
   kept = l.kept;
@@ -89,11 +121,11 @@ row_fits way n old new rows row k e few =
     let len : length (way.hops (rows ++ row ∷ [])) ≡ length (way.hops_of new) = ap length (hops_are way old rows row k) ∙ sym (ap (λ u. length (way.hops_of u)) e) in
     cond-false _ _ _ (le-ltb most_hops (length (way.hops (rows ++ row ∷ []))) (omega (arith, len, few)))
 
-pub taken_line : {U : Type 0} (way : Way U) (old new : U) (n : ℕ) (line : List ℕ) (lines left : List (List ℕ)) (text : List ℕ) → lines ≡ line ∷ left → false ≡ (length line == 0)
-    → Taken way.after way.hops_of old new (line_in line) → Left way old n lines text → Left way new (n + 1) left text
-taken_line {U} way old new n line lines left text e t taken l = by_read (line_in line) refl taken
+pub taken_line : {U : Type 0} (way : Way U) (old new : U) (n : ℕ) (line : List ℕ) (lines left : List (List ℕ)) (whole : Whole) → lines ≡ line ∷ left → false ≡ (length line == 0)
+    → Taken way.after way.hops_of old new (line_in line) → Left way old n lines whole → Left way new (n + 1) left whole
+taken_line {U} way old new n line lines left whole e t taken l = by_read (line_in line) refl taken
   where
-    by_read : (read : Result PrintedRow ℕ) → line_in line ≡ read → Taken way.after way.hops_of old new read → Left way new (n + 1) left text
+    by_read : (read : Result PrintedRow ℕ) → line_in line ≡ read → Taken way.after way.hops_of old new read → Left way new (n + 1) left whole
     by_read (Err why) r h = absurd h
     by_read (Ok row) r h =
         let rows = l.rows in
@@ -106,6 +138,11 @@ taken_line {U} way old new n line lines left text e t taken l = by_read (line_in
           few = omega (arith, l.few, ap length e);
         }
 
+-- after it there are few hops
+pub taken_few : {U : Type 0} (way : Way U) (old new : U) (read : Result PrintedRow ℕ) → Taken way.after way.hops_of old new read → length (way.hops_of new) ≤ most_hops
+taken_few way old new (Ok row) h = h.1
+taken_few way old new (Err why) h = absurd h
+
 -- ---- a bad line
 
 bad_row : {U : Type 0} (way : Way U) (n why : ℕ) (old : U) (rows : List PrintedRow) (read : Result PrintedRow ℕ) → old ≡ way.kept rows → Refused way.after way.hops_of why old read
@@ -116,9 +153,9 @@ bad_row way n why old rows (Ok row) k h =
     cond-true _ _ _ (lt-ltb most_hops (length (way.hops (rows ++ row ∷ []))) (omega (arith, len, h.1)))
     ∙ ap (λ (w : ℕ). let bad : BadLine = record { line = n; why = w } in Err bad) (sym h.0)
 
-pub wrong_line : {U : Type 0} (way : Way U) (bad : BadLine) (old : U) (n : ℕ) (line : List ℕ) (lines left : List (List ℕ)) (text : List ℕ)
-    → lines ≡ line ∷ left → false ≡ (length line == 0) → bad.line ≡ n + 1 → Refused way.after way.hops_of bad.why old (line_in line) → Left way old n lines text → rows_by way.hops text ≡ Err bad
-wrong_line way bad old n line lines left text e t number refused l =
+pub wrong_line : {U : Type 0} (way : Way U) (bad : BadLine) (old : U) (n : ℕ) (line : List ℕ) (lines left : List (List ℕ)) (whole : Whole)
+    → lines ≡ line ∷ left → false ≡ (length line == 0) → bad.line ≡ n + 1 → Refused way.after way.hops_of bad.why old (line_in line) → Left way old n lines whole → whole.due ≡ Err bad
+wrong_line way bad old n line lines left whole e t number refused l =
     sym (l.all)
     ∙ (ap (rows_after way.hops l.rows (n + 1)) e
     ∙ (filled_here way.hops l.rows (n + 1) line left t
@@ -127,9 +164,13 @@ wrong_line way bad old n line lines left text e t number refused l =
 
 -- ---- no line more
 
-pub no_line : {U : Type 0} (way : Way U) (p : U) (n : ℕ) (lines : List (List ℕ)) (text : List ℕ) → lines ≡ [] → Left way p n lines text → (rows_by way.hops text >>= λ rows. Ok (way.kept rows)) ≡ Ok p
+-- the rows are those of the lines
+pub rows_are : {U : Type 0} (way : Way U) (p : U) (n : ℕ) (lines : List (List ℕ)) (whole : Whole) → lines ≡ [] → (l : Left way p n lines whole) → whole.due ≡ Ok l.rows
 unfolding rows_after
-no_line way p n lines text e l = ap (λ read. read >>= λ rows. Ok (way.kept rows)) (sym (l.all) ∙ ap (rows_after way.hops l.rows (n + 1)) e) ∙ ap Ok (sym l.kept)
+rows_are way p n lines whole e l = sym (l.all) ∙ ap (rows_after way.hops l.rows (n + 1)) e
+
+pub no_line : {U : Type 0} (way : Way U) (p : U) (n : ℕ) (lines : List (List ℕ)) (text : List ℕ) → lines ≡ [] → Left way p n lines (whole_text way text) → (rows_by way.hops text >>= λ rows. Ok (way.kept rows)) ≡ Ok p
+no_line way p n lines text e l = ap (λ read. read >>= λ rows. Ok (way.kept rows)) (rows_are way p n lines (whole_text way text) e l) ∙ ap Ok (sym l.kept)
 
 -- ---- the rows that a checker uses
 
@@ -147,12 +188,16 @@ used_more rows row =
 abbrev pub printed_way : Way Used
 printed_way = record { hops = hops_in; kept = used_of; after = used_after; hops_of = λ u. u.hops; more = used_more; same = λ rows. refl }
 
-pub bad_line : (e : PrintedError) (s : Result Printed PrintedError) (old new : Used) (n : ℕ) (line : List ℕ) (lines left : List (List ℕ)) (text : List ℕ)
-    → lines ≡ line ∷ left → false ≡ (length line == 0) → s ≡ Err e → TakesLine {A = Unit {0}} used_after (λ u. u.hops) (Err e) old new (n + 1) (line_in line) → Left printed_way old n lines text → IsRead s (printed_in text)
-bad_line error.NoMemory s old new n line lines left text le t se taken l = subst (λ x. IsRead x (printed_in text)) (sym se) tt
-bad_line (error.BadRow bad) s old new n line lines left text le t se taken l =
-    subst (λ x. IsRead x (printed_in text)) (sym se)
-    (ap (λ read. read >>= λ rows. Ok (used_of rows)) (wrong_line printed_way (record { line = bad.line; why = bad.why }) old n line lines left text le t taken.0 taken.1 l))
+pub bad_line : (e : PrintedError) (s : Result ℕ PrintedError) (first : List PrintedRow) (before : ℕ) (all : List (List ℕ)) (old new : Used) (n : ℕ) (line : List ℕ) (lines left : List (List ℕ))
+    → lines ≡ line ∷ left → false ≡ (length line == 0) → s ≡ Err e → TakesLine {A = Unit {0}} used_after (λ u. u.hops) (Err e) old new (n + 1) (line_in line) → Left printed_way old n lines (lines_behind printed_way first before all) → TakesLines s first before all new
+bad_line error.NoMemory s first before all old new n line lines left le t se taken l = subst (λ x. TakesLines x first before all new) (sym se) tt
+bad_line (error.BadRow bad) s first before all old new n line lines left le t se taken l =
+    subst (λ x. TakesLines x first before all new) (sym se)
+    (wrong_line printed_way (record { line = bad.line; why = bad.why }) old n line lines left (lines_behind printed_way first before all) le t taken.0 taken.1 l)
+
+-- no line is left
+pub last_line : (first : List PrintedRow) (before : ℕ) (all : List (List ℕ)) (p : Used) (n : ℕ) (lines : List (List ℕ)) → lines ≡ [] → n + length lines ≡ before + length all → Left printed_way p n lines (lines_behind printed_way first before all) → TakesLines (Ok n) first before all p
+last_line first before all p n lines e count l = (l.rows, rows_are printed_way p n lines (lines_behind printed_way first before all) e l, l.kept, omega (arith, count, ap length e))
 
 -- ---- the rows of one kind
 
@@ -169,13 +214,13 @@ abbrev pub kind_way : Kind → List Address → Way KindEntries
 kind_way kind before = record { hops = kind_hops kind before; kept = kind_entries kind before; after = kind_after kind; hops_of = λ k. k.hops; more = kind_more kind before; same = λ rows. refl }
 
 pub kind_starts : {A : Type 0} (kind : Kind) (entries : Vec Entry A) (hops : Hops) (text : List ℕ) (lines : List (List ℕ)) → entries.items ≡ [] → length hops.list ≤ most_hops
-    → lines ≡ map without_terminator (cut_lines text) → Left (kind_way kind hops.list) (kind_as entries hops) 0 lines text
+    → lines ≡ map without_terminator (cut_lines text) → Left (kind_way kind hops.list) (kind_as entries hops) 0 lines (whole_text (kind_way kind hops.list) text)
 kind_starts kind entries hops text lines e few l = starts (kind_way kind hops.list) text (kind_as entries hops) lines (ap (λ es. kind_made (map entry_as es) hops.list) e) few l
 
 pub bad_kind_line : {A : Type 0} (kind : Kind) (before : List Address) (e : PrintedError) (s : Result (Vec Entry A) PrintedError) (hops : Hops) (old new : KindEntries) (n : ℕ) (line : List ℕ) (lines left : List (List ℕ)) (text : List ℕ)
     → lines ≡ line ∷ left → false ≡ (length line == 0) → s ≡ Err e → TakesLine {A = Unit {0}} (kind_after kind) (λ k. k.hops) (Err e) old new (n + 1) (line_in line)
-    → Left (kind_way kind before) old n lines text → IsKind s hops (kind_in kind before text)
+    → Left (kind_way kind before) old n lines (whole_text (kind_way kind before) text) → IsKind s hops (kind_in kind before text)
 bad_kind_line kind before error.NoMemory s hops old new n line lines left text le t se taken l = subst (λ x. IsKind x hops (kind_in kind before text)) (sym se) tt
 bad_kind_line kind before (error.BadRow bad) s hops old new n line lines left text le t se taken l =
     subst (λ x. IsKind x hops (kind_in kind before text)) (sym se)
-    (ap (λ read. read >>= λ rows. Ok (kind_entries kind before rows)) (wrong_line (kind_way kind before) (record { line = bad.line; why = bad.why }) old n line lines left text le t taken.0 taken.1 l))
+    (ap (λ read. read >>= λ rows. Ok (kind_entries kind before rows)) (wrong_line (kind_way kind before) (record { line = bad.line; why = bad.why }) old n line lines left (whole_text (kind_way kind before) text) le t taken.0 taken.1 l))

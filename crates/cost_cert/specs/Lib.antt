@@ -1,3 +1,4 @@
 pub mod Fields
 pub mod Printed
 pub mod Steps
+pub mod Pieces

@@ -1,17 +1,17 @@
 -- What one more row or line makes of what was read.
-use Rattle.std.specs.Prelude.{◌≡◌, ◌<◌, ◌≤◌, ℕ, List, ◌++◌, Option, Result, Ok, Err, fold, length, option_to_list}
+use Rattle.std.specs.Prelude.{◌≡◌, ◌<◌, ◌≤◌, ◌+◌, ℕ, List, ◌++◌, Option, Result, Ok, Err, fold, length, option_to_list}
 use Rattle.table_model.specs.Address.{Address}
 use Rattle.fib_addr.specs.Hops.{with_hop, most_hops}
 use Rattle.fib_addr.specs.declared.hops.HopError.{HopError}
 use Rattle.fib_addr.specs.declared.hops.HopError.TheVariants as hop_error
 use Rattle.printed_model.specs.Rows.{PrintedRow}
 use Rattle.printed_model.specs.Reading.{too_many_hops}
-use Rattle.printed_model.specs.Texts.{numbered_hop}
+use Rattle.printed_model.specs.Texts.{hops_in, numbered_hop, rows_after}
 use Rattle.printed_model.specs.declared.kind.Kind.{Kind}
-use Rattle.printed_model.specs.Used.{Used, kind_entry, kind_hop, route_entry, least_entry, cert_part}
+use Rattle.printed_model.specs.Used.{Used, used_of, kind_entry, kind_hop, route_entry, least_entry, cert_part}
 use Rattle.printed_model.specs.Kinds.{KindEntries}
 use Rattle.cost_cert.specs.declared.printed_row.PrintedRow as code_row
-use Rattle.cost_cert.specs.Printed.{printed_row_as}
+use Rattle.cost_cert.specs.Printed.{bad_as, printed_row_as}
 use Rattle.cost_cert.specs.declared.error.PrintedError.{PrintedError}
 use Rattle.cost_cert.specs.declared.error.PrintedError.TheVariants as error
 
@@ -66,6 +66,14 @@ abbrev pub TakesLine : {A U : Type 0} → (U → PrintedRow → U) → (U → Li
 TakesLine after hops (Ok x) old new number read = Taken after hops old new read
 TakesLine after hops (Err (error.BadRow bad)) old new number read = (bad.line ≡ number) × Refused after hops bad.why old read
 TakesLine after hops (Err error.NoMemory) old new number read = Unit {0}
+
+-- ---- lines, behind others
+
+-- What taking lines returned, behind n others with these rows: all rows are kept, and the lines are counted; or the first bad line.
+abbrev pub TakesLines : Result ℕ PrintedError → List PrintedRow → ℕ → List (List ℕ) → Used → Type 0
+TakesLines (Ok m) rows n lines new = (all : List PrintedRow) × (rows_after hops_in rows (n + 1) lines ≡ Ok all) × (new ≡ used_of all) × (m ≡ n + length lines)
+TakesLines (Err (error.BadRow bad)) rows n lines new = rows_after hops_in rows (n + 1) lines ≡ Err (bad_as bad)
+TakesLines (Err error.NoMemory) rows n lines new = Unit {0}
 
 -- ---- the rows of one kind
 

@@ -1,5 +1,9 @@
 //! Why a printed text isn't read.
 
+ghost use Rattle.std.specs.Prelude.{◌≡◌};
+ghost use Rattle.cost_cert.specs.declared.error.PrintedError.TheVariants as printed_error;
+
+use std::alloc::AllocError;
 use thiserror::Error;
 
 /// A line that is no row.
@@ -21,4 +25,12 @@ pub enum PrintedError {
     /// Memory ran out.
     #[error("no memory")]
     NoMemory,
+}
+
+impl From<AllocError> for PrintedError {
+    ghost from_gives = { λ _ e. e ≡ printed_error.NoMemory };
+
+    fn from(_e: AllocError) -> PrintedError {
+        PrintedError::NoMemory
+    }
 }

@@ -1,13 +1,15 @@
 //! Whole printed texts.
 
-ghost use Rattle.std.specs.Prelude.{◌≡◌, ◌≤◌, [], length, option_map};
+ghost use Rattle.std.specs.Prelude.{◌≡◌, ◌<◌, ◌≤◌, ◌+◌, ◌^◌, List, [], length, option_map, OnOk};
 ghost use Rattle.fib_addr.specs.Hops.{most_hops};
 ghost use Rattle.fib_addr.specs.Views.{addr_as};
 ghost use Rattle.printed_model.specs.Reading.{line_in};
+ghost use Rattle.printed_model.specs.Rows as model;
+ghost use Rattle.printed_model.specs.Texts.{line_texts};
 ghost use Rattle.printed_model.specs.Used.{hop_number, printed_in, used_of};
 ghost use Rattle.cost_cert.specs.Printed.{IsRead, printed_as, printed_row_as};
 ghost use Rattle.cost_cert.specs.declared.error.PrintedError.TheVariants as printed_error;
-ghost use Rattle.cost_cert.specs.Steps.{IsHopRefused, IsRowOf, Numbers, TakesLine, hops_after_row, hops_with, used_after};
+ghost use Rattle.cost_cert.specs.Steps.{IsHopRefused, IsRowOf, Numbers, TakesLine, TakesLines, hops_after_row, hops_with, used_after};
 
 use crate::error::{BadRow, PrintedError};
 use crate::printed_row::{PrintedRow, read_row};
@@ -15,6 +17,7 @@ use crate::why;
 use bstr::ByteSlice;
 use cert_model::Row;
 use fib_addr::{Addr, Entry, Hop, HopError, HopTable};
+use packed_rows::PackedRow;
 use std::alloc::Global;
 
 /// What a checker uses of a printed text. Each list keeps the order of its rows, and hops are numbered in the order of their
@@ -26,7 +29,7 @@ pub struct Printed {
     /// The entries of the least table; a dropping one has `Hop::NONE`.
     pub least: Vec<Entry>,
     /// The rows of the certificate; a leaf without a hop has `Hop::NONE`.
-    pub rows: Vec<Row>,
+    pub rows: Vec<PackedRow>,
     /// The hops.
     pub hops: HopTable,
 }
@@ -78,7 +81,7 @@ pub fn number_hop(hops: &mut HopTable, hop: Option<Addr>) -> Result<Hop, HopErro
 
 impl Printed {
     /// Nothing yet.
-    fn new(alloc: Global) -> Printed
+    pub(crate) fn new(alloc: Global) -> Printed
         ensures { printed_as result ≡ used_of [] }
     {
         Printed {
@@ -106,10 +109,12 @@ impl Printed {
             }
             PrintedRow::Leaf(prefix, hop) => {
                 let hop = number_hop(&mut self.hops, hop)?;
-                self.rows.push(Row::Leaf(prefix, hop))?;
+                self.rows.push(PackedRow::of(&Row::Leaf(prefix, hop)))?;
             }
-            PrintedRow::Join(prefix, k) => self.rows.push(Row::Join(prefix, k))?,
-            PrintedRow::Bound(family, entries) => self.rows.push(Row::Bound(family, entries))?,
+            PrintedRow::Join(prefix, k) => self.rows.push(PackedRow::of(&Row::Join(prefix, k)))?,
+            PrintedRow::Bound(family, entries) => {
+                self.rows.push(PackedRow::of(&Row::Bound(family, entries)))?;
+            }
             _ => {}
         }
         Ok(())
@@ -127,21 +132,37 @@ impl Printed {
             Err(error) => Err(hop_refused(number, error)),
         }
     }
+
+    /// Takes the rows of a text's lines, behind so many lines before it, and says how many lines these are together.
+    ///
+    /// # Errors
+    ///
+    /// The first line that is no row, or whose hop is one too many; no memory.
+    #[tactic(auto, using(crate::proofs::Lines::goes_on))]
+    pub(crate) fn take_lines(&mut self, lines: u64, text: &[u8]) -> Result<u64, PrintedError>
+        requires few { length self.old.hops.list ≤ most_hops }
+        requires fits { lines + length text.now < 2 ^ 64 }
+        ensures few { OnOk result (length self.new.hops.list ≤ most_hops) }
+        ensures taken { (rows : List model.PrintedRow) → printed_as self.old ≡ used_of rows
+            → TakesLines result rows lines (line_texts text.now) (printed_as self.new) }
+    {
+        let mut number = lines;
+        for line in text.lines() {
+            number += 1;
+            if !line.is_empty() {
+                self.take_line(number, line)?;
+            }
+        }
+        Ok(number)
+    }
 }
 
 /// Reads a printed text. `BadRow` names the first line that is no row, or whose hop is one too many. Costs the text's
 /// length.
-#[tactic(auto, using(crate::proofs::Lines::starts))]
 pub fn read_printed(alloc: Global, text: &[u8]) -> Result<Printed, PrintedError>
     ensures { IsRead result (printed_in text.now) }
 {
     let mut printed = Printed::new(alloc);
-    let mut number = 0;
-    for line in text.lines() {
-        number += 1;
-        if !line.is_empty() {
-            printed.take_line(number, line)?;
-        }
-    }
+    printed.take_lines(0, text)?;
     Ok(printed)
 }

@@ -13,7 +13,7 @@ use Rattle.printed_model.specs.Reading.{line_in}
 use Rattle.cost_cert.specs.declared.error.PrintedError.{PrintedError}
 use Rattle.cost_cert.specs.declared.error.PrintedError.TheVariants as error
 use Rattle.cost_cert.specs.Steps.{TakesLine}
-use Rattle.cost_cert.proofs.Lines.{Left, Way, starts, wrong_line}
+use Rattle.cost_cert.proofs.Lines.{Left, Way, starts, whole_text, wrong_line}
 use Rattle.printed_moves.specs.declared.read.PrintedMoves.{PrintedMoves}
 use Rattle.printed_moves.specs.Said.{SaidMoves, moves_hops, said_in, said_moves}
 use Rattle.printed_moves.specs.Steps.{said_after}
@@ -27,13 +27,13 @@ abbrev made : List Address → List Change → List CertRow → SaidMoves
 made hops changes rows = record { changes = changes; rows = rows; hops = hops }
 
 pub moves_start : (said : PrintedMoves) (hops : Hops) (text : List ℕ) (lines : List (List ℕ)) → said.changes.items ≡ [] → said.rows.items ≡ [] → length hops.list ≤ most_hops → lines ≡ map without_terminator (cut_lines text)
-    → Left (moves_way hops.list) (said_as said hops) 0 lines text
+    → Left (moves_way hops.list) (said_as said hops) 0 lines (whole_text (moves_way hops.list) text)
 moves_start said hops text lines c r few l =
     starts (moves_way hops.list) text (said_as said hops) lines (ap (λ cs. made hops.list (map change_as cs) (map row_as said.rows.items)) c ∙ ap (λ rows. made hops.list [] (map row_as rows)) r) few l
 
 pub bad_moves_line : (before : List Address) (e : PrintedError) (s : Result PrintedMoves PrintedError) (hops : Hops) (old new : SaidMoves) (n : ℕ) (line : List ℕ) (lines left : List (List ℕ)) (text : List ℕ)
-    → lines ≡ line ∷ left → false ≡ (length line == 0) → s ≡ Err e → TakesLine {A = Unit {0}} said_after (λ m. m.hops) (Err e) old new (n + 1) (line_in line) → Left (moves_way before) old n lines text → IsSaid s hops (said_in before text)
+    → lines ≡ line ∷ left → false ≡ (length line == 0) → s ≡ Err e → TakesLine {A = Unit {0}} said_after (λ m. m.hops) (Err e) old new (n + 1) (line_in line) → Left (moves_way before) old n lines (whole_text (moves_way before) text) → IsSaid s hops (said_in before text)
 bad_moves_line before error.NoMemory s hops old new n line lines left text le t se taken l = subst (λ x. IsSaid x hops (said_in before text)) (sym se) tt
 bad_moves_line before (error.BadRow bad) s hops old new n line lines left text le t se taken l =
     subst (λ x. IsSaid x hops (said_in before text)) (sym se)
-    (ap (λ read. read >>= λ rows. Ok (said_moves before rows)) (wrong_line (moves_way before) (record { line = bad.line; why = bad.why }) old n line lines left text le t taken.0 taken.1 l))
+    (ap (λ read. read >>= λ rows. Ok (said_moves before rows)) (wrong_line (moves_way before) (record { line = bad.line; why = bad.why }) old n line lines left (whole_text (moves_way before) text) le t taken.0 taken.1 l))

@@ -3,6 +3,7 @@
 use cert_check::{CheckError, Differ, No, check, same};
 use cert_model::Row;
 use fib_addr::{Addr, Entry, Family, Hop, Prefix};
+use packed_rows::PackedRow;
 use std::alloc::{AllocError, Global};
 use std::test::Fail;
 
@@ -79,14 +80,14 @@ fn rows_of(
     alloc: Global,
     count: usize,
     other: Option<(usize, Step)>,
-) -> Result<Vec<Row>, AllocError> {
+) -> Result<Vec<PackedRow>, AllocError> {
     let mut rows = Vec::new(alloc);
     for (place, step) in ROWS.iter().take(count).enumerate() {
         let step = match other {
             Some((at, other)) if at == place => other,
             _ => *step,
         };
-        rows.push(row_of(step))?;
+        rows.push(PackedRow::of(&row_of(step)))?;
     }
     Ok(rows)
 }

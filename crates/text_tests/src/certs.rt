@@ -1,6 +1,6 @@
 //! Texts and the first bad line of each, one text read whole, and the most hops.
 
-use cost_cert::{BadRow, PrintedError, Row, read_printed};
+use cost_cert::{BadRow, PackedRow, PrintedError, Row, read_printed};
 use fib_addr::{Addr, Entry, Family, Hop, MOST_TEXT, Prefix, addr_text};
 use std::test::Fail;
 
@@ -149,10 +149,10 @@ report,events,3";
         },
     ];
     let rows = [
-        Row::Leaf(low, Hop::NONE),
-        Row::Leaf(third, Hop(1)),
-        Row::Join(Prefix::new(&Addr::v4(0), 0), 1),
-        Row::Bound(Family::V6, 2),
+        PackedRow::of(&Row::Leaf(low, Hop::NONE)),
+        PackedRow::of(&Row::Leaf(third, Hop(1))),
+        PackedRow::of(&Row::Join(Prefix::new(&Addr::v4(0), 0), 1)),
+        PackedRow::of(&Row::Bound(Family::V6, 2)),
     ];
     assert_eq!(rt; printed.routes.as_slice(), routes.as_slice());
     assert_eq!(rt; printed.least.as_slice(), least.as_slice());

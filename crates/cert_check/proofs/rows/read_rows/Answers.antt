@@ -1,7 +1,7 @@
 use Rattle.std.proofs.Common.{◌≡◌, ◌+◌, sym, ap, subst, ◌∙◌, arith, map, drop, List, Some, length}
 use Rattle.cert_model.specs.Rows.{CertRow}
 use Rattle.cert_model.specs.Verdict.{Shape, wrong_row}
-use Rattle.cert_model.specs.Views.{row_as}
+use Rattle.packed_rows.specs.Views.{packed_as}
 use Rattle.cert_check.specs.Stack.{stack_as, due_as, BoundsTold}
 use Rattle.cert_check.proofs.Stacks.{went_on, stopped, rows_next, rows_over, rows_short}
 use Rattle.cert_check.proofs.rows.read_rows.Goals as goal
@@ -17,7 +17,7 @@ loop-i-preserved c =
       λ R t.
           let so_far = c.loop-i.invariant.2 R t in
           let r = went_on R _ (i + 1) old.due new.due (stack_as old.stack.items) (stack_as new.stack.items) c.in_ok-no.field-0 c.in_default.is (c.in_ok-no.ensures.read R t) in (
-            so_far.0 ∙ (ap (λ (xs : List CertRow). wrong_row R xs (due_as old.due) (stack_as old.stack.items) (i + 1)) (rows_next rows i c.index-rows-i.result c.index-rows-i.result c.loop-i-test.true c.index-rows-i.is) ∙ r.0 (map row_as (drop (i + 1) rows))),
+            so_far.0 ∙ (ap (λ (xs : List CertRow). wrong_row R xs (due_as old.due) (stack_as old.stack.items) (i + 1)) (rows_next rows i _ _ _ c.loop-i-test.true c.index-rows-i.is c.row-row.ensures) ∙ r.0 (map packed_as (drop (i + 1) rows))),
             r.2 so_far.1,
             c.in_ok-no.ensures.told c.in_default.is R so_far.1 so_far.2,
           ),
@@ -30,8 +30,8 @@ returns-in-Some-clause-read c = λ R t.
     let old = c.loop-i.reading in
     let new = c.read_row.new.reading in
     let so_far = c.loop-i.invariant.2 R t in
-    sym (so_far.0 ∙ (ap (λ (xs : List CertRow). wrong_row R xs (due_as old.due) (stack_as old.stack.items) (i + 1)) (rows_next rows i c.index-rows-i.result c.index-rows-i.result c.loop-i-test.true c.index-rows-i.is)
-    ∙ stopped R _ (i + 1) old.due new.due (stack_as old.stack.items) (stack_as new.stack.items) c.in_ok-no.field-0 c.in-Some.no c.in-Some.is (c.in_ok-no.ensures.read R t) (map row_as (drop (i + 1) rows))))
+    sym (so_far.0 ∙ (ap (λ (xs : List CertRow). wrong_row R xs (due_as old.due) (stack_as old.stack.items) (i + 1)) (rows_next rows i _ _ _ c.loop-i-test.true c.index-rows-i.is c.row-row.ensures)
+    ∙ stopped R _ (i + 1) old.due new.due (stack_as old.stack.items) (stack_as new.stack.items) c.in_ok-no.field-0 c.in-Some.no c.in-Some.is (c.in_ok-no.ensures.read R t) (map packed_as (drop (i + 1) rows))))
 
 pub returns-in-None-clause-read : goal.returns-in-None-clause-read
 returns-in-None-clause-read c = λ R t.

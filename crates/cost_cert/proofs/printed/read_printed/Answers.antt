@@ -1,19 +1,12 @@
-use Rattle.std.proofs.Common.{ap, ◌∙◌, Err}
+use Rattle.std.proofs.Common.{◌∙◌, Err, ap}
 use Rattle.std.proofs.lemmas.Result.{err_from_is_err_and}
-use Rattle.cost_cert.specs.Printed.{printed_as}
-use Rattle.cost_cert.proofs.Lines.{empty_line, taken_line, bad_line, no_line, printed_way}
+use Rattle.cost_cert.proofs.Feeds.{whole_fails, whole_read}
 use Rattle.cost_cert.proofs.printed.read_printed.Goals as goal
 
-pub returns : goal.returns
-returns c = no_line printed_way _ _ _ _ c.in-None.ensures.steps.0 c.loop-line.invariant
-
-pub returns-in_err-take_line : goal.returns-in_err-take_line
-returns-in_err-take_line c =
+pub returns-in_err-take_lines : goal.returns-in_err-take_lines
+returns-in_err-take_lines c =
     let p = err_from_is_err_and c.from_residual.result c.from_residual.ensures.1 in
-    bad_line c.in_err-take_line.field-0.0 c.from_residual.result (printed_as c.loop-line.printed) (printed_as c.take_line.new.self) _ c.in-Some.line.now _ _ _ c.in-Some.ensures.steps c.if-not-is_empty.ensures (p.1 ∙ ap Err p.2) c.in_err-take_line.ensures c.loop-line.invariant
+    whole_fails c.args.text.now c.new-printed.result c.take_lines.new.self c.in_err-take_lines.field-0.0 _ c.new-printed.ensures c.in_err-take_lines.ensures.taken (p.1 ∙ ap Err p.2)
 
-pub loop-line-preserved-in-Continue-1 : goal.loop-line-preserved-in-Continue-1
-loop-line-preserved-in-Continue-1 c = taken_line printed_way (printed_as c.loop-line.printed) _ _ c.in-Some.line.now _ _ _ c.in-Some.ensures.steps c.if-not-is_empty.ensures c.in_ok-take_line.ensures c.loop-line.invariant
-
-pub loop-line-preserved : goal.loop-line-preserved
-loop-line-preserved c = empty_line printed_way _ _ c.in-Some.line.now _ _ _ c.in-Some.ensures.steps c.if-not-is_empty.ensures c.loop-line.invariant
+pub returns : goal.returns
+returns c = whole_read c.args.text.now _ c.new-printed.result c.take_lines.new.self c.new-printed.ensures c.in_ok-take_lines.ensures.taken
