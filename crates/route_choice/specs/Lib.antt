@@ -3,4 +3,3 @@ pub mod Walks
 pub mod Kept
 pub mod Space
 pub mod Held
-pub mod Asked

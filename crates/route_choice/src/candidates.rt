@@ -1,7 +1,6 @@
 //! The candidates: the routes among which one is chosen for each prefix.
 
-ghost use Rattle.std.specs.Prelude.{◌≡◌, [], filter, map, option_map, Some, None, IfOk, OnOk, OnErr};
-ghost use Rattle.table_model.specs.Address.{same_family};
+ghost use Rattle.std.specs.Prelude.{◌≡◌, [], map, option_map, Some, None, IfOk, OnOk, OnErr};
 ghost use Rattle.fib_addr.specs.Views.{addr_as, entry_as, prefix_as, route_as};
 ghost use Rattle.std.specs.List.{AllByRecursion};
 ghost use Rattle.fib_prefix.specs.Views.{IsOfOctets, cand_as, peer_as, event_as, elem_as};
@@ -23,7 +22,7 @@ use crate::over::give_back;
 use crate::plan::{Plan, over_of};
 use crate::routes::routes_of as all_routes;
 use cand_rows::CandSink;
-use fib_prefix::{Addr, Cand, Elem, Entry, Event, Family, HopTable, Peer, Prefix, Via};
+use fib_prefix::{Addr, Cand, Elem, Entry, Event, HopTable, Peer, Prefix, Via};
 use flat_base::{Flat, Offer, Rank, Seat};
 use std::alloc::{AllocError, Global};
 use std::collections::{BTreeMap, BTreeSet};
@@ -241,28 +240,7 @@ impl Candidates {
             ≡ entries_of hops.now.list self.now.candidates) }
         ensures held { AreCandidates self.now.candidates }
     {
-        let entries = all_entries(self.alloc, None, &self.flat, &self.seats, &self.ranks, hops)?;
-        Ok(entries)
-    }
-
-    /// Those of them whose prefixes are of the family.
-    ///
-    /// # Errors
-    ///
-    /// No memory.
-    pub fn family_entries(&self, family: Family, hops: &HopTable) -> Result<Vec<Entry>, AllocError>
-        ensures { IfOk result (λ entries. map entry_as entries.items
-            ≡ filter (λ e. same_family family e.0.family)
-            (entries_of hops.now.list self.now.candidates)) }
-    {
-        all_entries(
-            self.alloc,
-            Some(family),
-            &self.flat,
-            &self.seats,
-            &self.ranks,
-            hops,
-        )
+        all_entries(self.alloc, &self.flat, &self.seats, &self.ranks, hops)
     }
 
     /// All candidates, in the order of prefixes, then of ways, in one list: 144 octets each. `hand_all` makes no list.

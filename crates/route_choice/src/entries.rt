@@ -5,23 +5,20 @@ ghost use Rattle.fib_addr.specs.Views.{addr_as, entry_as};
 ghost use Rattle.kept_model.specs.Feed.{entries_of as model_entries, number_in};
 ghost use Rattle.flat_base.specs.Seats.{Seats, held_in};
 ghost use Rattle.flat_base.specs.Bests.{IsBest};
-ghost use Rattle.flat_base.specs.Flat.{IsFlat, IsRow, AreApart, flat_seats, both};
+ghost use Rattle.flat_base.specs.Flat.{IsFlat, AreApart, flat_seats, both};
 ghost use Rattle.route_choice.specs.Seats.{IsIndexed};
-ghost use Rattle.route_choice.specs.Asked.{asked_at, asked_in, is_asked};
 ghost use Rattle.route_choice.specs.Walks.{OffersNothing, entries_at, row_prefixes};
 
 use crate::both::best_of;
 use crate::prefixes::all_prefixes;
-use fib_prefix::{Addr, Entry, Family, Hop, HopTable, Prefix};
+use fib_prefix::{Addr, Entry, Hop, HopTable, Prefix};
 use flat_base::{Candidate, Flat, Offer, Rank, Seat};
 use std::alloc::{AllocError, Global};
 use std::collections::{BTreeMap, BTreeSet};
 
-/// Each prefix for which a peer offers a route, with the number of the next hop of the chosen one, in the order of prefixes: those
-/// of the family that is asked for, or all.
+/// Each prefix for which a peer offers a route, with the number of the next hop of the chosen one, in the order of prefixes.
 pub fn entries_of(
     alloc: Global,
-    asked: Option<Family>,
     flat: &Flat,
     seats: &BTreeMap<Seat, Option<Offer>>,
     ranks: &BTreeSet<Rank>,
@@ -30,76 +27,38 @@ pub fn entries_of(
     requires flat { IsFlat flat.now }
     requires apart { AreApart (flat_seats flat.now) seats.now.entries }
     requires indexed { IsIndexed seats.now.entries ranks.now.keys }
-    ensures { IfOk result (λ entries. map entry_as entries.items ≡ asked_in asked
-        (model_entries hops.now.list (held_in (both flat.now seats.now.entries)))) }
+    ensures { IfOk result (λ entries. map entry_as entries.items
+        ≡ model_entries hops.now.list (held_in (both flat.now seats.now.entries))) }
 {
     if ranks.is_empty() {
-        let entries = entries_of_rows(alloc, asked, flat, hops)?;
+        let entries = entries_of_rows(alloc, flat, hops)?;
         return Ok(entries);
     }
     let prefixes = all_prefixes(alloc, flat, ranks)?;
-    let entries = entries_of_prefixes(alloc, asked, flat, seats, ranks, hops, &prefixes)?;
+    let entries = entries_of_prefixes(alloc, flat, seats, ranks, hops, &prefixes)?;
     Ok(entries)
 }
 
-/// Whether a prefix is of the family that is asked for, if one is.
-fn is_asked(asked: Option<Family>, prefix: &Prefix) -> bool
-    ensures { result ≡ is_asked asked prefix.now.family }
-{
-    match asked {
-        Some(family) => family == prefix.family,
-        None => true,
-    }
-}
-
 /// The entries of the prefixes that have a row, by the base alone.
-fn entries_of_rows(
-    alloc: Global,
-    asked: Option<Family>,
-    flat: &Flat,
-    hops: &HopTable,
-) -> Result<Vec<Entry>, AllocError>
+fn entries_of_rows(alloc: Global, flat: &Flat, hops: &HopTable) -> Result<Vec<Entry>, AllocError>
     requires { IsFlat flat.now }
     ensures { IfOk result (λ entries. (over : Seats) → AreApart (flat_seats flat.now) over
         → OffersNothing over → map entry_as entries.items
-        ≡ asked_at asked hops.now.list (both flat.now over) (row_prefixes flat.now.rows.items)) }
+        ≡ entries_at hops.now.list (both flat.now over) (row_prefixes flat.now.rows.items)) }
 {
     let mut entries = Vec::with_capacity(alloc, flat.row_count())?;
     for row in 0..flat.row_count() {
         if let Some(prefix) = flat.prefix_of(row) {
-            push_row(asked, flat, hops, row, &prefix, &mut entries)?;
+            let best = flat.best_in(row, &prefix, None, None);
+            push_entry(hops, &prefix, best, &mut entries)?;
         }
     }
     Ok(entries)
 }
 
-/// Adds the entry of a row's prefix, if that is asked for and has a route, by the base alone.
-fn push_row(
-    asked: Option<Family>,
-    flat: &Flat,
-    hops: &HopTable,
-    row: usize,
-    prefix: &Prefix,
-    entries: &mut Vec<Entry>,
-) -> Result<(), AllocError>
-    requires flat { IsFlat flat.now }
-    requires row { IsRow flat.now.rows.items prefix.now row }
-    ensures { (over : Seats) → AreApart (flat_seats flat.now) over → OffersNothing over
-        → OnOk result (map entry_as entries.new.items ≡ map entry_as entries.old.items
-        ++ asked_at asked hops.now.list (both flat.now over) (prefix.now ∷ [])) }
-{
-    if !is_asked(asked, prefix) {
-        return Ok(());
-    }
-    let best = flat.best_in(row, prefix, None, None);
-    push_entry(hops, prefix, best, entries)?;
-    Ok(())
-}
-
-/// The entries of those of these prefixes that are asked for.
+/// The entries of these prefixes.
 fn entries_of_prefixes(
     alloc: Global,
-    asked: Option<Family>,
     flat: &Flat,
     seats: &BTreeMap<Seat, Option<Offer>>,
     ranks: &BTreeSet<Rank>,
@@ -110,37 +69,14 @@ fn entries_of_prefixes(
     requires apart { AreApart (flat_seats flat.now) seats.now.entries }
     requires indexed { IsIndexed seats.now.entries ranks.now.keys }
     ensures { IfOk result (λ entries. map entry_as entries.items
-        ≡ asked_at asked hops.now.list (both flat.now seats.now.entries) prefixes.now) }
+        ≡ entries_at hops.now.list (both flat.now seats.now.entries) prefixes.now) }
 {
     let mut entries = Vec::with_capacity(alloc, prefixes.len())?;
     for prefix in prefixes {
-        push_prefix(asked, flat, seats, ranks, hops, prefix, &mut entries)?;
+        let best = best_of(flat, seats, ranks, prefix, None);
+        push_entry(hops, prefix, best, &mut entries)?;
     }
     Ok(entries)
-}
-
-/// Adds the entry of a prefix, if that is asked for and has a route.
-fn push_prefix(
-    asked: Option<Family>,
-    flat: &Flat,
-    seats: &BTreeMap<Seat, Option<Offer>>,
-    ranks: &BTreeSet<Rank>,
-    hops: &HopTable,
-    prefix: &Prefix,
-    entries: &mut Vec<Entry>,
-) -> Result<(), AllocError>
-    requires flat { IsFlat flat.now }
-    requires apart { AreApart (flat_seats flat.now) seats.now.entries }
-    requires indexed { IsIndexed seats.now.entries ranks.now.keys }
-    ensures { OnOk result (map entry_as entries.new.items ≡ map entry_as entries.old.items
-        ++ asked_at asked hops.now.list (both flat.now seats.now.entries) (prefix.now ∷ [])) }
-{
-    if !is_asked(asked, prefix) {
-        return Ok(());
-    }
-    let best = best_of(flat, seats, ranks, prefix, None);
-    push_entry(hops, prefix, best, entries)?;
-    Ok(())
 }
 
 /// Adds the entry of a prefix, if it has a route, by its best candidate.

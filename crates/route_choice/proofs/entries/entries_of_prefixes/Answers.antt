@@ -8,7 +8,7 @@ use Rattle.route_choice.proofs.entries.entries_of_prefixes.Goals as goal
 pub loop-prefix-preserved : goal.loop-prefix-preserved
 loop-prefix-preserved c =
     let step = drop_more c.args.prefixes.now c.loop-prefix.prefix-index c.prefix-item.result c.loop-prefix-test.true ∙ ap (λ y. y ∷ drop (c.loop-prefix.prefix-index + 1) c.args.prefixes.now) (sym c.prefix-item.is) in
-    entry_told c.args.asked c.args.hops.now.list (both c.args.flat.now c.args.seats.now.entries) _ _ _ c.prefix-item.result _ _ step c.in_ok-push_prefix.ensures c.loop-prefix.invariant
+    entry_told c.args.hops.now.list (both c.args.flat.now c.args.seats.now.entries) _ _ _ c.prefix-item.result _ _ step (c.in_ok-push_entry.ensures (both c.args.flat.now c.args.seats.now.entries) c.best_of-best.ensures) c.loop-prefix.invariant
 
 pub returns : goal.returns
-returns c = all_entries_told c.args.asked c.args.hops.now.list (both c.args.flat.now c.args.seats.now.entries) _ _ _ (drop_of_length-le c.args.prefixes.now c.loop-prefix-test.false) c.loop-prefix.invariant
+returns c = all_entries_told c.args.hops.now.list (both c.args.flat.now c.args.seats.now.entries) _ _ _ (drop_of_length-le c.args.prefixes.now c.loop-prefix-test.false) c.loop-prefix.invariant
