@@ -81,6 +81,10 @@ pub(crate) fn number_field(text: &[u8]) -> Result<u64, u8>
 }
 
 /// An address.
+///
+/// # Errors
+///
+/// `why::HOP`: it is no address.
 pub fn address_field(text: &[u8]) -> Result<Addr, u8>
     ensures { Gives addr_as result (address_field text.now) }
 {
@@ -88,6 +92,10 @@ pub fn address_field(text: &[u8]) -> Result<Addr, u8>
 }
 
 /// A prefix.
+///
+/// # Errors
+///
+/// `why::PREFIX`: it is no prefix.
 pub fn prefix_field(text: &[u8]) -> Result<Prefix, u8>
     ensures { Gives prefix_as result (prefix_field text.now) }
 {
@@ -166,6 +174,10 @@ pub(crate) fn family_field(text: &[u8]) -> Result<Family, u8>
 }
 
 /// The one field that is left.
+///
+/// # Errors
+///
+/// `why::FIELDS`: there is none, or more than one.
 pub fn one_field<'a>(mut fields: Fields<'a>) -> Result<&'a [u8], u8>
     ensures { Gives (λ f. f.now) result (one_field fields.entry) }
 {
@@ -176,6 +188,10 @@ pub fn one_field<'a>(mut fields: Fields<'a>) -> Result<&'a [u8], u8>
 }
 
 /// The two fields that are left.
+///
+/// # Errors
+///
+/// `why::FIELDS`: there are fewer or more.
 pub fn two_fields<'a>(mut fields: Fields<'a>) -> Result<(&'a [u8], &'a [u8]), u8>
     ensures { Gives (λ f. (f.0.now, f.1.now)) result (two_fields fields.entry) }
 {
@@ -186,6 +202,10 @@ pub fn two_fields<'a>(mut fields: Fields<'a>) -> Result<(&'a [u8], &'a [u8]), u8
 }
 
 /// The next field, and those after it.
+///
+/// # Errors
+///
+/// `why::FIELDS`: there is none.
 pub fn next_field<'a>(mut fields: Fields<'a>) -> Result<(&'a [u8], Fields<'a>), u8>
     ensures { Gives (λ f. (f.0.now, f.1)) result (next_field fields.entry) }
 {
@@ -236,6 +256,10 @@ pub struct VrpTexts<'a> {
 }
 
 /// The three fields of a VRP, which are all that are left.
+///
+/// # Errors
+///
+/// `why::FIELDS`: there are fewer or more.
 #[tactic(auto, unfolding(printed_model::specs::Reading::vrp_fields))]
 pub fn vrp_fields<'a>(fields: Fields<'a>) -> Result<VrpTexts<'a>, u8>
     ensures { Gives vrp_texts_as result (vrp_fields fields.entry) }

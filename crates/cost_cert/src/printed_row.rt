@@ -283,7 +283,11 @@ fn row_in(fields: Fields<'_>) -> Result<PrintedRow, u8>
     named_in(name, fields)
 }
 
-/// Reads a row from a line without its end, or says why it is none (`why`). Takes no memory, and costs the line's length.
+/// Reads a row from a line without its end. Takes no memory, and costs the line's length.
+///
+/// # Errors
+///
+/// Why the line is no row (`why`), by the first of its fields that fails from left to right.
 pub fn read_row(line: &[u8]) -> Result<PrintedRow, u8>
     ensures { Gives printed_row_as result (line_in line.now) }
 {

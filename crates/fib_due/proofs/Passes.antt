@@ -1,6 +1,6 @@
 -- The reads of one call after another.
 use Rattle.std.specs.Prelude.{option_map}
-use Rattle.std.proofs.Common.{◌≡◌, ◌∙◌, ℕ, zero, suc, ◌≤◌, List, [], ◌∷◌, ◌++◌, Option, Some, None, Result, Ok, Err, inl, inr, refl, sym, ap, subst, append_assoc, append-nil}
+use Rattle.std.proofs.Common.{◌≡◌, ◌∙◌, ℕ, zero, suc, List, [], ◌∷◌, ◌++◌, Option, Some, None, Result, Ok, Err, inl, inr, refl, sym, ap, subst, append_assoc, append-nil}
 use Rattle.fib_io.specs.Reads.{Anywhere, AtEnd, Makes, Pass, PassEnd, PassInTime, Read}
 use Rattle.fib_io.specs.Reads as io
 use Rattle.fib_io.proofs.Passing.{makes_as, makes_none, makes_then}

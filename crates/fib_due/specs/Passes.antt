@@ -1,5 +1,5 @@
 -- Which reads are made of the inputs that words name.
-use Rattle.std.specs.Prelude.{◌≡◌, ◌≤◌, ◌+◌, ℕ, zero, suc, List, [], ◌∷◌, ◌++◌, map, Option, Some, None, option_to_list, Result, Ok, Err, ◌⊎◌}
+use Rattle.std.specs.Prelude.{◌≡◌, ◌+◌, ℕ, zero, suc, List, [], ◌∷◌, ◌++◌, map, Option, Some, None, option_to_list, Result, Ok, Err, ◌⊎◌}
 use Rattle.fib_io.specs.Reads.{Anywhere, AtEnd, AtFault, PassEnd, PassInTime, PastMost, Read}
 use Rattle.fib_words.specs.Commands.{Asked, Check, CheckMoves, Make, Moves, Named, NamedCheckMoves, NamedMoves, NamedSame, NamedSave, NamedSteps, Run, Same, Save, Steps}
 use Rattle.fib_due.specs.declared.outcome.Outcome.{Outcome}

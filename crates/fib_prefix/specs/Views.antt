@@ -1,5 +1,5 @@
 -- What a clause sees of peers, of what they say, and of candidates.
-use Rattle.std.specs.Prelude.{ℕ, ◌<◌, ◌^◌}
+use Rattle.std.specs.Prelude.{◌<◌, ◌^◌}
 use Rattle.table_model.specs.Address.{IsAddress}
 use Rattle.fib_addr.specs.Views.{addr_as, prefix_as}
 use Rattle.route_model.specs.Events.{Peer, Via, Event, Announce, Withdraw, Down, Elem, Put, Cut}

@@ -1,10 +1,8 @@
 -- Where the inputs begin, and where the load ends.
-use Rattle.std.proofs.Common.{◌≡◌, ℕ, false, List, [], ◌∷◌, ◌++◌, map, Some, None, Ok, refl, sym, ap, ◌∙◌, append-nil, arith}
-use Rattle.octet_fields.specs.Field.{◌>>=◌}
+use Rattle.std.proofs.Common.{◌≡◌, ℕ, false, List, [], ◌++◌, map, Some, None, Ok, refl, sym, ap, ◌∙◌, append-nil, arith}
 use Rattle.table_model.specs.Changes.{additions}
 use Rattle.printed_model.specs.Rows.{Vrp}
 use Rattle.fib_words.specs.Commands.{Named}
-use Rattle.fib_due.specs.declared.outcome.Outcome.TheVariants.{NoMemory, TooLarge, Malformed, HopsFull, TrieFull}
 use Rattle.fib_due.specs.declared.outcome.MrtInput.TheVariants.{Dump, Updates}
 use Rattle.fib_run.specs.declared.state.State.{State}
 use Rattle.fib_due.specs.Stops.{IsDueIfTold, FailsDue}

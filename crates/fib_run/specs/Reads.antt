@@ -1,6 +1,5 @@
 -- What a reading of asks gives.
 use Rattle.std.specs.Prelude.{◌≡◌, ℕ, Result, Ok, Err}
-use Rattle.printed_model.specs.Texts.{BadLine}
 use Rattle.fib_run.specs.declared.asks.AskError.{AskError}
 use Rattle.fib_run.specs.declared.asks.AskError.TheVariants as ask
 

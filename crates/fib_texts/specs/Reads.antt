@@ -1,5 +1,5 @@
 -- What a check of a text gives.
-use Rattle.std.specs.Prelude.{◌≡◌, ℕ, Result, Ok, Err}
+use Rattle.std.specs.Prelude.{◌≡◌, Result, Ok, Err}
 use Rattle.printed_model.specs.Texts.{BadLine}
 use Rattle.printed_model.specs.Used.{Used}
 use Rattle.cost_cert.specs.Printed.{bad_as}

@@ -8,7 +8,7 @@ use Rattle.std.specs.BTreeMap.{is_at}
 use Rattle.std.specs.declared.cmp.Ordering.{Ordering}
 use Rattle.std.specs.declared.cmp.Ordering.TheVariants.{Less, Equal, Greater}
 use Rattle.route_model.specs.Choice as model
-use Rattle.route_model.specs.Choice.{Place, Candidates, AreCandidates, IsElem, same_place, after_elem, is_about, offered}
+use Rattle.route_model.specs.Choice.{Place, Candidates, AreCandidates, IsElem, same_place, is_about, offered}
 use Rattle.route_model.proofs.Keyed.{same_entries}
 use Rattle.route_model.proofs.Places.{place_key}
 use Rattle.route_model.proofs.Said.{none_yet, candidates_after, offer_after}

@@ -1,5 +1,5 @@
 -- Sets of one hop each.
-use Rattle.std.proofs.Common.{◌≡◌, ◌≢◌, ℕ, List, [], ◌∷◌, ◌||◌, Bool, true, false, cond, nat_eq, refl, sym, ap, ◌∙◌}
+use Rattle.std.proofs.Common.{◌≡◌, ◌≢◌, ℕ, List, [], ◌∷◌, ◌||◌, Bool, true, false, cond, nat_eq, refl, sym, ap}
 use Rattle.std.proofs.lemmas.Bool.{eqb-false, ne_eqb}
 use Rattle.table_model.specs.Sets.{common, joint, or_else}
 

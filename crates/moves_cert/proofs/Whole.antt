@@ -1,5 +1,5 @@
 -- What changes with right rows come to, and that the nearest table's are such.
-use Rattle.std.proofs.Common.{◌≡◌, ◌≢◌, ℕ, ◌<◌, ◌≤◌, List, Bool, true, false, cond, Option, Some, None, length, nat_lt, refl, sym, ap, ◌∙◌, arith, subst, ◌↔◌}
+use Rattle.std.proofs.Common.{◌≡◌, ◌≢◌, ℕ, ◌<◌, ◌≤◌, List, Bool, true, false, cond, Some, None, length, nat_lt, refl, sym, ap, ◌∙◌, arith, subst, ◌↔◌}
 use Rattle.std.proofs.lemmas.Bool.{lt-ltb, ltb-true}
 use Rattle.std.specs.List.{AllByRecursion, IsDistinct}
 use Rattle.std.specs.Map.{keys_of}

@@ -16,7 +16,7 @@ use Rattle.poptrie_update.specs.declared.pending.Pending.{Pending}
 use Rattle.poptrie_update.specs.declared.pending.Stores as code_stores
 use Rattle.poptrie_update.specs.declared.pending.Stores.TheVariants as stores
 use Rattle.step_model.specs.Machine as machine
-use Rattle.step_model.specs.Machine.{World, State, Begun, Stores, count_of, is_in, changes_before, is_stored}
+use Rattle.step_model.specs.Machine.{World, Begun, Stores, count_of, is_in}
 use Rattle.paused_routes.specs.Paused.{shown_after, stores_in, IsUnderWay, IsBegun, IsTrieAt}
 use Rattle.paused_routes.proofs.Slots.{slot_is, covers_is}
 

@@ -1,5 +1,5 @@
 -- Words that stand for answers stand for others that are the same at each address; what they ask for is the same, too.
-use Rattle.std.proofs.Common.{◌≡◌, ℕ, zero, suc, ◌+◌, ◌-◌, ◌*◌, ◌^◌, ◌<◌, ◌≤◌, List, [], ◌∷◌, ◌++◌, Bool, true, false, Option, Some, None, nat_eq, length, refl, sym, ap, ◌∙◌, arith, subst, inl, inr}
+use Rattle.std.proofs.Common.{◌≡◌, ℕ, zero, suc, ◌+◌, ◌-◌, ◌^◌, ◌<◌, ◌≤◌, List, [], ◌∷◌, ◌++◌, Bool, true, false, nat_eq, refl, sym, ap, ◌∙◌, arith, subst, inl, inr}
 use Rattle.std.specs.Prelude.{◌&&◌, ◌⊎◌}
 use Rattle.std.proofs.lemmas.Bool.{cases_lt}
 use Rattle.std.proofs.lemmas.List.{append-nil, append_assoc}
@@ -8,8 +8,8 @@ use Rattle.buddy_arena.specs.Space.{Space}
 use Rattle.block_pool.specs.Places.{count_free, is_out}
 use Rattle.block_pool.specs.Arrays.{Array, places_of}
 use Rattle.fib_addr.specs.Answers.{part, side, one_answer}
-use Rattle.poptrie_build.specs.Strides.{slots, slot, mixed, total}
-use Rattle.poptrie_build.specs.Need.{children, runs, need_nodes, need_leaves, trie_nodes, trie_leaves}
+use Rattle.poptrie_build.specs.Strides.{slots, slot, mixed}
+use Rattle.poptrie_build.specs.Need.{children, runs, trie_nodes, trie_leaves}
 use Rattle.poptrie_build.specs.declared.node.Node.{Node}
 use Rattle.poptrie_build.proofs.Counting.{children_same, runs_same}
 use Rattle.poptrie_copy.specs.Alike.{Alike}

@@ -1,12 +1,11 @@
 -- What is asked for is no more than what the new part needs; so what is put aside is no more than what the old part needed.
-use Rattle.std.proofs.Common.{◌≡◌, ℕ, zero, suc, ◌+◌, ◌-◌, ◌*◌, ◌^◌, ◌<◌, ◌≤◌, List, [], ◌∷◌, ◌++◌, Bool, true, false, Option, Some, None, refl, sym, ap, ◌∙◌, arith, subst}
+use Rattle.std.proofs.Common.{◌≡◌, ℕ, zero, suc, ◌+◌, ◌-◌, ◌*◌, ◌^◌, ◌≤◌, List, [], ◌∷◌, ◌++◌, Bool, true, false, Option, Some, None, refl, sym, ap, ◌∙◌, arith, subst}
 use Rattle.table_model.specs.Bits.{bits_of}
-use Rattle.buddy_arena.specs.Space.{Space, tick, marked}
+use Rattle.buddy_arena.specs.Space.{Space, marked}
 use Rattle.buddy_arena.specs.Space as arena
 use Rattle.buddy_arena.proofs.Totals.{tick_le}
 use Rattle.block_pool.specs.Powers.{up, up_from}
-use Rattle.block_pool.specs.Places.{count_free, is_out}
-use Rattle.block_pool.specs.Arrays.{Array, places_of}
+use Rattle.block_pool.specs.Arrays.{places_of}
 use Rattle.block_pool.specs.Blocks.{Held}
 use Rattle.block_pool.proofs.Sets.{places_append}
 use Rattle.fib_addr.specs.Answers.{part, one_answer}
@@ -14,7 +13,6 @@ use Rattle.poptrie_build.specs.Strides.{slots, slot, mixed, total}
 use Rattle.poptrie_build.specs.Need.{children, runs, need_nodes, need_leaves, trie_nodes, trie_leaves}
 use Rattle.poptrie_build.specs.declared.node.Node.{Node}
 use Rattle.poptrie_build.proofs.Counting.{need_nodes_is, need_leaves_is}
-use Rattle.poptrie_copy.specs.Kids.{StandsAs}
 use Rattle.poptrie_copy.specs.Changes.{Part, Replaces}
 use Rattle.poptrie_copy.specs.Asks.{Ask, ask_for, alike, listed, if_changed, asks, word_asks, slots_asks, Frees, Meets, MeetsAsk, Runs, MeetsAll}
 use Rattle.poptrie_copy.proofs.Asking.{none_alike, none_uniform, asks_are}

@@ -11,7 +11,7 @@ use Rattle.table_model.specs.declared.family.Family.TheVariants.{V4, V6}
 use Rattle.table_model.proofs.BitLaws.{length-bits_of}
 use Rattle.table_model.proofs.SamePrefix.{same_family_itself}
 use Rattle.table_model.specs.Entries.{Entries}
-use Rattle.buddy_arena.specs.Space.{Space, IsSized}
+use Rattle.buddy_arena.specs.Space.{Space}
 use Rattle.buddy_arena.specs.Space as arena
 use Rattle.block_pool.specs.Places.{is_out}
 use Rattle.block_pool.specs.Arrays.{Array, AreApart, places_of}

@@ -18,7 +18,7 @@ use Rattle.fib_addr.specs.declared.prefix.Prefix as code
 use Rattle.fib_prefix.specs.declared.event.Via.{Via}
 use Rattle.route_model.specs.Events.{via_cmp}
 use Rattle.route_model.specs.Choice as model
-use Rattle.route_model.specs.Choice.{Place, Candidates, IsHeld, same_place, beats}
+use Rattle.route_model.specs.Choice.{Place, IsHeld, same_place, beats}
 use Rattle.route_model.proofs.Places.{via_key}
 use Rattle.route_model.proofs.Choices.{beats_flipped}
 use Rattle.flat_base.specs.declared.keys.Seat.{Seat}

@@ -7,7 +7,7 @@ use Rattle.fib_prefix.specs.Views.{elem_as}
 use Rattle.fib_prefix.specs.declared.event.Elem.{Elem}
 use Rattle.fib_prefix.specs.declared.event.Elem.TheVariants as elem
 use Rattle.route_model.specs.Choice as model
-use Rattle.route_model.specs.Choice.{Place, Candidates, AreCandidates, IsElem, same_place, after_elem, is_about, offered}
+use Rattle.route_model.specs.Choice.{Place, IsElem, same_place, after_elem, is_about, offered}
 use Rattle.route_model.proofs.Places.{place_key}
 use Rattle.route_model.proofs.Said.{candidates_after, offer_after}
 use Rattle.flat_base.specs.declared.keys.Seat.{Seat}

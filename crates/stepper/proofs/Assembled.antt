@@ -8,7 +8,7 @@ use Rattle.poptrie_update.specs.declared.pending.Pending.{Pending}
 use Rattle.step_model.specs.Script.{Step}
 use Rattle.step_model.specs.Rows.{StepRow}
 use Rattle.step_model.specs.Machine as machine
-use Rattle.step_model.specs.Machine.{World, State, Lookup, words, is_in}
+use Rattle.step_model.specs.Machine.{World, State, is_in}
 use Rattle.step_model.specs.Turns.{entries_in}
 use Rattle.paused_routes.specs.declared.routes.PausedRoutes.{PausedRoutes}
 use Rattle.paused_routes.specs.Paused.{IsAt, is_own, shown_after}

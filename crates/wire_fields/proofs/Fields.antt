@@ -1,5 +1,5 @@
 -- A number of no octets.
-use Rattle.std.proofs.Common.{◌≡◌, refl, ℕ, ◌≤◌, false, List, length, ltb, Ok, arith}
+use Rattle.std.proofs.Common.{◌≡◌, refl, ℕ, false, List, length, ltb, Ok, arith}
 use Rattle.std.proofs.lemmas.Bool.{le-ltb}
 use Rattle.table_model.specs.Bits.{number}
 use Rattle.octet_fields.specs.Field.{number_at}

@@ -2,7 +2,7 @@
 use Rattle.std.specs.Prelude.{ℕ, zero, suc, List, [], ◌∷◌, length, take, Option, Some, None, unwrap_or, Result, Ok, Err, Bool, true, false, not, bit_and, ◌==◌, ◌||◌, ◌&&◌, if◌then◌else◌}
 use Rattle.table_model.specs.declared.family.Family.{Family}
 use Rattle.table_model.specs.declared.family.Family.TheVariants.{V4, V6}
-use Rattle.table_model.specs.Address.{Address, Prefix, same_family}
+use Rattle.table_model.specs.Address.{Address, same_family}
 use Rattle.table_model.specs.Bits.{octet_bits}
 use Rattle.octet_fields.specs.Field.{◌>>=◌, refuse, octet_at, octets_at, number_at, until_end}
 use Rattle.wire_model.specs.declared.place.Place.{Place}

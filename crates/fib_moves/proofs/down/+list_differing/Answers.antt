@@ -1,6 +1,5 @@
-use Rattle.std.proofs.Common.{refl, ap, ◌∙◌, arith, true, false}
+use Rattle.std.proofs.Common.{refl, ap, arith, true, false}
 use Rattle.orig_tree.specs.Spots.{answers_in}
-use Rattle.moves_model.specs.Sets.{inner_set, new_entry}
 use Rattle.table_model.specs.Address.{Prefix}
 use Rattle.table_model.specs.Width.{width}
 use Rattle.fib_addr.specs.Views.{prefix_as}

@@ -1,8 +1,7 @@
-use Rattle.std.proofs.Common.{◌≡◌, ◌∙◌, ◌∷◌, [], sym, ap}
+use Rattle.std.proofs.Common.{◌∙◌, ◌∷◌, [], sym, ap}
 use Rattle.table_model.specs.declared.family.Family.{Family}
 use Rattle.table_model.specs.Entries.{Entries}
 use Rattle.fib_addr.specs.Views.{prefix_as}
-use Rattle.fib_addr.specs.declared.prefix.Prefix.{Prefix}
 use Rattle.fib_addr.specs.Answers.{all_answers}
 use Rattle.lookup_tests.proofs.Hop_changed.{hop_changed}
 use Rattle.lookup_tests.proofs.live.update.Goals as goal

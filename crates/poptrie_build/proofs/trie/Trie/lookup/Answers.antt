@@ -1,10 +1,8 @@
-use Rattle.std.proofs.Common.{◌≡◌, List, arith, sym, ap, ◌∙◌, subst}
-use Rattle.std.specs.Prelude.{ℕ, ◌+◌, ◌<◌}
+use Rattle.std.proofs.Common.{◌≡◌, arith, sym, ap, ◌∙◌, subst}
 use Rattle.table_model.specs.Width.{width}
 use Rattle.table_model.specs.declared.family.Family.{Family}
 use Rattle.fib_addr.specs.Views.{addr_as}
 use Rattle.fib_addr.specs.Answers.{all_answers}
-use Rattle.poptrie_build.specs.Led.{StandsWhole}
 use Rattle.poptrie_build.specs.Strides.{trie_visits, strides}
 use Rattle.poptrie_build.specs.Tries.{Shown, StandsForAnswers, rest}
 use Rattle.poptrie_build.proofs.Filled.{few_strides, whole_as, region_for, wide_enough}
