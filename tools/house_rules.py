@@ -160,7 +160,7 @@ def names():
     found = collections.defaultdict(dict)               # by name and crate the text of the definition, without comments and blanks
     for path in sorted(TOP.glob("crates/*/specs/*.antt")):
         for part in re.split(r"\n\s*\n", re.sub(r"(?m)--.*$", "", read(path))):
-            if match := DEFINITION.match(part.strip()):
+            if match := DEFINITION.match(part.strip("\n")):
                 found[match[1]][path.parts[-3]] = " ".join(part.split())
     for name, meanings in sorted(found.items()):
         if len(set(meanings.values())) > 1:
